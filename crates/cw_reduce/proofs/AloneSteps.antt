@@ -1,39 +1,20 @@
 -- A text of one scrap at which no row fits is reduced already.
-use Rattle.std.proofs.Common.{◌≡◌, ℕ, Bool, true, false, not, ◌+◌, ◌*◌, ◌≤◌, None, List, [], ◌∷◌, refl, sym, ap}
-use Rattle.std.proofs.Common.{◌∙◌, length}
-use Rattle.std.proofs.Common.{Option, arith}
-use Rattle.std.specs.Prelude.{Result}
-use Rattle.cw_base.specs.declared.category.Cat.{Cat}
+use Rattle.cw_reduce.proofs.Terms.{◌≡◌, ℕ, Bool, true, false, not, ◌+◌, ◌≤◌, None, List, [], ◌∷◌, refl, sym, ap, ◌∙◌}
+use Rattle.cw_reduce.proofs.Terms.{length, Option, arith, Result, Cat, Flags, Memory, Entry, State, Production}
+use Rattle.cw_reduce.proofs.Terms.{productions-sound, StoredToken as Token, unfolded, StoredLists, whole, Told}
+use Rattle.cw_reduce.proofs.Terms.{grown_by, entry_of, IsSoundLine, scraps_of, MarkList, Translated, limit_in, HasEnded}
+use Rattle.cw_reduce.proofs.Terms.{of_leaf, progress_of, Progress, all_ended, NamesOnTheWay, at_end, grown-none}
+use Rattle.cw_reduce.proofs.Terms.{recorded-one}
 use Rattle.cw_base.specs.declared.category.Cat.TheVariants.{End}
-use Rattle.cw_base.specs.declared.flags.Flags.{Flags}
-use Rattle.cw_base.specs.declared.memory.Memory.{Memory}
-use Rattle.cw_names.specs.Names.{Entry}
 use Rattle.cw_table.specs.Fitting.{first_of}
 use Rattle.cw_table.specs.Productions.{productions}
 use Rattle.cw_table.specs.Reaching.{IsAfter}
-use Rattle.cw_table.specs.Rewriting.{State}
-use Rattle.cw_table.specs.Normal.{Production, count, log}
-use Rattle.cw_table.specs.WalkCounts.{reservings, ticks}
-use Rattle.cw_table.proofs.Examples.{productions-sound}
+use Rattle.cw_table.specs.Normal.{count, log}
 use Rattle.cw_table.proofs.FirstLaws.{first-window}
-use Rattle.cw_tokens.specs.declared.token.Token.{Token}
-use Rattle.cw_tokens.specs.Shapes.{unfolded}
-use Rattle.cw_tokens.specs.Stored.{StoredLists}
-use Rattle.cw_trees.specs.Joining.{whole}
-use Rattle.cw_rewrite.specs.Telling.{Told, grown_by}
 use Rattle.cw_scraps.specs.Applying.{state_of}
 use Rattle.cw_scraps.specs.declared.leaves.Leaf.{Leaf}
-use Rattle.cw_scraps.specs.Leaves.{entry_of}
-use Rattle.cw_scraps.specs.Lines.{IsSoundLine, scraps_of}
-use Rattle.cw_scraps.specs.Marking.{MarkList}
-use Rattle.cw_translator.specs.declared.translator.Translated.{Translated}
-use Rattle.cw_translator.specs.Counting.{limit_in, productions_in, scraps_in, text_limit, ticks_in}
-use Rattle.cw_translator.specs.Opening.{HasEnded, of_leaf, progress_of}
-use Rattle.cw_translator.specs.Reading.{Progress, all_ended}
 use Rattle.cw_translator.specs.Recording.{HasRecorded, begun_over, ended_now}
-use Rattle.cw_translator.specs.Retyping.{NamesOnTheWay, at_end}
-use Rattle.cw_translator.proofs.Recorded.{grown-none, recorded-one}
-use Rattle.cw_translator.proofs.Sums.{sum-one}
+use Rattle.cw_translator.proofs.Sums.{limit-one, productions-one, scraps-one, ticks-one}
 use Rattle.cw_translator.proofs.Retypings.{retypes, retyped-names}
 use Rattle.cw_rewrite.proofs.WalkSteps.{GoesOn, WalkEnds, Walks, goes-on, walk-ends, walk-reaches, walk-starts}
 
@@ -45,8 +26,7 @@ not-true false e = refl
 pub alone-none : (cat : Cat) (may : Bool)
     → (may ≡ false → (third fourth : Cat) → first_of productions (cat ∷ End ∷ third ∷ fourth ∷ []) ≡ None)
     → not may ≡ true → first_of productions (cat ∷ []) ≡ None
-alone-none cat may none e = sym (first-window productions (cat ∷ []) productions-sound)
-    ∙ none (not-true may e) End End
+alone-none cat may none e = sym (first-window productions (cat ∷ []) productions-sound) ∙ none (not-true may e) End End
 
 nil-log : (items : List Production) → length items ≡ 0 → items ≡ []
 nil-log [] e = refl
@@ -77,19 +57,13 @@ module _ (flags : Flags) (store : StoredLists) (names : List Entry) (marks : Mar
       → done.productions ≡ 0 → steps2 ≡ steps + 4
       → HasEnded flags (of_leaf leaf) steps lists names marks done steps2 (all_ended flags here_now)
   alone-done lists done steps2 tree scraps none_done spent =
-      let one : 1 ≡ scraps_in (state ∷ []) = sum-one (λ s. length s.scraps) state in
-      let applied : count productions flags state ≡ productions_in flags (state ∷ []) =
-      sum-one (λ s. count productions flags s) state in
-      let ticked : ticks productions flags state ≡ ticks_in flags (state ∷ []) =
-      sum-one (λ s. ticks productions flags s) state in
       record {
         tree = tree ∙ ap (λ (s : State). whole s.scraps) ends.normal;
         names_are = retyped-names flags state state names names ends.normal refl refl;
         marks_are = ap (λ (s : State). s.marks) ends.normal;
-        scraps = omega (arith, scraps, one);
-        productions_are = omega (arith, none_done, ends.number, applied);
-        steps_are = (let k : steps2 ≡ steps + ticks productions flags state = spent ∙ ends.ticked in
-            omega (arith, k, ticked));
+        scraps = omega (arith, scraps, scraps-one state);
+        productions_are = omega (arith, none_done, ends.number, productions-one flags state);
+        steps_are = omega (arith, spent, ends.ticked, ticks-one flags state);
       }
 
   -- its log is empty
@@ -108,7 +82,4 @@ module _ (flags : Flags) (store : StoredLists) (names : List Entry) (marks : Mar
 
   pub alone-spent : (steps2 : ℕ) → steps2 ≡ steps + 4
       → steps2 ≤ steps + limit_in flags (all_ended flags here_now).known.ended
-  alone-spent steps2 spent =
-      let few : 132 * 1 + 1 * reservings productions flags state ≡ limit_in flags (state ∷ []) =
-      sum-one (λ s. text_limit flags s) state in
-      let k : steps2 ≤ steps + limit_in flags (state ∷ []) = omega (arith, spent, few) in k
+  alone-spent steps2 spent = omega (arith, spent, limit-one flags state)

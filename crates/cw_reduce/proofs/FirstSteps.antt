@@ -1,41 +1,20 @@
 -- A text that begins with a token which makes a scrap: it has no head, and goes on behind that scrap.
-use Rattle.std.proofs.Common.{◌≡◌, ℕ, ◌^◌, false, None, List, [], ◌∷◌, ◌++◌, refl, sym, ap, ◌∙◌, subst}
-use Rattle.std.specs.Prelude.{Option, Result}
-use Rattle.cw_base.specs.declared.flags.Flags.{Flags}
-use Rattle.cw_base.specs.declared.memory.Memory.{Memory}
-use Rattle.cw_base.specs.declared.notes.NoteKind.{NoteKind}
-use Rattle.cw_rules.specs.Answers.{Answer, Token, Begin, Finish, Note, Gives, seen}
+use Rattle.cw_reduce.proofs.Terms.{◌≡◌, ℕ, ◌^◌, false, None, List, [], ◌∷◌, ◌++◌, refl, sym, ap, ◌∙◌, subst, Option}
+use Rattle.cw_reduce.proofs.Terms.{Result, Flags, Memory, NoteKind, Answer, Token, Begin, Finish, Note, Gives, seen}
+use Rattle.cw_reduce.proofs.Terms.{Lexed, Tok, TokKind, is_name_kind, headed, nest, IsNested, Entry, StoredToken}
+use Rattle.cw_reduce.proofs.Terms.{MakesLeaf, Beginning, Translated, Translator, Work, NamesWithin, answers_ahead}
+use Rattle.cw_reduce.proofs.Terms.{is_definition, name_ahead, read_made, without_notes, words_in, NamesOfText, behind}
+use Rattle.cw_reduce.proofs.Terms.{behind_head, head_begun, in_head, to_translation, with_texts, StartsBelow}
+use Rattle.cw_reduce.proofs.Terms.{answers_in, of_leaf, Progress, after_answers, all_ended, NamesOnTheWay, here, later}
+use Rattle.cw_reduce.proofs.Terms.{NameTexts, begin, end_of, head_made, headed_made, Told, EndsIn, progress_over}
+use Rattle.cw_reduce.proofs.Terms.{to_end, ends-as}
 use Rattle.cw_rules.specs.declared.codes.Code.TheVariants as code
-use Rattle.cw_rules.specs.declared.tokens.Lexed.{Lexed}
 use Rattle.cw_rules.specs.declared.tokens.Lexed.TheVariants as lexed
-use Rattle.cw_rules.specs.declared.tokens.Tok.{Tok}
-use Rattle.cw_rules.specs.declared.tokens.TokKind.{TokKind}
 use Rattle.cw_rules.specs.declared.tokens.TokKind.TheVariants as kind
-use Rattle.cw_lex.specs.Limbo.{is_name_kind}
-use Rattle.cw_lex.specs.Heads.{headed}
-use Rattle.cw_lex.specs.Nest.{nest}
-use Rattle.cw_lex.specs.Nested.{IsNested}
-use Rattle.cw_names.specs.Names.{Entry}
-use Rattle.cw_tokens.specs.declared.token.Token.{Token as StoredToken}
-use Rattle.cw_scraps.specs.Leaves.{MakesLeaf}
 use Rattle.cw_scraps.specs.declared.leaves.Leaf.{Leaf}
-use Rattle.cw_reduce.specs.declared.heads.Beginning.{Beginning}
 use Rattle.cw_reduce.specs.declared.heads.HeadRead.TheVariants as read
-use Rattle.cw_translator.specs.declared.translator.Translated.{Translated}
-use Rattle.cw_translator.specs.declared.translator.Translator.{Translator}
-use Rattle.cw_translator.specs.declared.work.Work.{Work}
-use Rattle.cw_reduce.specs.HeadReading.{NamesWithin, answers_ahead, is_definition, name_ahead, read_made}
-use Rattle.cw_reduce.specs.HeadReading.{without_notes, words_in}
-use Rattle.cw_reduce.specs.Heading.{NamesOfText, behind, behind_head, head_begun, in_head, to_translation}
-use Rattle.cw_reduce.specs.Naming.{with_texts}
-use Rattle.cw_translator.specs.Opening.{StartsBelow, answers_in, of_leaf}
-use Rattle.cw_translator.specs.Reading.{Progress, after_answers, after_token, all_ended}
-use Rattle.cw_translator.specs.Retyping.{NamesOnTheWay, here, later}
-use Rattle.cw_translator.specs.Translating.{NameTexts, begin, end_of, head_made, headed_made}
+use Rattle.cw_translator.specs.Reading.{after_token}
 use Rattle.cw_translator.specs.Translating.{translated}
-use Rattle.cw_rewrite.specs.Telling.{Told}
-use Rattle.cw_translator.specs.Working.{EndsIn, progress_over, to_end}
-use Rattle.cw_translator.proofs.Routes.{ends-as}
 use Rattle.cw_reduce.proofs.HeadFinds.{NoHead, no-head, none-token}
 use Rattle.cw_reduce.proofs.HeadSteps.{headed-translated, headed-whole}
 use Rattle.cw_reduce.proofs.NamedJoined.{AllNested}

@@ -1,29 +1,15 @@
 -- The words of a head are read from answers one after another.
-use Rattle.std.proofs.Common.{◌≡◌, ℕ, ◌+◌, ◌<◌, ◌≤◌, ◌^◌, length, arith, Bool, true, Option, Some, None, List, [], ◌∷◌}
-use Rattle.std.proofs.Common.{◌++◌, option_map, refl, sym, ap, ◌∙◌, subst}
-use Rattle.std.specs.List.{list_all}
-use Rattle.std.proofs.lemmas.List.{append_assoc, append-nil}
-use Rattle.cw_base.proofs.TestLaws.{both, both-left, both-right}
-use Rattle.cw_base.specs.declared.notes.NoteKind.{NoteKind}
-use Rattle.cw_base.specs.declared.span.Span.{Span}
-use Rattle.cw_rules.specs.Answers.{Answer, Token, Begin, Finish, Note, Seen, seen, Gives}
-use Rattle.cw_lex.specs.declared.heads.Wanted.{Wanted}
-use Rattle.cw_rules.specs.declared.tokens.Lexed.{Lexed}
+use Rattle.cw_reduce.proofs.Terms.{◌≡◌, ℕ, ◌+◌, ◌<◌, ◌≤◌, ◌^◌, length, arith, Bool, true, Option, Some, None, List, []}
+use Rattle.cw_reduce.proofs.Terms.{◌∷◌, ◌++◌, option_map, refl, sym, ap, ◌∙◌, subst, list_all, append-nil, both}
+use Rattle.cw_reduce.proofs.Terms.{both-left, both-right, NoteKind, Span, Answer, Token, Begin, Finish, Note, Seen}
+use Rattle.cw_reduce.proofs.Terms.{seen, Gives, Wanted, Lexed, Tok, TokKind, Words, no_word, word_before, head_behind}
+use Rattle.cw_reduce.proofs.Terms.{head_words, without_words, Nest, End, Leaf, Group, group, nests, first_nest, nest}
+use Rattle.cw_reduce.proofs.Terms.{IsNested, nested-behind, nest-token, Entry, StoredToken, LeafForm, token_form}
+use Rattle.cw_reduce.proofs.Terms.{names_with, is_word, NamesWithin, without_notes, answer_words, StartsBelow}
+use Rattle.cw_reduce.proofs.Terms.{answers_in, first_word, form_tokens, later_words, spelled, spelled_behind}
+use Rattle.cw_reduce.proofs.Terms.{word_tokens, append_assoc}
 use Rattle.cw_rules.specs.declared.tokens.Lexed.TheVariants as lexed
-use Rattle.cw_rules.specs.declared.tokens.Tok.{Tok}
-use Rattle.cw_rules.specs.declared.tokens.TokKind.{TokKind}
 use Rattle.cw_rules.specs.declared.tokens.TokKind.TheVariants as kind
-use Rattle.cw_lex.specs.Heads.{Words, no_word, word_before, head_behind, head_words, without_words}
-use Rattle.cw_lex.specs.Nest.{Nest, End, Leaf, Group, group, nests, first_nest, nest}
-use Rattle.cw_lex.specs.Nested.{IsNested}
-use Rattle.cw_lex.proofs.HeadNests.{nested-behind, nest-token}
-use Rattle.cw_names.specs.Names.{Entry}
-use Rattle.cw_tokens.specs.declared.token.Token.{Token as StoredToken}
-use Rattle.cw_scraps.specs.Leaves.{LeafForm, token_form, names_with}
-use Rattle.cw_scraps.specs.Words.{is_word}
-use Rattle.cw_reduce.specs.HeadReading.{NamesWithin, without_notes, answer_words}
-use Rattle.cw_translator.specs.Opening.{StartsBelow, answers_in}
-use Rattle.cw_translator.specs.Translating.{first_word, form_tokens, later_words, spelled, spelled_behind, word_tokens}
 use Rattle.cw_reduce.proofs.ReadSteps.{gives-is}
 
 -- ## Notes
@@ -67,9 +53,7 @@ notes-short = by-notes (λ answers bare. length bare ≤ length answers) (λ ans
 pub token-shorter : (answers new : List Answer) (t : Tok) → Gives (without_notes answers) (lexed.Token t) new
     → length new < length answers
 token-shorter answers new t g =
-    let size : length (without_notes answers) ≡ length new + 1 = ap length g ∙ omega arith in
-    let short : length (without_notes answers) ≤ length answers = notes-short answers in
-    omega arith
+    omega (arith, ap length g, notes-short answers)
 
 -- answers that begin with a token give no other
 pub only-token : (t : Seen) (rest new : List Answer) (answer : Lexed) → Gives (Token t ∷ rest) answer new
@@ -188,16 +172,14 @@ module _ (wanted₀ : Wanted) (all : List Answer) (names₀ : List Entry) (token
   module _ (t : Tok) (new : List Answer) (g : Gives (without_notes rest) (lexed.Token t) new) (next : Wanted)
       (e : head_behind wanted t.kind t.span ≡ Some next) (names' : List Entry) (named : names'
       ≡ names_with t.kind t.text.now names) where
-    behind : spelled (r.first ++ seen t ∷ []) names₀
-        ≡ record {
-          tokens = (spelled r.first names₀).tokens ++ word_tokens (seen t) names;
-          names = names_with t.kind t.text.now names;
-        }
-    behind = spelled-behind r.first (seen t) names₀
-        ∙ ap (λ ns. record {
-          tokens = (spelled r.first names₀).tokens ++ word_tokens (seen t) ns;
-          names = names_with t.kind t.text.now ns;
-        }) (sym r.names_are)
+    behind : spelled (r.first ++ seen t ∷ []) names₀ ≡ record {
+      tokens = (spelled r.first names₀).tokens ++ word_tokens (seen t) names;
+      names = names_with t.kind t.text.now names;
+    }
+    behind = spelled-behind r.first (seen t) names₀ ∙ ap (λ ns. record {
+      tokens = (spelled r.first names₀).tokens ++ word_tokens (seen t) ns;
+      names = names_with t.kind t.text.now ns;
+    }) (sym r.names_are)
 
     here : answer_words wanted rest ≡ seen t ∷ answer_words next new
     here = sym (words-notes wanted rest) ∙ (ap (answer_words wanted) g
@@ -216,8 +198,7 @@ module _ (wanted₀ : Wanted) (all : List Answer) (names₀ : List Entry) (token
       first = r.first ++ seen t ∷ [];
       later = answer_words next new;
       are = all-words;
-      is = named
-          ∙ ap (λ s. s.names) (sym behind);
+      is = named ∙ ap (λ s. s.names) (sym behind);
     }
 
     pub reads-word : (token : StoredToken) (tokens' : List StoredToken)
@@ -228,8 +209,7 @@ module _ (wanted₀ : Wanted) (all : List Answer) (names₀ : List Entry) (token
       first = r.first ++ seen t ∷ [];
       words = all-words;
       names_are = named ∙ ap (λ s. s.names) (sym behind);
-      tokens_are = pushed
-          ∙ (ap (λ ts. ts ++ token ∷ []) r.tokens_are
+      tokens_are = pushed ∙ (ap (λ ts. ts ++ token ∷ []) r.tokens_are
           ∙ (append_assoc tokens₀ (spelled r.first names₀).tokens (token ∷ [])
           ∙ (ap (λ ts. tokens₀ ++ ((spelled r.first names₀).tokens ++ ts))
           (sym (form-is (token_form t.kind t.text.now t.hash_line t.span.start names) token form))

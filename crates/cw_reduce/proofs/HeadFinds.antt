@@ -1,39 +1,22 @@
 -- What stands behind heads, as they are read.
-use Rattle.std.specs.Prelude.{IsErrAnd, Ok, Result}
-use Rattle.std.proofs.lemmas.List.{append-nil}
-use Rattle.cw_base.specs.declared.memory.Memory.{Memory}
-use Rattle.cw_tokens.specs.Stored.{StoredLists}
-use Rattle.cw_reduce.specs.HeadsRead.{HeadIsRead}
-use Rattle.cw_translator.proofs.LeafSteps.{empty-line, keeps-itself}
-use Rattle.cw_translator.proofs.Routes.{err-if, err-ok, on-err}
-use Rattle.std.proofs.Common.{◌≡◌, ◌^◌, Bool, true, false, Some, None, List, [], ◌∷◌, ◌++◌, refl, sym}
-use Rattle.std.proofs.Common.{ap, ◌∙◌, subst}
-use Rattle.cw_rules.specs.Answers.{Answer, Token, Begin, Finish, Note, Seen, seen, Gives, is_head_sign}
+use Rattle.cw_reduce.proofs.Terms.{IsErrAnd, Ok, Result, append-nil, Memory, StoredLists, HeadIsRead, empty-line}
+use Rattle.cw_reduce.proofs.Terms.{keeps-itself, err-if, err-ok, on-err, ◌≡◌, ◌^◌, true, false, Some, None, List, []}
+use Rattle.cw_reduce.proofs.Terms.{◌∷◌, ◌++◌, refl, sym, ap, ◌∙◌, subst, Answer, Token, Begin, Finish, Note, Seen, seen}
+use Rattle.cw_reduce.proofs.Terms.{Gives, is_head_sign, Lexed, Tok, TokKind, is_name_kind, Head, Headless, Named}
+use Rattle.cw_reduce.proofs.Terms.{Headed, headed, headed_by, headless, named_headed, wanted_by, without_words, Nest}
+use Rattle.cw_reduce.proofs.Terms.{Leaf, group, nests, first_nest, nest, IsNested, nested-behind, nest-token}
+use Rattle.cw_reduce.proofs.Terms.{words-leave, Entry, Flags, StoredToken, Beginning, HeadRead, NamesWithin}
+use Rattle.cw_reduce.proofs.Terms.{answer_words, answers_ahead, head_line, head_named, is_definition, name_ahead}
+use Rattle.cw_reduce.proofs.Terms.{read_made, without_notes, words_in, Known, NameTexts, head_made, spelled, with_names}
+use Rattle.cw_reduce.proofs.Terms.{StartsBelow, answers_in}
 use Rattle.cw_rules.specs.declared.codes.Code.TheVariants as code
-use Rattle.cw_rules.specs.declared.tokens.Lexed.{Lexed}
 use Rattle.cw_rules.specs.declared.tokens.Lexed.TheVariants as lexed
-use Rattle.cw_rules.specs.declared.tokens.Tok.{Tok}
-use Rattle.cw_rules.specs.declared.tokens.TokKind.{TokKind}
 use Rattle.cw_rules.specs.declared.tokens.TokKind.TheVariants as kind
-use Rattle.cw_lex.specs.Limbo.{is_name_kind}
-use Rattle.cw_lex.specs.Heads.{Head, Headless, Named, Headed, headed, headed_by, headless, named_headed}
-use Rattle.cw_lex.specs.Heads.{wanted_by, without_words}
-use Rattle.cw_lex.specs.Nest.{Nest, Leaf, group, nests, first_nest, nest}
-use Rattle.cw_lex.specs.Nested.{IsNested}
-use Rattle.cw_lex.proofs.HeadNests.{nested-behind, nest-token, words-leave}
-use Rattle.cw_names.specs.Names.{Entry}
-use Rattle.cw_base.specs.declared.flags.Flags.{Flags}
-use Rattle.cw_tokens.specs.declared.token.Token.{Token as StoredToken}
-use Rattle.cw_reduce.specs.declared.heads.Beginning.{Beginning}
-use Rattle.cw_reduce.specs.declared.heads.HeadRead.{HeadRead}
 use Rattle.cw_reduce.specs.declared.heads.HeadRead.TheVariants as read
-use Rattle.cw_reduce.specs.HeadReading.{NamesWithin, answer_words, answers_ahead, head_line, head_named, is_definition}
-use Rattle.cw_reduce.specs.HeadReading.{name_ahead, read_made, without_notes, words_in}
-use Rattle.cw_translator.specs.Translating.{Known, NameTexts, head_made, spelled, with_names}
-use Rattle.cw_translator.specs.Opening.{StartsBelow, answers_in}
 use Rattle.cw_reduce.proofs.ReadSteps.{gives-is}
 use Rattle.cw_reduce.proofs.HeadAnswers.{nests-notes, nested-notes, only-token, starts-notes}
 use Rattle.cw_reduce.proofs.HeadMakes.{behind}
+use Rattle.cw_reduce.proofs.HeadReads.{sign_headed}
 
 -- ## Definitions
 
@@ -45,8 +28,7 @@ definition-rest k t answers ahead d h is =
     let l = words-leave (wanted_by k) answers inner in
     subst (λ list. IsNested list × (nest list ≡ (headed_by k t (nest answers)).rest)) (sym is) (
       l.0,
-      l.1
-          ∙ sym (behind k t answers d inner).rest,
+      l.1 ∙ sym (behind k t answers d inner).rest,
     )
 
 pub definition-within : (k : TokKind) (t : Seen) (answers : List Answer) (names new : List Entry) → is_definition k
@@ -98,20 +80,14 @@ module _ (rest new : List Answer) (t : Tok) (g : Gives (without_notes rest) (lex
     pub token-nest : nest rest ≡ Leaf (seen t) (nest new)
     token-nest = sym (nests-notes rest) ∙ (ap nest g ∙ nest-token (seen t) new token-nested)
 
-    abbrev by_sign : Seen → Bool → Headed
-    by_sign name b = elim b [
-      | true ↦ record { head = Named name.span.start t.span.start; rest = nest new }
-      | false ↦ headless (Leaf name (Leaf (seen t) (nest new)))
-    ]
-
     pub signed : (name : Seen) → is_head_sign t.kind ≡ true → named_headed name (nest rest)
         ≡ record { head = Named name.span.start t.span.start; rest = nest new }
-    signed name e = ap (named_headed name) token-nest ∙ ap (by_sign name) e
+    signed name e = ap (named_headed name) token-nest ∙ ap (sign_headed name (seen t) (nest new)) e
 
     pub unsigned-token : (name : Seen) → is_head_sign t.kind ≡ false → named_headed name (nest rest)
         ≡ headless (Leaf name (nest rest))
     unsigned-token name e = ap (named_headed name) token-nest
-        ∙ (ap (by_sign name) e ∙ ap (λ n. headless (Leaf name n)) (sym token-nest))
+        ∙ (ap (sign_headed name (seen t) (nest new)) e ∙ ap (λ n. headless (Leaf name n)) (sym token-nest))
 
 -- A name that heads nothing stands before the others again.
 pub record NameAhead (name : Seen) (rest ahead : List Answer) : Type 0 where
@@ -156,8 +132,7 @@ name-headed (kind.Code code.FileName) t n e = refl
 name-headed k t n e = absurd cc
 
 pub none-headed : (k : TokKind) (t : Seen) (n : Nest) → is_definition k ≡ false → is_name_kind k ≡ false
-    → headed_by k t n
-    ≡ headless (Leaf t n)
+    → headed_by k t n ≡ headless (Leaf t n)
 none-headed (kind.Code code.Define) t n d e = absurd cc
 none-headed (kind.Code code.Format) t n d e = absurd cc
 none-headed (kind.Code code.SilentFormat) t n d e = absurd cc
@@ -203,8 +178,7 @@ unsigned-signs name rest new answer b head named next g h s u =
     ap (λ o. (name_ahead o ++ answers_in b.next) ++ new) named
     ∙ ap (λ l. (Token (seen name) ∷ answers_in l) ++ new) next in
     subst (Signs (seen name) rest b) (sym is) (record {
-      head = n.head
-          ∙ ap head_named (sym head);
+      head = n.head ∙ ap head_named (sym head);
       line = ap head_line head;
       rest_is = n.rest_is;
       nested = n.nested;

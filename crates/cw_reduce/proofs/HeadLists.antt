@@ -1,11 +1,8 @@
 -- The lists of heads are built token by token.
-use Rattle.std.proofs.Common.{◌≡◌, ℕ, zero, suc, ◌<◌, Option, Some, None, List, [], ◌∷◌, ◌++◌, length, get_or, refl}
-use Rattle.std.proofs.Common.{sym, ◌∙◌, arith}
+use Rattle.cw_reduce.proofs.Terms.{◌≡◌, ℕ, zero, suc, ◌<◌, Option, Some, None, List, [], ◌∷◌, ◌++◌, length, get_or}
+use Rattle.cw_reduce.proofs.Terms.{refl, sym, ◌∙◌, arith, StoredToken as Token, shape, ref_of, StoredLists, MayBePushed}
+use Rattle.cw_reduce.proofs.Terms.{refs_in}
 use Rattle.std.specs.Option.{option_to_list}
-use Rattle.cw_tokens.specs.declared.token.Token.{Token}
-use Rattle.cw_tokens.specs.Shapes.{shape, ref_of}
-use Rattle.cw_tokens.specs.Stored.{StoredLists, MayBePushed}
-use Rattle.cw_rewrite.specs.Gathering.{refs_in}
 
 none-left : (xs ys : List ℕ) → xs ++ ys ≡ [] → (xs ≡ []) × (ys ≡ [])
 none-left [] ys e = (refl, e)

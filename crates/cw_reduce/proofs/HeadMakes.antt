@@ -1,47 +1,24 @@
 -- What the head of a definition makes.
-use Rattle.std.proofs.Common.{◌≡◌, ℕ, ◌≤◌, true, false, Some, None, List, [], ◌∷◌, ◌++◌, length, refl, sym, ap, ◌∙◌}
-use Rattle.std.proofs.Common.{subst, arith}
-use Rattle.std.specs.List.{list_all}
-use Rattle.std.proofs.lemmas.List.Elements.{All-head}
+use Rattle.cw_reduce.proofs.Terms.{◌≡◌, ℕ, ◌≤◌, true, false, Some, None, List, [], ◌∷◌, ◌++◌, length, refl, sym, ap}
+use Rattle.cw_reduce.proofs.Terms.{◌∙◌, subst, arith, list_all, Flags, Text, Answer, Seen, Wanted, TokKind, Head, Macro}
+use Rattle.cw_reduce.proofs.Terms.{Format, Silent, headed_by, head_words, wanted_by, Nest, nest, IsNested, Entry, Scrap}
+use Rattle.cw_reduce.proofs.Terms.{scrap_agrees, ListId, StoredToken as Token, IsTied, trees_from, unfolded}
+use Rattle.cw_reduce.proofs.Terms.{StoredLists, unfolded-new, Keeps, scraps_of, roots_of, AreRoots, IsSoundLine}
+use Rattle.cw_reduce.proofs.Terms.{leaf-sound, HeadRead, refs_in, IsLast, HasTokens, answer_words, head_line}
+use Rattle.cw_reduce.proofs.Terms.{is_definition, macro_tokens, format_tokens, with_break, read_made, words_in}
+use Rattle.cw_reduce.proofs.Terms.{words_tokens, NameTexts, Known, Made, with_names, spelled, first_word, later_words}
+use Rattle.cw_reduce.proofs.Terms.{dollared, names_in_text, dead, leaf_scrap, head_made, empty-line, keeps-itself}
 use Rattle.cw_base.specs.declared.category.Cat.TheVariants as cat
-use Rattle.cw_base.specs.Flags.{start_flags}
-use Rattle.cw_base.specs.declared.flags.Flags.{Flags}
-use Rattle.cw_base.specs.declared.mode.MathMode.TheVariants.{Text}
-use Rattle.cw_rules.specs.Answers.{Answer, Seen}
 use Rattle.cw_rules.specs.declared.codes.Code.TheVariants as code
-use Rattle.cw_lex.specs.declared.heads.Wanted.{Wanted}
 use Rattle.cw_lex.specs.declared.heads.Wanted.TheVariants as wants
-use Rattle.cw_rules.specs.declared.tokens.TokKind.{TokKind}
 use Rattle.cw_rules.specs.declared.tokens.TokKind.TheVariants as kind
-use Rattle.cw_lex.specs.Heads.{Head, Macro, Format, Silent, headed_by, head_words, wanted_by}
-use Rattle.cw_lex.specs.Nest.{Nest, nest}
-use Rattle.cw_lex.specs.Nested.{IsNested}
-use Rattle.cw_names.specs.Names.{Entry}
 use Rattle.cw_trees.specs.declared.Control.TheVariants as control
-use Rattle.cw_trees.specs.Joining.{Scrap, scrap_agrees}
-use Rattle.cw_tokens.specs.declared.token.ListId.{ListId}
-use Rattle.cw_tokens.specs.declared.token.Token.{Token}
 use Rattle.cw_tokens.specs.declared.token.Token.TheVariants as token
-use Rattle.cw_tokens.specs.References.{IsTied}
-use Rattle.cw_tokens.specs.Shapes.{trees_from, unfolded}
-use Rattle.cw_tokens.specs.Stored.{StoredLists}
-use Rattle.cw_tokens.proofs.Unfolding.{unfolded-new}
-use Rattle.cw_scraps.specs.Changing.{Keeps}
-use Rattle.cw_scraps.specs.Lines.{scraps_of, roots_of, AreRoots, IsSoundLine}
-use Rattle.cw_scraps.proofs.LeafForms.{leaf-sound}
-use Rattle.cw_reduce.specs.declared.heads.HeadRead.{HeadRead}
 use Rattle.cw_reduce.specs.declared.heads.HeadRead.TheVariants as read
-use Rattle.cw_rewrite.specs.Gathering.{refs_in}
-use Rattle.cw_reduce.specs.HeadReading.{IsLast, HasTokens, answer_words, head_line, is_definition, macro_tokens}
-use Rattle.cw_reduce.specs.HeadReading.{format_tokens, with_break, read_made, words_in, words_tokens}
-use Rattle.cw_translator.specs.Translating.{NameTexts, Known, Made, with_names, spelled, first_word, later_words}
-use Rattle.cw_translator.specs.Translating.{dollared, names_in_text}
-use Rattle.cw_translator.specs.Translating.{dead, leaf_scrap, head_made}
 use Rattle.cw_reduce.proofs.HeadAnswers.{word_kind, words-fit, words-same}
-use Rattle.cw_reduce.proofs.HeadReads.{HeadFits, reads-head}
+use Rattle.cw_reduce.proofs.HeadReads.{HeadFits, dead-agrees, format-spells, macro-spells}
 use Rattle.cw_reduce.proofs.HeadTokens.{AreNamed, spelled-named, spelled-grow, plain-refs, macro-named, format-named}
 use Rattle.cw_reduce.proofs.HeadTokens.{break-behind, later-names, head-plain, head-tree, head-good}
-use Rattle.cw_translator.proofs.LeafSteps.{empty-line, keeps-itself}
 use Rattle.cw_translator.proofs.OpenLaws.{plain-keeps}
 
 -- ## A list that is new
@@ -102,8 +79,7 @@ pub record Defines (old new : StoredLists) (names names' : List Entry) (head : H
   pub makes : Makes old new names names' head
 
 scrap-made : (scraps scraps' : List Scrap) (names names' : List Entry) (known : Known) → scraps' ≡ scraps
-    → names' ≡ names
-    → ◌≡◌ {A = Made} (record { scraps = scraps; items = []; known = with_names names known })
+    → names' ≡ names → ◌≡◌ {A = Made} (record { scraps = scraps; items = []; known = with_names names known })
     (record { scraps = scraps'; items = []; known = with_names names' known })
 scrap-made scraps scraps' names names' known e f = cc
 
@@ -117,14 +93,12 @@ module _ (number : ℕ) (words : List Seen) (old new : StoredLists) (names names
   more : length names ≤ length names'
   more = subst (λ ns. length names ≤ length ns) (sym are) (spelled-grow words names)
 
-  macro-by : (head : HeadRead) → HeadFits (Macro number words)
+  macro-by : (head : HeadRead)
       → HasTokens (Some (macro_tokens number (spelled words names).tokens)) head old.lists new.lists
       → Defines old new names names' head (Macro number words)
-  macro-by (read.Dead list) fits last =
+  macro-by (read.Dead list) last =
       let ts = dollared (spelled words names).tokens ++ token.Control control.OptionalBreak ∷ [] in
-      let known : Known = record { names = names; marks = []; ended = [] } in
-      let agrees : scrap_agrees (leaf_scrap (dead number ts)) = All-head scrap_agrees (leaf_scrap (dead number ts)) []
-      (reads-head start_flags (λ n. None) (Macro number words) known fits refl).scraps.modes in
+      let agrees = dead-agrees number ts _ (macro-spells words names fit) in
       let all = macro-named (length names') number (spelled words names).tokens spelled-there in
       record {
         made = λ flags named known. scrap-made (leaf_scrap (dead number ts) ∷ [])
@@ -132,8 +106,8 @@ module _ (number : ℕ) (words : List Seen) (old new : StoredLists) (names names
             (dead-seen number ts list old new names names' all agrees last) are;
         makes = dead-makes number ts list old new names names' all agrees last tied was_idle idle more;
       }
-  macro-by read.None fits last = absurd last
-  macro-by (read.Named n s) fits last = absurd last
+  macro-by read.None last = absurd last
+  macro-by (read.Named n s) last = absurd last
 
   format-by : (head : HeadRead) → HeadFits (Format number words)
       → HasTokens (Some (format_tokens number (spelled words names).tokens)) head old.lists new.lists
@@ -143,9 +117,7 @@ module _ (number : ℕ) (words : List Seen) (old new : StoredLists) (names names
       let ts = names_in_text first.tokens ++ token.Control control.OptionalBreak
       ∷ names_in_text (spelled (later_words words) first.names).tokens in
       let same : ts ≡ with_break (spelled words names).tokens = break-behind words names fit in
-      let known : Known = record { names = names; marks = []; ended = [] } in
-      let agrees : scrap_agrees (leaf_scrap (dead number ts)) = All-head scrap_agrees (leaf_scrap (dead number ts)) []
-      (reads-head start_flags (λ n. None) (Format number words) known fits refl).scraps.modes in
+      let agrees = dead-agrees number ts _ (format-spells words names fits) in
       let all : AreNamed (length names') (dead number ts).tokens =
       subst (λ us. AreNamed (length names') (dead number us).tokens) (sym same)
       (format-named (length names') number (spelled words names).tokens spelled-there) in
@@ -196,11 +168,9 @@ pub definition-defines : (k : TokKind) (t : Seen) (answers : List Answer) (old n
     → ((n : Nest) → HeadFits (headed_by k t n).head) → DefinesBy k t answers old new names names' head
 definition-defines (kind.Code code.Define) t answers old new names names' head d h are tied was idle has fits =
     let same = words-same wants.Macro answers h in
-    let f : HeadFits (Macro t.span.start (answer_words wants.Macro answers)) =
-    subst (λ ws. HeadFits (Macro t.span.start ws)) same (fits (nest answers)) in
     subst (λ ws. Defines old new names names' head (Macro t.span.start ws)) (sym same)
     (macro-by t.span.start (answer_words wants.Macro answers) old new names names' head (words-fit wants.Macro answers)
-    are tied was idle head f has)
+    are tied was idle head has)
 definition-defines (kind.Code code.Format) t answers old new names names' head d h are tied was idle has fits =
     let same = words-same (wants.First false) answers h in
     let f : HeadFits (Format t.span.start (answer_words (wants.First false) answers)) =

@@ -1,74 +1,97 @@
 -- Read from text, the leaves of heads end in text as well.
-use Rattle.std.proofs.Common.{◌≡◌, ℕ, Bool, true, false, Option, Some, None, List, [], ◌∷◌, ◌++◌, refl, sym, ap, ◌∙◌}
-use Rattle.std.proofs.Common.{subst}
-use Rattle.std.specs.List.{list_all}
-use Rattle.std.proofs.lemmas.List.{append-nil, append_assoc}
-use Rattle.cw_base.proofs.TestLaws.{both, both-left, both-right}
-use Rattle.cw_base.specs.declared.category.Cat.{Cat}
-use Rattle.cw_base.specs.declared.category.Cat.TheVariants.{Exp, TexLike}
-use Rattle.cw_base.specs.declared.flags.Flags.{Flags}
-use Rattle.cw_base.specs.declared.mode.MathMode.{MathMode}
-use Rattle.cw_base.specs.declared.mode.MathMode.TheVariants.{Text, Math}
-use Rattle.cw_base.specs.declared.span.Span.{Span}
-use Rattle.cw_rules.specs.Answers.{Answer, Seen, is_head_sign}
+use Rattle.cw_reduce.proofs.Terms.{◌≡◌, ℕ, Bool, true, false, Option, Some, None, List, [], ◌∷◌, ◌++◌, refl, sym, ap}
+use Rattle.cw_reduce.proofs.Terms.{◌∙◌, subst, list_all, append-nil, both, both-left, both-right, Cat, Exp, TexLike}
+use Rattle.cw_reduce.proofs.Terms.{Flags, MathMode, Text, Math, Span, Answer, Seen, is_head_sign, Wanted, TokKind, Head}
+use Rattle.cw_reduce.proofs.Terms.{Headless, Macro, Format, Silent, Named, Headed, headed, headed_by, headless}
+use Rattle.cw_reduce.proofs.Terms.{named_headed, Words, no_word, word_before, head_behind, head_words, Nest, End, Leaf}
+use Rattle.cw_reduce.proofs.Terms.{Group, nest, NameId, Entry, reads, leads_on, stays, StoredToken as Token, tree_in}
+use Rattle.cw_reduce.proofs.Terms.{sign_mode, token_form, word_form, names_with, is_word, InnersRead, ReadsInText}
+use Rattle.cw_reduce.proofs.Terms.{Known, spelled, form_tokens, word_tokens, first_word, later_words, dollared, dead}
+use Rattle.cw_reduce.proofs.Terms.{leaf_scrap, sign_behind, head_made, headed_made, leaf_of_name, made, begin}
+use Rattle.cw_reduce.proofs.Terms.{names_in_text, names-append, struck, starts, scrap_agrees, append_assoc}
 use Rattle.cw_rules.specs.declared.codes.Code.TheVariants as code
-use Rattle.cw_lex.specs.declared.heads.Wanted.{Wanted}
 use Rattle.cw_lex.specs.declared.heads.Wanted.TheVariants as wants
 use Rattle.cw_rules.specs.declared.signs.Sign.{Sign}
 use Rattle.cw_rules.specs.declared.signs.Sign.TheVariants as sign
-use Rattle.cw_rules.specs.declared.tokens.TokKind.{TokKind}
 use Rattle.cw_rules.specs.declared.tokens.TokKind.TheVariants as kind
-use Rattle.cw_lex.specs.Heads.{Head, Headless, Macro, Format, Silent, Named, Headed, headed, headed_by, headless}
-use Rattle.cw_lex.specs.Heads.{named_headed, Words, no_word, word_before, head_behind, head_words}
-use Rattle.cw_lex.specs.Nest.{Nest, End, Leaf, Group, nest}
-use Rattle.cw_names.specs.declared.NameId.{NameId}
-use Rattle.cw_names.specs.Names.{Entry}
 use Rattle.cw_trees.specs.declared.Control.TheVariants as control
-use Rattle.cw_trees.specs.Joining.{reads, leads_on, stays}
-use Rattle.cw_tokens.specs.declared.token.Token.{Token}
 use Rattle.cw_tokens.specs.declared.token.Token.TheVariants as token
-use Rattle.cw_tokens.specs.Shapes.{tree_in}
-use Rattle.cw_scraps.specs.Leaves.{sign_mode, token_form, word_form, names_with}
-use Rattle.cw_scraps.specs.Words.{is_word}
-use Rattle.cw_reduce.specs.TranslationLaws.{InnersRead, ReadsInText}
-use Rattle.cw_translator.specs.Translating.{Known, spelled, form_tokens, word_tokens, first_word, later_words, dollared}
-use Rattle.cw_translator.specs.Translating.{dead, leaf_scrap, sign_behind, head_made, headed_made, leaf_of_name, made}
-use Rattle.cw_translator.specs.Translating.{begin, names_in_text, translated}
-use Rattle.cw_translator.proofs.FormatNames.{names-append}
+use Rattle.cw_translator.specs.Translating.{translated}
 use Rattle.cw_reduce.proofs.HeadAnswers.{first-all, head-words-fit, later-all, word_kind}
 use Rattle.cw_reduce.proofs.ReadLaws.{IsFineKnown, IsSoundMade, reads-nothing, reads-scrap, reads-beside, reads-end}
 use Rattle.cw_reduce.proofs.ReadLaws.{reads-made, reads-leaf, reads-headed-name}
 
--- Tokens that are read in a mode and stay in it, and hold no inner text.
-record StaysIn (mode : MathMode) (tokens : List Token) : Type 0 where
+-- Tokens that are read in a mode and stay in it, hold no inner text, and show these numbers.
+pub record Spells (mode : MathMode) (tokens : List Token) (numbers : List ℕ) : Type 0 where
   pub stays : (rest : List Token) → reads (tree_in [] (tokens ++ rest)) mode ≡ reads (tree_in [] rest) mode
   pub inners : (rest : List Token) → InnersRead (tree_in [] rest) → InnersRead (tree_in [] (tokens ++ rest))
+  pub shows : (rest : List Token) → struck (tree_in [] (tokens ++ rest)) ≡ numbers ++ struck (tree_in [] rest)
 
-stays-none : (mode : MathMode) → StaysIn mode []
-stays-none mode = record { stays = λ rest. refl; inners = λ rest h. h }
+spells-none : (mode : MathMode) → Spells mode [] []
+spells-none mode = record { stays = λ rest. refl; inners = λ rest h. h; shows = λ rest. refl }
 
-stays-append : (mode : MathMode) (a b : List Token) → StaysIn mode a → StaysIn mode b → StaysIn mode (a ++ b)
-stays-append mode a b s t = record {
+spells-append : (mode : MathMode) (a b : List Token) (m n : List ℕ) → Spells mode a m → Spells mode b n
+    → Spells mode (a ++ b) (m ++ n)
+spells-append mode a b m n s t = record {
   stays = λ rest. ap (λ ts. reads (tree_in [] ts) mode) (append_assoc a b rest) ∙ s.stays (b ++ rest) ∙ t.stays rest;
   inners = λ rest h. let k : InnersRead (tree_in [] (a ++ (b ++ rest))) = s.inners (b ++ rest) (t.inners rest h) in
       rw (append_assoc a b rest) k;
+  shows = λ rest. ap (λ ts. struck (tree_in [] ts)) (append_assoc a b rest) ∙ s.shows (b ++ rest)
+      ∙ ap (λ ns. m ++ ns) (t.shows rest) ∙ sym (append_assoc m n (struck (tree_in [] rest)));
 }
 
-word-stays : (mode : MathMode) (c : Cat) (name : NameId) (n : ℕ) → StaysIn mode (word_form c name n).tokens
-word-stays mode Exp name n = record { stays = λ rest. refl; inners = λ rest h. h }
-word-stays mode _ name n = record { stays = λ rest. refl; inners = λ rest h. h }
+pub spells-numbers : (mode : MathMode) (tokens : List Token) (numbers : List ℕ) → Spells mode tokens numbers
+    → struck (tree_in [] tokens) ≡ numbers
+spells-numbers mode tokens numbers s = ap (λ ts. struck (tree_in [] ts)) (sym (append-nil tokens)) ∙ s.shows []
+    ∙ append-nil numbers
+
+word-spells : (mode : MathMode) (c : Cat) (name : NameId) (n : ℕ) → Spells mode (word_form c name n).tokens (n ∷ [])
+word-spells mode Exp name n = record { stays = λ rest. refl; inners = λ rest h. h; shows = λ rest. refl }
+word-spells mode _ name n = record { stays = λ rest. refl; inners = λ rest h. h; shows = λ rest. refl }
 
 sign-math : (s : Sign) → stays (sign_mode s) Math ≡ Some Math
 sign-math sign.LeftParen = refl
 sign-math _ = refl
 
-sign-stays : (s : Sign) (n : ℕ) → StaysIn Math (token.Source n (sign_mode s) ∷ [])
-sign-stays s n = record {
+sign-spells : (s : Sign) (n : ℕ) → Spells Math (token.Source n (sign_mode s) ∷ []) (n ∷ [])
+sign-spells s n = record {
   stays = λ rest. ap (λ o. leads_on o (reads (tree_in [] rest))) (sign-math s);
   inners = λ rest h. h;
+  shows = λ rest. refl;
 }
 
--- identifiers stay in each mode, and identifiers and signs in math
+-- identifiers and signs in math
+kind-spells : (k : TokKind) (text : List ℕ) (hash_line : Bool) (n : ℕ) (names : List Entry) → is_word k ≡ true
+    → Spells Math (form_tokens (token_form k text hash_line n names)) (n ∷ [])
+kind-spells kind.Identifier text hash_line n names h = word-spells Math _ _ n
+kind-spells (kind.Sign s) text hash_line n names h = sign-spells s n
+kind-spells k text hash_line n names h = absurd cc
+
+spelled-spells : (words : List Seen) (names : List Entry) → list_all word_kind words ≡ true
+    → Spells Math (spelled words names).tokens (starts words)
+spelled-spells [] names h = spells-none Math
+spelled-spells (word ∷ words) names h = spells-append Math _ _ (word.span.start ∷ []) (starts words)
+    (kind-spells word.kind word.text word.hash_line word.span.start names
+    (both-left (word_kind word) (list_all word_kind words) h))
+    (spelled-spells words _ (both-right (word_kind word) (list_all word_kind words) h))
+
+dollared-spells : (tokens : List Token) (numbers : List ℕ) → Spells Math tokens numbers
+    → Spells Text (dollared tokens) numbers
+dollared-spells [] numbers s = record { stays = λ rest. refl; inners = λ rest h. h; shows = s.shows }
+dollared-spells (t ∷ ts) numbers s = record {
+  stays = λ rest. ap (λ list. reads (tree_in [] list) Math) (append_assoc (t ∷ ts) (token.Control control.Dollar ∷ [])
+      rest) ∙ s.stays (token.Control control.Dollar ∷ rest);
+  inners = λ rest h. let k : InnersRead (tree_in [] ((t ∷ ts) ++ (token.Control control.Dollar ∷ rest))) =
+      s.inners (token.Control control.Dollar ∷ rest) h in subst (λ list. InnersRead (tree_in [] list))
+      (sym (append_assoc (t ∷ ts) (token.Control control.Dollar ∷ []) rest)) k;
+  shows = λ rest. ap (λ list. struck (tree_in [] list)) (append_assoc (t ∷ ts) (token.Control control.Dollar ∷ [])
+      rest) ∙ s.shows (token.Control control.Dollar ∷ rest);
+}
+
+break-spells : Spells Text (token.Control control.OptionalBreak ∷ []) []
+break-spells = record { stays = λ rest. refl; inners = λ rest h. h; shows = λ rest. refl }
+
+-- the names of a format definition, in text
 abbrev is_name : TokKind → Bool
 is_name kind.Identifier = true
 is_name k = false
@@ -76,66 +99,54 @@ is_name k = false
 abbrev name_kind : Seen → Bool
 name_kind word = is_name word.kind
 
-abbrev StayIn : MathMode → (TokKind → Bool) → Type 0
-StayIn mode fits = (k : TokKind) (text : List ℕ) (hash_line : Bool) (n : ℕ) (names : List Entry) → fits k ≡ true
-    → StaysIn mode (form_tokens (token_form k text hash_line n names))
-
-words-stay : StayIn Math is_word
-words-stay kind.Identifier text hash_line n names h = word-stays Math _ _ n
-words-stay (kind.Sign s) text hash_line n names h = sign-stays s n
-words-stay k text hash_line n names h = absurd cc
-
-spelled-stays : (mode : MathMode) (fits : TokKind → Bool) → StayIn mode fits → (words : List Seen) (names : List Entry)
-    → list_all (λ word. fits word.kind) words ≡ true → StaysIn mode (spelled words names).tokens
-spelled-stays mode fits stay [] names h = stays-none mode
-spelled-stays mode fits stay (word ∷ words) names h =
-    stays-append mode (word_tokens word names) (spelled words (names_with word.kind word.text names)).tokens
-    (stay word.kind word.text word.hash_line word.span.start names
-    (both-left (fits word.kind) (list_all (λ word. fits word.kind) words) h))
-    (spelled-stays mode fits stay words (names_with word.kind word.text names)
-    (both-right (fits word.kind) (list_all (λ word. fits word.kind) words) h))
-
--- the names of a format definition stay in text
-word-in-text : (c : Cat) (name : NameId) (n : ℕ) → StaysIn Text (names_in_text (word_form c name n).tokens)
-word-in-text Exp name n = record { stays = λ rest. refl; inners = λ rest h. h }
-word-in-text TexLike name n = record { stays = λ rest. refl; inners = λ rest h. h }
-word-in-text _ name n = record { stays = λ rest. refl; inners = λ rest h. h }
+word-in-text : (c : Cat) (name : NameId) (n : ℕ) → Spells Text (names_in_text (word_form c name n).tokens) (n ∷ [])
+word-in-text Exp name n = record { stays = λ rest. refl; inners = λ rest h. h; shows = λ rest. refl }
+word-in-text TexLike name n = record { stays = λ rest. refl; inners = λ rest h. h; shows = λ rest. refl }
+word-in-text _ name n = record { stays = λ rest. refl; inners = λ rest h. h; shows = λ rest. refl }
 
 name-in-text : (k : TokKind) (text : List ℕ) (hash_line : Bool) (n : ℕ) (names : List Entry) → is_name k ≡ true
-    → StaysIn Text (names_in_text (form_tokens (token_form k text hash_line n names)))
+    → Spells Text (names_in_text (form_tokens (token_form k text hash_line n names))) (n ∷ [])
 name-in-text kind.Identifier text hash_line n names h = word-in-text _ _ n
 name-in-text k text hash_line n names h = absurd cc
 
-names-stay : (words : List Seen) (names : List Entry) → list_all name_kind words ≡ true
-    → StaysIn Text (names_in_text (spelled words names).tokens)
-names-stay [] names h = stays-none Text
-names-stay (word ∷ words) names h =
+names-spell : (words : List Seen) (names : List Entry) → list_all name_kind words ≡ true
+    → Spells Text (names_in_text (spelled words names).tokens) (starts words)
+names-spell [] names h = spells-none Text
+names-spell (word ∷ words) names h =
     let n = names_with word.kind word.text names in
-    subst (StaysIn Text) (sym (names-append (word_tokens word names) (spelled words n).tokens))
-    (stays-append Text (names_in_text (word_tokens word names)) (names_in_text (spelled words n).tokens)
-    (name-in-text word.kind word.text word.hash_line word.span.start names
+    subst (λ ts. Spells Text ts (starts (word ∷ words)))
+    (sym (names-append (word_tokens word names) (spelled words n).tokens))
+    (spells-append Text (names_in_text (word_tokens word names)) (names_in_text (spelled words n).tokens)
+    (word.span.start ∷ []) (starts words) (name-in-text word.kind word.text word.hash_line word.span.start names
     (both-left (name_kind word) (list_all name_kind words) h))
-    (names-stay words n (both-right (name_kind word) (list_all name_kind words) h)))
+    (names-spell words n (both-right (name_kind word) (list_all name_kind words) h)))
 
-dollared-stays : (tokens : List Token) → StaysIn Math tokens → StaysIn Text (dollared tokens)
-dollared-stays [] s = stays-none Text
-dollared-stays (t ∷ ts) s = record {
-  stays = λ rest. ap (λ list. reads (tree_in [] list) Math) (append_assoc (t ∷ ts) (token.Control control.Dollar ∷ [])
-      rest) ∙ s.stays (token.Control control.Dollar ∷ rest);
-  inners = λ rest h. let k : InnersRead (tree_in [] ((t ∷ ts) ++ (token.Control control.Dollar ∷ rest))) =
-      s.inners (token.Control control.Dollar ∷ rest) h in subst (λ list. InnersRead (tree_in [] list))
-      (sym (append_assoc (t ∷ ts) (token.Control control.Dollar ∷ []) rest)) k;
-}
+-- the tokens of heads
+pub macro-spells : (words : List Seen) (names : List Entry) → list_all word_kind words ≡ true
+    → Spells Text (dollared (spelled words names).tokens ++ token.Control control.OptionalBreak ∷ [])
+    (starts words ++ [])
+macro-spells words names fits = spells-append Text _ _ (starts words) []
+    (dollared-spells _ _ (spelled-spells words names fits)) break-spells
 
-break-stays : StaysIn Text (token.Control control.OptionalBreak ∷ [])
-break-stays = record { stays = λ rest. refl; inners = λ rest h. h }
+pub format-spells : (words : List Seen) (names : List Entry) → list_all name_kind words ≡ true
+    → Spells Text (names_in_text (spelled (first_word words) names).tokens ++ token.Control control.OptionalBreak
+    ∷ names_in_text (spelled (later_words words) (spelled (first_word words) names).names).tokens)
+    (starts (first_word words) ++ starts (later_words words))
+format-spells words names fits = spells-append Text _ _ (starts (first_word words)) (starts (later_words words))
+    (names-spell (first_word words) names (first-all name_kind words fits))
+    (spells-append Text (token.Control control.OptionalBreak ∷ []) _ [] (starts (later_words words)) break-spells
+    (names-spell (later_words words) _ (later-all name_kind words fits)))
 
-reads-dead : (number : ℕ) (tokens : List Token) (known : Known) → StaysIn Text tokens → IsFineKnown known
+pub dead-agrees : (number : ℕ) (tokens : List Token) (numbers : List ℕ) → Spells Text tokens numbers
+    → scrap_agrees (leaf_scrap (dead number tokens))
+dead-agrees number tokens numbers s = ap (λ ts. reads (tree_in [] ts) Text) (sym (append-nil tokens)) ∙ s.stays []
+
+reads-dead : (number : ℕ) (tokens : List Token) (numbers : List ℕ) (known : Known) → Spells Text tokens numbers
+    → IsFineKnown known
     → IsSoundMade (record { scraps = leaf_scrap (dead number tokens) ∷ []; items = []; known = known })
-reads-dead number tokens known s f =
+reads-dead number tokens numbers known s f =
     let inner : InnersRead (tree_in [] (tokens ++ [])) = s.inners [] tt in
-    reads-scrap (leaf_scrap (dead number tokens)) known
-    (ap (λ ts. reads (tree_in [] ts) Text) (sym (append-nil tokens)) ∙ s.stays [])
+    reads-scrap (leaf_scrap (dead number tokens)) known (dead-agrees number tokens numbers s)
     (let k : InnersRead (tree_in [] tokens) = rw (sym (append-nil tokens)) inner in k) refl f
 
 -- the words of heads
@@ -195,7 +206,7 @@ HeadFits (Macro number words) = list_all word_kind words ≡ true
 HeadFits (Format number words) = list_all (name_kind) words ≡ true
 HeadFits h = Unit {0}
 
-abbrev sign_headed : Seen → Seen → Nest → Bool → Headed
+abbrev pub sign_headed : Seen → Seen → Nest → Bool → Headed
 sign_headed t s rest b = elim b [
   | true ↦ record { head = Named t.span.start s.span.start; rest = rest }
   | false ↦ headless (Leaf t (Leaf s rest))
@@ -228,20 +239,9 @@ pub reads-head : (flags : Flags) (named : ℕ → Option (List (List Answer))) (
 reads-head flags named Headless known fits f = reads-nothing known f
 reads-head flags named (Silent words) known fits f = reads-nothing _ f
 reads-head flags named (Macro number words) known fits f =
-    let s = spelled words known.names in
-    reads-dead number (dollared s.tokens ++ token.Control control.OptionalBreak ∷ []) _
-    (stays-append Text (dollared s.tokens) (token.Control control.OptionalBreak ∷ [])
-    (dollared-stays s.tokens (spelled-stays Math is_word words-stay words known.names fits)) break-stays) f
+    reads-dead number _ _ _ (macro-spells words known.names fits) f
 reads-head flags named (Format number words) known fits f =
-    let s = spelled (first_word words) known.names in
-    let t = spelled (later_words words) s.names in
-    let first = names_in_text s.tokens in
-    let later = names_in_text t.tokens in
-    reads-dead number (first ++ token.Control control.OptionalBreak ∷ later) _
-    (stays-append Text first (token.Control control.OptionalBreak ∷ later)
-    (names-stay (first_word words) known.names (first-all name_kind words fits))
-    (stays-append Text (token.Control control.OptionalBreak ∷ []) later break-stays
-    (names-stay (later_words words) s.names (later-all name_kind words fits)))) f
+    reads-dead number _ _ _ (format-spells words known.names fits) f
 reads-head flags named (Named number sign) known fits f = reads-headed-name flags (named number) (sign_behind sign)
     number known refl tt f
 

@@ -1,56 +1,25 @@
 -- A text with its head, one call after the other.
-use Rattle.std.proofs.Common.{◌≡◌, ℕ, Option, Some, None, option_map, List, [], ◌∷◌, ◌++◌, length, ◌⊎◌, inl, inr, refl}
-use Rattle.std.proofs.Common.{sym, ap, ◌∙◌, subst, arith}
-use Rattle.std.specs.Prelude.{IfSome, Ok, Result}
-use Rattle.std.proofs.lemmas.List.{append-nil, append_assoc}
-use Rattle.std.specs.List.{All}
-use Rattle.std.proofs.lemmas.List.Elements.{All-cons}
-use Rattle.cw_base.specs.declared.flags.Flags.{Flags}
-use Rattle.cw_base.specs.declared.memory.Memory.{Memory}
-use Rattle.cw_rules.specs.Answers.{Answer}
-use Rattle.cw_names.specs.Names.{Entry}
-use Rattle.cw_tokens.specs.declared.token.ListId.{ListId}
-use Rattle.cw_tokens.specs.declared.token.Token.{Token as StoredToken}
-use Rattle.cw_tokens.specs.Stored.{StoredLists}
-use Rattle.cw_base.specs.declared.category.Cat.TheVariants.{Dead}
-use Rattle.cw_base.specs.declared.mode.MathMode.TheVariants.{Text}
-use Rattle.cw_lex.specs.Heads.{headed}
-use Rattle.cw_lex.specs.Nest.{nest}
-use Rattle.cw_lex.specs.Nested.{IsNested}
-use Rattle.cw_secnames.specs.Kept.{SecName, shown, id as id_of}
-use Rattle.cw_secnames.specs.Uses.{NameUse, name_at}
-use Rattle.cw_secnames.specs.declared.kinds.SecId.{SecId}
-use Rattle.cw_secnames.specs.declared.kinds.SecKind.{SecKind}
+use Rattle.cw_reduce.proofs.Terms.{◌≡◌, ℕ, Option, Some, None, option_map, List, [], ◌∷◌, ◌++◌, length, ◌⊎◌, inl, inr}
+use Rattle.cw_reduce.proofs.Terms.{refl, sym, ap, ◌∙◌, subst, arith, IfSome, Ok, Result, append-nil, All, All-cons}
+use Rattle.cw_reduce.proofs.Terms.{Flags, Memory, Answer, Entry, ListId, StoredToken, StoredLists, Dead, Text, headed}
+use Rattle.cw_reduce.proofs.Terms.{nest, IsNested, SecName, id as id_of, NameUse, name_at, SecId, SecKind, IsSoundLine}
+use Rattle.cw_reduce.proofs.Terms.{scraps_of, marked_names, HeadRead, Holder, OpenCText, Translated, read_made}
+use Rattle.cw_reduce.proofs.Terms.{NamesOfHead, NamesOfHeaded, NamesOfHeld, in_name, behind, after_head, after_held}
+use Rattle.cw_reduce.proofs.Terms.{head_begun, headed_text, of_head, over_head, over_headed, to_headed, name_texts}
+use Rattle.cw_reduce.proofs.Terms.{parts_by_kind, held_answers, with_texts, Translator, Work, IsSoundFrame}
+use Rattle.cw_reduce.proofs.Terms.{IsTranslating, StartsBelow, CText, Progress, after_answers, all_ended, with_held}
+use Rattle.cw_reduce.proofs.Terms.{with_made, NamesAmong, NamesOnTheWay, here, Known, NameTexts, before, begin, end_of}
+use Rattle.cw_reduce.proofs.Terms.{head_made, leaf_of_name, made, sign_behind, texts_named, with_names, Told, Advances}
+use Rattle.cw_reduce.proofs.Terms.{EndsIn, over, progress_over, Advancing, advances-done, advances-none}
+use Rattle.cw_reduce.proofs.Terms.{advancing-begun, advancing-next, ends-as, same-names, append_assoc}
+use Rattle.cw_secnames.specs.Kept.{shown}
 use Rattle.cw_scraps.specs.declared.line.LineEntry.{LineEntry}
-use Rattle.cw_scraps.specs.Lines.{IsSoundLine, scraps_of}
-use Rattle.cw_scraps.specs.Marking.{marked_names}
-use Rattle.cw_reduce.specs.declared.heads.HeadRead.{HeadRead}
 use Rattle.cw_reduce.specs.declared.heads.HeadRead.TheVariants as read
-use Rattle.cw_translator.specs.declared.holders.Holder.{Holder}
 use Rattle.cw_translator.specs.declared.holders.Holder.TheVariants as holder
-use Rattle.cw_translator.specs.declared.nesting.Open.TheVariants.{CText as OpenCText}
-use Rattle.cw_translator.specs.declared.translator.Translated.{Translated}
-use Rattle.cw_reduce.specs.HeadReading.{read_made}
-use Rattle.cw_reduce.specs.Heading.{NamesOfHead, NamesOfHeaded, NamesOfHeld, in_name, behind, after_head, after_held}
-use Rattle.cw_reduce.specs.Heading.{head_begun, headed_text, of_head, over_head, over_headed, to_headed}
-use Rattle.cw_translator.specs.NameParts.{name_texts, parts_by_kind}
-use Rattle.cw_reduce.specs.Naming.{held_answers, with_texts}
-use Rattle.cw_translator.specs.declared.translator.Translator.{Translator}
-use Rattle.cw_translator.specs.declared.work.Work.{Work}
-use Rattle.cw_translator.specs.Opening.{IsSoundFrame, IsTranslating, StartsBelow}
-use Rattle.cw_translator.specs.Reading.{CText, Progress, after_answers, all_ended, with_held, with_made}
-use Rattle.cw_translator.specs.Retyping.{NamesAmong, NamesOnTheWay, here}
-use Rattle.cw_translator.specs.Translating.{Known, NameTexts, before, begin, end_of, head_made, leaf_of_name}
-use Rattle.cw_translator.specs.Translating.{made}
-use Rattle.cw_translator.specs.Translating.{sign_behind, texts_named, translated, with_names}
-use Rattle.cw_rewrite.specs.Telling.{Told}
-use Rattle.cw_translator.specs.Working.{Advances, EndsIn, over, progress_over}
+use Rattle.cw_translator.specs.Translating.{translated}
 use Rattle.cw_reduce.proofs.NamedJoined.{AllNested, name-law, named-translation}
 use Rattle.cw_reduce.proofs.NameSteps.{texts-paired, texts-unpaired, with-texts-append}
-use Rattle.cw_translator.proofs.Routes.{Advancing, advances-done, advances-none, advancing-begun, advancing-next}
-use Rattle.cw_translator.proofs.Routes.{ends-as}
 use Rattle.cw_reduce.proofs.ReadSteps.{starts-split}
-use Rattle.cw_translator.proofs.FinishSteps.{same-names}
 
 -- The name at the head of a C part, by the pair of its place.
 pub head-unpaired : (flags : Flags) (kept : List SecName) (uses : List NameUse) (number : ℕ) (held_by : Holder)
@@ -163,8 +132,7 @@ head-translating store names t line e s = subst (IsTranslating store names) (sym
 pub headed-as : {L R : Type 0} {told : R → Option Told} (flags : Flags) (named : NameTexts) → AllNested named
     → (head : HeadRead)
     (rest : List Answer) → IsNested rest → {t : Translator} {work new : Work L R} {result : Result Translated Memory}
-    → t ≡ of_head head
-    → EndsIn told (record {
+    → t ≡ of_head head → EndsIn told (record {
       flags = flags;
       text = all_ended flags (over_headed flags named head rest (progress_over work t)).ends;
       leaves = (over_headed flags named head rest (progress_over work t)).leaves;
@@ -173,8 +141,7 @@ pub headed-as : {L R : Type 0} {told : R → Option Told} (flags : Flags) (named
     (begin work.names.now (marked_names work.marks.now))) (of_head head) work new result
 headed-as {told = told} flags named nested head rest well {work = work} {new = new} {result = result} e r =
     ends-as (headed-whole flags named nested work.store.now.lists head rest
-    (begin work.names.now (marked_names work.marks.now)) well) (λ names h. h)
-    (subst (λ x. EndsIn told (record {
+    (begin work.names.now (marked_names work.marks.now)) well) (λ names h. h) (subst (λ x. EndsIn told (record {
       flags = flags;
       text = all_ended flags (over_headed flags named head rest (progress_over work x)).ends;
       leaves = (over_headed flags named head rest (progress_over work x)).leaves;

@@ -1,40 +1,18 @@
 -- The tokens of heads: their names are names, they refer to no list, and read from text they end in text.
-use Rattle.std.proofs.Common.{◌≡◌, ℕ, ◌+◌, ◌<◌, ◌≤◌, Bool, true, false, not, nat_lt, Some, List, [], ◌∷◌, ◌++◌, length}
-use Rattle.std.proofs.Common.{refl, sym, ap, ◌∙◌, subst, arith}
-use Rattle.std.specs.Prelude.{if◌then◌else◌}
-use Rattle.std.specs.List.{list_all, slice_get}
-use Rattle.std.proofs.lemmas.Bool.{ltb-true}
-use Rattle.std.proofs.lemmas.List.{append-nil, length-append}
-use Rattle.std.proofs.lemmas.List.Sums.{prefix_len-le-length}
-use Rattle.cw_base.proofs.TestLaws.{both-left, both-right}
-use Rattle.cw_base.specs.declared.category.Cat.{Cat}
-use Rattle.cw_base.specs.declared.category.Cat.TheVariants.{Exp}
-use Rattle.cw_base.specs.declared.mode.MathMode.TheVariants.{Text}
-use Rattle.cw_rules.specs.Answers.{Seen}
-use Rattle.cw_rules.specs.declared.tokens.TokKind.{TokKind}
+use Rattle.cw_reduce.proofs.Terms.{◌≡◌, ℕ, ◌+◌, ◌<◌, ◌≤◌, Bool, true, false, not, nat_lt, Some, List, [], ◌∷◌, ◌++◌}
+use Rattle.cw_reduce.proofs.Terms.{length, refl, sym, ap, ◌∙◌, subst, arith, if◌then◌else◌, list_all, slice_get}
+use Rattle.cw_reduce.proofs.Terms.{ltb-true, append-nil, length-append, prefix_len-le-length, both-left, both-right}
+use Rattle.cw_reduce.proofs.Terms.{Cat, Exp, Text, Seen, TokKind, NameId, Entry, is_entry, place_of, with_entry}
+use Rattle.cw_reduce.proofs.Terms.{Ident as ident_kind, scrap_agrees, reads, Tree, StoredToken as Token, token_ref}
+use Rattle.cw_reduce.proofs.Terms.{tree_in, tree_in-same, word_form, token_form, names_with, IsNamedBelow, is_word}
+use Rattle.cw_reduce.proofs.Terms.{IsGood, refs_in, macro_tokens, format_tokens, with_break, spelled, form_tokens}
+use Rattle.cw_reduce.proofs.Terms.{word_tokens, first_word, later_words, dollared, dead, is_macro, leaf_scrap}
+use Rattle.cw_reduce.proofs.Terms.{name_in_text, names_in_text, names-grow}
 use Rattle.cw_rules.specs.declared.tokens.TokKind.TheVariants as kind
-use Rattle.cw_names.specs.declared.NameId.{NameId}
-use Rattle.cw_names.specs.Names.{Entry, is_entry, place_of, with_entry}
-use Rattle.cw_names.specs.declared.entry.EntryKind.TheVariants.{Ident as ident_kind}
 use Rattle.cw_trees.specs.declared.Control.TheVariants as control
-use Rattle.cw_trees.specs.Joining.{scrap_agrees, reads}
-use Rattle.cw_trees.specs.Tree.{Tree}
-use Rattle.cw_tokens.specs.declared.token.Token.{Token}
 use Rattle.cw_tokens.specs.declared.token.Token.TheVariants as token
-use Rattle.cw_tokens.specs.References.{token_ref}
-use Rattle.cw_tokens.specs.Shapes.{tree_in}
-use Rattle.cw_tokens.proofs.Unfolding.{tree_in-same}
-use Rattle.cw_scraps.specs.Leaves.{word_form, token_form, names_with}
-use Rattle.cw_scraps.specs.Lines.{IsNamedBelow}
-use Rattle.cw_scraps.specs.Words.{is_word}
-use Rattle.cw_scraps.proofs.LeafForms.{IsGood}
-use Rattle.cw_rewrite.specs.Gathering.{refs_in}
-use Rattle.cw_reduce.specs.HeadReading.{macro_tokens, format_tokens, with_break}
-use Rattle.cw_translator.specs.Translating.{spelled, form_tokens, word_tokens, first_word, later_words, dollared, dead}
-use Rattle.cw_translator.specs.Translating.{is_macro, leaf_scrap, name_in_text, names_in_text}
-use Rattle.cw_rewrite.proofs.GatherSteps.{ref-place, AtPlace}
+use Rattle.cw_rewrite.proofs.GatherSteps.{ref-place}
 use Rattle.cw_reduce.proofs.HeadAnswers.{word_kind}
-use Rattle.cw_translator.proofs.LeafSteps.{names-grow}
 
 -- tokens that refer to no list, with names that are among so many
 abbrev pub IsNamed : ℕ → Token → Type 0
@@ -73,10 +51,8 @@ plain-refs count (_ ∷ ts) h = absurd h.0
 
 pub no-ref : (ts : List Token) → refs_in ts ≡ [] → (p x : ℕ) → token_ref (slice_get ts p) ≡ Some x → ⊥
 no-ref ts none p x e =
-    let a : AtPlace (refs_in ts) x = ref-place ts p x e in
-    let low : a.place < length (refs_in ts) = a.below in
-    let empty : length (refs_in ts) ≡ 0 = ap length none in
-    omega arith
+    let a = ref-place ts p x e in
+    omega (arith, a.below, ap length none)
 
 named-tree : (count : ℕ) (trees : List Tree) (ts : List Token) → AreNamed count ts
     → IsNamedBelow count (tree_in trees ts)
@@ -108,10 +84,7 @@ place-there text names = by (nat_lt (place_of ident_kind text names) (length nam
         → place_of ident_kind text names < length (if b then names else names ++ new ∷ [])
     by true e = ltb-true (place_of ident_kind text names) (length names) e
     by false e =
-        let size : length (names ++ new ∷ []) ≡ length names + 1 = length-append names (new ∷ []) in
-        let low : place_of ident_kind text names ≤ length names = at_most in
-        let below : place_of ident_kind text names < length (names ++ new ∷ []) = omega arith in
-        below
+        omega (arith, length-append names (new ∷ []), at_most)
 
 kind-named : (k : TokKind) (text : List ℕ) (hash_line : Bool) (n : ℕ) (names : List Entry) → is_word k ≡ true
     → AreNamed (length (names_with k text names)) (form_tokens (token_form k text hash_line n names))
@@ -123,11 +96,8 @@ kind-named k text hash_line n names h = absurd cc
 pub spelled-grow : (words : List Seen) (names : List Entry) → length names ≤ length (spelled words names).names
 spelled-grow [] names = omega arith
 spelled-grow (word ∷ words) names =
-    let a : length names ≤ length (names_with word.kind word.text names) = names-grow word.kind word.text names in
-    let b : length (names_with word.kind word.text names)
-    ≤ length (spelled words (names_with word.kind word.text names)).names =
-    spelled-grow words (names_with word.kind word.text names) in
-    omega arith
+    let more = spelled-grow words (names_with word.kind word.text names) in
+    omega (arith, names-grow word.kind word.text names, more)
 
 pub spelled-named : (words : List Seen) (names : List Entry) → list_all word_kind words ≡ true
     → AreNamed (length (spelled words names).names) (spelled words names).tokens
@@ -169,8 +139,7 @@ break-behind (word ∷ words) names h =
     by : (ts us : List Token) → IsOne ts
         → names_in_text (ts ++ []) ++ token.Control control.OptionalBreak ∷ names_in_text us ≡ with_break (ts ++ us)
     by ts us o = subst (λ ts. names_in_text (ts ++ []) ++ token.Control control.OptionalBreak ∷ names_in_text us
-        ≡ with_break (ts ++ us)) (sym o.is)
-        (ap (λ word. word ++ token.Control control.OptionalBreak ∷ names_in_text us)
+        ≡ with_break (ts ++ us)) (sym o.is) (ap (λ word. word ++ token.Control control.OptionalBreak ∷ names_in_text us)
         (append-nil (name_in_text o.token)))
 
 pub later-names : (words : List Seen) (names : List Entry)

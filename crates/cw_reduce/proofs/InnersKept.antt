@@ -1,25 +1,18 @@
 -- Productions keep that scraps agree with their modes and that the inner texts in them end in text.
-use Rattle.std.proofs.Common.{◌≡◌, ℕ, zero, suc, List, [], ◌∷◌, ◌++◌, get_or, map, take, drop, sym, subst}
-use Rattle.std.specs.List.{All}
-use Rattle.std.proofs.lemmas.List.{get_or_past}
-use Rattle.std.proofs.lemmas.List.Elements.{All-map, All-head, All-tail}
-use Rattle.std.proofs.lemmas.Bool.{cases_lt}
-use Rattle.std.proofs.Common.{inl, inr, length, refl}
-use Rattle.cw_base.specs.declared.flags.Flags.{Flags}
-use Rattle.cw_base.specs.declared.mode.MathMode.{MathMode}
-use Rattle.cw_base.specs.declared.mode.MathMode.TheVariants.{Text, Math, Maybe}
-use Rattle.cw_trees.specs.Tree.{Leaf, Sign, Tree, Empty, Then, Sub, Inner, Search, Found, Stopped, Nothing, search_leaf}
-use Rattle.cw_trees.specs.Tree.{first_ident, reserve_first}
-use Rattle.cw_trees.specs.Joining.{Scrap, no_scrap, scrap_agrees, Joined, Whole, Mark, needs, after, toggled}
-use Rattle.cw_trees.specs.Joining.{joined_tree}
-use Rattle.cw_table.specs.Normal.{Place, Nowhere, At, next_place, steps, normal, weight}
-use Rattle.cw_table.specs.Rewriting.{State, rewrite, math_piece, joined_of, rewrite_from}
+use Rattle.cw_reduce.proofs.Terms.{◌≡◌, ℕ, zero, suc, List, [], ◌∷◌, ◌++◌, get_or, map, take, drop, sym, subst, All}
+use Rattle.cw_reduce.proofs.Terms.{get_or_past, All-map, All-head, All-tail, cases_lt, inl, inr, length, refl, Flags}
+use Rattle.cw_reduce.proofs.Terms.{MathMode, Text, Math, Maybe, Sign, Tree, Empty, Then, Sub, Inner, Search, Found}
+use Rattle.cw_reduce.proofs.Terms.{Stopped, Nothing, search_leaf, first_ident, reserve_first, Scrap, no_scrap}
+use Rattle.cw_reduce.proofs.Terms.{scrap_agrees, Joined, Whole, Mark, needs, after, toggled, joined_tree, Place}
+use Rattle.cw_reduce.proofs.Terms.{Nowhere, At, next_place, steps, weight, State, rewrite, math_piece, joined_of}
+use Rattle.cw_reduce.proofs.Terms.{rewrite_from, InnersRead}
+use Rattle.cw_trees.specs.Tree.{Leaf}
+use Rattle.cw_table.specs.Normal.{normal}
 use Rattle.cw_table.specs.declared.types.Piece.{Piece}
 use Rattle.cw_table.specs.declared.types.Piece.TheVariants as piece
 use Rattle.cw_table.specs.declared.types.Row.{Row}
 use Rattle.cw_table.proofs.Normals.{steps-none, steps-turn}
 use Rattle.cw_scraps.proofs.Keeping.{keeps-all, keeps-modes}
-use Rattle.cw_reduce.specs.TranslationLaws.{InnersRead}
 
 abbrev pub inners_of : Scrap → Type 0
 inners_of scrap = InnersRead scrap.tree

@@ -1,25 +1,18 @@
 -- A translation on its way comes to the translation that is defined over the nest.
-use Rattle.std.proofs.Common.{◌≡◌, ℕ, Option, Some, None, List, [], ◌∷◌, refl, sym, ◌∙◌, ap}
-use Rattle.std.proofs.lemmas.List.{append-nil, append_assoc}
-use Rattle.cw_base.specs.declared.flags.Flags.{Flags}
-use Rattle.cw_rules.specs.Answers.{Answer, Token, Begin, Finish, Note, Seen}
+use Rattle.cw_reduce.proofs.Terms.{◌≡◌, ℕ, Option, Some, None, List, [], ◌∷◌, refl, sym, ◌∙◌, ap, append-nil, Flags}
+use Rattle.cw_reduce.proofs.Terms.{Answer, Token, Begin, Finish, Note, Seen, TokKind, Nest, End, leaf, group, nests}
+use Rattle.cw_reduce.proofs.Terms.{first_nest, Level, InCode, InComment, after_token as level_token}
+use Rattle.cw_reduce.proofs.Terms.{after_begin as level_begin, after_finish as level_finish, levels_after}
+use Rattle.cw_reduce.proofs.Terms.{all_levels_after, Scrap, LeafForm, token_form, names_with, Frame, CText, Comment}
+use Rattle.cw_reduce.proofs.Terms.{with_scrap, with_item, with_form, Progress, extended, with_made, after_answers}
+use Rattle.cw_reduce.proofs.Terms.{CommentItem, Piece, InnerText, comment_scrap, leaf_scrap, Known, Made, nothing}
+use Rattle.cw_reduce.proofs.Terms.{one_item, beside, before, end_of, as_item, form_made, with_names, token_made}
+use Rattle.cw_reduce.proofs.Terms.{group_made, made, no_name, SameSize, some-levels, first-levels, nests-size}
+use Rattle.cw_reduce.proofs.Terms.{append_assoc}
 use Rattle.cw_rules.specs.declared.codes.Code.TheVariants as code
-use Rattle.cw_rules.specs.declared.tokens.TokKind.{TokKind}
 use Rattle.cw_rules.specs.declared.tokens.TokKind.TheVariants as kind
-use Rattle.cw_lex.specs.Nest.{Nest, End, leaf, group, nests, first_nest}
-use Rattle.cw_lex.specs.Nested.{Level, InCode, InComment, after_token as level_token, after_begin as level_begin}
-use Rattle.cw_lex.specs.Nested.{after_finish as level_finish, levels_after, all_levels_after}
-use Rattle.cw_trees.specs.Joining.{Scrap}
-use Rattle.cw_scraps.specs.Leaves.{LeafForm, token_form, names_with}
 use Rattle.cw_translator.specs.declared.holders.Holder.TheVariants as holder
-use Rattle.cw_translator.specs.Reading.{Frame, CText, Comment, with_scrap, with_item, with_form, Progress, extended}
-use Rattle.cw_translator.specs.Reading.{with_made, after_token, after_begin, after_finish, after_answers}
-use Rattle.cw_translator.specs.Translating.{CommentItem, Piece, InnerText, comment_scrap, leaf_scrap, Known, Made}
-use Rattle.cw_translator.specs.Translating.{nothing}
-use Rattle.cw_translator.specs.Translating.{one_item, beside, before, end_of, as_item, form_made, with_names}
-use Rattle.cw_translator.specs.Translating.{token_made}
-use Rattle.cw_translator.specs.Translating.{group_made, made, no_name}
-use Rattle.cw_lex.proofs.Nests.{SameSize, some-levels, first-levels, nests-size}
+use Rattle.cw_translator.specs.Reading.{after_token, after_begin, after_finish}
 
 abbrev pub level : Flags → (ℕ → Known → Made) → Nest → Progress → Progress
 level flags name n a = with_made a.frames (made flags name n a.known)
@@ -105,8 +98,7 @@ level-inner flags name token inner rest a =
     ∙ sym (level-before flags name (as_item text) rest a.frames)
 
 level-comment : (flags : Flags) (name : ℕ → Known → Made) (token : Seen) (inner rest : Nest) (a : Progress)
-    → level flags name rest
-    (closed flags (level flags name inner (record {
+    → level flags name rest (closed flags (level flags name inner (record {
       frames = Comment (holder.Comment token.span.start) [] ∷ a.frames;
       known = a.known;
     })))
@@ -130,8 +122,7 @@ step-begin kind.ShortComment number levels next a h = refl
 step-begin k number levels next a h = absurd cc
 
 level-begin : (flags : Flags) (name : ℕ → Known → Made) (k : TokKind) (token : Seen) (inner rest : Nest)
-    (levels next : List Level) (a : Progress) → level_begin k levels ≡ Some next
-    → level flags name rest
+    (levels next : List Level) (a : Progress) → level_begin k levels ≡ Some next → level flags name rest
     (closed flags (level flags name inner (record { frames = pushed k token.span.start a.frames; known = a.known })))
     ≡ with_made a.frames (before (group_made flags k token (made flags name inner a.known)) (made flags name rest))
 level-begin flags name kind.InnerText token inner rest levels next a h = level-inner flags name token inner rest a

@@ -1,4 +1,5 @@
 -- The laws of translating a whole text: heads, section names, and what is shown.
+pub mod Terms
 mod TranslatedRows
 mod ModernRows
 pub mod ReadSteps

@@ -1,20 +1,11 @@
 -- The steps of a translation are at most the limit of its texts.
-use Rattle.std.proofs.Common.{◌≡◌, ◌≤◌, ℕ, ◌+◌, ◌*◌, length, true, Option, List, [], ◌∷◌, arith}
-use Rattle.std.specs.List.{list_all}
-use Rattle.std.proofs.lemmas.List.Sums.{sum_by-append}
-use Rattle.cw_base.proofs.TestLaws.{both-left, both-right}
-use Rattle.cw_base.specs.declared.flags.Flags.{Flags}
-use Rattle.cw_rules.specs.Answers.{Answer}
-use Rattle.cw_names.specs.Names.{Entry}
-use Rattle.cw_table.specs.Rewriting.{State}
-use Rattle.cw_table.specs.WalkCounts.{ticks, reservings}
+use Rattle.cw_reduce.proofs.Terms.{◌≡◌, ◌≤◌, ℕ, true, Option, List, [], ◌∷◌, arith, list_all, both-left, both-right}
+use Rattle.cw_reduce.proofs.Terms.{Flags, Answer, Entry, State, productions-sound, headed, nest, ticks_in, limit_in}
+use Rattle.cw_reduce.proofs.Terms.{begin, end_of, headed_made}
 use Rattle.cw_table.specs.Productions.{productions}
-use Rattle.cw_table.proofs.Examples.{productions-sound}
 use Rattle.cw_table.proofs.CountLaws.{ticks-most}
-use Rattle.cw_lex.specs.Heads.{headed}
-use Rattle.cw_lex.specs.Nest.{nest}
-use Rattle.cw_translator.specs.Counting.{ticks_in, limit_in}
-use Rattle.cw_translator.specs.Translating.{begin, end_of, headed_made, translated}
+use Rattle.cw_translator.specs.Translating.{translated}
+use Rattle.cw_translator.proofs.Sums.{limit-one, limits-more, ticks-more, ticks-one}
 use Rattle.cw_reduce.proofs.HeadReads.{reads-headed}
 use Rattle.cw_reduce.proofs.ReadLaws.{fine-end, fine_state}
 
@@ -22,17 +13,12 @@ most : (flags : Flags) (ended : List State) → list_all fine_state ended ≡ tr
     → ticks_in flags ended ≤ limit_in flags ended
 most flags [] f = omega arith
 most flags (state ∷ ended) f =
-    let a = ticks-most productions flags state productions-sound
-    (both-left (fine_state state) (list_all fine_state ended) f) in
-    let b : ticks_in flags ended ≤ limit_in flags ended =
-    most flags ended (both-right (fine_state state) (list_all fine_state ended) f) in
-    let t : ticks_in flags (state ∷ ended) ≡ (0 + ticks productions flags state) + ticks_in flags ended =
-    sum_by-append (λ s. ticks productions flags s) (state ∷ []) ended in
-    let l : limit_in flags (state ∷ ended)
-    ≡ (0 + (132 * length state.scraps + length state.scraps * reservings productions flags state))
-    + limit_in flags ended = sum_by-append (λ s. 132 * length s.scraps + length s.scraps
-    * reservings productions flags s) (state ∷ []) ended in
-    omega (arith, a, b, t, l)
+    let first = both-left (fine_state state) (list_all fine_state ended) f in
+    let later = most flags ended (both-right (fine_state state) (list_all fine_state ended) f) in
+    let most_here = ticks-most productions flags state productions-sound first in
+    let ticked = ticks-more flags (state ∷ []) ended in
+    let limits = limits-more flags (state ∷ []) ended in
+    omega (arith, most_here, later, ticked, limits, ticks-one flags state, limit-one flags state)
 
 pub ticks-within : (flags : Flags) (named : ℕ → Option (List (List Answer))) (answers : List Answer)
     (names : List Entry) (marks : List ℕ) → ticks_in flags (translated flags named answers names marks).known.ended

@@ -1,16 +1,12 @@
 -- Worked rows of modern C: which productions join some texts, and the words that stand in their translations.
-use Rattle.std.proofs.Common.{◌≡◌, ℕ, List, [], ◌∷◌, map, codes, refl, Some}
-use Rattle.cw_base.specs.Flags.{start_flags}
-use Rattle.cw_base.specs.declared.mode.MathMode.TheVariants.{Text}
+use Rattle.cw_reduce.proofs.Terms.{◌≡◌, ℕ, List, [], ◌∷◌, map, codes, refl, Some, start_flags, Text, Item, SourceItem}
+use Rattle.cw_reduce.proofs.Terms.{IdentItem, ReservedItem, SignItem, flat, trimmed, struck, reads, logs_in, Ended}
 use Rattle.cw_trees.specs.declared.Control.TheVariants as control
-use Rattle.cw_trees.specs.Flat.{Item, SourceItem, IdentItem, ReservedItem, SignItem, flat, trimmed, struck}
-use Rattle.cw_trees.specs.Joining.{reads}
 use Rattle.cw_table.specs.Normal.{normal, log, count}
 use Rattle.cw_table.specs.NormalWalk.{positions}
 use Rattle.cw_table.specs.WalkCounts.{looks}
 use Rattle.cw_table.specs.Productions.{productions}
-use Rattle.cw_translator.specs.Counting.{logs_in}
-use Rattle.cw_translator.specs.Translating.{Ended, translated}
+use Rattle.cw_translator.specs.Translating.{translated}
 use Rattle.cw_reduce.proofs.TranslatedRows.{bytes_of, in_bars, in_c_part, in_definition}
 
 -- the numbers of the productions, text by text

@@ -1,55 +1,27 @@
 -- A section name, its inner texts, and a text with section names, one call after the other.
-use Rattle.std.proofs.Common.{◌≡◌, ℕ, ◌+◌, ◌^◌, ◌<◌, ◌≤◌, Bool, true, false, Option, Some, None, List, [], ◌∷◌, ◌++◌}
-use Rattle.std.proofs.Common.{length, map, get_or, nat_eq, option_map, refl, sym, ap, ◌∙◌, subst, add-zero, arith}
-use Rattle.std.specs.Prelude.{Result, Ok}
-use Rattle.std.specs.List.{All, slice_get}
-use Rattle.std.proofs.lemmas.List.{append-nil, append_assoc}
-use Rattle.std.proofs.lemmas.List.Elements.{All-cons, All-head, All-tail}
+use Rattle.cw_reduce.proofs.Terms.{◌≡◌, ℕ, ◌+◌, ◌^◌, ◌<◌, ◌≤◌, Bool, true, false, Option, Some, None, List, [], ◌∷◌}
+use Rattle.cw_reduce.proofs.Terms.{◌++◌, length, map, get_or, nat_eq, option_map, refl, sym, ap, ◌∙◌, subst, add-zero}
+use Rattle.cw_reduce.proofs.Terms.{arith, Result, Ok, All, slice_get, append-nil, All-cons, All-head, All-tail, Flags}
+use Rattle.cw_reduce.proofs.Terms.{Memory, Span, Answer, Seen, Token, Begin, Finish, Note, Gives, seen, is_name_kind}
+use Rattle.cw_reduce.proofs.Terms.{tokens_of, until_section, Lexed, inner_mode, TokKind, Entry, SecName, id as id_of}
+use Rattle.cw_reduce.proofs.Terms.{parts_at, IsNextPart, NameUse, name_at, SecId, SecKind, StoredLists, Keeps, AreRoots}
+use Rattle.cw_reduce.proofs.Terms.{Holder, OpenCText as CText, Translator, Work, AreNamesOf, name_texts, parts_by_kind}
+use Rattle.cw_reduce.proofs.Terms.{texts_kept, texts_of_name, held_answers, is_name_answer, name_answers, text_answers}
+use Rattle.cw_reduce.proofs.Terms.{text_token, texts_answers, token_answers, with_texts, all_roots, answers_in}
+use Rattle.cw_reduce.proofs.Terms.{frames_of, IsSoundFrame, IsTranslating, progress_of, Progress, after_answers}
+use Rattle.cw_reduce.proofs.Terms.{with_held, Comment as CommentFrame, NamesAmong, NamesOnTheWay, later, NameTexts}
+use Rattle.cw_reduce.proofs.Terms.{Told, Advances, over, progress_over, begin-advances, unchanged, recorded-none}
+use Rattle.cw_reduce.proofs.Terms.{Advancing, advancing-begun, advancing-next, advances-as, advances-done}
+use Rattle.cw_reduce.proofs.Terms.{advances-none, Steps, keeps-itself, append_assoc}
 use Rattle.std.proofs.lemmas.Option.{get_or_from_slice_get, slice_get_within}
-use Rattle.cw_base.specs.declared.flags.Flags.{Flags}
-use Rattle.cw_base.specs.declared.memory.Memory.{Memory}
-use Rattle.cw_base.specs.declared.span.Span.{Span}
-use Rattle.cw_rules.specs.Answers.{Answer, Seen, Token, Begin, Finish, Note, Gives, seen}
-use Rattle.cw_lex.specs.Limbo.{is_name_kind}
-use Rattle.cw_lex.specs.Lexing.{tokens_of}
-use Rattle.cw_lex.specs.Nested.{until_section}
 use Rattle.cw_rules.specs.declared.codes.Code.TheVariants as code
-use Rattle.cw_rules.specs.declared.tokens.Lexed.{Lexed}
 use Rattle.cw_rules.specs.declared.tokens.Lexed.TheVariants as lexed
-use Rattle.cw_rules.specs.declared.tokens.Mode.TheVariants.{Inner as inner_mode}
-use Rattle.cw_rules.specs.declared.tokens.TokKind.{TokKind}
 use Rattle.cw_rules.specs.declared.tokens.TokKind.TheVariants as kind
-use Rattle.cw_names.specs.Names.{Entry}
-use Rattle.cw_secnames.specs.Kept.{SecName, shown, id as id_of}
-use Rattle.cw_secnames.specs.Parts.{parts_at, IsNextPart}
-use Rattle.cw_secnames.specs.Uses.{NameUse, name_at}
-use Rattle.cw_secnames.specs.declared.kinds.SecId.{SecId}
-use Rattle.cw_secnames.specs.declared.kinds.SecKind.{SecKind}
-use Rattle.cw_tokens.specs.Stored.{StoredLists}
-use Rattle.cw_scraps.specs.Changing.{Keeps}
-use Rattle.cw_scraps.specs.Lines.{AreRoots}
-use Rattle.cw_translator.specs.declared.holders.Holder.{Holder}
+use Rattle.cw_secnames.specs.Kept.{shown}
 use Rattle.cw_translator.specs.declared.holders.Holder.TheVariants as holder
-use Rattle.cw_translator.specs.declared.nesting.Open.TheVariants.{CText, Comment}
-use Rattle.cw_translator.specs.declared.translator.Translator.{Translator}
-use Rattle.cw_translator.specs.declared.work.Work.{Work}
-use Rattle.cw_translator.specs.NameParts.{AreNamesOf, name_texts, parts_by_kind, texts_kept, texts_of_name}
-use Rattle.cw_reduce.specs.Naming.{held_answers, is_name_answer, name_answers, text_answers, text_token}
-use Rattle.cw_reduce.specs.Naming.{texts_answers}
-use Rattle.cw_reduce.specs.Naming.{token_answers, with_texts}
-use Rattle.cw_translator.specs.Opening.{all_roots, answers_in, frames_of, IsSoundFrame, IsTranslating, progress_of}
-use Rattle.cw_translator.specs.Reading.{Progress, after_token, after_begin, after_answers, with_held}
-use Rattle.cw_translator.specs.Reading.{Comment as CommentFrame}
-use Rattle.cw_translator.specs.Retyping.{NamesAmong, NamesOnTheWay, later}
-use Rattle.cw_translator.specs.Translating.{NameTexts}
-use Rattle.cw_rewrite.specs.Telling.{Told}
-use Rattle.cw_translator.specs.Working.{Advances, over, progress_over}
+use Rattle.cw_translator.specs.declared.nesting.Open.TheVariants.{Comment}
+use Rattle.cw_translator.specs.Reading.{after_token, after_begin}
 use Rattle.cw_reduce.proofs.ReadSteps.{gives-is}
-use Rattle.cw_translator.proofs.AnswerRoutes.{begin-advances, unchanged}
-use Rattle.cw_translator.proofs.Recorded.{recorded-none}
-use Rattle.cw_translator.proofs.Routes.{Advancing, advancing-begun, advancing-next, advances-as, advances-done}
-use Rattle.cw_translator.proofs.Routes.{advances-none}
-use Rattle.cw_translator.proofs.LeafSteps.{Steps, keeps-itself}
 
 -- An inner text has begun.
 pub text-begun : {L R : Type 0} {told : R → Option Told} (flags : Flags) (text : List Answer) {t t1 : Translator}

@@ -1,47 +1,26 @@
 -- With section names as well, a translation on its way comes to the translation that is defined over the nest.
-use Rattle.std.proofs.Common.{◌≡◌, ℕ, Option, Some, None, List, [], ◌∷◌, ◌++◌, map, refl, sym, ◌∙◌, ap, arith}
-use Rattle.std.specs.List.{All, slice_get}
-use Rattle.std.specs.Prelude.{IfSome}
-use Rattle.std.proofs.lemmas.List.{append-nil, append_assoc}
-use Rattle.std.proofs.lemmas.List.Elements.{All-head, All-tail, All-cons}
-use Rattle.cw_base.specs.declared.category.Cat.TheVariants.{SectionScrap}
-use Rattle.cw_base.specs.declared.flags.Flags.{Flags}
-use Rattle.cw_base.specs.declared.mode.MathMode.TheVariants.{Maybe}
-use Rattle.cw_base.specs.declared.span.Span.{Span}
-use Rattle.cw_rules.specs.Answers.{Answer, Token, Begin, Finish, Note, Seen}
-use Rattle.cw_lex.specs.Lexing.{tokens_of}
+use Rattle.cw_reduce.proofs.Terms.{◌≡◌, ℕ, Option, Some, None, List, [], ◌∷◌, ◌++◌, map, refl, sym, ◌∙◌, ap, arith, All}
+use Rattle.cw_reduce.proofs.Terms.{slice_get, IfSome, append-nil, All-head, All-tail, All-cons, SectionScrap, Flags}
+use Rattle.cw_reduce.proofs.Terms.{Maybe, Span, Answer, Token, Begin, Finish, Note, Seen, tokens_of, inner_mode}
+use Rattle.cw_reduce.proofs.Terms.{TokKind, nests, nest, Level, InCode, levels_after, all_levels_after, IsNested}
+use Rattle.cw_reduce.proofs.Terms.{until_section, parts-nested as c-parts-nested, SameSize, first-levels, nests-size}
+use Rattle.cw_reduce.proofs.Terms.{SecName, inner_parts, NameUse, name_at, SecKind, Tree, Empty, Then, Inner, Source}
+use Rattle.cw_reduce.proofs.Terms.{Sign, Holder, name_texts, parts_by_kind, texts_kept, texts_of_name, held_answers}
+use Rattle.cw_reduce.proofs.Terms.{name_answers, text_answers, text_token, texts_answers, token_answers, with_texts}
+use Rattle.cw_reduce.proofs.Terms.{Frame, CText, Comment, with_scrap, Progress, with_made, after_answers, all_ended}
+use Rattle.cw_reduce.proofs.Terms.{ended_in, with_held, CommentItem, InnerText, Known, Made, nothing, before, end_of}
+use Rattle.cw_reduce.proofs.Terms.{token_made, made, no_name, plain_text, NameTexts, texts_made, texts_named}
+use Rattle.cw_reduce.proofs.Terms.{leaf_of_name, after-append, append_assoc}
 use Rattle.cw_rules.specs.declared.codes.Code.TheVariants as code
-use Rattle.cw_rules.specs.declared.tokens.Mode.TheVariants.{Inner as inner_mode}
-use Rattle.cw_rules.specs.declared.tokens.TokKind.{TokKind}
 use Rattle.cw_rules.specs.declared.tokens.TokKind.TheVariants as kind
-use Rattle.cw_lex.specs.Nest.{nests, nest}
-use Rattle.cw_lex.specs.Nested.{Level, InCode, levels_after, all_levels_after, IsNested, until_section}
-use Rattle.cw_lex.proofs.Nesting.{parts-nested as c-parts-nested}
-use Rattle.cw_lex.proofs.Nests.{SameSize, first-levels, nests-size}
-use Rattle.cw_secnames.specs.Kept.{SecName}
-use Rattle.cw_secnames.specs.Parts.{inner_parts}
-use Rattle.cw_secnames.specs.Uses.{NameUse, name_at}
-use Rattle.cw_secnames.specs.declared.kinds.SecKind.{SecKind}
 use Rattle.cw_secnames.specs.declared.kinds.SecKind.TheVariants.{Named, File}
 use Rattle.cw_trees.specs.declared.Control.TheVariants as control
-use Rattle.cw_trees.specs.Tree.{Tree, Empty, Then, Inner, Source, Sign}
-use Rattle.cw_translator.specs.declared.holders.Holder.{Holder}
 use Rattle.cw_translator.specs.declared.holders.Holder.TheVariants as holder
 use Rattle.cw_translator.specs.Holders.{held_cat, held_mode, held_tree, name_rest, name_tree}
-use Rattle.cw_translator.specs.NameParts.{name_texts, parts_by_kind, texts_kept, texts_of_name}
-use Rattle.cw_reduce.specs.Naming.{held_answers, name_answers, text_answers, text_token, texts_answers}
-use Rattle.cw_reduce.specs.Naming.{token_answers}
-use Rattle.cw_reduce.specs.Naming.{with_texts}
-use Rattle.cw_translator.specs.Reading.{Frame, CText, Comment, with_scrap, Progress, with_made, after_token}
-use Rattle.cw_translator.specs.Reading.{after_begin}
-use Rattle.cw_translator.specs.Reading.{after_finish, after_answers, all_ended, ended_in, with_held}
-use Rattle.cw_translator.specs.Translating.{CommentItem, InnerText, Known, Made, nothing, before, end_of, token_made}
-use Rattle.cw_translator.specs.Translating.{made}
-use Rattle.cw_translator.specs.Translating.{no_name, plain_text, NameTexts, texts_made, texts_named, leaf_of_name}
-use Rattle.cw_translator.proofs.Routes.{after-append}
-use Rattle.cw_reduce.proofs.Joined.{closed, run, extended-nothing, extended-scrap, level-before}
-use Rattle.cw_reduce.proofs.Joined.{step-token, step-begin, pushed, token-one, begin-two, finish-one, run-leaf, run-end}
-use Rattle.cw_reduce.proofs.Joined.{run-group, run-all, one-nest}
+use Rattle.cw_translator.specs.Reading.{after_token, after_begin, after_finish}
+use Rattle.cw_reduce.proofs.Joined.{closed, run, extended-nothing, extended-scrap, level-before, step-token, step-begin}
+use Rattle.cw_reduce.proofs.Joined.{pushed, token-one, begin-two, finish-one, run-leaf, run-end, run-group, run-all}
+use Rattle.cw_reduce.proofs.Joined.{one-nest}
 
 -- An inner text of a name.
 text-law : (flags : Flags) (text : List Answer) (p : Progress) → IsNested text
@@ -86,8 +65,7 @@ texts-law flags (text ∷ texts) held_by items frames behind known nested =
 
 pub name-law : (flags : Flags) (texts : List (List Answer)) (held_by : Holder) (number : ℕ) (behind : Tree)
     (p : Progress) → ((items : List CommentItem) → held_tree held_by items ≡ name_tree number behind items)
-    → All IsNested texts
-    → after_answers flags (held_answers texts) (with_held held_by p)
+    → All IsNested texts → after_answers flags (held_answers texts) (with_held held_by p)
     ≡ with_made p.frames (texts_named flags (Some texts) (held_cat held_by) (held_mode held_by) behind number p.known)
 name-law flags texts held_by number behind p is nested =
     let text = texts_made flags texts (Then (Sign control.NameEnd) behind) p.known in
@@ -128,8 +106,7 @@ module _ (flags : Flags) (named : NameTexts) (nested : AllNested named) where
   IsHeld k token a = after_begin k token.span.start a ≡ with_held (holder.Name token.span.start) a
 
   step-name : (o : Option (List (List Answer))) (token : Seen) (a : Progress) → IsPassed token.kind token a
-      → IsHeld token.kind token a → IfSome o (All IsNested)
-      → after_answers flags (name_answers o token) a
+      → IsHeld token.kind token a → IfSome o (All IsNested) → after_answers flags (name_answers o token) a
       ≡ with_made a.frames (texts_named flags o SectionScrap Maybe Empty token.span.start a.known)
   step-name None token a passed held n = passed
   step-name (Some texts) token a passed held n = ap (after_answers flags (held_answers texts)) held

@@ -1,39 +1,21 @@
 -- Read from text, the tree of a translation ends in text, and so does each inner text in it; and the texts that end
 -- began with fine scraps.
-use Rattle.std.proofs.Common.{◌≡◌, ℕ, ◌+◌, Bool, true, Option, Some, None, IfSome, List, [], ◌∷◌, refl, ap, ◌∙◌, arith}
-use Rattle.std.specs.List.{All, list_all}
-use Rattle.std.proofs.lemmas.List.Elements.{All-append, All-cons, All-head, All-tail}
-use Rattle.cw_base.proofs.TestLaws.{both}
-use Rattle.cw_base.specs.declared.category.Cat.{Cat}
-use Rattle.cw_base.specs.declared.category.Cat.TheVariants.{Dead, Exp, SectionScrap}
-use Rattle.cw_base.specs.declared.flags.Flags.{Flags}
-use Rattle.cw_base.specs.declared.mode.MathMode.{MathMode}
-use Rattle.cw_base.specs.declared.mode.MathMode.TheVariants.{Text, Math, Maybe}
-use Rattle.cw_rules.specs.Answers.{Answer, Seen}
-use Rattle.cw_rules.specs.declared.codes.Code.{Code}
+use Rattle.cw_reduce.proofs.Terms.{◌≡◌, ℕ, ◌+◌, Bool, true, Option, Some, None, IfSome, List, [], ◌∷◌, refl, ap, ◌∙◌}
+use Rattle.cw_reduce.proofs.Terms.{arith, All, list_all, All-append, All-cons, All-head, All-tail, both, Cat, Dead, Exp}
+use Rattle.cw_reduce.proofs.Terms.{SectionScrap, Flags, MathMode, Text, Math, Maybe, Answer, Seen, Code, TokKind, Nest}
+use Rattle.cw_reduce.proofs.Terms.{End, Leaf, Group, nest, NameId, Ident as ident_kind, Entry, place_of, Tree, Empty}
+use Rattle.cw_reduce.proofs.Terms.{Then, Sub, Sign, Scrap, scrap_agrees, Agrees, dollar_before, in_text}
+use Rattle.cw_reduce.proofs.Terms.{blank_and_whole, whole, reads, leads_on, all-append, is_fine, State, tree_in}
+use Rattle.cw_reduce.proofs.Terms.{LeafForm, code_form, word_form, token_form, names_with, IsGood, token-good}
+use Rattle.cw_reduce.proofs.Terms.{InnersRead, ReadsInText, leaf_scrap, CommentItem, Piece, InnerText, comment_rest}
+use Rattle.cw_reduce.proofs.Terms.{comment_scrap, Known, Made, beside, state_in, end_of, form_made, token_made}
+use Rattle.cw_reduce.proofs.Terms.{group_made, made, no_name, plain_text, texts_made, texts_named, leaf_of_name}
+use Rattle.cw_reduce.proofs.Terms.{with_names}
 use Rattle.cw_rules.specs.declared.codes.Code.TheVariants as code
-use Rattle.cw_rules.specs.declared.tokens.TokKind.{TokKind}
 use Rattle.cw_rules.specs.declared.tokens.TokKind.TheVariants as kind
-use Rattle.cw_lex.specs.Nest.{Nest, End, Leaf, Group, nest}
-use Rattle.cw_names.specs.declared.NameId.{NameId}
-use Rattle.cw_names.specs.declared.entry.EntryKind.TheVariants.{Ident as ident_kind}
-use Rattle.cw_names.specs.Names.{Entry, place_of}
-use Rattle.cw_trees.specs.Tree.{Tree, Empty, Then, Sub, Sign}
 use Rattle.cw_trees.specs.declared.Control.TheVariants as control
-use Rattle.cw_trees.specs.Joining.{Scrap, scrap_agrees, Agrees, dollar_before, in_text, blank_and_whole, whole, reads}
-use Rattle.cw_trees.specs.Joining.{leads_on}
-use Rattle.cw_table.proofs.ScrapFacts.{all-append}
-use Rattle.cw_table.specs.Normal.{is_fine, normal}
+use Rattle.cw_table.specs.Normal.{normal}
 use Rattle.cw_table.specs.Productions.{productions}
-use Rattle.cw_table.specs.Rewriting.{State}
-use Rattle.cw_tokens.specs.Shapes.{tree_in}
-use Rattle.cw_scraps.specs.Leaves.{LeafForm, code_form, word_form, token_form, names_with}
-use Rattle.cw_scraps.proofs.LeafForms.{IsGood, token-good}
-use Rattle.cw_reduce.specs.TranslationLaws.{InnersRead, ReadsInText}
-use Rattle.cw_translator.specs.Translating.{leaf_scrap, CommentItem, Piece, InnerText, comment_rest, comment_scrap}
-use Rattle.cw_translator.specs.Translating.{Known}
-use Rattle.cw_translator.specs.Translating.{Made, beside, state_in, end_of, form_made, token_made, group_made, made}
-use Rattle.cw_translator.specs.Translating.{no_name, plain_text, texts_made, texts_named, leaf_of_name, with_names}
 use Rattle.cw_translator.proofs.CommentLaws.{comment-agrees}
 use Rattle.cw_reduce.proofs.ShownLaws.{fine_form, token-fine}
 use Rattle.cw_reduce.proofs.InnersKept.{inners_of, AreRead, normal-read}

@@ -1,12 +1,9 @@
 -- The answers of a scanner, one after another: which come next, and where they begin.
-use Rattle.std.proofs.Common.{◌≡◌, ℕ, true, false, ◌<◌, ◌≤◌, List, [], ◌∷◌, ◌++◌, sym, ap, ◌∙◌, subst, arith}
-use Rattle.cw_rules.specs.Answers.{Answer, Token, Begin, Finish, Note, Gives, seen}
-use Rattle.cw_lex.specs.Nested.{until_section}
+use Rattle.cw_reduce.proofs.Terms.{◌≡◌, ℕ, true, false, ◌<◌, ◌≤◌, List, [], ◌∷◌, ◌++◌, sym, ap, ◌∙◌, subst, arith}
+use Rattle.cw_reduce.proofs.Terms.{Answer, Token, Begin, Finish, Note, Gives, seen, until_section, Lexed, ends_text}
+use Rattle.cw_reduce.proofs.Terms.{StartsBelow, answers_in}
 use Rattle.cw_rules.specs.Order.{AreWithin}
-use Rattle.cw_rules.specs.declared.tokens.Lexed.{Lexed}
 use Rattle.cw_rules.specs.declared.tokens.Lexed.TheVariants as lexed
-use Rattle.cw_reduce.specs.Naming.{ends_text}
-use Rattle.cw_translator.specs.Opening.{StartsBelow, answers_in}
 
 -- the answers of a call before the others
 pub gives-is : (old new : List Answer) (answer : Lexed) → Gives old answer new → old ≡ answers_in answer ++ new

@@ -1,41 +1,21 @@
 -- Each token that is shown stands in the tree of a translation once and in order.
-use Rattle.std.proofs.Common.{◌≡◌, ℕ, Bool, true, false, not, is_some, Option, Some, None, List, [], ◌∷◌, ◌++◌, refl}
-use Rattle.std.proofs.Common.{sym, ◌∙◌, ap}
-use Rattle.std.proofs.lemmas.List.{append-nil, append_assoc}
-use Rattle.std.specs.List.{list_all}
-use Rattle.cw_base.proofs.TestLaws.{both}
-use Rattle.cw_base.specs.declared.category.Cat.{Cat}
-use Rattle.cw_base.specs.declared.category.Cat.TheVariants.{Exp, SectionScrap}
-use Rattle.cw_base.specs.declared.flags.Flags.{Flags}
-use Rattle.cw_base.specs.declared.mode.MathMode.{MathMode}
-use Rattle.cw_base.specs.declared.mode.MathMode.TheVariants.{Math, Maybe}
-use Rattle.cw_rules.specs.Answers.{Answer, Seen}
-use Rattle.cw_rules.specs.declared.codes.Code.{Code}
+use Rattle.cw_reduce.proofs.Terms.{◌≡◌, ℕ, Bool, true, false, not, is_some, Option, Some, None, List, [], ◌∷◌, ◌++◌}
+use Rattle.cw_reduce.proofs.Terms.{refl, sym, ◌∙◌, ap, append-nil, list_all, both, Cat, Exp, SectionScrap, Flags}
+use Rattle.cw_reduce.proofs.Terms.{MathMode, Math, Maybe, Answer, Seen, Code, TokKind, NameId, Entry, Tree, Sub}
+use Rattle.cw_reduce.proofs.Terms.{continues_name, struck, Scrap, dollar_before, in_text, blank_and_whole, whole}
+use Rattle.cw_reduce.proofs.Terms.{is_fine, productions-sound, all-append, tree_in, LeafForm, code_form, word_form}
+use Rattle.cw_reduce.proofs.Terms.{token_form, Then, Sign, Empty, leaf_scrap, CommentItem, Piece, InnerText}
+use Rattle.cw_reduce.proofs.Terms.{comment_rest, comment_tree, is_shown, is_shown_code, is_comment, list_if, Nest, End}
+use Rattle.cw_reduce.proofs.Terms.{Leaf, Group, is_text_kind, IsGroupOf, IsWell, shown_token, shown_in, Known, Made}
+use Rattle.cw_reduce.proofs.Terms.{beside, state_in, end_from, end_of, form_made, token_made, group_made, made}
+use Rattle.cw_reduce.proofs.Terms.{plain_text, texts_made, texts_named, append_assoc}
 use Rattle.cw_rules.specs.declared.codes.Code.TheVariants as code
-use Rattle.cw_rules.specs.declared.tokens.TokKind.{TokKind}
 use Rattle.cw_rules.specs.declared.tokens.TokKind.TheVariants as kind
-use Rattle.cw_names.specs.declared.NameId.{NameId}
-use Rattle.cw_names.specs.Names.{Entry}
-use Rattle.cw_trees.specs.Tree.{Tree, Sub}
-use Rattle.cw_trees.specs.Flat.{continues_name, struck}
-use Rattle.cw_trees.specs.Joining.{Scrap, dollar_before, in_text, blank_and_whole, whole}
-use Rattle.cw_table.specs.Normal.{is_fine, normal}
+use Rattle.cw_table.specs.Normal.{normal}
 use Rattle.cw_table.specs.Productions.{productions}
 use Rattle.cw_table.specs.SourceNumbers.{numbers_of}
-use Rattle.cw_table.proofs.Examples.{productions-sound}
 use Rattle.cw_table.proofs.NumberLaws.{numbers-append, normal-numbers}
-use Rattle.cw_table.proofs.ScrapFacts.{all-append}
-use Rattle.cw_tokens.specs.Shapes.{tree_in}
-use Rattle.cw_scraps.specs.Leaves.{LeafForm, code_form, word_form, token_form}
-use Rattle.cw_trees.specs.Tree.{Then, Sign, Empty}
 use Rattle.cw_trees.specs.declared.Control.TheVariants as control
-use Rattle.cw_translator.specs.Translating.{leaf_scrap, CommentItem, Piece, InnerText, comment_rest, comment_tree}
-use Rattle.cw_reduce.specs.Visible.{is_shown, is_shown_code, is_comment}
-use Rattle.cw_base.specs.Conditions.{list_if}
-use Rattle.cw_lex.specs.Nest.{Nest, End, Leaf, Group, is_text_kind, IsGroupOf, IsWell}
-use Rattle.cw_reduce.specs.Visible.{shown_token, shown_in}
-use Rattle.cw_translator.specs.Translating.{Known, Made, beside, state_in, end_from, end_of, form_made, token_made}
-use Rattle.cw_translator.specs.Translating.{group_made, made, plain_text, texts_made, texts_named}
 
 -- what no production joins
 struck-dollar : (mode : MathMode) (tree : Tree) → struck (dollar_before mode tree) ≡ struck tree
@@ -87,8 +67,7 @@ code-fine code.TexBox n = refl
 code-fine _ n = refl
 
 pub token-numbers : (k : TokKind) (text : List ℕ) (hash_line : Bool) (n : ℕ) (names : List Entry) → is_text_kind k
-    ≡ false
-    → form_numbers (token_form k text hash_line n names) ≡ list_if (is_shown k) (n ∷ [])
+    ≡ false → form_numbers (token_form k text hash_line n names) ≡ list_if (is_shown k) (n ∷ [])
 token-numbers kind.Text text hash_line n names h = absurd cc
 token-numbers kind.Identifier text hash_line n names h = word-numbers _ _ n
 token-numbers (kind.Code c) text hash_line n names h = code-numbers c n
@@ -113,11 +92,10 @@ continues-comment (InnerText tree ∷ items) = refl
 struck-rest : (items : List CommentItem) → struck (comment_rest items) ≡ item_numbers items
 struck-rest [] = refl
 struck-rest (Piece n ∷ items) = ap (λ ns. n ∷ ns) (struck-rest items)
-struck-rest (InnerText tree ∷ items) =
-    ap (λ (b : Bool). elim b [
-      | true ↦ struck (comment_rest items)
-      | false ↦ struck tree ++ struck (comment_rest items)
-    ]) (continues-comment items)
+struck-rest (InnerText tree ∷ items) = ap (λ (b : Bool). elim b [
+  | true ↦ struck (comment_rest items)
+  | false ↦ struck tree ++ struck (comment_rest items)
+]) (continues-comment items)
     ∙ ap (λ ns. struck tree ++ ns) (struck-rest items)
 
 items-append : (items more : List CommentItem) → item_numbers (items ++ more) ≡ item_numbers items ++ item_numbers more
@@ -185,8 +163,7 @@ shows-inner : (flags : Flags) (m : Made) (ns : List ℕ) → Shows false m ns
     }) m) ns
 shows-inner flags m ns s = record {
   fine = refl;
-  numbers_are = append-nil (struck (end_of flags m).tree)
-      ∙ struck-end flags m.scraps m.known s.fine ∙ s.numbers_are;
+  numbers_are = append-nil (struck (end_of flags m).tree) ∙ struck-end flags m.scraps m.known s.fine ∙ s.numbers_are;
 }
 
 shows-comment : (flags : Flags) (token : Seen) (m : Made) (ns : List ℕ) → Shows true m ns
@@ -198,8 +175,7 @@ shows-comment flags token m ns s = record {
 }
 
 shows-group : (flags : Flags) (comment : Bool) (k : TokKind) (token : Seen) (m : Made) (ns : List ℕ)
-    → IsGroupOf comment k
-    → Shows (not comment) m ns
+    → IsGroupOf comment k → Shows (not comment) m ns
     → Shows comment (group_made flags k token m) (list_if (is_comment k) (token.span.start ∷ []) ++ ns)
 shows-group flags true kind.InnerText token m ns w s = shows-inner flags m ns s
 shows-group flags false kind.LongComment token m ns w s = shows-comment flags token m ns s

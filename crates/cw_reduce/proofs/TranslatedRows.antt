@@ -1,25 +1,17 @@
 -- Worked rows of translation: the counts, the visible tokens and the bytes of some C texts.
-use Rattle.std.proofs.Common.{◌≡◌, ℕ, Bool, false, true, List, [], ◌∷◌, map, codes, get_or, length, eqb, refl, Option}
-use Rattle.std.proofs.Common.{Some, None}
-use Rattle.cw_base.specs.Flags.{start_flags}
+use Rattle.cw_reduce.proofs.Terms.{◌≡◌, ℕ, Bool, false, true, List, [], ◌∷◌, map, codes, get_or, length, eqb, refl}
+use Rattle.cw_reduce.proofs.Terms.{Option, Some, None, start_flags, Text, CPart, Definition, inner_mode as InnerMode}
+use Rattle.cw_reduce.proofs.Terms.{Answer, tokens_of, Entry, Item, SourceItem, IdentItem, ReservedItem, SignItem, Open}
+use Rattle.cw_reduce.proofs.Terms.{Close, flat, trimmed, struck, reads, scraps_in, productions_in, logs_in}
+use Rattle.cw_reduce.proofs.Terms.{parts_of_name, Ended, unnamed, shown as shown_numbers}
 use Rattle.cw_base.specs.declared.category.Cat.TheVariants as cat
-use Rattle.cw_base.specs.declared.mode.MathMode.TheVariants.{Text}
-use Rattle.cw_rules.specs.declared.tokens.Mode.TheVariants.{CPart, Definition, Inner as InnerMode}
-use Rattle.cw_rules.specs.Answers.{Answer}
-use Rattle.cw_lex.specs.Lexing.{tokens_of}
-use Rattle.cw_names.specs.Names.{Entry}
 use Rattle.cw_names.specs.Words.{built_in_words}
-use Rattle.cw_trees.specs.Flat.{Item, SourceItem, IdentItem, ReservedItem, SignItem, Open, Close, flat, trimmed, struck}
-use Rattle.cw_trees.specs.Joining.{reads}
 use Rattle.cw_trees.specs.Printing.{Printable, printed, sign_bytes, ident_bytes, reserved_bytes}
 use Rattle.cw_table.specs.Normal.{normal, log, count}
 use Rattle.cw_table.specs.NormalWalk.{positions}
 use Rattle.cw_table.specs.WalkCounts.{looks}
 use Rattle.cw_table.specs.Productions.{productions}
-use Rattle.cw_translator.specs.Counting.{scraps_in, productions_in, logs_in}
-use Rattle.cw_translator.specs.NameParts.{parts_of_name}
-use Rattle.cw_translator.specs.Translating.{Ended, translated, unnamed}
-use Rattle.cw_reduce.specs.Visible.{shown as shown_numbers}
+use Rattle.cw_translator.specs.Translating.{translated}
 
 abbrev none_named : ℕ → Bool
 none_named number = false
@@ -39,12 +31,11 @@ bytes_at [] number = []
 bytes_at (pair ∷ pairs) number = elim (eqb pair.0 number) [ true ↦ pair.1 | false ↦ bytes_at pairs number ]
 
 abbrev text_of : List Entry → ℕ → List ℕ
-text_of names name =
-    (get_or names name (record {
-      kind = Rattle.cw_names.specs.declared.entry.EntryKind.TheVariants.Ident;
-      text = [];
-      category = cat.Exp;
-    })).text
+text_of names name = (get_or names name (record {
+  kind = Rattle.cw_names.specs.declared.entry.EntryKind.TheVariants.Ident;
+  text = [];
+  category = cat.Exp;
+})).text
 
 abbrev shown : List (ℕ × List ℕ) → List Entry → Item → Printable
 shown texts names (SourceItem n) = record { item = SourceItem n; bytes = bytes_at texts n }

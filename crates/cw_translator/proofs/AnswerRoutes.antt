@@ -1,44 +1,19 @@
 -- What each answer of the scanner does, as one relation.
-use Rattle.std.proofs.Common.{◌≡◌, ℕ, ◌+◌, ◌*◌, ◌≤◌, List, [], ◌∷◌, length, None, ◌⊎◌, inl, inr, refl, sym, ap, ◌∙◌}
-use Rattle.std.proofs.Common.{subst}
-use Rattle.std.proofs.Common.{Option, add-zero, arith}
-use Rattle.std.specs.Prelude.{Result, Ok, IsErrAnd, OnOk}
-use Rattle.std.specs.List.{All}
-use Rattle.std.proofs.lemmas.Result.{on_ok_weaker}
-use Rattle.cw_base.specs.declared.flags.Flags.{Flags}
-use Rattle.cw_base.specs.declared.memory.Memory.{Memory}
+use Rattle.cw_translator.proofs.Terms.{◌≡◌, ℕ, ◌+◌, ◌*◌, ◌≤◌, List, [], ◌∷◌, length, None, ◌⊎◌, inl, inr, refl, sym, ap}
+use Rattle.cw_translator.proofs.Terms.{◌∙◌, subst, Option, add-zero, arith, Result, Ok, IsErrAnd, OnOk, All}
+use Rattle.cw_translator.proofs.Terms.{on_ok_weaker, Flags, Memory, Begin, Finish, Note, Seen, TokKind, productions}
+use Rattle.cw_translator.proofs.Terms.{State, reservings, StoredLists, Entry, Told, LineEntry, state_of, Keeps}
+use Rattle.cw_translator.proofs.Terms.{names_with, AreRoots, MarkList, Open, CommentPart, Holder, Translator, Work}
+use Rattle.cw_translator.proofs.Terms.{limit_in, HasCome, IsSoundFrame, IsTranslating, all_roots, answers_in, begun_by}
+use Rattle.cw_translator.proofs.Terms.{frames_of, progress_of, HasRecorded, texts_told, Progress, after_answers}
+use Rattle.cw_translator.proofs.Terms.{after_finish, after_token, NamesAmong, Retypes, later, IsSameWork, Advances}
+use Rattle.cw_translator.proofs.Terms.{over, progress_over}
 use Rattle.cw_base.specs.declared.notes.NoteKind.{NoteKind}
-use Rattle.cw_rules.specs.Answers.{Begin, Finish, Note, Seen, Token}
-use Rattle.cw_rules.specs.declared.tokens.TokKind.{TokKind}
+use Rattle.cw_rules.specs.Answers.{Token}
 use Rattle.cw_rules.specs.declared.tokens.TokKind.TheVariants as kind
 use Rattle.cw_rules.specs.declared.tokens.Lexed.{Lexed}
 use Rattle.cw_rules.specs.declared.tokens.Lexed.TheVariants as lexed
-use Rattle.cw_table.specs.Productions.{productions}
-use Rattle.cw_table.specs.Rewriting.{State}
-use Rattle.cw_table.specs.WalkCounts.{reservings}
-use Rattle.cw_tokens.specs.Stored.{StoredLists}
-use Rattle.cw_names.specs.Names.{Entry}
-use Rattle.cw_rewrite.specs.Telling.{Told}
-use Rattle.cw_scraps.specs.declared.line.LineEntry.{LineEntry}
-use Rattle.cw_scraps.specs.Applying.{state_of}
-use Rattle.cw_scraps.specs.Changing.{Keeps}
-use Rattle.cw_scraps.specs.Leaves.{names_with}
-use Rattle.cw_scraps.specs.Lines.{AreRoots}
-use Rattle.cw_scraps.specs.Marking.{MarkList}
-use Rattle.cw_translator.specs.declared.nesting.Open.{Open}
-use Rattle.cw_translator.specs.declared.comments.CommentPart.{CommentPart}
-use Rattle.cw_translator.specs.declared.holders.Holder.{Holder}
 use Rattle.cw_translator.specs.declared.nesting.Open.TheVariants.{CText, Comment}
-use Rattle.cw_translator.specs.declared.translator.Translator.{Translator}
-use Rattle.cw_translator.specs.declared.work.Work.{Work}
-use Rattle.cw_translator.specs.Counting.{limit_in}
-use Rattle.cw_translator.specs.Opening.{HasCome, IsSoundFrame, IsTranslating, all_roots, answers_in, begun_by}
-use Rattle.cw_translator.specs.Opening.{frames_of}
-use Rattle.cw_translator.specs.Opening.{progress_of}
-use Rattle.cw_translator.specs.Recording.{HasRecorded, texts_told}
-use Rattle.cw_translator.specs.Reading.{Progress, after_answers, after_finish, after_token}
-use Rattle.cw_translator.specs.Retyping.{NamesAmong, Retypes, later}
-use Rattle.cw_translator.specs.Working.{IsSameWork, Advances, over, progress_over}
 use Rattle.cw_translator.proofs.AnswerSteps.{begin-come, begin-steps, token-come, token-names}
 use Rattle.cw_translator.proofs.Routes.{answers-as, on-err, advances-as, advances-none, advances-refused}
 use Rattle.cw_translator.proofs.FinishSteps.{FinishStep, known_of, same-names, text-bound, text-names}
@@ -194,8 +169,7 @@ none-recorded told flags t work none {value} =
 -- the text that ends is one more
 text-recorded : {T : Type 0} (flags : Flags) (store : StoredLists) (names : List Entry) (marks : MarkList)
     (t : Translator) (line : List LineEntry) (outer : List Open) {before told : Option Told} (result : Result T Memory)
-    → t.nesting ≡ CText line ∷ outer
-    → HasRecorded flags (state_of store.lists line marks names ∷ []) before told result
+    → t.nesting ≡ CText line ∷ outer → HasRecorded flags (state_of store.lists line marks names ∷ []) before told result
     → HasRecorded flags (after_finish flags (frames_of store.lists t.nesting) (known_of names marks)).known.ended before
     told result
 text-recorded flags store names marks t line outer {before = before} {told} result open_is r =

@@ -1,32 +1,15 @@
 -- One answer of the scanner.
-use Rattle.std.proofs.Common.{◌≡◌, ℕ, ◌+◌, List, [], ◌∷◌, length, ◌⊎◌, inl, inr, refl, sym}
-use Rattle.std.proofs.Common.{ap, ◌∙◌, subst, add-zero, arith}
-use Rattle.std.specs.List.{All}
-use Rattle.std.proofs.lemmas.List.{append-nil}
-use Rattle.std.proofs.lemmas.List.Elements.{All-cons}
-use Rattle.cw_base.specs.declared.flags.Flags.{Flags}
-use Rattle.cw_rules.specs.Answers.{Seen, Token, Begin}
+use Rattle.cw_translator.proofs.Terms.{◌≡◌, ℕ, ◌+◌, List, [], ◌∷◌, length, ◌⊎◌, inl, inr, refl, sym, ap, ◌∙◌, subst}
+use Rattle.cw_translator.proofs.Terms.{add-zero, arith, All, append-nil, All-cons, Flags, Seen, Begin, TokKind, Entry}
+use Rattle.cw_translator.proofs.Terms.{count, Token as StoredToken, StoredLists, Keeps, names_with, AreRoots, MarkList}
+use Rattle.cw_translator.proofs.Terms.{marked_names, Open, Translator, scraps_in, productions_in, ticks_in, all_roots}
+use Rattle.cw_translator.proofs.Terms.{begun_by, frames_of, IsSoundFrame, IsTranslating, progress_of, HasCome}
+use Rattle.cw_translator.proofs.Terms.{NamesOnTheWay, NamesAmong, here, later, Progress, frames_begun, after_token}
+use Rattle.cw_translator.proofs.Terms.{after_answers, CText as CTextFrame, Comment as CommentFrame}
+use Rattle.cw_rules.specs.Answers.{Token}
 use Rattle.cw_rules.specs.declared.codes.Code.{Code}
-use Rattle.cw_rules.specs.declared.tokens.TokKind.{TokKind}
 use Rattle.cw_rules.specs.declared.tokens.TokKind.TheVariants as kind
-use Rattle.cw_names.specs.Names.{Entry}
-use Rattle.cw_table.specs.Normal.{count}
-use Rattle.cw_tokens.specs.declared.token.Token.{Token as StoredToken}
-use Rattle.cw_tokens.specs.Stored.{StoredLists}
-use Rattle.cw_scraps.specs.Changing.{Keeps}
-use Rattle.cw_scraps.specs.Leaves.{names_with}
-use Rattle.cw_scraps.specs.Lines.{AreRoots}
-use Rattle.cw_scraps.specs.Marking.{MarkList, marked_names}
 use Rattle.cw_translator.specs.declared.holders.Holder.TheVariants as holder
-use Rattle.cw_translator.specs.declared.nesting.Open.{Open}
-use Rattle.cw_translator.specs.declared.translator.Translator.{Translator}
-use Rattle.cw_translator.specs.Counting.{scraps_in, productions_in, ticks_in}
-use Rattle.cw_translator.specs.Opening.{all_roots, begun_by, frames_of, IsSoundFrame, IsTranslating}
-use Rattle.cw_translator.specs.Opening.{progress_of, HasCome}
-use Rattle.cw_translator.specs.Retyping.{NamesOnTheWay, NamesAmong, here, later}
-use Rattle.cw_translator.specs.Reading.{Progress, frames_begun, after_token}
-use Rattle.cw_translator.specs.Reading.{after_answers}
-use Rattle.cw_translator.specs.Reading.{CText as CTextFrame, Comment as CommentFrame}
 use Rattle.cw_translator.proofs.LeafSteps.{Steps, Same, keeps-itself}
 
 -- what begins

@@ -1,13 +1,10 @@
 -- A step of one line beside the others that stand in the same store.
-use Rattle.std.proofs.Common.{◌≡◌, ℕ, ◌+◌, ◌-◌, ◌<◌, List, ◌++◌, length, get_or, Some, inl, inr, refl, sym, ap, ◌∙◌}
-use Rattle.std.proofs.Common.{subst, arith}
-use Rattle.std.specs.List.{slice_get}
+use Rattle.cw_translator.proofs.Terms.{◌≡◌, ℕ, ◌+◌, ◌-◌, ◌<◌, List, ◌++◌, length, get_or, Some, inl, inr, refl, sym, ap}
+use Rattle.cw_translator.proofs.Terms.{◌∙◌, subst, arith, slice_get, get_or_append_left, get_or-append-add}
+use Rattle.cw_translator.proofs.Terms.{get_or-append_right, length-append, Token, token_ref, refers, IsUnreferred}
+use Rattle.cw_translator.proofs.Terms.{IsTied, Reach, next, AreRoots, IsOutside, Keeps}
 use Rattle.std.proofs.lemmas.Bool.{cases_lt}
-use Rattle.std.proofs.lemmas.List.{get_or_append_left, get_or-append-add, get_or-append_right, length-append}
-use Rattle.cw_tokens.specs.declared.token.Token.{Token}
-use Rattle.cw_tokens.specs.References.{token_ref, refers, IsUnreferred, IsTied, Reach, here, next}
-use Rattle.cw_scraps.specs.Lines.{AreRoots, IsOutside}
-use Rattle.cw_scraps.specs.Changing.{Keeps}
+use Rattle.cw_tokens.specs.References.{here}
 
 -- nothing but the list itself leads to a list to which nothing refers
 pub unreferred-reach : (lists : List (List Token)) (a b : ℕ) → IsUnreferred lists b → Reach lists a b → a ≡ b
@@ -73,7 +70,7 @@ module _ (lists : List (List Token)) (others rs : List ℕ) (roots : AreRoots li
 pub outside-below : (lists : List (List Token)) (rs : List ℕ) → IsTied lists → AreRoots lists rs → (l p n : ℕ)
     → IsOutside lists rs l → refers lists l p ≡ Some n → IsOutside lists rs n
 outside-below lists rs tied roots l p n o e = record {
-  there = (let a : n < l = tied.earlier l p n e in let b : l < length lists = o.there in omega arith);
+  there = omega (arith, tied.earlier l p n e, o.there);
   above = λ i h r. roots.free i h l p (e ∙ ap Some (unreferred-reach lists n (get_or rs i 0) (roots.free i h) r));
   below = λ i h r. under i h r;
 }
@@ -91,7 +88,7 @@ module _ (old new : List (List Token)) (others rs ss : List ℕ) (tied : IsTied 
   reach-back : (a x : ℕ) → IsOutside old rs a → Reach new a x → Reach old a x × IsOutside old rs x
   reach-back a x o here = (here, o)
   reach-back a x o (next l p n e r) =
-      let back : Reach old a l × IsOutside old rs l = reach-back a l o r in
+      let back = reach-back a l o r in
       let before : refers old l p ≡ Some n = ap (λ ts. token_ref (slice_get ts p)) (sym (keeps.lists l back.1)) ∙ e in
       (next l p n before back.0, outside-below old rs tied (right-roots old others rs roots) l p n back.1 before)
 
@@ -130,7 +127,7 @@ module _ (old new : List (List Token)) (others rs ss : List ℕ) (tied : IsTied 
   root-apart i j x y (outer h) (inner v k f) q = absurd ((stays-outside i h).above v k (subst (Reach new x) q here))
   root-apart i j x y (inner u h e) (outer k) q = absurd
       ((stays-outside j k).above u h (subst (Reach new y) (sym q) here))
-  root-apart i j x y (inner u h e) (inner v k f) q = let same : u ≡ v = made.apart u v h k q in omega arith
+  root-apart i j x y (inner u h e) (inner v k f) q = omega (arith, e, f, made.apart u v h k q)
 
   pub beside-roots : AreRoots new (others ++ ss)
   beside-roots = record {
@@ -142,14 +139,14 @@ module _ (old new : List (List Token)) (others rs ss : List ℕ) (tied : IsTied 
   not-above : (k : ℕ) → IsOutside old (others ++ rs) k → (i x : ℕ) → Side i x → Reach new k x → ⊥
   not-above k o i x (outer h) r =
       let same : k ≡ x = unreferred-reach new k x (stays-free i h) r in
-      o.above i (let s : length (others ++ rs) ≡ length others + length rs = length-append others rs in
-      omega (arith, s)) (subst (Reach old k) (same ∙ sym (get_or_append_left others rs 0 i h)) here)
+      o.above i (omega (arith, length-append others rs)) (subst (Reach old k) (same
+      ∙ sym (get_or_append_left others rs 0 i h)) here)
   not-above k o i x (inner j h e) r = (keeps.outside k (outside-right old others rs roots k o)).above j h r
 
   not-below : (k : ℕ) → IsOutside old (others ++ rs) k → (i x : ℕ) → Side i x → Reach new x k → ⊥
   not-below k o i x (outer h) r =
-      o.below i (let s : length (others ++ rs) ≡ length others + length rs = length-append others rs in
-      omega (arith, s)) (subst (λ y. Reach old y k) (sym (get_or_append_left others rs 0 i h))
+      o.below i (omega (arith, length-append others rs))
+      (subst (λ y. Reach old y k) (sym (get_or_append_left others rs 0 i h))
       (reach-back x k (outside-group old others rs roots i h) r).0)
   not-below k o i x (inner j h e) r = (keeps.outside k (outside-right old others rs roots k o)).below j h r
 

@@ -1,12 +1,7 @@
 -- What holds of the tree of a comment: which names it has, and that it begins and ends in text.
-use Rattle.std.proofs.Common.{◌≡◌, ℕ, List, [], ◌∷◌, Some, refl}
-use Rattle.std.specs.List.{All}
-use Rattle.std.proofs.lemmas.List.Elements.{All-head, All-tail}
-use Rattle.cw_base.specs.declared.mode.MathMode.TheVariants.{Text}
-use Rattle.cw_trees.specs.Joining.{scrap_agrees, reads}
-use Rattle.cw_scraps.specs.Lines.{IsNamedBelow}
-use Rattle.cw_translator.specs.Translating.{CommentItem, Piece, InnerText, comment_rest, comment_tree, comment_scrap}
-use Rattle.cw_translator.specs.Opening.{IsNamedItem}
+use Rattle.cw_translator.proofs.Terms.{◌≡◌, ℕ, List, [], ◌∷◌, Some, refl, All, All-head, All-tail, Text, scrap_agrees}
+use Rattle.cw_translator.proofs.Terms.{reads, IsNamedBelow, CommentItem, Piece, InnerText, comment_rest, comment_tree}
+use Rattle.cw_translator.proofs.Terms.{comment_scrap, IsNamedItem}
 
 module _ (count : ℕ) where
   rest-named : (items : List CommentItem) → All (IsNamedItem count) items → IsNamedBelow count (comment_rest items)

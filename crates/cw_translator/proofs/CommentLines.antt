@@ -1,17 +1,9 @@
 -- How the list of a comment is built one part after the other.
-use Rattle.std.proofs.Common.{◌≡◌, ℕ, ◌+◌, ◌<◌, ◌≤◌, List, [], ◌∷◌, ◌++◌, length, map, drop, get_or, refl, sym, ap, ◌∙◌}
-use Rattle.std.proofs.Common.{subst, option_map}
-use Rattle.std.specs.Option.{option_to_list}
-use Rattle.std.proofs.lemmas.List.{drop_more, drop_all}
-use Rattle.cw_tokens.specs.declared.token.Token.{Token}
-use Rattle.cw_tokens.specs.Shapes.{unfolded}
-use Rattle.cw_tokens.specs.Stored.{StoredLists, MayBePushed}
-use Rattle.cw_scraps.specs.Lines.{AreRoots}
-use Rattle.cw_rewrite.specs.Gathering.{refs_in, Gathers}
-use Rattle.cw_rewrite.proofs.GatherSteps.{Builds, builds-pushed, builds-may, builds-lists, builds-gathers}
-use Rattle.cw_translator.specs.declared.comments.CommentPart.{CommentPart}
-use Rattle.cw_translator.specs.Translating.{comment_tree}
-use Rattle.cw_translator.specs.Commenting.{part_seen, inner_lists, token_of}
+use Rattle.cw_translator.proofs.Terms.{◌≡◌, ℕ, ◌+◌, ◌<◌, ◌≤◌, List, [], ◌∷◌, ◌++◌, length, map, drop, get_or, refl, sym}
+use Rattle.cw_translator.proofs.Terms.{ap, ◌∙◌, subst, option_map, option_to_list, drop_more, drop_all, Token, unfolded}
+use Rattle.cw_translator.proofs.Terms.{StoredLists, MayBePushed, AreRoots, refs_in, Gathers, Builds, builds-pushed}
+use Rattle.cw_translator.proofs.Terms.{builds-may, builds-lists, builds-gathers, CommentPart, comment_tree, part_seen}
+use Rattle.cw_translator.proofs.Terms.{inner_lists, token_of}
 use Rattle.cw_translator.proofs.CommentTrees.{comment_end, comment_tokens, comment-unfolded, comment-refs}
 
 -- the tokens of what stands in a comment from a part on

@@ -1,17 +1,10 @@
 -- The tokens of a comment's list have the tree of the comment.
-use Rattle.std.proofs.Common.{◌≡◌, ℕ, List, [], ◌∷◌, ◌++◌, length, map, refl, ap, ◌∙◌}
-use Rattle.cw_base.specs.declared.mode.MathMode.TheVariants.{Text}
+use Rattle.cw_translator.proofs.Terms.{◌≡◌, ℕ, List, [], ◌∷◌, ◌++◌, length, map, refl, ap, ◌∙◌, Text, Then, Inner}
+use Rattle.cw_translator.proofs.Terms.{Source, Sign, Token, source, Control, tree_in, trees_from, unfolded}
+use Rattle.cw_translator.proofs.Terms.{unfolded-new, refs_in, CommentPart, comment_rest, comment_tree, part_seen}
+use Rattle.cw_translator.proofs.Terms.{inner_lists, token_of}
 use Rattle.cw_trees.specs.declared.Control.TheVariants as control
-use Rattle.cw_trees.specs.Tree.{Then, Inner, Source, Sign}
-use Rattle.cw_tokens.specs.declared.token.Token.{Token}
-use Rattle.cw_tokens.specs.declared.token.Token.TheVariants.{Source as source, Control}
-use Rattle.cw_tokens.specs.Shapes.{tree_in, trees_from, unfolded}
-use Rattle.cw_tokens.proofs.Unfolding.{unfolded-new}
-use Rattle.cw_rewrite.specs.Gathering.{refs_in}
-use Rattle.cw_translator.specs.declared.comments.CommentPart.{CommentPart}
 use Rattle.cw_translator.specs.declared.comments.CommentPart.TheVariants as part
-use Rattle.cw_translator.specs.Translating.{comment_rest, comment_tree}
-use Rattle.cw_translator.specs.Commenting.{part_seen, inner_lists, token_of}
 
 -- the tokens of a comment
 abbrev pub comment_end : List Token

@@ -1,41 +1,18 @@
 -- The whole text ends.
-use Rattle.std.proofs.Common.{◌≡◌, ℕ, ◌+◌, ◌*◌, ◌≤◌, List, [], ◌∷◌, length, refl, sym, ap, ◌∙◌, subst, arith}
-use Rattle.std.proofs.Common.{None, Option}
-use Rattle.std.specs.Prelude.{Result, Ok, IsErrAnd}
-use Rattle.std.proofs.lemmas.List.{length-map}
-use Rattle.cw_base.specs.declared.flags.Flags.{Flags}
-use Rattle.cw_base.specs.declared.memory.Memory.{Memory}
-use Rattle.cw_names.specs.Names.{Entry}
-use Rattle.cw_table.specs.Normal.{count, normal}
-use Rattle.cw_table.specs.Productions.{productions}
-use Rattle.cw_table.specs.Rewriting.{State}
-use Rattle.cw_table.specs.WalkCounts.{reservings, ticks}
-use Rattle.cw_tokens.specs.declared.token.Token.{Token as StoredToken}
-use Rattle.cw_tokens.specs.Stored.{StoredLists}
-use Rattle.cw_trees.specs.Joining.{whole}
-use Rattle.cw_rewrite.specs.Telling.{Told}
-use Rattle.cw_scraps.specs.declared.line.LineEntry.{LineEntry}
-use Rattle.cw_scraps.specs.Applying.{state_of}
-use Rattle.cw_scraps.specs.Changing.{Keeps}
-use Rattle.cw_scraps.specs.Lines.{seen, scraps_of, roots_of, IsOutside, IsSoundLine}
-use Rattle.cw_translator.specs.declared.nesting.Open.{Open}
+use Rattle.cw_translator.proofs.Terms.{◌≡◌, ℕ, ◌+◌, ◌*◌, ◌≤◌, List, [], ◌∷◌, length, refl, sym, ap, ◌∙◌, subst, arith}
+use Rattle.cw_translator.proofs.Terms.{None, Option, Result, Ok, IsErrAnd, length-map, Flags, Memory, Entry, count}
+use Rattle.cw_translator.proofs.Terms.{normal, productions, State, reservings, ticks, Token as StoredToken, StoredLists}
+use Rattle.cw_translator.proofs.Terms.{whole, Told, LineEntry, state_of, Keeps, seen, scraps_of, roots_of, IsOutside}
+use Rattle.cw_translator.proofs.Terms.{IsSoundLine, Open, Translated, Translator, Work, text_limit, limit_in, LineDone}
+use Rattle.cw_translator.proofs.Terms.{last_line, all_roots, IsTranslating, frames_of, HasRecorded, Retypes, at_end}
+use Rattle.cw_translator.proofs.Terms.{last_scraps, all_ended, state_in, with_categories, IsSameWork, EndsIn}
+use Rattle.cw_translator.proofs.Terms.{progress_over, to_end}
 use Rattle.cw_translator.specs.declared.nesting.Open.TheVariants.{CText, Comment}
-use Rattle.cw_translator.specs.declared.translator.Translated.{Translated}
-use Rattle.cw_translator.specs.declared.translator.Translator.{Translator}
-use Rattle.cw_translator.specs.declared.work.Work.{Work}
-use Rattle.cw_translator.specs.Counting.{text_limit, limit_in}
-use Rattle.cw_translator.specs.LinesDone.{LineDone}
-use Rattle.cw_translator.specs.Opening.{last_line, all_roots, IsTranslating, frames_of}
-use Rattle.cw_translator.specs.Recording.{HasRecorded}
-use Rattle.cw_translator.specs.Retyping.{Retypes, at_end}
-use Rattle.cw_translator.specs.Reading.{last_scraps, all_ended}
-use Rattle.cw_translator.specs.Translating.{state_in, with_categories}
-use Rattle.cw_translator.specs.Working.{IsSameWork, EndsIn, progress_over, to_end}
 use Rattle.cw_translator.proofs.Recorded.{recorded-error, recorded-whole}
 use Rattle.cw_translator.proofs.Routes.{ends-refused}
 use Rattle.cw_translator.proofs.FinishSteps.{known_of, open-line}
 use Rattle.cw_translator.proofs.LeafSteps.{empty-line}
-use Rattle.cw_translator.proofs.Sums.{sum-one}
+use Rattle.cw_translator.proofs.Sums.{limit-one, productions-one, scraps-one, ticks-one}
 
 -- the text that is open alone
 pub last-sound : (store : StoredLists) (names : List Entry) (t : Translator) (all : List Open)
@@ -87,7 +64,7 @@ module _ {L R : Type 0} (flags : Flags) {old new : Work L R} (t : Translator) (l
       (ap (scraps_of old.store.now.lists) line_is ∙ last-scraps-are old.store.now.lists t.nesting)
 
   line-bound : new.steps.now ≤ old.steps.now + limit_in flags (all_ended flags (progress_over old t)).known.ended
-  line-bound = subst (λ n. new.steps.now ≤ old.steps.now + n) (sum-one (λ state. text_limit flags state) left_state)
+  line-bound = subst (λ n. new.steps.now ≤ old.steps.now + n) (limit-one flags left_state)
       (subst (λ s. new.steps.now ≤ old.steps.now + text_limit flags s) left-is
       (subst (λ n. new.steps.now ≤ old.steps.now + (132 * n + n * reservings productions flags begun))
       (sym (length-map line (seen old.store.now.lists))) few))
@@ -103,28 +80,24 @@ module _ {L R : Type 0} (flags : Flags) {old new : Work L R} (t : Translator) (l
       → HasRecorded flags (begun ∷ []) (told old.recorder) (told new.recorder) (Ok done)
       → LineDone flags old.store.now new.store.now old.names.now new.names.now old.marks.now new.marks.now line done
       old.steps.now new.steps.now → IsTranslating old.store.now old.names.now t → scraps ≡ t.scraps + done.scraps
-      → applied ≡ t.productions + done.productions
-      → EndsIn told (to_end flags [] (progress_over old t)) t old new
+      → applied ≡ t.productions + done.productions → EndsIn told (to_end flags [] (progress_over old t)) t old new
       (Ok (record { list = done.list; scraps = scraps; productions = applied }))
   line-ends {told = told} done scraps applied recorded d is scraps_are applied_are =
-      let before : t.productions ≤ 8 * t.scraps = is.light in
-      let light : done.productions ≤ 8 * done.scraps = d.few in
+      let size = length-map line (seen old.store.now.lists) in
+      let long = ap (λ (s : State). length s.scraps) left-is in
+      let counted = ap (λ (s : State). count productions flags s) left-is in
+      let ticked = ap (λ (s : State). ticks productions flags s) left-is in
       record {
         text = record {
           tree = d.tree ∙ ap (λ (s : State). whole (normal productions flags s).scraps) left-is;
           names_are = d.names_are
               ∙ ap (λ (s : State). with_categories (normal productions flags s).cats old.names.now) left-is;
           marks_are = d.marks_are ∙ ap (λ (s : State). (normal productions flags s).marks) left-is;
-          scraps = scraps_are ∙ ap (λ n. t.scraps + n) (d.scraps
-              ∙ (sym (length-map line (seen old.store.now.lists)) ∙ (ap (λ (s : State). length s.scraps) left-is
-              ∙ sum-one (λ state. length state.scraps) left_state)));
-          productions_are = applied_are ∙ ap (λ n. t.productions + n) (d.productions_are
-              ∙ (ap (λ (s : State). count productions flags s) left-is
-              ∙ sum-one (λ state. count productions flags state) left_state));
-          steps_are = d.steps_are ∙ (ap (λ (s : State). old.steps.now + ticks productions flags s) left-is
-              ∙ ap (λ n. old.steps.now + n) (sum-one (λ state. ticks productions flags state) left_state));
+          scraps = omega (arith, scraps_are, d.scraps, size, long, scraps-one left_state);
+          productions_are = omega (arith, applied_are, d.productions_are, counted, productions-one flags left_state);
+          steps_are = omega (arith, d.steps_are, ticked, ticks-one flags left_state);
         };
-        few = omega (arith, before, light, scraps_are, applied_are);
+        few = omega (arith, is.light, d.few, scraps_are, applied_are);
         named = d.named;
         root = d.root;
         keeps = last-keeps old.store.now.lists new.store.now.lists (done.list.index ∷ []) t.nesting
@@ -138,8 +111,7 @@ module _ {L R : Type 0} (flags : Flags) {old new : Work L R} (t : Translator) (l
       }
 
   pub line-refused : {T : Type 0} {told : R → Option Told} {first : Result T Memory} {error : Memory}
-      {result : Result Translated Memory}
-      → HasRecorded flags (begun ∷ []) (told old.recorder) (told new.recorder) first
+      {result : Result Translated Memory} → HasRecorded flags (begun ∷ []) (told old.recorder) (told new.recorder) first
       → IsErrAnd result (λ found. found ≡ error) → Retypes flags begun old.names.now new.names.now
       → new.store.now.building ≡ None → EndsIn told (to_end flags [] (progress_over old t)) t old new result
   line-refused {told = told} recorded is retyped idle = ends-refused is (at_end (progress_over old t) new.names.now

@@ -1,55 +1,24 @@
 -- A text or a comment ends, and its list becomes a part of what is open around it.
-use Rattle.std.proofs.Common.{◌≡◌, ℕ, ◌+◌, ◌*◌, ◌≤◌, true, List, [], ◌∷◌, ◌++◌, length, get_or, map, None, refl, sym}
-use Rattle.std.proofs.Common.{ap, ◌∙◌, subst, add-zero, arith}
-use Rattle.std.specs.List.{All}
-use Rattle.std.proofs.lemmas.Grind.{get_or_default_zero}
-use Rattle.std.proofs.lemmas.List.{append-nil, length-map}
-use Rattle.std.proofs.lemmas.List.Elements.{All-head, All-tail, All-cons}
+use Rattle.cw_translator.proofs.Terms.{◌≡◌, ℕ, ◌+◌, ◌*◌, ◌≤◌, true, List, [], ◌∷◌, ◌++◌, length, get_or, map, None}
+use Rattle.cw_translator.proofs.Terms.{refl, sym, ap, ◌∙◌, subst, arith, All, get_or_default_zero, append-nil}
+use Rattle.cw_translator.proofs.Terms.{length-map, All-head, All-tail, All-cons, Flags, Answer, Finish, Seen, Entry}
+use Rattle.cw_translator.proofs.Terms.{is_fine, productions, State, reservings, Token, unfolded, StoredLists, IsTied}
+use Rattle.cw_translator.proofs.Terms.{scrap_agrees, Tree, Leaf, LineEntry, state_of, Keeps, entry_of, seen, scraps_of}
+use Rattle.cw_translator.proofs.Terms.{roots_of, AreRoots, IsOutside, IsNamedBelow, IsSoundLine, MarkList, marked_names}
+use Rattle.cw_translator.proofs.Terms.{CommentPart, Open, Translated, Translator, Holder, held_leaf, held_scrap}
+use Rattle.cw_translator.proofs.Terms.{held_tree, Gathers, part_seen, inner_lists, LineDone, limit_in, with_entry}
+use Rattle.cw_translator.proofs.Terms.{with_part, frame_of, frames_of, open_roots, all_roots, AreSoundScraps}
+use Rattle.cw_translator.proofs.Terms.{IsSoundFrame, IsTranslating, progress_of, HasCome, words_of, Retypes, NamesAmong}
+use Rattle.cw_translator.proofs.Terms.{here, at_finish, Progress, with_scrap, with_item, after_finish, CommentItem}
+use Rattle.cw_translator.proofs.Terms.{InnerText, Known, gathers-roots, gathers-keeps}
 use Rattle.cw_base.proofs.TestLaws.{both}
-use Rattle.cw_base.specs.declared.flags.Flags.{Flags}
-use Rattle.cw_rules.specs.Answers.{Answer, Finish, Seen}
-use Rattle.cw_names.specs.Names.{Entry}
-use Rattle.cw_table.specs.Normal.{normal, count, is_fine}
-use Rattle.cw_table.specs.Productions.{productions}
-use Rattle.cw_table.specs.Rewriting.{State}
-use Rattle.cw_table.specs.WalkCounts.{reservings, ticks}
 use Rattle.cw_tokens.specs.declared.token.ListId.{ListId}
-use Rattle.cw_tokens.specs.declared.token.Token.{Token}
-use Rattle.cw_tokens.specs.Shapes.{unfolded}
-use Rattle.cw_tokens.specs.Stored.{StoredLists}
-use Rattle.cw_tokens.specs.References.{IsTied}
-use Rattle.cw_trees.specs.Joining.{whole, scrap_agrees}
-use Rattle.cw_trees.specs.Tree.{Tree}
-use Rattle.cw_scraps.specs.declared.leaves.Leaf.{Leaf}
-use Rattle.cw_scraps.specs.declared.line.LineEntry.{LineEntry}
-use Rattle.cw_scraps.specs.Applying.{state_of}
-use Rattle.cw_scraps.specs.Changing.{Keeps}
-use Rattle.cw_scraps.specs.Leaves.{entry_of}
-use Rattle.cw_scraps.specs.Lines.{seen, scraps_of, roots_of, AreRoots, IsOutside, IsNamedBelow, IsSoundLine}
-use Rattle.cw_scraps.specs.Marking.{MarkList, marked_names}
-use Rattle.cw_translator.specs.declared.comments.CommentPart.{CommentPart}
 use Rattle.cw_translator.specs.declared.comments.CommentPart.TheVariants as part
-use Rattle.cw_translator.specs.declared.nesting.Open.{Open}
 use Rattle.cw_translator.specs.declared.nesting.Open.TheVariants.{CText, Comment}
-use Rattle.cw_translator.specs.declared.translator.Translated.{Translated}
-use Rattle.cw_translator.specs.declared.translator.Translator.{Translator}
-use Rattle.cw_translator.specs.declared.holders.Holder.{Holder}
-use Rattle.cw_translator.specs.Holders.{held_cat, held_leaf, held_mode, held_scrap, held_tree}
-use Rattle.cw_rewrite.specs.Gathering.{Gathers}
-use Rattle.cw_translator.specs.Commenting.{part_seen, inner_lists}
-use Rattle.cw_translator.specs.LinesDone.{LineDone}
-use Rattle.cw_translator.specs.Counting.{limit_in, text_limit}
-use Rattle.cw_translator.specs.Opening.{with_entry, with_part, frame_of, frames_of, open_roots, all_roots}
-use Rattle.cw_translator.specs.Opening.{AreSoundScraps, IsSoundFrame, IsTranslating, progress_of, HasCome}
-use Rattle.cw_names.specs.Words.{words_of}
-use Rattle.cw_translator.specs.Retyping.{Retypes, NamesAmong, here, at_finish}
-use Rattle.cw_translator.specs.Reading.{Frame, Progress, with_scrap, with_item, after_finish}
-use Rattle.cw_translator.specs.Translating.{CommentItem, InnerText, Known, with_categories}
 use Rattle.cw_translator.proofs.Beside.{outside-group, right-roots, beside-roots, beside-keeps}
-use Rattle.cw_rewrite.proofs.GatherLaws.{gathers-roots, gathers-keeps}
 use Rattle.cw_translator.proofs.HoldLaws.{held-named, held-agrees, held-fine}
 use Rattle.cw_translator.proofs.LeafSteps.{Steps, Same}
-use Rattle.cw_translator.proofs.Sums.{sum-one}
+use Rattle.cw_translator.proofs.Sums.{limit-one, productions-one, scraps-one, ticks-one}
 use Rattle.cw_translator.proofs.OpenLaws.{frames-entry, frames-part, frames-same, entry-roots, part-roots, KeptRoots}
 use Rattle.cw_translator.proofs.OpenLaws.{more-frames, scrap-sound, item-sound}
 
@@ -124,8 +93,7 @@ words-length : (new old : List Entry) → words_of new ≡ words_of old → leng
 words-length new old e =
     let a : length (words_of new) ≡ length new = length-map new (λ entry. (entry.kind, entry.text)) in
     let b : length (words_of old) ≡ length old = length-map old (λ entry. (entry.kind, entry.text)) in
-    let s : length (words_of new) ≡ length (words_of old) = ap length e in
-    omega (arith, a, b, s)
+    omega (arith, a, b, ap length e)
 
 -- the step as a whole
 pub record FinishStep (flags : Flags) (old new : StoredLists) (names names' : List Entry) (marks marks' : MarkList)
@@ -150,8 +118,7 @@ module _ {flags : Flags} {old new : StoredLists} {names names' : List Entry} {ma
   ends = record { root = d.root; keeps = d.keeps; idle = d.idle }
 
   inner-frames : frames_of new.lists t'.nesting ≡ with_item (InnerText tree_now) (frames_of old.lists outer)
-  inner-frames = ap (frames_of new.lists) made
-      ∙ (frames-part new.lists (part.InnerText done.list) outer
+  inner-frames = ap (frames_of new.lists) made ∙ (frames-part new.lists (part.InnerText done.list) outer
       ∙ ap (with_item (InnerText tree_now)) (ends-frames old new names t (CText line) outer done.list.index is tied
       open_is ends))
 
@@ -164,47 +131,26 @@ module _ {flags : Flags} {old new : StoredLists} {names names' : List Entry} {ma
       → HasCome flags t steps new.lists names' marks' t' steps' (after_finish flags (frames_of old.lists t.nesting)
       (known_of names marks))
   text-come scraps productions_are =
-      let m : State = normal productions flags start in
-      let ended : List State = start ∷ [] in
-      let around : List Frame = with_item (InnerText (whole m.scraps)) (frames_of old.lists outer) in
       subst (λ all. HasCome flags t steps new.lists names' marks' t' steps'
       (after_finish flags (frames_of old.lists all) (known_of names marks))) (sym open_is) (record {
-        is =
-            ap (λ fs. record {
-              frames = fs;
-              known = record { names = names'; marks = marked_names marks'; ended = ended };
-            }) (inner-frames ∙ ap (λ tr. with_item (InnerText tr) (frames_of old.lists outer)) d.tree)
-            ∙ (ap (λ ns. record {
-              frames = around;
-              known = record { names = ns; marks = marked_names marks'; ended = ended };
-            }) d.names_are
-            ∙ ap (λ ms. record {
-              frames = around;
-              known = record { names = with_categories m.cats names; marks = ms; ended = ended };
-            }) d.marks_are);
-        scraps = scraps ∙ ap (λ n. t.scraps + n) (d.scraps ∙ (sym (length-map line (seen old.lists))
-            ∙ sum-one (λ state. length state.scraps) start));
-        productions_are = productions_are ∙ ap (λ n. t.productions + n) (d.productions_are
-            ∙ sum-one (λ state. count productions flags state) start);
-        steps_are = d.steps_are ∙ ap (λ n. steps + n) (sum-one (λ state. ticks productions flags state) start);
+        is = cc (inner-frames, d.tree, d.names_are, d.marks_are);
+        scraps = omega (arith, scraps, d.scraps, length-map line (seen old.lists), scraps-one start);
+        productions_are = omega (arith, productions_are, d.productions_are, productions-one flags start);
+        steps_are = omega (arith, d.steps_are, ticks-one flags start);
       })
 
   pub text-step : t'.scraps ≡ t.scraps + done.scraps → t'.productions ≡ t.productions + done.productions
       → FinishStep flags old new names names' marks marks' t t' steps steps'
   text-step scraps productions_are =
-      let before : t.productions ≤ 8 * t.scraps = is.light in
-      let few : done.productions ≤ 8 * done.scraps = d.few in
       record {
         steps_are = record {
           translating = record {
             idle = d.idle;
             roots = now.roots;
             sound = subst (All (IsSoundFrame (length names'))) (sym inner-frames)
-                (item-sound (length names') (InnerText tree_now) (frames_of old.lists outer) d.named
-                (more-frames (length names) (length names') (frames_of old.lists outer)
-                (words-length names' names d.words)
-                (outer-sound old new names t (CText line) outer done.list.index is tied open_is ends)));
-            light = omega (arith, before, few, scraps, productions_are);
+                (item-sound _ (InnerText tree_now) (frames_of old.lists outer) d.named (more-frames _ _ _
+                (words-length names' names d.words) (outer-sound old new names t _ outer _ is tied open_is ends)));
+            light = omega (arith, is.light, d.few, scraps, productions_are);
           };
           keeps = now.keeps;
         };
@@ -225,13 +171,11 @@ module _ (flags : Flags) {old : StoredLists} (new : StoredLists) {names : List E
   leaf = held_leaf held_by list
 
   held : Ends old new (inner_lists parts) list.index
-  held =
-      let lists : AreRoots old.lists (inner_lists parts) = open-lists old names t held_by parts outer is open_is in
-      record {
-        root = gathers-root old.lists new.lists (inner_lists parts) list.index gathers tied lists;
-        keeps = gathers-keeps old.lists new.lists (inner_lists parts) list.index gathers tied lists;
-        idle = idle;
-      }
+  held = record {
+    root = gathers-root _ _ _ _ gathers tied (open-lists old names t held_by parts outer is open_is);
+    keeps = gathers-keeps _ _ _ _ gathers tied (open-lists old names t held_by parts outer is open_is);
+    idle = idle;
+  }
 
   sound-held : AreSoundScraps (length names) (held_scrap held_by items ∷ [])
   sound-held = record {
@@ -244,16 +188,9 @@ module _ (flags : Flags) {old : StoredLists} (new : StoredLists) {names : List E
   }
 
   comment-frames : frames_of new.lists t'.nesting ≡ with_scrap (held_scrap held_by items) (frames_of old.lists outer)
-  comment-frames = ap (frames_of new.lists) made
-      ∙ (frames-entry new.lists (entry_of leaf) outer
-      ∙ (ap (λ tr. with_scrap (record {
-        cat = held_cat held_by;
-        tree = tr;
-        left = held_mode held_by;
-        right = held_mode held_by;
-      }) (frames_of new.lists outer)) tree
-      ∙ ap (with_scrap (held_scrap held_by items)) (ends-frames old new names t (Comment held_by parts) outer list.index
-      is tied open_is held)))
+  comment-frames =
+      let around = ends-frames old new names t (Comment held_by parts) outer list.index is tied open_is held in
+      cc (made, frames-entry new.lists (entry_of leaf) outer, tree, around)
 
   kept-now : KeptRoots old.lists new.lists (all_roots t.nesting) (all_roots t'.nesting)
   kept-now = subst (λ ls. KeptRoots old.lists new.lists (all_roots t.nesting) (all_roots ls)) (sym made)
@@ -275,10 +212,10 @@ module _ (flags : Flags) {old : StoredLists} (new : StoredLists) {names : List E
     };
     come = subst (λ all. HasCome flags t steps new.lists names marks t' steps
         (after_finish flags (frames_of old.lists all) (known_of names marks))) (sym open_is) (record {
-          is = ap (λ fs. record { frames = fs; known = known_of names marks }) comment-frames;
-          scraps = counts.scraps ∙ sym (add-zero t.scraps);
-          productions_are = counts.productions ∙ sym (add-zero t.productions);
-          steps_are = sym (add-zero steps);
+          is = cc comment-frames;
+          scraps = omega arith;
+          productions_are = omega arith;
+          steps_are = omega arith;
         });
   }
 
@@ -295,14 +232,13 @@ pub same-names : (flags : Flags) (answers : List Answer) (p : Progress) → Name
 same-names flags answers p = λ rest. here (answers ++ rest) p
 
 pub text-bound : (flags : Flags) (store : StoredLists) (names : List Entry) (marks : MarkList) (t : Translator)
-    (line : List LineEntry) (outer : List Open) (steps steps' : ℕ)
-    → t.nesting ≡ CText line ∷ outer → steps' ≤ steps
+    (line : List LineEntry) (outer : List Open) (steps steps' : ℕ) → t.nesting ≡ CText line ∷ outer → steps' ≤ steps
     + (132 * length line + length line * reservings productions flags (state_of store.lists line marks names))
     → steps' ≤ steps + limit_in flags (after_finish flags (frames_of store.lists t.nesting)
     (known_of names marks)).known.ended
 text-bound flags store names marks t line outer steps steps' open_is h =
     subst (λ all. steps' ≤ steps + limit_in flags (after_finish flags (frames_of store.lists all)
     (known_of names marks)).known.ended) (sym open_is)
-    (subst (λ n. steps' ≤ steps + n) (sum-one (λ state. text_limit flags state) (state_of store.lists line marks names))
+    (subst (λ n. steps' ≤ steps + n) (limit-one flags (state_of store.lists line marks names))
     (subst (λ n. steps' ≤ steps + (132 * n + n * reservings productions flags (state_of store.lists line marks names)))
     (sym (length-map line (seen store.lists))) h))

@@ -1,18 +1,9 @@
 -- The scrap of what holds inner texts is as in a sound line.
-use Rattle.std.proofs.Common.{◌≡◌, ℕ, true, List, [], ◌∷◌, refl}
-use Rattle.std.specs.List.{All}
-use Rattle.std.proofs.lemmas.List.Elements.{All-head, All-tail}
+use Rattle.cw_translator.proofs.Terms.{◌≡◌, ℕ, true, List, [], ◌∷◌, refl, All, All-head, All-tail, Text, reads}
+use Rattle.cw_translator.proofs.Terms.{scrap_agrees, Tree, Empty, is_fine, IsNamedBelow, Holder, held_scrap, held_tree}
+use Rattle.cw_translator.proofs.Terms.{name_rest, IsNamedItem, CommentItem, Piece, InnerText, sign_behind}
 use Rattle.cw_base.specs.declared.mode.MathMode.{MathMode}
-use Rattle.cw_base.specs.declared.mode.MathMode.TheVariants.{Text}
-use Rattle.cw_trees.specs.Joining.{reads, scrap_agrees}
-use Rattle.cw_trees.specs.Tree.{Tree, Empty}
-use Rattle.cw_table.specs.Normal.{is_fine}
-use Rattle.cw_scraps.specs.Lines.{IsNamedBelow}
-use Rattle.cw_translator.specs.declared.holders.Holder.{Holder}
 use Rattle.cw_translator.specs.declared.holders.Holder.TheVariants as holder
-use Rattle.cw_translator.specs.Holders.{held_scrap, held_tree, name_rest}
-use Rattle.cw_translator.specs.Opening.{IsNamedItem}
-use Rattle.cw_translator.specs.Translating.{CommentItem, Piece, InnerText, sign_behind}
 use Rattle.cw_translator.proofs.CommentLaws.{comment-named, comment-agrees}
 
 module _ (count : ℕ) where

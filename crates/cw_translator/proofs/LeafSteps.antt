@@ -1,32 +1,16 @@
 -- A token becomes a scrap of what is open.
-use Rattle.std.proofs.Common.{◌≡◌, ℕ, ◌+◌, ◌<◌, ◌≤◌, List, [], ◌∷◌, ◌++◌, length, get_or, Option, None, Some, IsSome}
-use Rattle.std.proofs.Common.{IfSome, refl, sym, ap, ◌∙◌, subst, arith}
-use Rattle.std.specs.List.{All, slice_get}
-use Rattle.std.proofs.lemmas.Grind.{get_or_default_zero}
-use Rattle.cw_rules.specs.declared.tokens.TokKind.{TokKind}
+use Rattle.cw_translator.proofs.Terms.{◌≡◌, ℕ, ◌+◌, ◌<◌, ◌≤◌, List, [], ◌∷◌, ◌++◌, length, get_or, Option, None, Some}
+use Rattle.cw_translator.proofs.Terms.{IsSome, IfSome, refl, sym, ap, ◌∙◌, subst, arith, All, slice_get}
+use Rattle.cw_translator.proofs.Terms.{get_or_default_zero, TokKind, Seen, Entry, place_of, Token, tree_in, trees_from}
+use Rattle.cw_translator.proofs.Terms.{unfolded, StoredLists, token_ref, IsTied, tree_in-same, unfolded-new}
+use Rattle.cw_translator.proofs.Terms.{unfolded-old, Leaf, LineEntry, Keeps, LeafForm, HasForm, MakesLeaf, entry_of}
+use Rattle.cw_translator.proofs.Terms.{token_form, names_with, seen, AreRoots, IsSoundLine, MarkList, State, IsGood}
+use Rattle.cw_translator.proofs.Terms.{token-good, token-some, length-entry, Translator, with_entry, with_part}
+use Rattle.cw_translator.proofs.Terms.{frames_of, all_roots, AreSoundScraps, IsSoundFrame, IsTranslating, progress_of}
+use Rattle.cw_translator.proofs.Terms.{Progress, with_scrap, with_form, after_token, Piece, leaf_scrap, with_names}
 use Rattle.cw_rules.specs.declared.tokens.TokKind.TheVariants as kind
-use Rattle.cw_rules.specs.Answers.{Seen}
-use Rattle.cw_names.specs.Names.{Entry, place_of}
 use Rattle.cw_names.specs.declared.entry.EntryKind.TheVariants.{Ident as ident_kind}
-use Rattle.cw_tokens.specs.declared.token.Token.{Token}
-use Rattle.cw_tokens.specs.Shapes.{tree_in, trees_from, unfolded}
-use Rattle.cw_tokens.specs.Stored.{StoredLists}
-use Rattle.cw_tokens.specs.References.{token_ref, IsTied}
-use Rattle.cw_tokens.proofs.Unfolding.{tree_in-same, unfolded-new, unfolded-old}
-use Rattle.cw_scraps.specs.declared.leaves.Leaf.{Leaf}
-use Rattle.cw_scraps.specs.declared.line.LineEntry.{LineEntry}
-use Rattle.cw_scraps.specs.Changing.{Keeps}
-use Rattle.cw_scraps.specs.Leaves.{LeafForm, HasForm, MakesLeaf, entry_of, token_form, names_with}
-use Rattle.cw_scraps.specs.Lines.{seen, AreRoots, IsSoundLine}
-use Rattle.cw_scraps.specs.Marking.{MarkList, marked_names}
-use Rattle.cw_table.specs.Rewriting.{State}
-use Rattle.cw_scraps.proofs.LeafForms.{IsGood, token-good, token-some, length-entry}
 use Rattle.cw_translator.specs.declared.comments.CommentPart.TheVariants as part
-use Rattle.cw_translator.specs.declared.translator.Translator.{Translator}
-use Rattle.cw_translator.specs.Opening.{with_entry, with_part, frames_of, all_roots, AreSoundScraps, IsSoundFrame}
-use Rattle.cw_translator.specs.Opening.{IsTranslating, progress_of}
-use Rattle.cw_translator.specs.Reading.{Progress, with_scrap, with_form, after_token}
-use Rattle.cw_translator.specs.Translating.{Piece, leaf_scrap, with_names}
 use Rattle.cw_translator.proofs.OpenLaws.{frames-entry, frames-part, frames-same, plain-roots, plain-keeps, entry-roots}
 use Rattle.cw_translator.proofs.OpenLaws.{piece-roots, KeptRoots, more-frames, scrap-sound, item-sound}
 
@@ -170,19 +154,10 @@ module _ (k : TokKind) (token : Seen) (old new : StoredLists) (names names' : Li
       (λ q x e. absurd (plain q x e))))
 
   scrap : seen new.lists (entry_of leaf) ≡ leaf_scrap form
-  scrap = ap (λ c. record { cat = c; tree = unfolded new.lists leaf.list.index; left = leaf.left; right = leaf.right })
-      formed.has.cat
-      ∙ (ap (λ tr. record { cat = form.cat; tree = tr; left = leaf.left; right = leaf.right }) tree
-      ∙ (ap (λ m. record { cat = form.cat; tree = tree_in [] form.tokens; left = m; right = leaf.right })
-      formed.has.left
-      ∙ ap (λ m. record { cat = form.cat; tree = tree_in [] form.tokens; left = form.mode; right = m })
-      formed.has.right))
+  scrap = cc (formed.has.cat, tree, formed.has.left, formed.has.right)
 
   frames : frames_of new.lists t'.nesting ≡ with_scrap (leaf_scrap form) (frames_of old.lists t.nesting)
-  frames = ap (frames_of new.lists) made
-      ∙ (frames-entry new.lists (entry_of leaf) t.nesting
-      ∙ (ap (with_scrap (seen new.lists (entry_of leaf))) before
-      ∙ ap (λ s. with_scrap s (frames_of old.lists t.nesting)) scrap))
+  frames = cc (made, frames-entry new.lists (entry_of leaf) t.nesting, before, scrap)
 
   sound-alone : AreSoundScraps (length names') (leaf_scrap form ∷ [])
   sound-alone =
@@ -207,11 +182,5 @@ module _ (k : TokKind) (token : Seen) (old new : StoredLists) (names names' : Li
       keeps = now.keeps;
     };
     progress = λ marks ended.
-        ap (λ fs. record { frames = fs; known = record { names = names'; marks = marked_names marks; ended = ended } })
-        frames
-        ∙ (ap (λ ns. record {
-          frames = with_scrap (leaf_scrap form) (frames_of old.lists t.nesting);
-          known = record { names = ns; marks = marked_names marks; ended = ended };
-        }) named
-        ∙ sym (after-leaf k token (progress_of old.lists names marks t ended) form makes formed.is));
+        cc (frames, named, after-leaf k token (progress_of old.lists names marks t ended) form makes formed.is);
   }

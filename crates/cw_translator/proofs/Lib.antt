@@ -1,4 +1,5 @@
 -- The laws of what is open, of comments and names that hold texts, and of each answer.
+pub mod Terms
 pub mod CommentTrees
 pub mod CommentLines
 pub mod CommentLaws

@@ -1,23 +1,13 @@
 -- How the list of a section name is built, one inner text after the other.
-use Rattle.std.proofs.Common.{◌≡◌, ℕ, ◌+◌, ◌<◌, ◌≤◌, Option, Some, None, List, [], ◌∷◌, ◌++◌, length, map, drop, get_or}
-use Rattle.std.proofs.Common.{refl, sym, ap, ◌∙◌, subst, option_map}
-use Rattle.std.specs.Option.{option_to_list}
-use Rattle.std.proofs.lemmas.List.{append-nil, append_assoc, drop_more, drop_all}
-use Rattle.cw_base.specs.declared.mode.MathMode.TheVariants.{Maybe}
+use Rattle.cw_translator.proofs.Terms.{◌≡◌, ℕ, ◌+◌, ◌<◌, ◌≤◌, Option, Some, None, List, [], ◌∷◌, ◌++◌, length, map}
+use Rattle.cw_translator.proofs.Terms.{drop, get_or, refl, sym, ap, ◌∙◌, subst, option_map, option_to_list, append-nil}
+use Rattle.cw_translator.proofs.Terms.{drop_more, drop_all, Maybe, Then, Inner, Source, Sign, Token, source, Control}
+use Rattle.cw_translator.proofs.Terms.{shape, ref_of, tree_in, trees_from, unfolded, StoredLists, MayBePushed}
+use Rattle.cw_translator.proofs.Terms.{unfolded-new, AreRoots, CommentPart, refs_in, Gathers, part_seen, inner_lists}
+use Rattle.cw_translator.proofs.Terms.{token_of, behind_name, name_part, name_rest, name_tree, sign_tokens, Builds}
+use Rattle.cw_translator.proofs.Terms.{builds-more, builds-may, builds-lists, builds-gathers, append_assoc}
 use Rattle.cw_trees.specs.declared.Control.TheVariants as control
-use Rattle.cw_trees.specs.Tree.{Then, Inner, Source, Sign}
-use Rattle.cw_tokens.specs.declared.token.Token.{Token}
-use Rattle.cw_tokens.specs.declared.token.Token.TheVariants.{Source as source, Control}
-use Rattle.cw_tokens.specs.Shapes.{shape, ref_of, tree_in, trees_from, unfolded}
-use Rattle.cw_tokens.specs.Stored.{StoredLists, MayBePushed}
-use Rattle.cw_tokens.proofs.Unfolding.{unfolded-new}
-use Rattle.cw_scraps.specs.Lines.{AreRoots}
-use Rattle.cw_translator.specs.declared.comments.CommentPart.{CommentPart}
 use Rattle.cw_translator.specs.declared.comments.CommentPart.TheVariants as part
-use Rattle.cw_rewrite.specs.Gathering.{refs_in, Gathers}
-use Rattle.cw_translator.specs.Commenting.{part_seen, inner_lists, token_of}
-use Rattle.cw_translator.specs.Holders.{behind_name, name_part, name_rest, name_tree, sign_tokens}
-use Rattle.cw_rewrite.proofs.GatherSteps.{Builds, builds-more, builds-may, builds-lists, builds-gathers}
 
 abbrev pub name_end : Option ℕ → List Token
 name_end sign = Control control.NameEnd ∷ sign_tokens sign

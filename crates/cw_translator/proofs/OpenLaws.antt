@@ -1,34 +1,20 @@
 -- What is open while a C text is read: its lists, its scraps, and a new list among them.
-use Rattle.std.proofs.Common.{◌≡◌, ℕ, ◌+◌, ◌≤◌, List, [], ◌∷◌, ◌++◌, length, map, get_or, drop, Some, inl, inr, refl}
-use Rattle.std.proofs.Common.{sym, ap, ◌∙◌, subst, arith}
-use Rattle.std.specs.List.{All, slice_get}
-use Rattle.std.proofs.lemmas.List.{get_or_append_left, get_or-append-add, length-append, map-append, take_all, drop_all}
-use Rattle.std.proofs.lemmas.List.{append_assoc}
-use Rattle.std.proofs.lemmas.List.Elements.{All-append, All-cons, All-head, All-tail}
+use Rattle.cw_translator.proofs.Terms.{◌≡◌, ℕ, ◌+◌, ◌≤◌, List, [], ◌∷◌, ◌++◌, length, map, get_or, drop, Some, inl, inr}
+use Rattle.cw_translator.proofs.Terms.{refl, sym, ap, ◌∙◌, subst, arith, All, slice_get, get_or_append_left}
+use Rattle.cw_translator.proofs.Terms.{get_or-append-add, length-append, map-append, take_all, drop_all, All-append}
+use Rattle.cw_translator.proofs.Terms.{All-cons, All-head, All-tail, is_fine, Token, unfolded, token_ref, IsTied, Reach}
+use Rattle.cw_translator.proofs.Terms.{unfolded-old, Scrap, scrap_agrees, LineEntry, seen, scraps_of, roots_of}
+use Rattle.cw_translator.proofs.Terms.{AreRoots, IsOutside, IsNamedBelow, Keeps, more-named, CommentPart, Open}
+use Rattle.cw_translator.proofs.Terms.{part_seen, inner_lists, with_entry, with_part, frame_of, frames_of, open_roots}
+use Rattle.cw_translator.proofs.Terms.{all_roots, IsNamedItem, AreSoundScraps, IsSoundFrame, Frame, with_scrap}
+use Rattle.cw_translator.proofs.Terms.{with_item, CommentItem, Piece, InnerText, CText as CTextFrame}
+use Rattle.cw_translator.proofs.Terms.{Comment as CommentFrame, append_assoc}
 use Rattle.cw_table.proofs.ScrapFacts.{all-append}
-use Rattle.cw_table.specs.Normal.{is_fine}
-use Rattle.cw_tokens.specs.declared.token.Token.{Token}
-use Rattle.cw_tokens.specs.Shapes.{unfolded}
-use Rattle.cw_tokens.specs.References.{token_ref, IsTied, Reach}
 use Rattle.cw_tokens.proofs.Linking.{refers-more}
-use Rattle.cw_tokens.proofs.Unfolding.{unfolded-old}
-use Rattle.cw_trees.specs.Joining.{Scrap, scrap_agrees}
-use Rattle.cw_scraps.specs.declared.line.LineEntry.{LineEntry}
-use Rattle.cw_scraps.specs.Lines.{seen, scraps_of, roots_of, AreRoots, IsOutside, IsNamedBelow}
-use Rattle.cw_scraps.specs.Changing.{Keeps}
 use Rattle.cw_scraps.proofs.Growing.{grown-roots, grown-outside}
-use Rattle.cw_scraps.proofs.LeafForms.{more-named}
 use Rattle.cw_scraps.proofs.Splices.{spliced}
-use Rattle.cw_translator.specs.declared.comments.CommentPart.{CommentPart}
 use Rattle.cw_translator.specs.declared.comments.CommentPart.TheVariants as part
-use Rattle.cw_translator.specs.declared.nesting.Open.{Open}
 use Rattle.cw_translator.specs.declared.nesting.Open.TheVariants.{CText, Comment}
-use Rattle.cw_translator.specs.Commenting.{part_seen, inner_lists}
-use Rattle.cw_translator.specs.Opening.{with_entry, with_part, frame_of, frames_of, open_roots, all_roots, IsNamedItem}
-use Rattle.cw_translator.specs.Opening.{AreSoundScraps, IsSoundFrame}
-use Rattle.cw_translator.specs.Reading.{Frame, with_scrap, with_item}
-use Rattle.cw_translator.specs.Translating.{CommentItem, Piece, InnerText}
-use Rattle.cw_translator.specs.Reading.{CText as CTextFrame, Comment as CommentFrame}
 use Rattle.cw_translator.proofs.Beside.{left-roots}
 
 -- a scrap and a part more
@@ -82,8 +68,7 @@ module _ (old new : List (List Token)) where
   frames-same [] same = refl
   frames-same (inner ∷ outer) same =
       ap (λ frame. frame ∷ frames_of new outer) (frame-same inner (all-right IsSame (all_roots outer) (open_roots inner)
-      same))
-      ∙ ap (λ frames. frame_of old inner ∷ frames)
+      same)) ∙ ap (λ frames. frame_of old inner ∷ frames)
       (frames-same outer (all-left IsSame (all_roots outer) (open_roots inner) same))
 
 -- a new list that refers to none, behind the roots

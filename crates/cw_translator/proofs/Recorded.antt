@@ -1,18 +1,10 @@
 -- What is told of texts that end: of none, of one, and of some and then others.
-use Rattle.std.proofs.Common.{◌≡◌, ℕ, suc, ◌+◌, ◌≤◌, List, [], ◌∷◌, ◌++◌, length, map, take, Option, Some, None}
-use Rattle.std.proofs.Common.{refl, sym, ap, ◌∙◌, arith}
-use Rattle.std.specs.Prelude.{Result, Ok, Err, IsErrAnd, OnOk}
-use Rattle.std.proofs.lemmas.List.{append-nil, append_assoc, length-append, map-append, take-append-le, take_all}
-use Rattle.std.proofs.lemmas.Result.{on_ok_weaker}
-use Rattle.cw_base.specs.declared.flags.Flags.{Flags}
-use Rattle.cw_base.specs.declared.memory.Memory.{Memory}
-use Rattle.cw_trees.specs.Joining.{Scrap}
-use Rattle.cw_table.specs.Normal.{Production, log}
-use Rattle.cw_table.specs.Productions.{productions}
-use Rattle.cw_table.specs.Rewriting.{State}
+use Rattle.cw_translator.proofs.Terms.{◌≡◌, ℕ, suc, ◌+◌, ◌≤◌, List, [], ◌∷◌, ◌++◌, length, map, take, Option, Some}
+use Rattle.cw_translator.proofs.Terms.{None, refl, sym, ap, ◌∙◌, arith, Result, Ok, Err, IsErrAnd, OnOk, append-nil}
+use Rattle.cw_translator.proofs.Terms.{length-append, map-append, take-append-le, take_all, on_ok_weaker, Flags, Memory}
+use Rattle.cw_translator.proofs.Terms.{Scrap, Production, log, productions, State, Told, grown_by, HasRecorded}
+use Rattle.cw_translator.proofs.Terms.{begun_over, ended_now, logged, longer_by, texts_told, append_assoc}
 use Rattle.cw_leaves.specs.declared.lines.TextLog.{TextLog}
-use Rattle.cw_rewrite.specs.Telling.{Told, grown_by}
-use Rattle.cw_translator.specs.Recording.{HasRecorded, begun_over, ended_now, logged, longer_by, texts_told}
 
 -- what holds whatever is answered
 pub on-ok : {T E : Type 0} (r : Result T E) (P : Type 0) → P → OnOk r P
@@ -70,15 +62,13 @@ recorded-whole result r = record { number = r.number; within = r.within; is = r.
 pub recorded-stopped : {T U : Type 0} (flags : Flags) (xs ys : List State) {before told : Option Told}
     {first : Result T Memory} {result : Result U Memory} {error : Memory} → IsErrAnd result (λ found. found ≡ error)
     → HasRecorded flags xs before told first → HasRecorded flags (xs ++ ys) before told result
-recorded-stopped flags xs ys {before = before} {result = result} {error} is r =
-    let long : length (xs ++ ys) ≡ length xs + length ys = length-append xs ys in
-    record {
-      number = r.number;
-      within = omega (arith, r.within, long);
-      is = r.is ∙ ap (λ l. longer_by (map (logged flags) l) (texts_told before))
-          (sym (take-append-le r.number xs ys r.within));
-      all = err-all result error _ is;
-    }
+recorded-stopped flags xs ys {before = before} {result = result} {error} is r = record {
+  number = r.number;
+  within = omega (arith, r.within, length-append xs ys);
+  is = r.is ∙ ap (λ l. longer_by (map (logged flags) l) (texts_told before))
+      (sym (take-append-le r.number xs ys r.within));
+  all = err-all result error _ is;
+}
 
 pub recorded-error : {T U : Type 0} (flags : Flags) (xs : List State) {before told : Option Told}
     {first : Result T Memory} {result : Result U Memory} {error : Memory} → IsErrAnd result (λ found. found ≡ error)
@@ -91,7 +81,6 @@ pub recorded-then : {T U : Type 0} (flags : Flags) (xs ys : List State) {before 
     {result : Result U Memory} → HasRecorded flags xs before mid (Ok value) → HasRecorded flags ys mid told result
     → HasRecorded flags (xs ++ ys) before told result
 recorded-then flags xs ys {before = before} {result = result} a b =
-    let long : length (xs ++ ys) ≡ length xs + length ys = length-append xs ys in
     let all : take a.number xs ≡ xs = take_all a.number xs a.all in
     let joined : map (logged flags) (take a.number xs) ++ map (logged flags) (take b.number ys)
     ≡ map (logged flags) (take (length xs + b.number) (xs ++ ys)) =
@@ -100,11 +89,11 @@ recorded-then flags xs ys {before = before} {result = result} a b =
     ∙ ap (map (logged flags)) (sym (take-both xs ys b.number))) in
     record {
       number = length xs + b.number;
-      within = omega (arith, long, b.within);
+      within = omega (arith, length-append xs ys, b.within);
       is = b.is ∙ (ap (longer_by (map (logged flags) (take b.number ys))) a.is
           ∙ (longer-more (map (logged flags) (take a.number xs)) (map (logged flags) (take b.number ys))
           (texts_told before) ∙ ap (λ l. longer_by l (texts_told before)) joined));
-      all = on_ok_weaker result (λ h. omega (arith, long, h)) b.all;
+      all = on_ok_weaker result (λ h. omega (arith, length-append xs ys, h)) b.all;
     }
 
 -- ## One text

@@ -1,16 +1,8 @@
 -- The names that a reduction leaves.
-use Rattle.std.proofs.Common.{◌≡◌, ℕ, List, [], ◌∷◌, drop, refl, sym, ap, ◌∙◌}
-use Rattle.cw_base.specs.declared.flags.Flags.{Flags}
+use Rattle.cw_translator.proofs.Terms.{◌≡◌, ℕ, List, [], ◌∷◌, drop, refl, sym, ap, ◌∙◌, Flags, Entry, normal}
+use Rattle.cw_translator.proofs.Terms.{productions, State, categories, words_of, Retypes, with_categories}
 use Rattle.cw_names.specs.declared.entry.EntryKind.{EntryKind}
-use Rattle.cw_names.specs.Names.{Entry}
-use Rattle.cw_table.specs.Normal.{normal}
-use Rattle.cw_table.specs.Productions.{productions}
 use Rattle.cw_table.specs.Reaching.{IsAfter}
-use Rattle.cw_table.specs.Rewriting.{State}
-use Rattle.cw_scraps.specs.Applying.{categories}
-use Rattle.cw_names.specs.Words.{words_of}
-use Rattle.cw_translator.specs.Retyping.{Retypes}
-use Rattle.cw_translator.specs.Translating.{with_categories}
 
 abbrev first_word : List (EntryKind × List ℕ) → EntryKind × List ℕ → EntryKind × List ℕ
 first_word [] word = word
@@ -36,8 +28,7 @@ retypes flags old now names new after cats words =
     record {
       state = now;
       reached = after;
-      is = with-categories-is new names words
-          ∙ ap (λ cs. with_categories cs names) (sym cats);
+      is = with-categories-is new names words ∙ ap (λ cs. with_categories cs names) (sym cats);
     }
 
 pub retyped-names : (flags : Flags) (old now : State) (names new : List Entry) → now ≡ normal productions flags old

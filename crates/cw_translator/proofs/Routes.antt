@@ -1,41 +1,24 @@
 -- Calls that read, and a call that ends a text: none, one then another, and a stop.
-use Rattle.std.proofs.Common.{◌≡◌, ℕ, ◌+◌, ◌≤◌, List, [], ◌∷◌, ◌++◌, length, ◌⊎◌, inl, inr, refl, sym, ap, ◌∙◌, subst}
-use Rattle.std.proofs.Common.{None, Option, arith}
-use Rattle.std.specs.Prelude.{Result, Ok, Err, IfOk, IsErrAnd, OnOk}
-use Rattle.std.proofs.lemmas.List.{append-nil, append_assoc}
-use Rattle.std.proofs.lemmas.Result.{IfOk-weaker, on_err_weaker, on_ok_weaker}
-use Rattle.cw_base.specs.declared.flags.Flags.{Flags}
-use Rattle.cw_base.specs.declared.memory.Memory.{Memory}
-use Rattle.cw_rules.specs.Answers.{Answer, Seen, Token, Begin, Finish, Note}
-use Rattle.cw_rules.specs.declared.tokens.TokKind.{TokKind}
+use Rattle.cw_translator.proofs.Terms.{◌≡◌, ℕ, ◌+◌, ◌≤◌, List, [], ◌∷◌, ◌++◌, ◌⊎◌, inl, inr, refl, sym, ap, ◌∙◌, subst}
+use Rattle.cw_translator.proofs.Terms.{None, Option, arith, Result, Ok, Err, IfOk, IsErrAnd, OnOk, append-nil}
+use Rattle.cw_translator.proofs.Terms.{IfOk-weaker, on_err_weaker, on_ok_weaker, Flags, Memory, Answer, Seen, Begin}
+use Rattle.cw_translator.proofs.Terms.{Finish, Note, TokKind, Entry, productions, State, Told, Keeps, keeps-trans}
+use Rattle.cw_translator.proofs.Terms.{Translated, Translator, Work, scraps_in, productions_in, ticks_in, limit_in}
+use Rattle.cw_translator.proofs.Terms.{all_roots, progress_of, IsTranslating, HasRecorded, NamesOnTheWay, NamesAmong}
+use Rattle.cw_translator.proofs.Terms.{RetypesIn, here, at_finish, at_end, later, Frame, Progress, with_item}
+use Rattle.cw_translator.proofs.Terms.{after_token, after_finish, after_answer, after_answers, all_ended, last_scraps}
+use Rattle.cw_translator.proofs.Terms.{CText as CTextFrame, Comment as CommentFrame, Ended, Known, InnerText, state_in}
+use Rattle.cw_translator.proofs.Terms.{end_from, Route, IsSameWork, Target, Advances, EndsIn, HasComeOver, HasEndedOver}
+use Rattle.cw_translator.proofs.Terms.{over, progress_over, prolonged, to_end, append_assoc}
+use Rattle.std.specs.Prelude.{OnErr}
+use Rattle.cw_rules.specs.Answers.{Token}
 use Rattle.cw_rules.specs.declared.tokens.TokKind.TheVariants as kind
-use Rattle.cw_names.specs.Names.{Entry}
-use Rattle.cw_table.specs.Normal.{count}
-use Rattle.cw_table.specs.Productions.{productions}
-use Rattle.cw_table.specs.Rewriting.{State}
-use Rattle.cw_table.specs.WalkCounts.{ticks}
 pub use Rattle.cw_rewrite.proofs.LogSteps.{on-err}
-use Rattle.cw_rewrite.specs.Telling.{Told}
-use Rattle.cw_scraps.specs.Changing.{Keeps}
-use Rattle.cw_scraps.proofs.Applied.{keeps-trans}
-use Rattle.cw_translator.specs.declared.translator.Translated.{Translated}
-use Rattle.cw_translator.specs.declared.translator.Translator.{Translator}
-use Rattle.cw_translator.specs.declared.work.Work.{Work}
-use Rattle.cw_translator.specs.Counting.{scraps_in, productions_in, ticks_in, text_limit, limit_in}
-use Rattle.cw_translator.specs.Opening.{all_roots, progress_of, IsTranslating}
-use Rattle.cw_translator.specs.Recording.{HasRecorded}
-use Rattle.cw_translator.specs.Retyping.{NamesOnTheWay, NamesAmong, RetypesIn, here, at_finish, at_end, later}
-use Rattle.cw_translator.specs.Reading.{Frame, Progress, with_item, after_token, after_finish, after_answer}
-use Rattle.cw_translator.specs.Reading.{after_answers, all_ended, last_scraps}
-use Rattle.cw_translator.specs.Reading.{CText as CTextFrame, Comment as CommentFrame}
-use Rattle.cw_translator.specs.Translating.{Ended, Known, InnerText, state_in, end_from}
-use Rattle.cw_translator.specs.Working.{Route, IsSameWork, Target, Advances, EndsIn, HasComeOver, HasEndedOver}
-use Rattle.cw_translator.specs.Working.{over, progress_over, prolonged, to_end}
 use Rattle.cw_translator.proofs.AnswerSteps.{stay-come}
 use Rattle.cw_translator.proofs.LeafSteps.{keeps-itself}
-use Rattle.cw_translator.proofs.Recorded.{recorded-none, recorded-refused, recorded-stopped}
-use Rattle.cw_translator.proofs.Recorded.{recorded-then, recorded-whole}
-use Rattle.cw_translator.proofs.Sums.{sum-end, sum-more}
+use Rattle.cw_translator.proofs.Recorded.{recorded-none, recorded-refused, recorded-stopped, recorded-then}
+use Rattle.cw_translator.proofs.Recorded.{recorded-whole}
+use Rattle.cw_translator.proofs.Sums.{limits-more, productions-more, scraps-more, ticks-more}
 
 -- ## Results
 
@@ -62,8 +45,7 @@ behind done p = record {
   known = record {
     names = p.known.names;
     marks = p.known.marks;
-    ended = done
-        ++ p.known.ended;
+    ended = done ++ p.known.ended;
   };
 }
 
@@ -112,16 +94,11 @@ ended-more flags answers p =
 
 pub limit-more : (flags : Flags) (answers : List Answer) (p : Progress)
     → limit_in flags p.known.ended ≤ limit_in flags (after_answers flags answers p).known.ended
-limit-more flags answers p =
-    let l : limit_in flags (after_answers flags answers p).known.ended
-    ≡ limit_in flags (p.known.ended ++ (after_answers flags answers (fresh_of p)).known.ended) =
-    ap (limit_in flags) (ended-more flags answers p) in
-    omega (
-      arith,
-      l,
-      sum-more (λ state. text_limit flags state) p.known.ended
-          (after_answers flags answers (fresh_of p)).known.ended,
-    )
+limit-more flags answers p = omega (
+  arith,
+  ap (limit_in flags) (ended-more flags answers p),
+  limits-more flags p.known.ended (after_answers flags answers (fresh_of p)).known.ended,
+)
 
 -- a call that was refused, before those answers
 recorded-further : {T U : Type 0} (flags : Flags) (answers : List Answer) (p : Progress) {before told : Option Told}
@@ -171,10 +148,7 @@ all-ended-behind flags done p =
 pub spent-within : (flags : Flags) (p : Progress) (steps steps1 : ℕ) → steps1 ≤ steps + limit_in flags p.known.ended
     → steps1 ≤ steps + limit_in flags (all_ended flags p).known.ended
 spent-within flags p steps steps1 low =
-    let last = state_in (last_scraps p.frames) p.known in
-    let limits : limit_in flags p.known.ended + text_limit flags last ≡ limit_in flags (p.known.ended ++ last ∷ []) =
-    sum-end (λ state. text_limit flags state) p.known.ended last in
-    omega (arith, low, limits)
+    omega (arith, low, limits-more flags p.known.ended (state_in (last_scraps p.frames) p.known ∷ []))
 
 pub way-end : (flags : Flags) (answers : List Answer) (p q : Progress) (new : List Entry)
     → q ≡ after_answers flags answers p → NamesOnTheWay flags [] q new → NamesOnTheWay flags answers p new
@@ -201,36 +175,27 @@ module _ {L R : Type 0} (flags : Flags) (t0 t1 : Translator) (old mid : Work L R
 
   then-come : (t2 : Translator) (new : Work L R) → HasComeOver flags t1 mid t2 new then_now
       → HasComeOver flags t0 old t2 new (after_answers flags xs p)
-  then-come t2 new h =
-      let done : List State = p.known.ended in
-      let more : List State = then_now.known.ended in
-      let scraps : scraps_in (done ++ more) ≡ scraps_in done + scraps_in more =
-      sum-more (λ state. length state.scraps) done more in
-      let applied : productions_in flags (done ++ more) ≡ productions_in flags done + productions_in flags more =
-      sum-more (λ state. count productions flags state) done more in
-      let ticked : ticks_in flags (done ++ more) ≡ ticks_in flags done + ticks_in flags more =
-      sum-more (λ state. ticks productions flags state) done more in
-      subst (HasComeOver flags t0 old t2 new) (sym all-behind) (record {
-        is = ap (behind done) h.is;
-        scraps = omega (arith, come.scraps, h.scraps, scraps);
-        productions_are = omega (arith, come.productions_are, h.productions_are, applied);
-        steps_are = omega (arith, come.steps_are, h.steps_are, ticked);
-      })
+  then-come t2 new h = subst (HasComeOver flags t0 old t2 new) (sym all-behind) (record {
+    is = ap (behind p.known.ended) h.is;
+    scraps = omega (arith, come.scraps, h.scraps, scraps-more p.known.ended then_now.known.ended);
+    productions_are = omega (
+      arith,
+      come.productions_are,
+      h.productions_are,
+      productions-more flags p.known.ended then_now.known.ended,
+    );
+    steps_are = omega (arith, come.steps_are, h.steps_are, ticks-more flags p.known.ended then_now.known.ended);
+  })
 
   then-few : (steps2 : ℕ) → mid.steps.now ≤ old.steps.now + limit_in flags p.known.ended
       → steps2 ≤ mid.steps.now + limit_in flags then_now.known.ended
       → steps2 ≤ old.steps.now + limit_in flags (after_answers flags xs p).known.ended
   then-few steps2 low high =
-      let limits : limit_in flags (p.known.ended ++ then_now.known.ended) ≡ limit_in flags p.known.ended
-      + limit_in flags then_now.known.ended = sum-more (λ state. text_limit flags state) p.known.ended
-      then_now.known.ended in
-      let k : steps2 ≤ old.steps.now + limit_in flags (p.known.ended ++ then_now.known.ended) =
-      omega (arith, low, high, limits) in
-      subst (λ (q : Progress). steps2 ≤ old.steps.now + limit_in flags q.known.ended) (sym all-behind) k
+      subst (λ (q : Progress). steps2 ≤ old.steps.now + limit_in flags q.known.ended) (sym all-behind)
+      (omega (arith, low, high, limits-more flags p.known.ended then_now.known.ended))
 
   then-recorded : {T U : Type 0} {before now told : Option Told} {value : T} (result : Result U Memory)
-      → HasRecorded flags p.known.ended before now (Ok value)
-      → HasRecorded flags then_now.known.ended now told result
+      → HasRecorded flags p.known.ended before now (Ok value) → HasRecorded flags then_now.known.ended now told result
       → HasRecorded flags (after_answers flags xs p).known.ended before told result
   then-recorded {before = before} {told = told} result a b =
       subst (λ (q : Progress). HasRecorded flags q.known.ended before told result) (sym all-behind)
@@ -244,28 +209,27 @@ module _ {L R : Type 0} (flags : Flags) (t0 t1 : Translator) (old mid : Work L R
   then-last entries h = way-behind flags p.known.ended xs p fresh entries now-behind h
 
   -- the text that ends there
+  abbrev last_states : List State
+  last_states = (all_ended flags then_now).known.ended
+
   ended-behind : all_ended flags (after_answers flags xs p) ≡ text_behind p.known.ended (all_ended flags then_now)
   ended-behind = ap (all_ended flags) all-behind ∙ all-ended-behind flags p.known.ended then_now
 
   then-ended : (new : Work L R) (done : Translated) → HasEndedOver flags t1 mid new done (all_ended flags then_now)
       → HasEndedOver flags t0 old new done (all_ended flags (after_answers flags xs p))
-  then-ended new done h =
-      let first : List State = p.known.ended in
-      let more : List State = (all_ended flags then_now).known.ended in
-      let scraps : scraps_in (first ++ more) ≡ scraps_in first + scraps_in more =
-      sum-more (λ state. length state.scraps) first more in
-      let applied : productions_in flags (first ++ more) ≡ productions_in flags first + productions_in flags more =
-      sum-more (λ state. count productions flags state) first more in
-      let ticked : ticks_in flags (first ++ more) ≡ ticks_in flags first + ticks_in flags more =
-      sum-more (λ state. ticks productions flags state) first more in
-      subst (HasEndedOver flags t0 old new done) (sym ended-behind) (record {
-        tree = h.tree;
-        names_are = h.names_are;
-        marks_are = h.marks_are;
-        scraps = omega (arith, come.scraps, h.scraps, scraps);
-        productions_are = omega (arith, come.productions_are, h.productions_are, applied);
-        steps_are = omega (arith, come.steps_are, h.steps_are, ticked);
-      })
+  then-ended new done h = subst (HasEndedOver flags t0 old new done) (sym ended-behind) (record {
+    tree = h.tree;
+    names_are = h.names_are;
+    marks_are = h.marks_are;
+    scraps = omega (arith, come.scraps, h.scraps, scraps-more p.known.ended last_states);
+    productions_are = omega (
+      arith,
+      come.productions_are,
+      h.productions_are,
+      productions-more flags p.known.ended last_states,
+    );
+    steps_are = omega (arith, come.steps_are, h.steps_are, ticks-more flags p.known.ended last_states);
+  })
 
   then-told : {T U : Type 0} {before now told : Option Told} {value : T} (result : Result U Memory)
       → HasRecorded flags p.known.ended before now (Ok value)
@@ -273,17 +237,14 @@ module _ {L R : Type 0} (flags : Flags) (t0 t1 : Translator) (old mid : Work L R
       → HasRecorded flags (all_ended flags (after_answers flags xs p)).known.ended before told result
   then-told {before = before} {told = told} result a b =
       subst (λ (text : Ended). HasRecorded flags text.known.ended before told result) (sym ended-behind)
-      (recorded-then flags p.known.ended (all_ended flags then_now).known.ended a b)
+      (recorded-then flags p.known.ended last_states a b)
 
   then-spent : (steps2 : ℕ) → mid.steps.now ≤ old.steps.now + limit_in flags p.known.ended
       → steps2 ≤ mid.steps.now + limit_in flags (all_ended flags then_now).known.ended
       → steps2 ≤ old.steps.now + limit_in flags (all_ended flags (after_answers flags xs p)).known.ended
   then-spent steps2 low high =
-      let more : List State = (all_ended flags then_now).known.ended in
-      let limits : limit_in flags (p.known.ended ++ more) ≡ limit_in flags p.known.ended + limit_in flags more =
-      sum-more (λ state. text_limit flags state) p.known.ended more in
-      let k : steps2 ≤ old.steps.now + limit_in flags (p.known.ended ++ more) = omega (arith, low, high, limits) in
-      subst (λ (text : Ended). steps2 ≤ old.steps.now + limit_in flags text.known.ended) (sym ended-behind) k
+      subst (λ (text : Ended). steps2 ≤ old.steps.now + limit_in flags text.known.ended) (sym ended-behind)
+      (omega (arith, low, high, limits-more flags p.known.ended last_states))
 
 -- ## A call that reads
 
@@ -338,15 +299,15 @@ advances-unread flags answers p {work = work} is names idle = advances-refused i
     (record { names = refl; store = refl; marks = refl; steps = refl }) idle
 
 -- the same route, said otherwise
-pub advances-as : {L R T : Type 0} {told : R → Option Told} {c : Route} {ends : Progress} {leaves : List Entry → Type 0}
+advances-named : {L R T : Type 0} {told : R → Option Told} {c : Route} {ends : Progress} {leaves : List Entry → Type 0}
     {t t' : Translator} {old new : Work L R} {result : Result T Memory} → c.ends ≡ ends
-    → ((names : List Entry) → c.leaves names → leaves names) → Advances told c t old t' new result
+    → OnErr result (leaves new.names.now) → Advances told c t old t' new result
     → Advances told (record { flags = c.flags; ends = ends; leaves = leaves }) t old t' new result
-advances-as {told = told} {c = c} {t = t} {t' = t'} {old = old} {new = new} {result = result} is among r = record {
+advances-named {told = told} {c = c} {t = t} {t' = t'} {old = old} {new = new} {result = result} is named r = record {
   translating = r.translating;
   come = on_ok_weaker result (λ h. subst (HasComeOver c.flags t old t' new) is h) r.come;
   keeps = r.keeps;
-  names = on_err_weaker result (among new.names.now) r.names;
+  names = named;
   recorded = subst (λ (p : Progress). HasRecorded c.flags p.known.ended (told old.recorder) (told new.recorder)
       result) is r.recorded;
   bound = subst (λ (p : Progress). new.steps.now ≤ old.steps.now + limit_in c.flags p.known.ended) is r.bound;
@@ -354,22 +315,19 @@ advances-as {told = told} {c = c} {t = t} {t' = t'} {old = old} {new = new} {res
   idle = r.idle;
 }
 
+pub advances-as : {L R T : Type 0} {told : R → Option Told} {c : Route} {ends : Progress} {leaves : List Entry → Type 0}
+    {t t' : Translator} {old new : Work L R} {result : Result T Memory} → c.ends ≡ ends
+    → ((names : List Entry) → c.leaves names → leaves names) → Advances told c t old t' new result
+    → Advances told (record { flags = c.flags; ends = ends; leaves = leaves }) t old t' new result
+advances-as {new = new} {result = result} is among r =
+    advances-named is (on_err_weaker result (among new.names.now) r.names) r
+
 -- The same for a call that was not refused: then nothing is said of names.
 pub advances-done : {L R T : Type 0} {told : R → Option Told} {c : Route} {ends : Progress}
     {leaves : List Entry → Type 0} {t t' : Translator} {old new : Work L R} {value : T} → c.ends ≡ ends
     → Advances told c t old t' new (Ok value)
     → Advances {T = T} told (record { flags = c.flags; ends = ends; leaves = leaves }) t old t' new (Ok value)
-advances-done {told = told} {c = c} {t = t} {t' = t'} {old = old} {new = new} {value = value} is r = record {
-  translating = r.translating;
-  come = subst (HasComeOver c.flags t old t' new) is r.come;
-  keeps = r.keeps;
-  names = tt;
-  recorded = subst (λ (p : Progress). HasRecorded c.flags p.known.ended (told old.recorder) (told new.recorder)
-      (Ok value)) is r.recorded;
-  bound = subst (λ (p : Progress). new.steps.now ≤ old.steps.now + limit_in c.flags p.known.ended) is r.bound;
-  same = r.same;
-  idle = r.idle;
-}
+advances-done is r = advances-named is tt r
 
 -- one call, and then another
 pub advances-then : {L R T U : Type 0} {told : R → Option Told} {c : Route} (ys : List Answer) {t t1 t2 : Translator}
@@ -394,18 +352,13 @@ advances-then {c = c} ys {t = t} {t1 = t1} {t2 = t2} {old = old} {mid = mid} {ne
 pub advances-stopped : {L R T U : Type 0} {told : R → Option Told} {c : Route} (ys : List Answer) {t t1 t2 : Translator}
     {old new : Work L R} {error : Memory} {result : Result U Memory} → Advances {T = T} told c t old t1 new (Err error)
     → IsErrAnd result (λ found. found ≡ error) → Advances told (prolonged c ys) t old t2 new result
-advances-stopped {c = c} ys {old = old} {new = new} r is =
-    let few : new.steps.now ≤ old.steps.now + limit_in c.flags c.ends.known.ended = r.bound in
-    let more : limit_in c.flags c.ends.known.ended ≤ limit_in c.flags (after_answers c.flags ys c.ends).known.ended =
-    limit-more c.flags ys c.ends in
-    advances-refused is (inl r.names) (recorded-further c.flags ys c.ends is r.recorded) (omega (arith, few, more))
-    r.same r.idle
+advances-stopped {c = c} ys r is = advances-refused is (inl r.names) (recorded-further c.flags ys c.ends is r.recorded)
+    (omega (arith, r.bound, limit-more c.flags ys c.ends)) r.same r.idle
 
 -- ## Answers, and then others
 
 among-joined : (flags : Flags) (xs ys : List Answer) (p : Progress) (new : List Entry)
-    → NamesAmong flags xs p new ⊎ NamesAmong flags ys (after_answers flags xs p) new
-    → NamesAmong flags (xs ++ ys) p new
+    → NamesAmong flags xs p new ⊎ NamesAmong flags ys (after_answers flags xs p) new → NamesAmong flags (xs ++ ys) p new
 among-joined flags xs ys p new (inl h) = λ coming.
     subst (λ list. NamesOnTheWay flags list p new) (sym (append_assoc xs ys coming)) (h (ys ++ coming))
 among-joined flags xs ys p new (inr h) = λ coming.
@@ -543,22 +496,17 @@ pub ends-stopped : {L R T : Type 0} {told : R → Option Told} {c : Route} (ys :
     → Type 0}
     {t0 t : Translator} {old new : Work L R} {error : Memory} {result : Result Translated Memory}
     → Advances {T = T} told c t0 old t new (Err error) → IsErrAnd result (λ found. found ≡ error)
-    → ((names : List Entry) → c.leaves names → leaves names)
-    → EndsIn told (record {
+    → ((names : List Entry) → c.leaves names → leaves names) → EndsIn told (record {
       flags = c.flags;
       text = all_ended c.flags (after_answers c.flags ys c.ends);
       leaves = leaves;
     })
     t0 old new result
-ends-stopped {told = told} {c = c} ys {old = old} {new = new} {result = result} r is among =
-    let further : HasRecorded c.flags (after_answers c.flags ys c.ends).known.ended (told old.recorder)
-    (told new.recorder) result = recorded-further c.flags ys c.ends is r.recorded in
-    let few : new.steps.now ≤ old.steps.now + limit_in c.flags c.ends.known.ended = r.bound in
-    let more : limit_in c.flags c.ends.known.ended ≤ limit_in c.flags (after_answers c.flags ys c.ends).known.ended =
-    limit-more c.flags ys c.ends in
+ends-stopped {c = c} ys {old = old} {new = new} r is among =
+    let p = after_answers c.flags ys c.ends in
     ends-refused is (among new.names.now r.names)
-    (recorded-stopped c.flags (after_answers c.flags ys c.ends).known.ended _ is further)
-    (spent-within c.flags (after_answers c.flags ys c.ends) old.steps.now new.steps.now (omega (arith, few, more)))
+    (recorded-stopped c.flags p.known.ended _ is (recorded-further c.flags ys c.ends is r.recorded))
+    (spent-within c.flags p old.steps.now new.steps.now (omega (arith, r.bound, limit-more c.flags ys c.ends)))
     r.same r.idle
 
 -- the same outcome, said otherwise

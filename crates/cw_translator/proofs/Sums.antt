@@ -1,17 +1,33 @@
 -- Sums over texts that ended.
-use Rattle.std.proofs.Common.{◌≡◌, ℕ, ◌+◌, List, [], ◌∷◌, ◌++◌, sym, zero-add, arith}
-use Rattle.std.specs.List.{sum_by}
+use Rattle.cw_translator.proofs.Terms.{length, ◌≡◌, ◌+◌, List, [], ◌∷◌, ◌++◌, sym, zero-add, Flags, State, scraps_in}
+use Rattle.cw_translator.proofs.Terms.{productions_in, ticks_in, text_limit, limit_in, count, productions, ticks}
 use Rattle.std.proofs.lemmas.List.Sums.{sum_by-append}
-use Rattle.cw_table.specs.Rewriting.{State}
 
-pub sum-one : (f : State → ℕ) (state : State) → f state ≡ sum_by f (state ∷ [])
-sum-one f state = sym (zero-add (f state))
+-- one text
+pub scraps-one : (state : State) → length state.scraps ≡ scraps_in (state ∷ [])
+scraps-one state = sym (zero-add _)
 
--- what has ended before, and one text more
-pub sum-more : (f : State → ℕ) (done more : List State) → sum_by f (done ++ more) ≡ sum_by f done + sum_by f more
-sum-more f done more = sum_by-append f done more
+module _ (flags : Flags) (state : State) where
+  pub productions-one : count productions flags state ≡ productions_in flags (state ∷ [])
+  productions-one = sym (zero-add _)
 
-pub sum-end : (f : State → ℕ) (ended : List State) (state : State) → sum_by f ended + f state
-    ≡ sum_by f (ended ++ state ∷ [])
-sum-end f ended state = let k : sum_by f (ended ++ state ∷ []) ≡ sum_by f ended + (0 + f state) =
-    sum_by-append f ended (state ∷ []) in omega (arith, k)
+  pub ticks-one : ticks productions flags state ≡ ticks_in flags (state ∷ [])
+  ticks-one = sym (zero-add _)
+
+  pub limit-one : text_limit flags state ≡ limit_in flags (state ∷ [])
+  limit-one = sym (zero-add _)
+
+-- what has ended before, and more texts
+pub scraps-more : (done more : List State) → scraps_in (done ++ more) ≡ scraps_in done + scraps_in more
+scraps-more = sum_by-append (λ state. length state.scraps)
+
+module _ (flags : Flags) where
+  pub productions-more : (done more : List State) → productions_in flags (done ++ more)
+      ≡ productions_in flags done + productions_in flags more
+  productions-more = sum_by-append (λ state. count productions flags state)
+
+  pub ticks-more : (done more : List State) → ticks_in flags (done ++ more) ≡ ticks_in flags done + ticks_in flags more
+  ticks-more = sum_by-append (λ state. ticks productions flags state)
+
+  pub limits-more : (done more : List State) → limit_in flags (done ++ more) ≡ limit_in flags done + limit_in flags more
+  limits-more = sum_by-append (λ state. text_limit flags state)

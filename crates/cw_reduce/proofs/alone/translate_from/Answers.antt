@@ -1,20 +1,10 @@
 -- The scrap of the first token, and what comes behind it, are the text, which has no head.
-use Rattle.std.proofs.Common.{[], ◌∷◌, inr, refl, sym, subst, arith}
-use Rattle.std.specs.Prelude.{Ok}
-use Rattle.cw_rules.specs.Answers.{Token, seen}
-use Rattle.cw_scraps.specs.Marking.{marked_names}
-use Rattle.cw_scraps.proofs.Changings.{tied-idle}
-use Rattle.cw_reduce.specs.Heading.{NamesOfText}
-use Rattle.cw_reduce.specs.Naming.{with_texts}
-use Rattle.cw_translator.specs.Opening.{of_leaf, of_nothing}
+use Rattle.cw_reduce.proofs.Terms.{[], ◌∷◌, inr, refl, sym, subst, arith, Ok, Token, seen, marked_names, tied-idle}
+use Rattle.cw_reduce.proofs.Terms.{NamesOfText, with_texts, of_leaf, of_nothing, progress_over, texts_in}
+use Rattle.cw_reduce.proofs.Terms.{token-advances, recorded-refused, ends-refused, ends-then, empty-line, leaf-step}
 use Rattle.cw_translator.specs.Reading.{after_token}
-use Rattle.cw_translator.specs.Working.{progress_over, texts_in}
-use Rattle.cw_translator.proofs.AnswerRoutes.{token-advances}
-use Rattle.cw_translator.proofs.Recorded.{recorded-refused}
-use Rattle.cw_translator.proofs.Routes.{ends-refused, ends-then}
 use Rattle.cw_reduce.proofs.FirstSteps.{first-ends, first-start}
 use Rattle.cw_reduce.proofs.HeadSteps.{head-translating}
-use Rattle.cw_translator.proofs.LeafSteps.{empty-line, leaf-step}
 use Rattle.cw_reduce.proofs.NamedJoined.{texts-nested}
 use Rattle.cw_reduce.proofs.alone.translate_from.Goals as goal
 

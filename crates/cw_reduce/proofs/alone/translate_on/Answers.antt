@@ -1,13 +1,7 @@
 -- What the scrap, and then the answers behind it, come to is the text.
-use Rattle.std.proofs.Common.{◌++◌, sym, subst, arith}
-use Rattle.cw_reduce.specs.HeadReading.{answers_ahead}
-use Rattle.cw_reduce.specs.Naming.{with_texts}
-use Rattle.cw_translator.specs.Opening.{IsTranslating, StartsBelow, answers_in, of_leaf}
-use Rattle.cw_translator.specs.Retyping.{here}
-use Rattle.cw_translator.specs.Working.{progress_over, texts_in}
-use Rattle.cw_translator.proofs.AnswerRoutes.{unchanged}
-use Rattle.cw_translator.proofs.Recorded.{recorded-refused}
-use Rattle.cw_translator.proofs.Routes.{ends-answers, ends-answers-stopped, ends-refused}
+use Rattle.cw_reduce.proofs.Terms.{◌++◌, sym, subst, arith, answers_ahead, with_texts, IsTranslating, StartsBelow}
+use Rattle.cw_reduce.proofs.Terms.{answers_in, of_leaf, here, progress_over, texts_in, unchanged, recorded-refused}
+use Rattle.cw_reduce.proofs.Terms.{ends-answers, ends-answers-stopped, ends-refused}
 use Rattle.cw_reduce.proofs.FirstSteps.{ahead-is, leaf-as}
 use Rattle.cw_reduce.proofs.alone.translate_on.Goals as goal
 

@@ -1,9 +1,5 @@
 -- Where nothing comes behind the scrap, the text ends with it.
-use Rattle.std.proofs.Common.{sym, subst}
-use Rattle.cw_rules.specs.Answers.{Gives}
-use Rattle.cw_reduce.specs.Naming.{with_texts}
-use Rattle.cw_translator.specs.Opening.{of_leaf}
-use Rattle.cw_translator.specs.Working.{EndsIn, progress_over, texts_in, to_end}
+use Rattle.cw_reduce.proofs.Terms.{sym, subst, Gives, with_texts, of_leaf, EndsIn, progress_over, texts_in, to_end}
 use Rattle.cw_reduce.proofs.alone.translate_rest.Goals as goal
 
 pub returns-then-stays_alone-clause-text : goal.returns-then-stays_alone-clause-text

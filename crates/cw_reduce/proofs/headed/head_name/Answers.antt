@@ -1,7 +1,5 @@
 -- What a head makes, by its kind.
-use Rattle.std.proofs.Common.{sym, subst}
-use Rattle.cw_reduce.specs.Heading.{over_head}
-use Rattle.cw_translator.specs.Working.{Advances, progress_over, texts_in}
+use Rattle.cw_reduce.proofs.Terms.{sym, subst, over_head, Advances, progress_over, texts_in}
 use Rattle.cw_reduce.proofs.HeadSteps.{headless-advances}
 use Rattle.cw_reduce.proofs.headed.head_name.Goals as goal
 

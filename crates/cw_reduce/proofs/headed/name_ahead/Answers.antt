@@ -1,9 +1,5 @@
 -- A name that was read ahead is one answer.
-use Rattle.std.proofs.Common.{sym, ap}
-use Rattle.cw_reduce.specs.HeadReading.{name_ahead}
-use Rattle.cw_reduce.specs.Naming.{with_texts}
-use Rattle.cw_translator.specs.Working.{progress_over, texts_in}
-use Rattle.cw_translator.proofs.Routes.{answers-as, advances-none}
+use Rattle.cw_reduce.proofs.Terms.{sym, ap, name_ahead, with_texts, progress_over, texts_in, answers-as, advances-none}
 use Rattle.cw_reduce.proofs.headed.name_ahead.Goals as goal
 
 pub returns-in-None : goal.returns-in-None

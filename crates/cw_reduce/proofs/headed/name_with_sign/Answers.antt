@@ -1,8 +1,6 @@
 -- Without a pair the name of a head makes nothing; with one it is kept, and is read with its sign behind it.
-use Rattle.std.proofs.Common.{sym, ◌∙◌}
+use Rattle.cw_reduce.proofs.Terms.{sym, ◌∙◌, progress_over, advances-as, advances-done, advances-none}
 use Rattle.cw_translator.specs.declared.holders.Holder.TheVariants as holder
-use Rattle.cw_translator.specs.Working.{progress_over}
-use Rattle.cw_translator.proofs.Routes.{advances-as, advances-done, advances-none}
 use Rattle.cw_reduce.proofs.HeadSteps.{head-unpaired, head-paired, head-fails}
 use Rattle.cw_reduce.proofs.NameSteps.{paired-among, paired-short}
 use Rattle.cw_reduce.proofs.headed.name_with_sign.Goals as goal

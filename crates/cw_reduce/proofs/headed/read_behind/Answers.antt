@@ -1,10 +1,6 @@
 -- A name that was read ahead, the first answer behind it, and then all others are the answers behind the head.
-use Rattle.std.proofs.Common.{◌++◌}
-use Rattle.cw_reduce.specs.HeadReading.{name_ahead}
-use Rattle.cw_reduce.specs.Naming.{with_texts}
-use Rattle.cw_translator.specs.Opening.{answers_in}
-use Rattle.cw_translator.specs.Working.{texts_in}
-use Rattle.cw_translator.proofs.Routes.{advancing-begun, advancing-last, advancing-next, advancing-stopped}
+use Rattle.cw_reduce.proofs.Terms.{◌++◌, name_ahead, with_texts, answers_in, texts_in, advancing-begun, advancing-last}
+use Rattle.cw_reduce.proofs.Terms.{advancing-next, advancing-stopped}
 use Rattle.cw_reduce.proofs.HeadSteps.{ahead-advancing, cut-first, starts-ahead}
 use Rattle.cw_reduce.proofs.NameSteps.{with-texts-append}
 use Rattle.cw_reduce.proofs.headed.read_behind.Goals as goal

@@ -1,9 +1,6 @@
 -- What the head makes, and then the answers behind it, are the text with its head.
-use Rattle.std.proofs.Common.{◌++◌, refl}
-use Rattle.cw_reduce.specs.HeadReading.{answers_ahead}
-use Rattle.cw_reduce.specs.Naming.{with_texts}
-use Rattle.cw_translator.specs.Working.{progress_over, texts_in}
-use Rattle.cw_translator.proofs.Routes.{advances-as, advances-stopped, advances-then}
+use Rattle.cw_reduce.proofs.Terms.{◌++◌, refl, answers_ahead, with_texts, progress_over, texts_in, advances-as}
+use Rattle.cw_reduce.proofs.Terms.{advances-stopped, advances-then}
 use Rattle.cw_reduce.proofs.HeadSteps.{headed-among}
 use Rattle.cw_reduce.proofs.headed.read_headed.Goals as goal
 

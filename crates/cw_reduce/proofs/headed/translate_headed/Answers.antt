@@ -1,15 +1,7 @@
 -- What a text with its head comes to is its translation, and want of memory leaves what was on the way to it.
-use Rattle.std.proofs.Common.{[], ◌++◌, refl, arith}
-use Rattle.cw_scraps.specs.Marking.{marked_names}
-use Rattle.cw_reduce.specs.HeadReading.{answers_ahead, head_line}
-use Rattle.cw_reduce.specs.Heading.{after_head, behind, head_begun}
-use Rattle.cw_reduce.specs.Naming.{with_texts}
-use Rattle.cw_translator.specs.Reading.{after_answers}
-use Rattle.cw_translator.specs.Translating.{begin}
-use Rattle.cw_translator.specs.Working.{progress_over, texts_in}
-use Rattle.cw_translator.proofs.AnswerRoutes.{unchanged}
-use Rattle.cw_translator.proofs.Recorded.{recorded-refused}
-use Rattle.cw_translator.proofs.Routes.{ends-as, ends-refused, ends-stopped, ends-then, way-end}
+use Rattle.cw_reduce.proofs.Terms.{[], ◌++◌, refl, arith, marked_names, answers_ahead, head_line, after_head, behind}
+use Rattle.cw_reduce.proofs.Terms.{head_begun, with_texts, after_answers, begin, progress_over, texts_in, unchanged}
+use Rattle.cw_reduce.proofs.Terms.{recorded-refused, ends-as, ends-refused, ends-stopped, ends-then, way-end}
 use Rattle.cw_reduce.proofs.HeadSteps.{head-translating, headed-as, whole-start}
 use Rattle.cw_reduce.proofs.NamedJoined.{texts-nested}
 use Rattle.cw_reduce.proofs.headed.translate_headed.Goals as goal
@@ -24,8 +16,7 @@ returns-in_err-translator-clause-text g c = ends-refused c.from_residual.ensures
     (answers_ahead c.args.begun.now ++ c.args.reader.now.coming)
     (head_begun c.args.work.now.store.now.lists c.args.begun.now.head
     (begin c.args.work.now.names.now (marked_names c.args.work.now.marks.now))))
-    (recorded-refused _ _ c.from_residual.ensures.1) (omega arith) unchanged
-    c.requires.sound.idle
+    (recorded-refused _ _ c.from_residual.ensures.1) (omega arith) unchanged c.requires.sound.idle
 
 pub returns-in_err-read_headed-clause-text : goal.returns-in_err-read_headed-clause-text
 returns-in_err-read_headed-clause-text g c = headed-as c.args.context.now.flags.now (texts_in c.args.context.now)

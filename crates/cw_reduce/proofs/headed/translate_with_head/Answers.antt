@@ -1,15 +1,7 @@
 -- The head that is read, and the text behind it, give the translation; the lists that the store held stay.
-use Rattle.std.proofs.Common.{◌++◌, refl, arith}
-use Rattle.std.proofs.lemmas.Result.{on_ok_weaker}
-use Rattle.cw_answers.proofs.Staying.{read-up-behind}
-use Rattle.cw_scraps.specs.Marking.{marked_names}
-use Rattle.cw_reduce.specs.HeadReading.{answers_ahead}
-use Rattle.cw_reduce.specs.Heading.{behind_head, in_head}
-use Rattle.cw_translator.specs.Opening.{answers_in}
-use Rattle.cw_translator.specs.Translating.{begin}
-use Rattle.cw_translator.specs.Working.{texts_in}
-use Rattle.cw_translator.proofs.Recorded.{recorded-refused}
-use Rattle.cw_translator.proofs.Routes.{ends-as, ends-behind, ends-refused}
+use Rattle.cw_reduce.proofs.Terms.{◌++◌, refl, arith, on_ok_weaker, read-up-behind, marked_names, answers_ahead}
+use Rattle.cw_reduce.proofs.Terms.{behind_head, in_head, answers_in, begin, texts_in, recorded-refused, ends-as}
+use Rattle.cw_reduce.proofs.Terms.{ends-behind, ends-refused}
 use Rattle.cw_reduce.proofs.HeadSteps.{headed-translated}
 use Rattle.cw_reduce.proofs.NamedJoined.{texts-nested}
 use Rattle.cw_reduce.proofs.headed.translate_with_head.Goals as goal

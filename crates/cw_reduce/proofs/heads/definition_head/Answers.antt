@@ -1,12 +1,6 @@
 -- The words that are read are those of the definition's head, and the answers behind them are what it leaves.
-use Rattle.std.proofs.Common.{◌≡◌, ◌++◌, refl, sym, ap, ◌∙◌, subst}
-use Rattle.cw_rules.specs.Answers.{seen}
-use Rattle.cw_lex.specs.Heads.{wanted_by, without_words}
-use Rattle.cw_lex.proofs.HeadNests.{nested-behind}
-use Rattle.cw_scraps.proofs.Changings.{tied-idle}
-use Rattle.cw_reduce.specs.HeadReading.{NamesWithin, answer_words}
-use Rattle.cw_translator.specs.Opening.{answers_in}
-use Rattle.cw_translator.specs.Translating.{spelled}
+use Rattle.cw_reduce.proofs.Terms.{◌≡◌, ◌++◌, refl, sym, ap, ◌∙◌, subst, seen, wanted_by, without_words, nested-behind}
+use Rattle.cw_reduce.proofs.Terms.{tied-idle, NamesWithin, answer_words, answers_in, spelled}
 use Rattle.cw_reduce.proofs.HeadReads.{fits-by}
 use Rattle.cw_reduce.proofs.HeadMakes.{behind, definition-defines, words-plain, words-there}
 use Rattle.cw_reduce.proofs.HeadFinds.{definition-rest, definition-within, all-within, head-refused}

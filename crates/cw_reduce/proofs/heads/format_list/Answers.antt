@@ -1,6 +1,5 @@
 -- `format_list`: clause `last`; said here, so that a wrong one fails at once.
-use Rattle.std.proofs.Common.{arith}
-use Rattle.std.proofs.lemmas.Grind.{common_steps}
+use Rattle.cw_reduce.proofs.Terms.{arith, common_steps}
 use Rattle.cw_reduce.proofs.heads.format_list.Goals as goal
 
 pub returns-clause-last : goal.returns-clause-last

@@ -1,7 +1,5 @@
 -- Without notes, the answers that are left are those that were to come.
-use Rattle.std.specs.Prelude.{◌≡◌, length}
-use Rattle.cw_answers.specs.Reading.{Stays}
-use Rattle.cw_reduce.specs.HeadReading.{without_notes}
+use Rattle.cw_reduce.proofs.Terms.{◌≡◌, length, Stays, without_notes}
 use Rattle.cw_reduce.proofs.heads.next_answer.Given as goal
 
 abbrev pub invariant-loop-answer : goal.invariant-loop-answer

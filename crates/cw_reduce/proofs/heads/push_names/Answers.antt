@@ -1,11 +1,7 @@
 -- One name more stands behind those so far.
-use Rattle.std.proofs.Common.{◌≡◌, ℕ, ◌+◌, ◌<◌, Option, Some, None, List, [], ◌∷◌, ◌++◌, ap, append_assoc}
-use Rattle.std.proofs.Common.{arith, get_or}
-use Rattle.std.proofs.Common.{length, option_map, sym, take, ◌∙◌}
-use Rattle.std.proofs.lemmas.List.{append-nil, take_more}
-use Rattle.cw_tokens.specs.declared.token.Token.{Token}
-use Rattle.cw_translator.specs.Translating.{name_in_text, names_in_text}
-use Rattle.cw_translator.proofs.FormatNames.{names-append}
+use Rattle.cw_reduce.proofs.Terms.{◌≡◌, ℕ, ◌+◌, ◌<◌, Option, Some, None, List, [], ◌∷◌, ◌++◌, ap, append_assoc, arith}
+use Rattle.cw_reduce.proofs.Terms.{get_or, length, option_map, sym, take, ◌∙◌, append-nil, take_more}
+use Rattle.cw_reduce.proofs.Terms.{StoredToken as Token, name_in_text, names_in_text, names-append}
 use Rattle.cw_reduce.proofs.HeadLists.{word-plain}
 use Rattle.cw_reduce.proofs.heads.push_names.Goals as goal
 

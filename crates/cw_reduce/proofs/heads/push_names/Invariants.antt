@@ -1,6 +1,5 @@
 -- The names so far stand behind what the list held, and each took at most three places of the room.
-use Rattle.std.specs.Prelude.{◌≡◌, ◌+◌, ◌*◌, ◌≤◌, ◌++◌, take, option_map}
-use Rattle.cw_translator.specs.Translating.{names_in_text}
+use Rattle.cw_reduce.proofs.Terms.{◌≡◌, ◌+◌, ◌*◌, ◌≤◌, ◌++◌, take, option_map, names_in_text}
 use Rattle.cw_reduce.proofs.heads.push_names.Given as goal
 
 abbrev pub invariant-loop-word : goal.invariant-loop-word

@@ -1,5 +1,5 @@
 -- The words so far stand behind what the list held, and each took one place of the room.
-use Rattle.std.specs.Prelude.{◌≡◌, ◌+◌, ◌++◌, take, option_map}
+use Rattle.cw_reduce.proofs.Terms.{◌≡◌, ◌+◌, ◌++◌, take, option_map}
 use Rattle.cw_reduce.proofs.heads.push_words.Given as goal
 
 abbrev pub invariant-loop-word : goal.invariant-loop-word

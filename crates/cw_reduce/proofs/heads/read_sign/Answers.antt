@@ -1,9 +1,6 @@
 -- A section name with its sign heads a C part; without one it heads nothing, and what was read is handed on.
-use Rattle.std.proofs.Common.{◌^◌, ◌<◌, arith, rules, ap, refl, subst, sym, ◌∙◌}
-use Rattle.cw_answers.proofs.Staying.{stays-trans}
-use Rattle.cw_rules.specs.Answers.{seen}
-use Rattle.cw_lex.proofs.HeadNests.{nested-behind}
-use Rattle.cw_translator.specs.Opening.{StartsBelow}
+use Rattle.cw_reduce.proofs.Terms.{◌^◌, ◌<◌, arith, rules, ap, refl, subst, sym, ◌∙◌, stays-trans, seen, nested-behind}
+use Rattle.cw_reduce.proofs.Terms.{StartsBelow}
 use Rattle.cw_reduce.proofs.HeadFinds.{ahead-of, signed, token-nested, unsigned-other, unsigned-signs, unsigned-token}
 use Rattle.cw_reduce.proofs.HeadAnswers.{starts-notes}
 use Rattle.cw_reduce.proofs.heads.read_sign.Goals as goal

@@ -1,10 +1,6 @@
 -- A word that the head wants is one word more; the first answer that is none ends the words.
-use Rattle.std.proofs.Common.{◌++◌, ap, sym, ◌∙◌}
-use Rattle.cw_answers.proofs.Staying.{stays-trans}
+use Rattle.cw_reduce.proofs.Terms.{◌++◌, ap, sym, ◌∙◌, stays-trans, NamesWithin, answer_words, answers_in, on-err}
 use Rattle.cw_rules.specs.declared.tokens.Lexed.TheVariants as lexed
-use Rattle.cw_reduce.specs.HeadReading.{NamesWithin, answer_words}
-use Rattle.cw_translator.specs.Opening.{answers_in}
-use Rattle.cw_translator.proofs.Routes.{on-err}
 use Rattle.cw_reduce.proofs.HeadAnswers.{ends-other, ends-token, reads-tokens, reads-names, reads-left, reads-starts}
 use Rattle.cw_reduce.proofs.HeadAnswers.{reads-word, token-shorter, word-within}
 use Rattle.cw_reduce.proofs.heads.read_words.Goals as goal

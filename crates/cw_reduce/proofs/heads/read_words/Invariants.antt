@@ -1,6 +1,5 @@
 -- The words so far, with those to come, are all words of the head, and behind them the same answers are left.
-use Rattle.std.specs.Prelude.{length}
-use Rattle.cw_answers.specs.Reading.{Stays}
+use Rattle.cw_reduce.proofs.Terms.{length, Stays}
 use Rattle.cw_reduce.proofs.HeadAnswers.{ReadsWords}
 use Rattle.cw_reduce.proofs.heads.read_words.Given as goal
 

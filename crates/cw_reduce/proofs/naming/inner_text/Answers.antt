@@ -1,10 +1,7 @@
 -- An inner text of a name begins, is read up to a section code, and ends: these are its answers.
-use Rattle.std.proofs.Common.{[], ◌∷◌, refl, ap, arith}
-use Rattle.cw_rules.specs.Answers.{Finish}
-use Rattle.cw_lex.specs.Nested.{until_section}
-use Rattle.cw_reduce.specs.Naming.{text_answers, text_token}
-use Rattle.cw_translator.specs.Working.{progress_over}
-use Rattle.cw_translator.proofs.Routes.{answers-as, advancing-last, advancing-next, advancing-stopped, advances-unread}
+use Rattle.cw_reduce.proofs.Terms.{[], ◌∷◌, refl, ap, arith, Finish, until_section, text_answers, text_token}
+use Rattle.cw_reduce.proofs.Terms.{progress_over, answers-as, advancing-last, advancing-next, advancing-stopped}
+use Rattle.cw_reduce.proofs.Terms.{advances-unread}
 use Rattle.cw_reduce.proofs.NameSteps.{part_answers, text-begun}
 use Rattle.cw_reduce.proofs.ReadSteps.{within-starts}
 use Rattle.cw_reduce.proofs.naming.inner_text.Goals as goal

@@ -1,9 +1,6 @@
 -- One inner text more is read, and behind its bar come those that are left.
-use Rattle.std.proofs.Common.{◌+◌, ap, arith}
-use Rattle.cw_secnames.specs.Parts.{parts_at}
-use Rattle.cw_translator.specs.NameParts.{parts_of_name}
-use Rattle.cw_reduce.specs.Naming.{text_answers, texts_answers}
-use Rattle.cw_translator.proofs.Routes.{advancing-begun, advancing-ended, advancing-next, advancing-stopped}
+use Rattle.cw_reduce.proofs.Terms.{◌+◌, ap, arith, parts_at, parts_of_name, text_answers, texts_answers}
+use Rattle.cw_reduce.proofs.Terms.{advancing-begun, advancing-ended, advancing-next, advancing-stopped}
 use Rattle.cw_reduce.proofs.NameSteps.{all_part_answers, part_answers, part-next}
 use Rattle.cw_reduce.proofs.naming.inner_texts.Goals as goal
 

@@ -1,10 +1,5 @@
 -- What was read so far, with the inner texts from this place on, comes to all of the name's inner texts.
-use Rattle.std.specs.Prelude.{◌-◌, ◌≤◌, length}
-use Rattle.cw_secnames.specs.Parts.{parts_at}
-use Rattle.cw_translator.specs.NameParts.{parts_of_name}
-use Rattle.cw_reduce.specs.Naming.{texts_answers}
-use Rattle.cw_translator.specs.Working.{progress_over}
-use Rattle.cw_translator.proofs.Routes.{Advancing}
+use Rattle.cw_reduce.proofs.Terms.{◌-◌, ◌≤◌, length, parts_at, parts_of_name, texts_answers, progress_over, Advancing}
 use Rattle.cw_reduce.proofs.NameSteps.{all_part_answers}
 use Rattle.cw_reduce.proofs.naming.inner_texts.Given as goal
 

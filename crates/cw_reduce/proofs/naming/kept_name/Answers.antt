@@ -1,11 +1,7 @@
 -- A section name begins, its inner texts are read, and it ends: these are the answers that it stands for.
-use Rattle.std.proofs.Common.{[], ◌∷◌, refl}
-use Rattle.cw_rules.specs.Answers.{Finish}
-use Rattle.cw_translator.specs.NameParts.{parts_by_kind}
-use Rattle.cw_reduce.specs.Naming.{held_answers, text_token, texts_answers}
-use Rattle.cw_translator.specs.Reading.{with_held}
-use Rattle.cw_translator.specs.Working.{progress_over}
-use Rattle.cw_translator.proofs.Routes.{advancing-last, advancing-next, advancing-stopped, advances-unread}
+use Rattle.cw_reduce.proofs.Terms.{[], ◌∷◌, refl, Finish, parts_by_kind, held_answers, text_token, texts_answers}
+use Rattle.cw_reduce.proofs.Terms.{with_held, progress_over, advancing-last, advancing-next, advancing-stopped}
+use Rattle.cw_reduce.proofs.Terms.{advances-unread}
 use Rattle.cw_reduce.proofs.NameSteps.{held-begun}
 use Rattle.cw_reduce.proofs.naming.kept_name.Goals as goal
 

@@ -1,11 +1,6 @@
 -- An answer that is no section name stands for itself.
-use Rattle.std.proofs.Common.{sym, ap, ◌∙◌}
-use Rattle.std.proofs.lemmas.List.{append-nil}
-use Rattle.cw_rules.specs.Answers.{seen}
-use Rattle.cw_translator.specs.Opening.{answers_in}
-use Rattle.cw_reduce.specs.Naming.{token_answers, with_texts}
-use Rattle.cw_translator.specs.Working.{progress_over, texts_in}
-use Rattle.cw_translator.proofs.Routes.{answers-as}
+use Rattle.cw_reduce.proofs.Terms.{sym, ap, ◌∙◌, append-nil, seen, answers_in, token_answers, with_texts, progress_over}
+use Rattle.cw_reduce.proofs.Terms.{texts_in, answers-as}
 use Rattle.cw_reduce.proofs.NameSteps.{no-name-answer}
 use Rattle.cw_reduce.proofs.naming.named_answer.Goals as goal
 

@@ -1,10 +1,6 @@
 -- One answer more, a section name with its text, is one step of the reading, also where memory is wanting.
-use Rattle.std.proofs.Common.{inl, refl}
-use Rattle.cw_answers.proofs.Staying.{stays-trans}
-use Rattle.cw_reduce.specs.Naming.{with_texts}
-use Rattle.cw_translator.specs.Opening.{answers_in}
-use Rattle.cw_translator.specs.Working.{texts_in}
-use Rattle.cw_translator.proofs.Routes.{advancing-begun, advancing-next, advancing-stopped}
+use Rattle.cw_reduce.proofs.Terms.{inl, refl, stays-trans, with_texts, answers_in, texts_in, advancing-begun}
+use Rattle.cw_reduce.proofs.Terms.{advancing-next, advancing-stopped}
 use Rattle.cw_reduce.proofs.ReadSteps.{starts-next}
 use Rattle.cw_reduce.proofs.NameSteps.{with-texts-next}
 use Rattle.cw_reduce.proofs.naming.read_named.Goals as goal

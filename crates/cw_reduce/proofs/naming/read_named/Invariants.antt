@@ -1,10 +1,5 @@
 -- What was read so far, with the answers that are left and the texts of their names, comes to what all give.
-use Rattle.std.specs.Prelude.{length, ◌^◌}
-use Rattle.cw_answers.specs.Reading.{Stays}
-use Rattle.cw_reduce.specs.Naming.{with_texts}
-use Rattle.cw_translator.specs.Opening.{StartsBelow}
-use Rattle.cw_translator.specs.Working.{progress_over, texts_in}
-use Rattle.cw_translator.proofs.Routes.{Advancing}
+use Rattle.cw_reduce.proofs.Terms.{length, ◌^◌, Stays, with_texts, StartsBelow, progress_over, texts_in, Advancing}
 use Rattle.cw_reduce.proofs.naming.read_named.Given as goal
 
 abbrev pub invariant-loop-translator : goal.invariant-loop-translator

@@ -1,8 +1,6 @@
 -- One answer more is one step of the reading, up to the section code or to want of memory.
-use Rattle.std.proofs.Common.{sym, ◌∙◌}
-use Rattle.cw_lex.specs.Nested.{until_section}
-use Rattle.cw_translator.specs.Opening.{answers_in}
-use Rattle.cw_translator.proofs.Routes.{advancing-begun, advancing-ended, advancing-next, advancing-stopped}
+use Rattle.cw_reduce.proofs.Terms.{sym, ◌∙◌, until_section, answers_in, advancing-begun, advancing-ended}
+use Rattle.cw_reduce.proofs.Terms.{advancing-next, advancing-stopped}
 use Rattle.cw_reduce.proofs.ReadSteps.{starts-next, until-ends, until-goes}
 use Rattle.cw_reduce.proofs.naming.read_until_section.Goals as goal
 

@@ -1,9 +1,5 @@
 -- What was read so far, with the answers up to the section code, comes to what all of these give.
-use Rattle.std.specs.Prelude.{length, ◌^◌}
-use Rattle.cw_lex.specs.Nested.{until_section}
-use Rattle.cw_translator.specs.Opening.{StartsBelow}
-use Rattle.cw_translator.specs.Working.{progress_over}
-use Rattle.cw_translator.proofs.Routes.{Advancing}
+use Rattle.cw_reduce.proofs.Terms.{length, ◌^◌, until_section, StartsBelow, progress_over, Advancing}
 use Rattle.cw_reduce.proofs.naming.read_until_section.Given as goal
 
 abbrev pub invariant-loop-answer : goal.invariant-loop-answer

@@ -1,7 +1,5 @@
 -- The name that a place is paired with is kept, and its text is short enough to be read.
-use Rattle.std.proofs.Common.{sym, ◌∙◌}
-use Rattle.cw_rules.specs.Answers.{seen}
-use Rattle.cw_translator.specs.Working.{progress_over}
+use Rattle.cw_reduce.proofs.Terms.{sym, ◌∙◌, seen, progress_over}
 use Rattle.cw_reduce.proofs.NameSteps.{paired-among, paired-advances, paired-short, unpaired-advances}
 use Rattle.cw_reduce.proofs.naming.section_name.Goals as goal
 

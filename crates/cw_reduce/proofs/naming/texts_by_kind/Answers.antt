@@ -1,9 +1,5 @@
 -- A name of `@<` has the inner texts of its text, and one of `@(` none.
-use Rattle.std.proofs.Common.{sym, ap}
-use Rattle.cw_translator.specs.NameParts.{parts_by_kind}
-use Rattle.cw_reduce.specs.Naming.{texts_answers}
-use Rattle.cw_translator.specs.Working.{progress_over}
-use Rattle.cw_translator.proofs.Routes.{answers-as, advances-none}
+use Rattle.cw_reduce.proofs.Terms.{sym, ap, parts_by_kind, texts_answers, progress_over, answers-as, advances-none}
 use Rattle.cw_reduce.proofs.naming.texts_by_kind.Goals as goal
 
 pub returns-in-Named : goal.returns-in-Named

@@ -1,6 +1,5 @@
 -- What a translation over a text says that is told to nobody, of its parts.
-use Rattle.std.proofs.Common.{arith}
-use Rattle.std.proofs.lemmas.Grind.{common_steps}
+use Rattle.cw_reduce.proofs.Terms.{arith, common_steps}
 use Rattle.cw_reduce.proofs.translating.translate.Goals as goal
 
 pub returns-clause-text : goal.returns-clause-text

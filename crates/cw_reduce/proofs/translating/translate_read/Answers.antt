@@ -1,11 +1,6 @@
 -- The text from its first answer on is the whole text.
-use Rattle.std.proofs.Common.{◌≡◌, List, subst}
-use Rattle.std.proofs.lemmas.Result.{on_ok_weaker}
-use Rattle.cw_answers.proofs.Staying.{read-up-behind}
-use Rattle.cw_rules.specs.Answers.{Answer, Gives}
-use Rattle.cw_rules.specs.declared.tokens.Lexed.{Lexed}
+use Rattle.cw_reduce.proofs.Terms.{◌≡◌, List, subst, on_ok_weaker, read-up-behind, Answer, Gives, Lexed, without_notes}
 use Rattle.cw_rules.specs.declared.tokens.Lexed.TheVariants as lexed
-use Rattle.cw_reduce.specs.HeadReading.{without_notes}
 use Rattle.cw_reduce.proofs.FirstSteps.{gives-again, text-as}
 use Rattle.cw_reduce.proofs.HeadFinds.{ahead-of}
 use Rattle.cw_reduce.proofs.translating.translate_read.Goals as goal

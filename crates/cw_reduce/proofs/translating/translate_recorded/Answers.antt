@@ -1,25 +1,11 @@
 -- The answers of the scan are nested, and stand in the text; what the tree shows, and how it is read, are laws of
 -- translations.
-use Rattle.std.proofs.Common.{◌≡◌, ◌∙◌, ℕ, List, arith, ap, is_some, sym, subst, IfOk, Result, Ok, Err}
-use Rattle.cw_base.specs.declared.flags.Flags.{Flags}
-use Rattle.cw_base.specs.declared.memory.Memory.{Memory}
-use Rattle.cw_rules.specs.Answers.{Answer}
-use Rattle.cw_lex.specs.Lexing.{tokens_of}
-use Rattle.cw_lex.specs.Nested.{IsNested}
-use Rattle.cw_lex.proofs.Nesting.{c-texts-nested}
+use Rattle.cw_reduce.proofs.Terms.{◌≡◌, ◌∙◌, ℕ, List, arith, ap, is_some, sym, subst, IfOk, Result, Ok, Err, Flags}
+use Rattle.cw_reduce.proofs.Terms.{Memory, Answer, tokens_of, IsNested, c-texts-nested, Entry, MarkList, marked_names}
+use Rattle.cw_reduce.proofs.Terms.{unfolded, StoredToken as Token, struck, Translated, Translator, HasEnded}
+use Rattle.cw_reduce.proofs.Terms.{StartsBelow, of_nothing, NameTexts, EndsIn, texts_in, ReadsInText, shown}
 use Rattle.cw_lex.proofs.TokensWithin.{tokens-within}
-use Rattle.cw_names.specs.Names.{Entry}
-use Rattle.cw_scraps.specs.Marking.{MarkList, marked_names}
-use Rattle.cw_tokens.specs.Shapes.{unfolded}
-use Rattle.cw_tokens.specs.declared.token.Token.{Token}
-use Rattle.cw_trees.specs.Flat.{struck}
-use Rattle.cw_translator.specs.declared.translator.Translated.{Translated}
-use Rattle.cw_translator.specs.declared.translator.Translator.{Translator}
-use Rattle.cw_translator.specs.Opening.{HasEnded, StartsBelow, of_nothing}
-use Rattle.cw_translator.specs.Translating.{NameTexts, translated}
-use Rattle.cw_translator.specs.Working.{EndsIn, texts_in}
-use Rattle.cw_reduce.specs.TranslationLaws.{ReadsInText}
-use Rattle.cw_reduce.specs.Visible.{shown}
+use Rattle.cw_translator.specs.Translating.{translated}
 use Rattle.cw_reduce.specs.WholeTexts.{to_text}
 use Rattle.cw_reduce.proofs.HeadReads.{stands-in-text}
 use Rattle.cw_reduce.proofs.HeadsShown.{translated-shown}
@@ -57,8 +43,7 @@ module _ (flags : Flags) (named : NameTexts) (answers : List Answer) (names : Li
 
   list-read : (result : Result Translated Memory)
       → IfOk result (λ done. HasEnded flags t steps lists names' marks' done steps'
-      (translated flags named answers names marks))
-      → IfOk result (λ done. ReadsInText (unfolded lists done.list.index))
+      (translated flags named answers names marks)) → IfOk result (λ done. ReadsInText (unfolded lists done.list.index))
   list-read (Ok done) is = subst ReadsInText (sym is.tree) (stands-in-text flags named answers names marks)
   list-read (Err error) is = is
 

@@ -1,6 +1,5 @@
 -- Whether a section code comes is told by the answers that are left.
-use Rattle.std.proofs.Common.{◌≡◌, length}
-use Rattle.cw_lex.specs.Nested.{begins_section_in}
+use Rattle.cw_reduce.proofs.Terms.{◌≡◌, length, begins_section_in}
 use Rattle.cw_reduce.proofs.uncut.is_uncut.Given as goal
 
 abbrev pub invariant-loop-token : goal.invariant-loop-token

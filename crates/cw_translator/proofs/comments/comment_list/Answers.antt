@@ -1,6 +1,5 @@
 -- The list of a comment has the comment's tree, and refers to each of its inner texts once and in order.
-use Rattle.std.proofs.Common.{◌≤◌, length, ◌∙◌, arith}
-use Rattle.cw_rewrite.proofs.GatherSteps.{builds-start, builds-pushed}
+use Rattle.cw_translator.proofs.Terms.{◌≤◌, length, ◌∙◌, arith, builds-start, builds-pushed}
 use Rattle.cw_translator.proofs.CommentLines.{part-may, part-more, parts-end, parts-tree, parts-gathers}
 use Rattle.cw_translator.proofs.CommentTrees.{comment_tokens}
 use Rattle.cw_translator.proofs.comments.comment_list.Goals as goal

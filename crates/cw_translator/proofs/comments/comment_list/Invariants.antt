@@ -1,7 +1,6 @@
 -- The parts so far stand in the list, and there is room for those that are left and for the end.
-use Rattle.std.proofs.Common.{◌+◌, ◌≤◌, length}
+use Rattle.cw_translator.proofs.Terms.{◌+◌, ◌≤◌, length, Builds}
 use Rattle.cw_translator.proofs.CommentTrees.{comment_tokens}
-use Rattle.cw_rewrite.proofs.GatherSteps.{Builds}
 use Rattle.cw_translator.proofs.CommentLines.{parts_from}
 use Rattle.cw_translator.proofs.comments.comment_list.Given as goal
 

@@ -1,7 +1,5 @@
 -- The list of a section name has the name's tree, and refers to each of its inner texts once and in order.
-use Rattle.std.proofs.Common.{◌≤◌, length, ◌∙◌, arith}
-use Rattle.std.proofs.lemmas.Grind.{common_steps}
-use Rattle.cw_rewrite.proofs.GatherSteps.{builds-start, builds-pushed}
+use Rattle.cw_translator.proofs.Terms.{◌≤◌, length, ◌∙◌, arith, common_steps, builds-start, builds-pushed}
 use Rattle.cw_translator.proofs.NameLists.{name_tokens, part-may, parts-end, sign-end, name-tree, name-gathers}
 use Rattle.cw_translator.proofs.holders.name_list.Goals as goal
 

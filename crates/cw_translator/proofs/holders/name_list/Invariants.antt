@@ -1,6 +1,5 @@
 -- The inner texts so far stand in the list, and there is room for the others, for the end and for the sign.
-use Rattle.std.proofs.Common.{◌+◌, ◌*◌, ◌≤◌, length}
-use Rattle.cw_rewrite.proofs.GatherSteps.{Builds}
+use Rattle.cw_translator.proofs.Terms.{◌+◌, ◌*◌, ◌≤◌, length, Builds}
 use Rattle.cw_translator.proofs.NameLists.{name_from, name_tokens}
 use Rattle.cw_translator.proofs.holders.name_list.Given as goal
 

@@ -1,6 +1,5 @@
 -- `push_part`: clause `building` at `InnerText`; said here, so that a wrong one fails at once.
-use Rattle.std.proofs.Common.{arith}
-use Rattle.std.proofs.lemmas.Grind.{common_steps}
+use Rattle.cw_translator.proofs.Terms.{arith, common_steps}
 use Rattle.cw_translator.proofs.holders.push_part.Goals as goal
 
 pub returns-in-InnerText-clause-building : goal.returns-in-InnerText-clause-building

@@ -1,58 +1,40 @@
 -- A line that is reduced and put together is one list, with the categories of names that its normal form has.
-use Rattle.std.proofs.Common.{[], ◌∷◌, length, refl, sym, ap, ◌∙◌, subst, arith}
-use Rattle.cw_table.specs.Productions.{productions}
-use Rattle.cw_table.specs.Rewriting.{State}
+use Rattle.cw_translator.proofs.Terms.{[], length, refl, sym, ap, ◌∙◌, subst, arith, productions, State, whole}
+use Rattle.cw_translator.proofs.Terms.{state_of, IsNamedBelow, scraps_of, keeps-trans, tied-idle, gathers-keeps}
+use Rattle.cw_translator.proofs.Terms.{whole-named}
 use Rattle.cw_table.proofs.Examples.{productions-sound}
 use Rattle.cw_table.proofs.StepLaws.{is-after}
-use Rattle.cw_trees.specs.Joining.{whole}
-use Rattle.cw_scraps.specs.Applying.{state_of}
-use Rattle.cw_scraps.specs.Lines.{IsNamedBelow, roots_of, scraps_of}
-use Rattle.cw_scraps.proofs.Applied.{keeps-trans}
-use Rattle.cw_scraps.proofs.Changings.{tied-idle}
 use Rattle.cw_translator.proofs.FinishSteps.{gathers-root}
-use Rattle.cw_rewrite.proofs.GatherLaws.{gathers-keeps, whole-named}
 use Rattle.cw_translator.proofs.Recorded.{begun-told, recorded-one, recorded-unended}
 use Rattle.cw_translator.proofs.Retypings.{retypes, retyped-names}
 use Rattle.cw_translator.proofs.translator.translate_line.Goals as goal
 
 pub returns-in_err-reduced-clause-retypes : goal.returns-in_err-reduced-clause-retypes
-returns-in_err-reduced-clause-retypes g c = retypes _ _
-    (state_of c.reduce_watched.new.store.lists c.reduce_watched.new.line c.reduce_watched.new.marks
-    c.reduce_watched.new.names) _ _
-    c.in_err-reduced.ensures.after refl c.in_err-reduced.ensures.words
+returns-in_err-reduced-clause-retypes g c = retypes _ _ _ _ _ c.in_err-reduced.ensures.after refl
+    c.in_err-reduced.ensures.words
 
 pub returns-in_err-list-clause-retypes : goal.returns-in_err-list-clause-retypes
-returns-in_err-list-clause-retypes g c = retypes _ _
-    (state_of c.reduce_watched.new.store.lists c.reduce_watched.new.line c.reduce_watched.new.marks
-    c.reduce_watched.new.names) _ _
-    c.in_ok-reduced.ensures.after refl c.in_ok-reduced.ensures.words
+returns-in_err-list-clause-retypes g c = retypes _ _ _ _ _ c.in_ok-reduced.ensures.after refl
+    c.in_ok-reduced.ensures.words
 
 pub returns-clause-retypes : goal.returns-clause-retypes
-returns-clause-retypes g c = retypes _ _
-    (state_of c.reduce_watched.new.store.lists c.reduce_watched.new.line c.reduce_watched.new.marks
-    c.reduce_watched.new.names) _ _
-    c.in_ok-reduced.ensures.after refl c.in_ok-reduced.ensures.words
+returns-clause-retypes g c = retypes _ _ _ _ _ c.in_ok-reduced.ensures.after refl c.in_ok-reduced.ensures.words
 
 -- nothing was done yet, or the line was reduced
 pub returns-in_err-begin-clause-retypes : goal.returns-in_err-begin-clause-retypes
 returns-in_err-begin-clause-retypes g c = retypes _ _
-    (state_of c.args.work.now.store.now.lists c.args.line c.args.work.now.marks.now
-    c.args.work.now.names.now) _ _
+    (state_of c.args.work.now.store.now.lists c.args.line c.args.work.now.marks.now c.args.work.now.names.now) _ _
     (is-after productions c.args.context.now.flags.now 0 (state_of c.args.work.now.store.now.lists c.args.line
-    c.args.work.now.marks.now
-    c.args.work.now.names.now) productions-sound c.requires.sound.fine (omega arith))
+    c.args.work.now.marks.now c.args.work.now.names.now) productions-sound c.requires.sound.fine (omega arith))
     refl refl
 
 pub returns-in_err-end-clause-retypes : goal.returns-in_err-end-clause-retypes
-returns-in_err-end-clause-retypes g c = retypes _ _
-    (state_of c.reduce_watched.new.store.lists c.reduce_watched.new.line c.reduce_watched.new.marks
-    c.reduce_watched.new.names) _ _ c.in_ok-reduced.ensures.after refl
+returns-in_err-end-clause-retypes g c = retypes _ _ _ _ _ c.in_ok-reduced.ensures.after refl
     c.in_ok-reduced.ensures.words
 
 -- The text is told when it is reduced.
 pub returns-in_err-begin-clause-recorded : goal.returns-in_err-begin-clause-recorded
-returns-in_err-begin-clause-recorded g c =
-    recorded-unended _ _ c.in_err-begin.ensures.refused c.from_residual.ensures.1
+returns-in_err-begin-clause-recorded g c = recorded-unended _ _ c.in_err-begin.ensures.refused c.from_residual.ensures.1
 
 pub returns-in_err-reduced-clause-recorded : goal.returns-in_err-reduced-clause-recorded
 returns-in_err-reduced-clause-recorded g c = recorded-unended _ _
@@ -62,19 +44,15 @@ returns-in_err-reduced-clause-recorded g c = recorded-unended _ _
 pub returns-in_err-end-clause-recorded : goal.returns-in_err-end-clause-recorded
 returns-in_err-end-clause-recorded g c = recorded-unended _ _ (c.in_err-end.ensures.refused
     ∙ begun-told (scraps_of c.args.work.now.store.now.lists c.args.line) _ (g.R.Watch.told c.args.work.now.recorder)
-    c.in_ok-begin.ensures.begins (rw c.in-Some.is at c.in_ok-reduced.ensures.told))
-    c.from_residual-in_err-end.ensures.1
+    c.in_ok-begin.ensures.begins (rw c.in-Some.is at c.in_ok-reduced.ensures.told)) c.from_residual-in_err-end.ensures.1
 
 pub returns-in_err-list-clause-recorded : goal.returns-in_err-list-clause-recorded
-returns-in_err-list-clause-recorded g c = recorded-one c.args.context.now.flags.now
-    (state_of c.args.work.now.store.now.lists c.args.line c.args.work.now.marks.now
-    c.args.work.now.names.now) c.from_residual-in_err-list.result
-    c.in_ok-begin.ensures.begins (rw c.in-Some.is at c.in_ok-reduced.ensures.told) c.in_ok-end.ensures.ends
+returns-in_err-list-clause-recorded g c = recorded-one _ _ _ c.in_ok-begin.ensures.begins
+    (rw c.in-Some.is at c.in_ok-reduced.ensures.told) c.in_ok-end.ensures.ends
 
 pub returns-clause-recorded : goal.returns-clause-recorded
 returns-clause-recorded g c = recorded-one c.args.context.now.flags.now
-    (state_of c.args.work.now.store.now.lists c.args.line c.args.work.now.marks.now
-    c.args.work.now.names.now) _
+    (state_of c.args.work.now.store.now.lists c.args.line c.args.work.now.marks.now c.args.work.now.names.now) _
     c.in_ok-begin.ensures.begins (rw c.in-Some.is at c.in_ok-reduced.ensures.told) c.in_ok-end.ensures.ends
 
 pub returns-clause-done : goal.returns-clause-done
@@ -85,30 +63,18 @@ returns-clause-done g c = record {
   productions_are = (rw c.in-Some.is at c.in_ok-reduced.ensures.productions);
   few = (let few = (rw c.in-Some.is at c.in_ok-reduced.ensures.few) in let size = c.len-scraps.ensures.length in
       omega (arith, few, size));
-  names_are = retyped-names c.args.context.now.flags.now (state_of c.args.work.now.store.now.lists c.args.line
-      c.args.work.now.marks.now c.args.work.now.names.now)
-      (state_of c.reduce_watched.new.store.lists c.reduce_watched.new.line c.reduce_watched.new.marks
-      c.reduce_watched.new.names)
-      c.args.work.now.names.now c.reduce_watched.new.names (rw c.in-Some.is at c.in_ok-reduced.ensures.normal) refl
+  names_are = retyped-names _ _ _ _ _ (rw c.in-Some.is at c.in_ok-reduced.ensures.normal) refl
       c.in_ok-reduced.ensures.words;
   marks_are = ap (λ (s : State). s.marks) (rw c.in-Some.is at c.in_ok-reduced.ensures.normal);
   steps_are = (rw c.in-Some.is at c.in_ok-reduced.ensures.steps);
   words = c.in_ok-reduced.ensures.words;
   named = subst (IsNamedBelow (length c.reduce_watched.new.names)) (sym c.in_ok-list.ensures.tree)
       (whole-named (length c.reduce_watched.new.names)
-      (scraps_of c.reduce_watched.new.store.lists c.reduce_watched.new.line)
-      c.in_ok-reduced.ensures.sound.named);
-  root = gathers-root c.reduce_watched.new.store.lists c.put_together.new.store.lists
-      (roots_of c.reduce_watched.new.line)
-      c.in_ok-list.list.index c.in_ok-list.ensures.gathers
+      (scraps_of c.reduce_watched.new.store.lists c.reduce_watched.new.line) c.in_ok-reduced.ensures.sound.named);
+  root = gathers-root _ _ _ _ c.in_ok-list.ensures.gathers
       (tied-idle c.reduce_watched.new.store c.in_ok-reduced.ensures.sound.idle c.tied_law.ensures)
       c.in_ok-reduced.ensures.sound.roots;
-  keeps = keeps-trans c.args.work.now.store.now.lists c.reduce_watched.new.store.lists c.put_together.new.store.lists
-      (roots_of c.args.line) (roots_of c.reduce_watched.new.line) (c.in_ok-list.list.index ∷ [])
-      c.in_ok-reduced.ensures.others
-      (gathers-keeps c.reduce_watched.new.store.lists c.put_together.new.store.lists
-      (roots_of c.reduce_watched.new.line)
-      c.in_ok-list.list.index c.in_ok-list.ensures.gathers
+  keeps = keeps-trans _ _ _ _ _ _ c.in_ok-reduced.ensures.others (gathers-keeps _ _ _ _ c.in_ok-list.ensures.gathers
       (tied-idle c.reduce_watched.new.store c.in_ok-reduced.ensures.sound.idle c.tied_law.ensures)
       c.in_ok-reduced.ensures.sound.roots);
   idle = c.in_ok-list.ensures.idle;

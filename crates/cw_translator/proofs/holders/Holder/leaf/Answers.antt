@@ -1,6 +1,5 @@
 -- `leaf`: clause `value` at `Comment`; said here, so that a wrong one fails at once.
-use Rattle.std.proofs.Common.{arith}
-use Rattle.std.proofs.lemmas.Grind.{common_steps}
+use Rattle.cw_translator.proofs.Terms.{arith, common_steps}
 use Rattle.cw_translator.proofs.holders.Holder.leaf.Goals as goal
 
 pub returns-in-Comment-clause-value : goal.returns-in-Comment-clause-value

@@ -1,8 +1,6 @@
 -- A token, a beginning or an end does to what is open what the definition says of it; a note does nothing.
-use Rattle.std.proofs.Common.{refl, sym, ap}
+use Rattle.cw_translator.proofs.Terms.{refl, sym, ap, answers_in, progress_over}
 use Rattle.cw_rules.specs.Answers.{seen}
-use Rattle.cw_translator.specs.Opening.{answers_in}
-use Rattle.cw_translator.specs.Working.{progress_over}
 use Rattle.cw_translator.proofs.AnswerRoutes.{begin-advances, passed-advances, token-advances}
 use Rattle.cw_translator.proofs.Routes.{answers-as}
 use Rattle.cw_translator.proofs.translator.Translator.answer.Goals as goal

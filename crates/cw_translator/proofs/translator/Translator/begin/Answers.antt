@@ -1,6 +1,5 @@
 -- What begins neither an inner text nor a comment nor a section name opens nothing.
-use Rattle.std.proofs.Common.{ap, arith}
-use Rattle.std.proofs.lemmas.Grind.{common_steps}
+use Rattle.cw_translator.proofs.Terms.{ap, arith, common_steps}
 use Rattle.cw_translator.proofs.AnswerSteps.{begun-other}
 use Rattle.cw_translator.proofs.translator.Translator.begin.Goals as goal
 

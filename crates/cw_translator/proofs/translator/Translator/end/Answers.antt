@@ -1,6 +1,5 @@
 -- The scraps of the whole text are a sound line, and its list takes the place of all lists that were open.
-use Rattle.std.proofs.Common.{refl, sym, ap, subst}
-use Rattle.cw_scraps.specs.Lines.{IsSoundLine}
+use Rattle.cw_translator.proofs.Terms.{refl, sym, ap, subst, IsSoundLine}
 use Rattle.cw_translator.proofs.EndSteps.{last-sound, line-refused, line-ends}
 use Rattle.cw_translator.proofs.translator.Translator.end.Goals as goal
 

@@ -1,8 +1,6 @@
 -- The scrap of a token goes behind those of the innermost C text, and its line stays sound.
-use Rattle.std.proofs.Common.{refl}
-use Rattle.std.proofs.lemmas.Result.{on_ok_weaker}
+use Rattle.cw_translator.proofs.Terms.{refl, on_ok_weaker, tied-idle}
 use Rattle.cw_rules.specs.Answers.{seen}
-use Rattle.cw_scraps.proofs.Changings.{tied-idle}
 use Rattle.cw_translator.proofs.LeafSteps.{leaf-step}
 use Rattle.cw_translator.proofs.translator.Translator.leaf.Goals as goal
 

@@ -1,6 +1,5 @@
 -- A piece of a comment's text is one part more of the innermost comment, and what is open stays sound.
-use Rattle.std.proofs.Common.{refl}
-use Rattle.std.proofs.lemmas.Result.{on_ok_weaker}
+use Rattle.cw_translator.proofs.Terms.{refl, on_ok_weaker}
 use Rattle.cw_translator.proofs.LeafSteps.{piece-steps}
 use Rattle.cw_translator.proofs.translator.Translator.token.Goals as goal
 
