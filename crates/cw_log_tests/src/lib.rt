@@ -8,6 +8,8 @@ mod check_tests;
 #[cfg(test)]
 mod judge_tests;
 #[cfg(test)]
+mod logged_tests;
+#[cfg(test)]
 mod text_tests;
 #[cfg(test)]
 mod write_tests;
