@@ -4,7 +4,7 @@ use Rattle.std.proofs.Common.{ap, ◌∙◌, sym, append_assoc}
 use Rattle.cw_base.proofs.TestLaws.{both-left, both-right}
 use Rattle.cw_trees.specs.Flat.{Item, SignItem, Close, begins_after}
 use Rattle.cw_trees.specs.Flat.{ends_text, flat, is_break, is_inserted, leaf_item}
-use Rattle.cw_trees.specs.Flat.{trim_back, trim_front, trimmed, without_inserted}
+use Rattle.cw_trees.specs.Flat.{trim_back, trim_front, trimmed_items, without_inserted}
 use Rattle.cw_trees.specs.Tree.{Leaf, Source, Ident, Reserved, Sign, Tree, Empty, Then, Sub, Inner}
 use Rattle.cw_trees.specs.declared.Control.TheVariants.{Blank, OptionalBreak, Break, BigBreak, Inserted}
 use Rattle.cw_table.specs.Braces.{is_text}
@@ -126,7 +126,7 @@ append-none : (items : List Item) → items ++ [] ≡ items
 append-none [] = refl
 append-none (item ∷ items) = ap (λ rest. item ∷ rest) (append-none items)
 
-pub trimmed-braced : (t : Tree) → IsBraced t → AreBraced (trimmed (flat t))
+pub trimmed-braced : (t : Tree) → IsBraced t → AreBraced (trimmed_items (flat t))
 trimmed-braced t h =
     let all : AreBraced (flat t) = ap (λ items. items_depth items 0) (sym (append-none (flat t)))
     ∙ flat-leads t [] 0 0 h in

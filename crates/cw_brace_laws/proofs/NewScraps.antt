@@ -18,7 +18,7 @@ use Rattle.cw_table.specs.Braces.{admits_only, are_quiet, between, braces_pair, 
 use Rattle.cw_table.specs.Braces.{may_be_calm, may_stand, pieces_are_braced, row_is_braced}
 use Rattle.cw_table.specs.Insertions.{insertion_of}
 use Rattle.cw_table.specs.Rewriting.{cats_of, joined_of, alone, with_cat, row_pieces, new_scrap, takes_other}
-use Rattle.cw_table.specs.Rows.{pieces_by, result_at, test}
+use Rattle.cw_table.specs.Rows.{pieces_for, result_at, test}
 use Rattle.cw_table.specs.declared.types.Piece.{Piece}
 use Rattle.cw_table.specs.declared.types.Piece.TheVariants.{Scrap as ScrapOf, MathScrap, Unused}
 use Rattle.cw_table.specs.declared.types.Piece.TheVariants.{Wall, Indent, Outdent}
@@ -55,10 +55,10 @@ parts row ps ok = record {
 }
 
 pub row-braced : (row : Row) → row_is_braced row ≡ true → (other : Bool)
-    → IsBracedRow row (pieces_by other row)
+    → IsBracedRow row (pieces_for other row)
 unfolding row_is_braced
-row-braced row h true = parts row (pieces_by true row) (both-right _ _ h)
-row-braced row h false = parts row (pieces_by false row) (both-left _ _ h)
+row-braced row h true = parts row (pieces_for true row) (both-right _ _ h)
+row-braced row h false = parts row (pieces_for false row) (both-left _ _ h)
 
 -- of the scraps that a piece puts in
 abbrev pub AtScrap : (ℕ → Type 0) → Piece → Type 0

@@ -21,7 +21,7 @@ use Rattle.cw_table.specs.Normal.{At, next_place, steps}
 use Rattle.cw_table.specs.Productions.{productions}
 use Rattle.cw_table.specs.Rewriting.{State, alone, cats_of, new_scrap, reserved_at, reserved_in, rewrite, rewrite_from}
 use Rattle.cw_table.specs.Rewriting.{joined_of, row_pieces, takes_other, with_cat}
-use Rattle.cw_table.specs.Rows.{pieces_by, result_at, test}
+use Rattle.cw_table.specs.Rows.{pieces_for, result_at, test}
 use Rattle.cw_table.specs.Sound.{IsSound}
 use Rattle.cw_table.specs.declared.types.Piece.{Piece}
 use Rattle.cw_table.specs.declared.types.Piece.TheVariants.{Scrap as ScrapOf, MathScrap}
@@ -65,7 +65,7 @@ plain_pieces row pieces = not (may_be_clean row row.result) || are_quiet (makes_
 -- a row that fits no plain text, or makes a plain scrap, and a clean one of clean ones
 unfoldable row_is_plain : Row → Bool
 row_is_plain row = never_fits row
-    || (plain_result row.result && (plain_pieces row (pieces_by false row) && plain_pieces row (pieces_by true row)))
+    || (plain_result row.result && (plain_pieces row (pieces_for false row) && plain_pieces row (pieces_for true row)))
 
 rows-plain : list_all row_is_plain productions ≡ true
 unfolding productions row_is_plain
@@ -117,14 +117,14 @@ module _ (row : Row) (scraps : List Scrap) (all : All IsPlainScrap scraps)
           (both-right _ _ e)))
 
   works : row_is_plain row ≡ true
-      → (plain_result row.result && (plain_pieces row (pieces_by false row) && plain_pieces row (pieces_by true row)))
+      → (plain_result row.result && (plain_pieces row (pieces_for false row) && plain_pieces row (pieces_for true row)))
       ≡ true
   unfolding row_is_plain
   works h = other-one _ _ h (none-of-two (asks row 0 || asks row 1 || asks row 2) (asks row 3)
       (none-of-two (asks row 0 || asks row 1) (asks row 2)
       (none-of-two (asks row 0) (asks row 1) (not-asked 0) (not-asked 1)) (not-asked 2)) (not-asked 3))
 
-  works-by : row_is_plain row ≡ true → (other : Bool) → plain_pieces row (pieces_by other row) ≡ true
+  works-by : row_is_plain row ≡ true → (other : Bool) → plain_pieces row (pieces_for other row) ≡ true
   works-by h true = both-right _ _ (both-right _ _ (works h))
   works-by h false = both-left _ _ (both-right _ _ (works h))
 

@@ -4,7 +4,7 @@ use Rattle.std.proofs.Common.{map, refl, ap, ◌∙◌}
 use Rattle.std.specs.List.{list_any}
 use Rattle.std.specs.Prelude.{codes}
 use Rattle.cw_trees.specs.Flat.{Item, SourceItem, IdentItem, ReservedItem, SignItem, Open, Close, flat, is_run_sign}
-use Rattle.cw_trees.specs.Flat.{trimmed}
+use Rattle.cw_trees.specs.Flat.{trimmed_items}
 use Rattle.cw_trees.specs.Printing.{backup_bytes, break_bytes, indent_bytes, indents, inner_run, is_backup}
 use Rattle.cw_trees.specs.Printing.{is_cancel, opened, part_run, printed_from, run_bytes, strongest}
 use Rattle.cw_trees.specs.Tree.{Tree}
@@ -184,4 +184,4 @@ printed-leads inner depth run (SignItem c ∷ items) d e h =
 pub prints-braced : (t : Tree) → IsBraced t → PrintsBraced t
 prints-braced t h =
     let all = trimmed-braced t h in
-    record { items = all; bytes = λ inner. printed-leads inner 0 [] (trimmed (flat t)) 0 0 all }
+    record { items = all; bytes = λ inner. printed-leads inner 0 [] (trimmed_items (flat t)) 0 0 all }

@@ -17,7 +17,7 @@ use Rattle.cw_table.specs.Braces.{between, row_is_braced}
 use Rattle.cw_table.specs.Fitting.{first_of, row_fits}
 use Rattle.cw_table.specs.Normal.{Place, Nowhere, At, next_place, normal, steps, weight}
 use Rattle.cw_table.specs.Productions.{productions}
-use Rattle.cw_table.specs.Rewriting.{State, cats_of, is_name, named_right, named_scrap, new_scrap, reserved_at}
+use Rattle.cw_table.specs.Rewriting.{State, cats_of, is_bare_name, named_right, named_scrap, new_scrap, reserved_at}
 use Rattle.cw_table.specs.Rewriting.{reserved_in, rewrite, rewrite_from, row_pieces, search_in, with_cat}
 use Rattle.cw_table.specs.Rows.{test, tests_of}
 use Rattle.cw_table.specs.Sound.{IsSound, is_exp, row_is_sound}
@@ -72,14 +72,15 @@ module _ (P : Scrap → Type 0) (none : P no_scrap) (reserves : (s : Scrap) → 
   named-keeps (Some k) scraps all = All-set P scraps k (reserved_in (get_or scraps k no_scrap))
       (reserves (get_or scraps k no_scrap) (all-at P none scraps k all)) all
 
-  scrap-keeps : (b : Bool) (name : ℕ) (s : Scrap) → (is_exp s.cat && is_name name (bare_name s.tree)) ≡ b → P s
+  scrap-keeps : (b : Bool) (name : ℕ) (s : Scrap) → (is_exp s.cat && is_bare_name name (bare_name s.tree)) ≡ b → P s
       → P (named_scrap name s)
   scrap-keeps true name s e h = rw (e, named_scrap) (types s h)
   scrap-keeps false name s e h = rw (e, named_scrap) h
 
   right-keeps : (found : Search) (scraps : List Scrap) → All P scraps → All P (named_right found scraps)
   right-keeps (FoundName name) scraps all = All-map P (named_scrap name) scraps
-      (λ k d h. scrap-keeps (is_exp (get_or scraps k d).cat && is_name name (bare_name (get_or scraps k d).tree)) name
+      (λ k d h. scrap-keeps (is_exp (get_or scraps k d).cat && is_bare_name name (bare_name (get_or scraps k d).tree))
+      name
       (get_or scraps k d) refl (all k d h))
   right-keeps Stopped scraps all = all
   right-keeps Nothing scraps all = all

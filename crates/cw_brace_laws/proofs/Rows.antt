@@ -9,7 +9,7 @@ use Rattle.cw_table.specs.Normal.{log, normal}
 use Rattle.cw_table.specs.Productions.{productions}
 use Rattle.cw_table.specs.Rewriting.{State}
 use Rattle.cw_translator.specs.Translating.{comment_scrap}
-use Rattle.cw_trees.specs.Flat.{flat, trimmed}
+use Rattle.cw_trees.specs.Flat.{flat, trimmed_items}
 use Rattle.cw_trees.specs.Joining.{Scrap, whole}
 use Rattle.cw_trees.specs.Tree.{Empty, Then, Source, Ident, Reserved, Sign}
 use Rattle.cw_trees.specs.declared.Control.TheVariants.{Blank, CloseBrace, OpenBrace, ThinSpace, ToMath, ToText}
@@ -58,7 +58,7 @@ pointer_braced : IsBraced (whole (normal productions start_flags pointer).scraps
 unfolding normal productions
 pointer_braced = refl
 
-pointer_prints : signs_printed true (trimmed (flat (whole (normal productions start_flags pointer).scraps)))
+pointer_prints : signs_printed true (trimmed_items (flat (whole (normal productions start_flags pointer).scraps)))
     ≡ codes " ${}{\\,\\,}$"
 unfolding normal productions
 pointer_prints = refl
@@ -83,7 +83,7 @@ assigned_braced : IsBraced (whole (normal productions start_flags assigned).scra
 unfolding normal productions
 assigned_braced = refl
 
-assigned_prints : signs_printed true (trimmed (flat (whole (normal productions start_flags assigned).scraps)))
+assigned_prints : signs_printed true (trimmed_items (flat (whole (normal productions start_flags assigned).scraps)))
     ≡ codes "$\\MRL{{}}$"
 unfolding normal productions
 assigned_prints = refl

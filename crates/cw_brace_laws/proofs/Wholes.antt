@@ -10,7 +10,7 @@ use Rattle.cw_table.specs.Normal.{normal}
 use Rattle.cw_table.specs.Productions.{productions}
 use Rattle.cw_table.specs.Rewriting.{State}
 use Rattle.cw_table.specs.Sound.{row_is_sound}
-use Rattle.cw_trees.specs.Joining.{Scrap, blank_and_whole, dollar_before, in_text, whole}
+use Rattle.cw_trees.specs.Joining.{Scrap, blank_and_whole, dollar_before, scrap_in_text, whole}
 use Rattle.cw_trees.specs.Tree.{Tree}
 use Rattle.cw_brace_laws.specs.Bracing.{IsBraced, IsBracedScrap, depth_of, leads_on}
 use Rattle.cw_brace_laws.specs.Operators.{HasCleanOperators}
@@ -22,7 +22,7 @@ dollar-depth Math tree = refl
 dollar-depth Text tree = refl
 dollar-depth Maybe tree = refl
 
-in_text-braced : (s : Scrap) (rest : Tree) → IsBraced s.tree → IsBraced rest → IsBraced (in_text s rest)
+in_text-braced : (s : Scrap) (rest : Tree) → IsBraced s.tree → IsBraced rest → IsBraced (scrap_in_text s rest)
 in_text-braced s rest here later =
     dollar-depth s.left _ ∙ ap (λ o. leads_on o (depth_of (dollar_before s.right rest))) here
     ∙ dollar-depth s.right rest ∙ later

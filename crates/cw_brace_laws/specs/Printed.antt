@@ -1,7 +1,7 @@
 -- Braces in flat lists and in what they print.
 use Rattle.std.specs.Prelude.{◌≡◌, ℕ, zero, suc, Bool, eqb, Option, Some, None, List, [], ◌∷◌, map}
 use Rattle.std.specs.Prelude.{if◌then◌else◌}
-use Rattle.cw_trees.specs.Flat.{Item, SignItem, Open, Close, flat, trimmed}
+use Rattle.cw_trees.specs.Flat.{Item, SignItem, Open, Close, flat, trimmed_items}
 use Rattle.cw_trees.specs.Printing.{Printable, printed, sign_bytes}
 use Rattle.cw_trees.specs.Tree.{Tree}
 use Rattle.cw_trees.specs.declared.Control.{Control}
@@ -56,5 +56,5 @@ signs_printed inner items = printed inner (map sign_alone items)
 -- What a tree prints has braces that pair, and no `$` between them, in a part or as inner text; where that which a
 -- token prints stands out.
 pub record PrintsBraced (tree : Tree) : Type 0 where
-  pub items : AreBraced (trimmed (flat tree))
-  pub bytes : (inner : Bool) → bytes_depth (signs_printed inner (trimmed (flat tree))) 0 ≡ Some 0
+  pub items : AreBraced (trimmed_items (flat tree))
+  pub bytes : (inner : Bool) → bytes_depth (signs_printed inner (trimmed_items (flat tree))) 0 ≡ Some 0

@@ -6,7 +6,7 @@ use Rattle.std.specs.List.{flat_map, list_any}
 use Rattle.std.proofs.lemmas.List.{drop_all}
 use Rattle.cw_base.specs.declared.flags.Flags.{Flags}
 use Rattle.cw_phase1.specs.declared.sections.Section.{Section}
-use Rattle.cw_index.specs.Closing.{change, changed_from, changes_line, changes_of}
+use Rattle.cw_index.specs.Closing.{change, changed_from, changes_line, printed_changes}
 use Rattle.cw_index.proofs.RowLaws.{drop-at}
 
 abbrev any_starred : List Section → Bool
@@ -33,7 +33,7 @@ starred-later sections i s there is = sym (here sections i s there ∙ rw is ref
 
 -- What is left to put of it for these numbers, where none is listed before them, and where one is.
 abbrev pub changes_left : Bool → List ℕ → List ℕ
-changes_left true numbers = changes_of numbers
+changes_left true numbers = printed_changes numbers
 changes_left false numbers = flat_map (change false) numbers ++ codes ".\n"
 
 left-next : (first : Bool) (n : ℕ) (later : List ℕ)
@@ -78,7 +78,7 @@ left-later first sections i s there is = left-at first sections i s there ∙ rw
 
 -- The line stands there where the flags ask for it.
 pub listed : (flags : Flags) (sections : List Section) → (flags.ranged && flags.index) ≡ true
-    → changes_of (changed_from 1 sections) ≡ changes_line flags sections
+    → printed_changes (changed_from 1 sections) ≡ changes_line flags sections
 listed flags sections asked = rw asked refl
 
 pub unlisted : (flags : Flags) (sections : List Section) → (flags.ranged && flags.index) ≡ false

@@ -13,7 +13,7 @@ use Rattle.cw_index.specs.declared.standing.Listed.{Listed}
 use Rattle.cw_index.specs.declared.standing.Sorting.{Sorting}
 use Rattle.cw_index.specs.declared.standing.Standing.{Standing}
 use Rattle.cw_index.specs.Sorted.{sorted_on}
-use Rattle.cw_index.specs.Standing.{Stand, has_reference, kept_stand, stand_by, stand_cmp}
+use Rattle.cw_index.specs.Standing.{StandingName, has_reference, kept_stand, stand_by, stand_cmp}
 use Rattle.cw_index.specs.StandingForms.{Holds, HoldsName, IsSorting, stand_of, stands_of}
 use Rattle.cw_index.specs.StandingLaws.{stand_cmp-total}
 use Rattle.cw_index.proofs.RowLaws.{inserted}
@@ -58,13 +58,13 @@ holds-still o total x y (k ∷ keys) h = by (holds-still o total x y keys) (o y 
   by still Greater is (inr (greater, later)) = inr (greater, still later)
 
 -- a name that is entered changes nothing
-kept-by : (b : Bool) (n : SecName) (listed : Listed) (stands : List Stand) → HoldsName stands n
+kept-by : (b : Bool) (n : SecName) (listed : Listed) (stands : List StandingName) → HoldsName stands n
     → stands ≡ sorted_on stand_cmp stands (stand_by b n listed)
 kept-by true n listed stands h =
     sym (holds-same stand_cmp (record { kind = n.kind; text = n.text; listed = listed }) stands (h listed))
 kept-by false n listed stands h = refl
 
-pub entered-same : (found : Option SecName) (listed : Listed) (stands : List Stand)
+pub entered-same : (found : Option SecName) (listed : Listed) (stands : List StandingName)
     → ((n : SecName) → found ≡ Some n → HoldsName stands n)
     → stands ≡ sorted_on stand_cmp stands (kept_stand found listed)
 entered-same None listed stands f = refl
@@ -78,17 +78,17 @@ holds-like o x y (k ∷ keys) f (inl equal) = inl (sym (f k) ∙ equal)
 holds-like o x y (k ∷ keys) f (inr (greater, later)) = inr (sym (f k) ∙ greater, holds-like o x y keys f later)
 
 -- a stand, with the kept name that it is
-record IsStand (found : Option SecName) (listed : Listed) (s : Stand) : Type 0 where
+record IsStand (found : Option SecName) (listed : Listed) (s : StandingName) : Type 0 where
   name : SecName
   here : found ≡ Some name
   is : s ≡ record { kind = name.kind; text = name.text; listed = listed }
 
-stand-is : (found : Option SecName) (listed : Listed) (s : Stand) → s ∷ [] ≡ kept_stand found listed
+stand-is : (found : Option SecName) (listed : Listed) (s : StandingName) → s ∷ [] ≡ kept_stand found listed
     → IsStand found listed s
 stand-is None listed s h = absurd (cc)
 stand-is (Some n) listed s h = by (has_reference n) h where
   by : (b : Bool) → s ∷ [] ≡ stand_by b n listed → IsStand (Some n) listed s
-  by true h = record { name = n; here = refl; is = ap (λ (xs : List Stand). get_or xs 0 s) h }
+  by true h = record { name = n; here = refl; is = ap (λ (xs : List StandingName). get_or xs 0 s) h }
   by false h = absurd (cc)
 
 some-same : {X : Type 0} (a b : X) → Some a ≡ Some b → a ≡ b
@@ -102,19 +102,19 @@ pub sorting-more : (names : List SecName) (old new : Sorting) (stand : Standing)
     → stands_of (Some stand) ≡ kept_stand (slice_get names listed.id.index) listed
     → IsSorting names new
 sorting-more names old new stand listed s keys entered is k n at here l =
-    let before : List Stand = map stand_of old.stands.keys in
+    let before : List StandingName = map stand_of old.stands.keys in
     let more : map stand_of new.stands.keys ≡ insert_key stand_cmp before (stand_of stand) =
     ap (map stand_of) keys ∙ inserted stand_of stand_cmp old.stands.keys stand in
-    let name : Stand = record { kind = n.kind; text = n.text; listed = l } in
+    let name : StandingName = record { kind = n.kind; text = n.text; listed = l } in
     subst (Holds stand_cmp name) (sym more) (elim (entered k at) [
       | inl same ↦
           let one : IsStand (slice_get names listed.id.index) listed (stand_of stand) =
           stand-is (slice_get names listed.id.index) listed (stand_of stand) is in
-          let place : k ≡ listed.id.index = same ∙ ap (λ (t : Stand). t.listed.id.index) one.is in
+          let place : k ≡ listed.id.index = same ∙ ap (λ (t : StandingName). t.listed.id.index) one.is in
           let which : one.name ≡ n =
           some-same one.name n (sym one.here ∙ sym (ap (slice_get names) place) ∙ here) in
           holds-like stand_cmp (stand_of stand) name (insert_key stand_cmp before (stand_of stand))
-          (λ other. ap (λ (t : Stand). stand_cmp t other) one.is
+          (λ other. ap (λ (t : StandingName). stand_cmp t other) one.is
           ∙ ap (λ (m : SecName). stand_cmp (record { kind = m.kind; text = m.text; listed = l }) other) which)
           (holds-new stand_cmp stand_cmp-total (stand_of stand) before)
       | inr earlier ↦ holds-still stand_cmp stand_cmp-total name (stand_of stand) before (s k n earlier here l)

@@ -8,19 +8,19 @@ use Rattle.cw_secnames.specs.Kept.{SecName}
 use Rattle.cw_secnames.specs.Uses.{NameUse}
 use Rattle.cw_index.specs.declared.standing.Standing.{Standing}
 use Rattle.cw_index.specs.Sorted.{sorted_on}
-use Rattle.cw_index.specs.Standing.{Stand, named_stands, stand_at, stand_cmp}
+use Rattle.cw_index.specs.Standing.{StandingName, named_stands, stand_at, stand_cmp}
 use Rattle.cw_index.specs.StandingForms.{stand_of, stands_of}
 use Rattle.cw_index.proofs.RowLaws.{drop-at, inserted}
 
 -- The names so far, with those that are still to come, are all.
-abbrev pub with_stands : List SecName → List NameUse → List Stand → List Stand
+abbrev pub with_stands : List SecName → List NameUse → List StandingName → List StandingName
 with_stands kept later stands = sorted_on stand_cmp stands (named_stands kept later)
 
-sorted-append : (xs ys stands : List Stand)
+sorted-append : (xs ys stands : List StandingName)
     → sorted_on stand_cmp stands (xs ++ ys) ≡ sorted_on stand_cmp (sorted_on stand_cmp stands xs) ys
 sorted-append xs ys stands = fold-append (insert_key stand_cmp) stands xs ys
 
-pub stands-step : (kept : List SecName) (uses : List NameUse) (i : ℕ) (u : NameUse) (stands more : List Stand)
+pub stands-step : (kept : List SecName) (uses : List NameUse) (i : ℕ) (u : NameUse) (stands more : List StandingName)
     → slice_get uses i ≡ Some u → more ≡ sorted_on stand_cmp stands (stand_at kept u)
     → with_stands kept (drop (i + 1) uses) more ≡ with_stands kept (drop i uses) stands
 stands-step kept uses i u stands more here is =

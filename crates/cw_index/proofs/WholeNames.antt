@@ -26,7 +26,8 @@ use Rattle.cw_secnames.specs.Uses.{NameUse}
 use Rattle.cw_index.specs.declared.standing.Listed.{Listed}
 use Rattle.cw_index.specs.NameList.{IsWholeName}
 use Rattle.cw_index.specs.Sorted.{sorted_on}
-use Rattle.cw_index.specs.Standing.{Stand, has_reference, kept_stand, named_stands, stand_at, stand_by, stand_cmp}
+use Rattle.cw_index.specs.Standing.{StandingName, has_reference, kept_stand, named_stands, stand_at, stand_by}
+use Rattle.cw_index.specs.Standing.{stand_cmp}
 use Rattle.cw_index.specs.WholeNames.{NamesAreWhole}
 use Rattle.cw_index.proofs.NameSpans.{begun-whole}
 use Rattle.cw_index.proofs.NameTokens.{BeginsName, HaveNames, text-names}
@@ -65,7 +66,7 @@ uses-begin text s kept (Note kind place ∷ answers) h = uses-begin text s kept 
 
 -- ## Those that are listed
 
-abbrev Whole : List ℕ → Stand → Type 0
+abbrev Whole : List ℕ → StandingName → Type 0
 Whole text s = IsWholeName text s.listed
 
 by-reference : (text : List ℕ) (t : Bool) (n : SecName) (l : Listed) → IsWholeName text l
@@ -86,7 +87,7 @@ stands-whole text kept (u ∷ uses) h =
     All-append (Whole text) (stand_at kept u) (named_stands kept uses)
     (by-kept text (slice_get kept u.name) listed (begun-whole text u.place h.0)) (stands-whole text kept uses h.1)
 
-sorted-whole : (text : List ℕ) (xs stands : List Stand) → All (Whole text) stands → All (Whole text) xs
+sorted-whole : (text : List ℕ) (xs stands : List StandingName) → All (Whole text) stands → All (Whole text) xs
     → All (Whole text) (sorted_on stand_cmp stands xs)
 sorted-whole text [] stands all more = all
 sorted-whole text (x ∷ xs) stands all more =
@@ -102,5 +103,5 @@ names-whole lines =
     let begin : NamesBegin text uses =
     uses-begin text at_limbo [] (answers_of lines) (text-names text 0 modes.Limbo) in
     let stands = named_stands kept uses in
-    All-map (IsWholeName text) (λ (s : Stand). s.listed) (sorted_on stand_cmp [] stands)
+    All-map (IsWholeName text) (λ (s : StandingName). s.listed) (sorted_on stand_cmp [] stands)
     (sorted-whole text stands [] (All-nil (Whole text)) (stands-whole text kept uses begin))

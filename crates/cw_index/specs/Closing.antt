@@ -29,13 +29,13 @@ abbrev pub change : Bool → ℕ → List ℕ
 change first n = before_change first ++ section_number n true
 
 -- A line with these numbers; without a number there is no line.
-abbrev pub changes_of : List ℕ → List ℕ
-changes_of [] = []
-changes_of (n ∷ later) = change true n ++ (flat_map (change false) later ++ codes ".\n")
+abbrev pub printed_changes : List ℕ → List ℕ
+printed_changes [] = []
+printed_changes (n ∷ later) = change true n ++ (flat_map (change false) later ++ codes ".\n")
 
 -- With flag r they are listed before the index.
 abbrev pub changes_line : Flags → List Section → List ℕ
-changes_line flags sections = if flags.ranged && flags.index then changes_of (changed_from 1 sections) else []
+changes_line flags sections = if flags.ranged && flags.index then printed_changes (changed_from 1 sections) else []
 
 abbrev pub closing_lines : Flags → List Section → List ℕ
 closing_lines flags sections =

@@ -6,7 +6,7 @@ use Rattle.cw_lex.specs.Lexing.{tokens_of}
 use Rattle.cw_rules.specs.declared.tokens.Mode.TheVariants.{Inner}
 use Rattle.cw_names.specs.Names.{Entry}
 use Rattle.cw_part.specs.Footnotes.{of_name, use_footnotes}
-use Rattle.cw_texpart.specs.Done.{Done, behind, plain, then}
+use Rattle.cw_texpart.specs.Done.{Done, done_behind, as_it_is, then}
 use Rattle.cw_texpart.specs.TexParts.{IsWhole}
 use Rattle.cw_texpart.specs.Texts.{Lasting, Setting, text_done}
 use Rattle.cw_index.specs.Standing.{listed_names}
@@ -30,11 +30,12 @@ name_ending s l = codes "\n" ++ use_notes s.book l
 -- A listed name prints as a C text of its own.
 abbrev pub listed_done : Setting → Listed → List Entry → Done ℕ
 listed_done s l names =
-    behind (codes "\\I") (then (text_done s Inner false (name_span s.text l.place) names) (plain (name_ending s l)))
+    done_behind (codes "\\I") (then (text_done s Inner false (name_span s.text l.place) names)
+    (as_it_is (name_ending s l)))
 
 -- names that are listed one after another
 abbrev pub all_listed : Setting → List Listed → List Entry → Done ℕ
-all_listed s [] names = plain [] names
+all_listed s [] names = as_it_is [] names
 all_listed s (l ∷ ls) names = then (listed_done s l names) (all_listed s ls)
 
 abbrev pub names_done : Setting → List Entry → Done ℕ

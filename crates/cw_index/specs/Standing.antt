@@ -14,7 +14,7 @@ use Rattle.cw_index.specs.declared.standing.Listed.{Listed}
 
 -- A section name that stands in the web: its kind and its text, which order it, and which of the kept names it is, and
 -- where it stands.
-pub record Stand : Type 0 where
+pub record StandingName : Type 0 where
   pub kind : SecKind
   pub text : List ℕ
   pub listed : Listed
@@ -24,7 +24,7 @@ abbrev pub kind_place : SecKind → ℕ
 kind_place Named = 0
 kind_place File = 1
 
-abbrev pub stand_cmp : Stand → Stand → Ordering
+abbrev pub stand_cmp : StandingName → StandingName → Ordering
 stand_cmp = then_cmp (on (λ s. s.text) (slice_cmp nat_cmp)) (on (λ s. s.kind) (on kind_place nat_cmp))
 
 -- A name to which no section refers is left out.
@@ -35,19 +35,19 @@ has_any (n ∷ numbers) = true
 abbrev pub has_reference : SecName → Bool
 has_reference n = has_any n.defined || (has_any n.used || has_any n.cited)
 
-abbrev pub stand_by : Bool → SecName → Listed → List Stand
+abbrev pub stand_by : Bool → SecName → Listed → List StandingName
 stand_by referred n listed = list_if referred (record { kind = n.kind; text = n.text; listed = listed } ∷ [])
 
-abbrev pub kept_stand : Option SecName → Listed → List Stand
+abbrev pub kept_stand : Option SecName → Listed → List StandingName
 kept_stand None listed = []
 kept_stand (Some n) listed = stand_by (has_reference n) n listed
 
 -- the name for which a section name stands, at the place of this one
-abbrev pub stand_at : List SecName → NameUse → List Stand
+abbrev pub stand_at : List SecName → NameUse → List StandingName
 stand_at kept u = kept_stand (slice_get kept u.name) (record { id = id u.name; place = u.place })
 
 -- Of the section names in a web each is listed once, at the first place where it stands.
-abbrev pub named_stands : List SecName → List NameUse → List Stand
+abbrev pub named_stands : List SecName → List NameUse → List StandingName
 named_stands kept uses = flat_map (stand_at kept) uses
 
 abbrev pub listed_names : List SecName → List NameUse → List Listed

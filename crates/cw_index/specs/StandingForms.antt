@@ -6,16 +6,16 @@ use Rattle.cw_secnames.specs.Kept.{SecName}
 use Rattle.cw_index.specs.declared.standing.Listed.{Listed}
 use Rattle.cw_index.specs.declared.standing.Sorting.{Sorting}
 use Rattle.cw_index.specs.declared.standing.Standing.{Standing}
-use Rattle.cw_index.specs.Standing.{Stand, stand_cmp}
+use Rattle.cw_index.specs.Standing.{StandingName, stand_cmp}
 
-abbrev pub stand_of : Standing → Stand
+abbrev pub stand_of : Standing → StandingName
 stand_of s = record {
   kind = s.kind;
   text = s.text.now;
   listed = record { id = s.id; place = s.place };
 }
 
-abbrev pub stands_of : Option Standing → List Stand
+abbrev pub stands_of : Option Standing → List StandingName
 stands_of None = []
 stands_of (Some s) = stand_of s ∷ []
 
@@ -25,7 +25,7 @@ Holds order x [] = ⊥
 Holds order x (k ∷ keys) = (order x k ≡ Equal) ⊎ ((order x k ≡ Greater) × Holds order x keys)
 
 -- a name stands among others, wherever it stands in the web
-abbrev pub HoldsName : List Stand → SecName → Type 0
+abbrev pub HoldsName : List StandingName → SecName → Type 0
 HoldsName stands n = (l : Listed) → Holds stand_cmp (record { kind = n.kind; text = n.text; listed = l }) stands
 
 -- the kept names that are said to be entered stand there

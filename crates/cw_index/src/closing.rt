@@ -2,7 +2,7 @@
 ghost use Rattle.std.specs.Prelude.{◌≡◌, ◌&&◌, [], IfOk, codes, if◌then◌else◌};
 ghost use Rattle.std.specs.List.{list_any};
 ghost use Rattle.cw_lines.specs.Writes.{CanWrite, Puts};
-ghost use Rattle.cw_index.specs.Closing.{before_change, change, changed_from, changes_line, changes_of, closing_lines};
+ghost use Rattle.cw_index.specs.Closing.{before_change, change, changed_from, changes_line, printed_changes, closing_lines};
 ghost use Rattle.cw_index.specs.Closing.{last_lines};
 
 use cw_base::Flags;
@@ -51,7 +51,12 @@ fn behind_changes(none: bool) -> &'static [u8]
 }
 
 // Puts the number of a changed section, and what stands before it.
-fn put_change<D: Desk>(first: bool, number: u32, out: &mut LineOut, desk: &mut D) -> Result<(), PutError>
+fn put_change<D: Desk>(
+    first: bool,
+    number: u32,
+    out: &mut LineOut,
+    desk: &mut D,
+) -> Result<(), PutError>
     requires can { CanWrite (D.told desk.old) out.old }
     ensures { Puts (change first number) out.old out.new (D.told desk.old) (D.told desk.new) result }
 {
@@ -62,7 +67,7 @@ fn put_change<D: Desk>(first: bool, number: u32, out: &mut LineOut, desk: &mut D
 // Puts a line with the numbers of the changed sections, where there is one.
 fn put_changes<D: Desk>(book: &Book, out: &mut LineOut, desk: &mut D) -> Result<(), PutError>
     requires can { CanWrite (D.told desk.old) out.old }
-    ensures { Puts (changes_of (changed_from 1 book.now.outline.sections)) out.old out.new
+    ensures { Puts (printed_changes (changed_from 1 book.now.outline.sections)) out.old out.new
         (D.told desk.old) (D.told desk.new) result }
 {
     let mut first = true;

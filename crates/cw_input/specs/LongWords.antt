@@ -10,8 +10,8 @@ is_long (first ∷ second ∷ third ∷ rest) = first == byte_of "-" && second =
 is_long word = false
 
 -- The option word that a word stands for. Two long words stand for letters, and each other one for no letter.
-abbrev pub spelled : List ℕ → List ℕ
-spelled word =
+abbrev pub option_word : List ℕ → List ℕ
+option_word word =
     if bytes_eq word (codes "--quiet") then codes "-bph"
     else if bytes_eq word (codes "--verbose") then codes "+bph"
     else if is_long word then [] else word

@@ -1,7 +1,7 @@
 //! Words of a command line that begin with two hyphens and a letter.
 
 ghost use Rattle.std.specs.Prelude.{◌≡◌, option_copied};
-ghost use Rattle.cw_input.specs.LongWords.{first_unknown, is_long, is_unknown, spelled};
+ghost use Rattle.cw_input.specs.LongWords.{first_unknown, is_long, is_unknown, option_word};
 
 use cw_base::Words;
 
@@ -23,7 +23,7 @@ fn is_long(word: &[u8]) -> bool
 
 /// The option word that a word stands for: letters where they have a long word, nothing for any other long word.
 pub(crate) fn spelled(word: &[u8]) -> &[u8]
-    ensures { result.now ≡ spelled word.now }
+    ensures { result.now ≡ option_word word.now }
 {
     if word == QUIET {
         return b"-bph";

@@ -12,7 +12,7 @@ use Rattle.cw_lex.specs.Nest.{IsWell}
 use Rattle.cw_lex.specs.NestLaws.{NestsAreWell}
 use Rattle.cw_lex.specs.Nested.{CTextsAreNested}
 use Rattle.cw_names.specs.Names.{Entry}
-use Rattle.cw_part.specs.Parts.{definition_done, definitions_done, first_opening, is_printed as is_printed_part}
+use Rattle.cw_part.specs.Parts.{definition_done, definitions_done, first_opening, prints_code as is_printed_part}
 use Rattle.cw_part.specs.Parts.{later_opening, paragraph_if, part_done, part_opening}
 use Rattle.cw_part.specs.Sections.{at_section, ending, rest_done, section_done, sections_done}
 use Rattle.cw_phase1.specs.declared.sections.Section.{Section}
@@ -25,17 +25,17 @@ use Rattle.cw_phase1.proofs.MissingLaws.{right-false}
 use Rattle.cw_texpart.specs.Beside.{first_code, has_definition, has_prose, is_nothing, is_prose}
 use Rattle.cw_texpart.specs.declared.beside.Beside.{Beside}
 use Rattle.cw_texpart.specs.declared.beside.Beside.TheVariants as besides
-use Rattle.cw_texpart.specs.Done.{Done, plain, reprinted, then}
+use Rattle.cw_texpart.specs.Done.{Done, as_it_is, reprinted, then}
 use Rattle.cw_texpart.specs.Heads.{head}
 use Rattle.cw_texpart.specs.Inks.{prints}
-use Rattle.cw_texpart.specs.TexParts.{beside_in, piece_done, pieces_done, tex_by, tex_done}
+use Rattle.cw_texpart.specs.TexParts.{beside_in, piece_done, pieces_done, head_and_tex, tex_done}
 use Rattle.cw_texpart.specs.Texts.{Setting, name_done_by, setting, text_done}
 use Rattle.cw_texts.specs.declared.definitions.Definition.{Definition}
 use Rattle.cw_texts.specs.declared.text_list.TextRef.{TextRef}
 use Rattle.cw_texts.specs.Definitions.{printed_definitions}
 use Rattle.cw_texts.specs.Printed.{has_scrap, is_printed}
 use Rattle.cw_texts.specs.Scans.{scanned}
-use Rattle.cw_texts.specs.TexPieces.{TexPiece, Copied, InnerText, Cited, pieces_of}
+use Rattle.cw_texts.specs.TexPieces.{TexPiece, Copied, InnerText, Cited, tex_pieces_of}
 use Rattle.cw_texts.specs.Texts.{definition_refs, part_refs, piece_refs, refs_from, section_refs, tex_refs, text_ref}
 use Rattle.cw_translator.specs.Translating.{Ended}
 use Rattle.cw_laws.specs.BookTexts.{EveryTextIsWoven, LeaveTheSame, TextsAreWoven, is_any, is_inner, ref_done}
@@ -148,7 +148,7 @@ module _ (looked_at : List State → List State)
       (ref_done s (text_ref n modes.CPart section.c_part) names)
 
   nothing-left : (s : Setting) (d : Done ℕ) (out : List ℕ) (names : List Entry) → LeavesNothing looked_at names d
-      → LeaveTheSame looked_at (then d (plain out)) (refs_done s [] names)
+      → LeaveTheSame looked_at (then d (as_it_is out)) (refs_done s [] names)
   nothing-left s d out names l = record {
     names = l.names;
     marks = append-nil d.marks ∙ l.marks;
@@ -157,16 +157,17 @@ module _ (looked_at : List State → List State)
 
   part-left : (s : Setting) (n : ℕ) (section : Section) (b : Bool) (out : List ℕ) (names : List Entry)
       → (b ≡ false → LeavesNothing looked_at names (ref_done s (text_ref n modes.CPart section.c_part) names))
-      → LeaveTheSame looked_at (then (part_done (at_section s n) section names) (plain out))
+      → LeaveTheSame looked_at (then (part_done (at_section s n) section names) (as_it_is out))
       (refs_done s (part_refs b n section.c_part) names)
   part-left s n section true out names none =
       across (part_done (at_section s n) section names) (ref_done s (text_ref n modes.CPart section.c_part) names)
-      (plain out) (refs_done s []) (part-alone s n section names)
+      (as_it_is out) (refs_done s []) (part-alone s n section names)
       (λ ns. record { names = refl; marks = refl; ended = refl })
   part-left s n section false out names none =
       let d : Done ℕ = ref_done s (text_ref n modes.CPart section.c_part) names in
-      trans (then (part_done (at_section s n) section names) (plain out)) (then d (plain out)) (refs_done s [] names)
-      (across (part_done (at_section s n) section names) d (plain out) (plain out) (part-alone s n section names)
+      trans (then (part_done (at_section s n) section names) (as_it_is out)) (then d (as_it_is out))
+      (refs_done s [] names)
+      (across (part_done (at_section s n) section names) d (as_it_is out) (as_it_is out) (part-alone s n section names)
       (λ ns. record { names = refl; marks = refl; ended = refl }))
       (nothing-left s d out names (none refl))
 
@@ -198,22 +199,22 @@ module _ (looked_at : List State → List State)
       never e = cc
 
   tex-by-left : (s : Setting) (n : ℕ) (section : Section) (alone : Bool) (front : List ℕ) (names : List Entry)
-      → (alone ≡ false → tex_refs s.book.name_uses n (pieces_of s.text section.tex) ≡ [])
-      → LeaveTheSame looked_at (tex_by alone front (at_section s n) section names)
-      (refs_done s (tex_refs s.book.name_uses n (pieces_of s.text section.tex)) names)
+      → (alone ≡ false → tex_refs s.book.name_uses n (tex_pieces_of s.text section.tex) ≡ [])
+      → LeaveTheSame looked_at (head_and_tex alone front (at_section s n) section names)
+      (refs_done s (tex_refs s.book.name_uses n (tex_pieces_of s.text section.tex)) names)
   tex-by-left s n section true front names none =
-      let q = pieces-left s n (pieces_of s.text section.tex) names in
+      let q = pieces-left s n (tex_pieces_of s.text section.tex) names in
       record { names = q.names; marks = q.marks; ended = q.ended }
   tex-by-left s n section false front names none =
       rw (none refl) (record { names = refl; marks = refl; ended = refl })
 
   tex-left : (s : Setting) (n : ℕ) (section : Section) (names : List Entry)
       → LeaveTheSame looked_at (tex_done (at_section s n) section names)
-      (refs_done s (tex_refs s.book.name_uses n (pieces_of s.text section.tex)) names)
+      (refs_done s (tex_refs s.book.name_uses n (tex_pieces_of s.text section.tex)) names)
   tex-left s n section names =
       tex-by-left s n section (is_nothing (beside_in (at_section s n) section))
       (head s.flags.ranged s.text n section) names
-      (λ e. no-refs s.text s.book.name_uses n (pieces_of s.text section.tex)
+      (λ e. no-refs s.text s.book.name_uses n (tex_pieces_of s.text section.tex)
       (no-prose s.flags.ranged (has_prose s.text section.tex)
       (first_code (has_definition s.text section.definitions) (is_printed s.text s.book.name_uses section)) e))
 
@@ -226,7 +227,7 @@ module _ (looked_at : List State → List State)
       (refs_done s (section_refs b s.text s.book.name_uses n section) names)
   section-left s n section b names none =
       let t : Setting = at_section s n in
-      let ps : List TextRef = tex_refs s.book.name_uses n (pieces_of s.text section.tex) in
+      let ps : List TextRef = tex_refs s.book.name_uses n (tex_pieces_of s.text section.tex) in
       let ds : List TextRef = definition_refs n (printed_definitions s.text section.definitions) in
       let part : List TextRef = part_refs b n section.c_part in
       trans (section_done t section names) (then (refs_done s ps names) (refs_done s (ds ++ part)))
@@ -236,7 +237,7 @@ module _ (looked_at : List State → List State)
       (λ ns. trans (rest_done t section ns) (then (refs_done s ds ns) (refs_done s part)) (refs_done s (ds ++ part) ns)
       (across (definitions_done t (first_opening (beside_in t section))
       (printed_definitions s.text section.definitions) ns) (refs_done s ds ns)
-      (λ ms. then (part_done t section ms) (plain (ending t section))) (refs_done s part)
+      (λ ms. then (part_done t section ms) (as_it_is (ending t section))) (refs_done s part)
       (definitions-left s n (first_opening (beside_in t section)) (printed_definitions s.text section.definitions) ns)
       (λ ms. part-left s n section b (ending t section) ms (none ms)))
       (refs-joined s ds part ns)))

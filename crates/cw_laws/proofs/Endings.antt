@@ -3,18 +3,18 @@ use Rattle.std.proofs.Common.{◌≡◌, ℕ, ◌==◌, Bool, true, false, refl,
 use Rattle.std.proofs.Common.{append_assoc, inl, inr}
 use Rattle.std.proofs.lemmas.List.{append-nil}
 use Rattle.std.specs.List.{flat_map}
-use Rattle.cw_lines.specs.Cut.{Pieces, behind, cut, cut_behind, cut_pieces, split, split_by}
+use Rattle.cw_lines.specs.Cut.{TextPieces, behind, cut, cut_behind, cut_pieces, split, split_by}
 use Rattle.cw_laws.specs.Files.{EndInLine}
 
 -- ## How they are split
 
 -- there is a piece that a byte 10 ended, and none behind it
-record AreEnded (pieces : Pieces) : Type 0 where
+record AreEnded (pieces : TextPieces) : Type 0 where
   first : List ℕ
   more : List (List ℕ)
   is : pieces ≡ record { ended = first ∷ more; last = [] }
 
-one-more : (byte : ℕ) (pieces : Pieces) → AreEnded pieces → (t : Bool) → AreEnded (split_by t byte pieces)
+one-more : (byte : ℕ) (pieces : TextPieces) → AreEnded pieces → (t : Bool) → AreEnded (split_by t byte pieces)
 one-more byte pieces each true = record {
   first = [];
   more = each.first ∷ each.more;
@@ -35,7 +35,7 @@ unfolding cut_behind
 none-pending bytes (inl is) = ap (λ (bytes : List ℕ). (cut bytes).pending) is
 none-pending bytes (inr ended) =
     ap (λ (bytes : List ℕ). (cut bytes).pending) ended.1
-    ∙ ap (λ (pieces : Pieces). (cut_pieces (behind [] pieces)).pending) (split-ended ended.0).is
+    ∙ ap (λ (pieces : TextPieces). (cut_pieces (behind [] pieces)).pending) (split-ended ended.0).is
 
 -- ## What is put together
 

@@ -20,15 +20,15 @@ use Rattle.cw_rules.specs.Tokens.{all_cut, found, inner_begin, limbo_by, moved, 
 use Rattle.cw_lex.specs.Lexing.{answers, beginning, fresh_at, joined, last_after, last_at, still_fresh}
 use Rattle.cw_names.specs.Names.{Entry}
 use Rattle.cw_phase1.specs.declared.sections.Section.{Section}
-use Rattle.cw_texpart.specs.Done.{Done, behind, plain, reprinted}
+use Rattle.cw_texpart.specs.Done.{Done, done_behind, as_it_is, reprinted}
 use Rattle.cw_texpart.specs.Beside.{is_nothing}
 use Rattle.cw_texpart.specs.Heads.{head, head_by, printed_depth}
 use Rattle.cw_print.specs.Walk.{section_number}
 use Rattle.cw_texpart.specs.Inks.{Ink, bytes_of, copied, end_if, ends_empty_line, ink_by, inks, laid}
-use Rattle.cw_texpart.specs.Limbo.{limbo_text}
+use Rattle.cw_texpart.specs.Limbo.{printed_limbo}
 use Rattle.cw_texts.specs.Scans.{scanned}
-use Rattle.cw_texpart.specs.TexParts.{beside_in, pieces_done, tex_by, tex_done}
-use Rattle.cw_texts.specs.TexPieces.{Copied, pieces_of, tex_pieces}
+use Rattle.cw_texpart.specs.TexParts.{beside_in, pieces_done, head_and_tex, tex_done}
+use Rattle.cw_texts.specs.TexPieces.{Copied, tex_pieces_of, tex_pieces}
 use Rattle.cw_phase1.specs.Sections.{span as span_of}
 use Rattle.cw_texpart.specs.Texts.{Setting}
 use Rattle.cw_laws.specs.TexText.{HasNo, PlainTextIsKept, behind_line_end, is_copied, kept_bytes, last_line_ended}
@@ -107,7 +107,7 @@ tex-answers (byte ∷ bytes) fresh last place h g =
     let w : Where = beginning modes.TexText in
     one-token classes.TexText w (λ p a. refl) fresh last place byte bytes (all-tex (byte ∷ bytes) h g)
     (ap (λ t. if t && begins_section bytes then section w place bytes
-    else (if t then tex_by (effect_in_tex (code_at bytes)) (code_at bytes) w place (byte ∷ bytes)
+    else (if t then head_and_tex (effect_in_tex (code_at bytes)) (code_at bytes) w place (byte ∷ bytes)
     else (if byte == bar then inner_begin false (moved w parts.TexInner) place (byte ∷ bytes)
     else one false w place (byte ∷ bytes) (cut_plain kinds.Text (run classes.TexText (byte ∷ bytes))))))
     (is-not at_sign byte bytes h)
@@ -143,9 +143,9 @@ same-bytes : (text : List ℕ) (part : Span)
     → bytes_of text (span_of part.start (part.start + length (bytes_of text part))) ≡ bytes_of text part
 same-bytes text part =
     let n : ℕ = part.end - part.start in
-    let behind : List ℕ = drop part.start text in
-    let size : part.start + length (take n behind) - part.start ≡ length (take n behind) = omega arith in
-    ap (λ k. take k behind) (size ∙ length-take n behind) ∙ take_min n behind
+    let rest_of_part : List ℕ = drop part.start text in
+    let size : part.start + length (take n rest_of_part) - part.start ≡ length (take n rest_of_part) = omega arith in
+    ap (λ k. take k rest_of_part) (size ∙ length-take n rest_of_part) ∙ take_min n rest_of_part
 
 abbrev StandAt : List ℕ → ℕ → List ℕ → Type 0
 StandAt text place [] = Unit {0}
@@ -187,10 +187,10 @@ text-pieces place (byte ∷ bytes) =
 
 text-done : (s : Setting) (place : ℕ) (bytes : List ℕ) (names : List Entry)
     → bytes_of s.text (span_of place (place + length bytes)) ≡ bytes
-    → pieces_done s (tex_pieces zero zero (text_answers place bytes)) names ≡ plain (copied s.text place bytes) names
+    → pieces_done s (tex_pieces zero zero (text_answers place bytes)) names ≡ as_it_is (copied s.text place bytes) names
 text-done s place [] names e = refl
 text-done s place (byte ∷ bytes) names e =
-    ap (λ (out : List Ink). plain out names)
+    ap (λ (out : List Ink). as_it_is out names)
     (append-nil (copied s.text place (bytes_of s.text (span_of place (place + length (byte ∷ bytes)))))
     ∙ ap (copied s.text place) e)
 
@@ -294,7 +294,7 @@ pub plain-text-is-kept : PlainTextIsKept
 plain-text-is-kept = record { limbo = limbo; no_c_text = no-c-text; tex = tex }
   where
     limbo : (text : List ℕ) (part : Span) → HasNo at_sign (bytes_of text part)
-        → limbo_text text part ≡ last_line_ended (kept_bytes text part)
+        → printed_limbo text part ≡ last_line_ended (kept_bytes text part)
     limbo text part h =
         let fresh : Bool = fresh_at (take part.end text) part.start in
         let last : ℕ = last_at (take part.end text) part.start in
@@ -310,7 +310,7 @@ plain-text-is-kept = record { limbo = limbo; no_c_text = no-c-text; tex = tex }
         (last_at (take part.end text) part.start) part.start h g
 
     no-c-text : (text : List ℕ) (part : Span) → HasNo at_sign (bytes_of text part) → HasNo bar (bytes_of text part)
-        → All (λ piece. is_copied piece ≡ true) (pieces_of text part)
+        → All (λ piece. is_copied piece ≡ true) (tex_pieces_of text part)
     no-c-text text part h g =
         subst (λ (l : List Answer). All (λ piece. is_copied piece ≡ true) (tex_pieces zero zero l))
         (sym (tex-scanned text part h g)) (text-pieces part.start (bytes_of text part))
@@ -318,19 +318,20 @@ plain-text-is-kept = record { limbo = limbo; no_c_text = no-c-text; tex = tex }
     tex : (s : Setting) (section : Section) (names : List Entry) → HasNo at_sign (bytes_of s.text section.tex)
         → HasNo bar (bytes_of s.text section.tex) → is_nothing (beside_in s section) ≡ true
         → tex_done s section names
-        ≡ plain (last_line_ended (head s.flags.ranged s.text s.section section ++ bytes_of s.text section.tex)) names
+        ≡ as_it_is (last_line_ended (head s.flags.ranged s.text s.section section ++ bytes_of s.text section.tex)) names
     tex s section names h g none =
         let front : List ℕ = head s.flags.ranged s.text s.section section in
         let bytes : List ℕ = bytes_of s.text section.tex in
         let start : ℕ = section.tex.start in
-        ap (λ (b : Bool). tex_by b front s section names) none
-        ∙ ap (λ (l : List Answer). behind front (reprinted (laid true) (pieces_done s (tex_pieces zero zero l) names)))
+        ap (λ (b : Bool). head_and_tex b front s section names) none
+        ∙ ap (λ (l : List Answer). done_behind front
+        (reprinted (laid true) (pieces_done s (tex_pieces zero zero l) names)))
         (tex-scanned s.text section.tex h g)
-        ∙ ap (λ (d : Done Ink). behind front (reprinted (laid true) d))
+        ∙ ap (λ (d : Done Ink). done_behind front (reprinted (laid true) d))
         (text-done s start bytes names (same-bytes s.text section.tex))
-        ∙ ap (λ (l : List ℕ). plain (front ++ l) names)
+        ∙ ap (λ (l : List ℕ). as_it_is (front ++ l) names)
         (laid-tex s.text start bytes (last_after newline front)
         (head-last section.starred (printed_depth s.flags.ranged s.text section.depth)
         (section_number s.section section.changed))
         (stand s.text section.tex))
-        ∙ ap (λ (l : List ℕ). plain l names) (behind-head front bytes)
+        ∙ ap (λ (l : List ℕ). as_it_is l names) (behind-head front bytes)

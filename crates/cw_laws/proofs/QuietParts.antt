@@ -19,7 +19,7 @@ use Rattle.cw_secnames.specs.Kept.{SecName}
 use Rattle.cw_secnames.specs.Uses.{NameUse, name_at}
 use Rattle.cw_texts.specs.Printed.{group_makes, has_scrap, is_kept, token_makes}
 use Rattle.cw_translator.specs.NameParts.{name_texts, texts_kept}
-use Rattle.cw_translator.specs.Translating.{Ended, Known, Made, before, begin, beside, end_of, headed_made}
+use Rattle.cw_translator.specs.Translating.{Ended, Known, Made, made_before, begin, beside, end_of, headed_made}
 use Rattle.cw_translator.specs.Translating.{leaf_of_name, made, nothing, sign_behind, state_in, texts_named}
 use Rattle.cw_translator.specs.Translating.{token_made, translated, with_categories}
 use Rattle.cw_trees.specs.Joining.{whole}
@@ -126,14 +126,14 @@ module _ (flags : Flags) (kept : List SecName) (uses : List NameUse) where
       → made flags (leaf_of_name flags (name_texts kept uses)) n known ≡ nothing known
   made-quiet End w q known = refl
   made-quiet (Leaf token rest) w q known =
-      ap (λ (m : Made). before m (made flags (leaf_of_name flags (name_texts kept uses)) rest))
+      ap (λ (m : Made). made_before m (made flags (leaf_of_name flags (name_texts kept uses)) rest))
       (token-quiet token.kind token known w.0 q.0)
       ∙ ap (λ (m : Made). beside (nothing known) m) (made-quiet rest w.1 q.1 known)
   made-quiet (Group token inner rest) w q known = group-none token.kind w.0 q.0
 
   -- without a head, and with one
   headless-quiet : (n : Nest) → IsWell false n → Quiet uses n → (known : Known)
-      → before (nothing known) (made flags (leaf_of_name flags (name_texts kept uses)) n) ≡ nothing known
+      → made_before (nothing known) (made flags (leaf_of_name flags (name_texts kept uses)) n) ≡ nothing known
   headless-quiet n w q known = ap (λ (m : Made). beside (nothing known) m) (made-quiet n w q known)
 
   abbrev Rests : Headed → Known → Type 0
@@ -147,7 +147,7 @@ module _ (flags : Flags) (kept : List SecName) (uses : List NameUse) where
         | false ↦ headless (Leaf name (Leaf token rest))
       ]) known
   by-sign true name token rest w q m known =
-      ap (λ (o : Option (List (List Answer))). before
+      ap (λ (o : Option (List (List Answer))). made_before
       (texts_named flags o cat.Dead Text (sign_behind token.span.start) name.span.start known)
       (made flags (leaf_of_name flags (name_texts kept uses)) rest))
       (no-text kept (name_at name.span.start uses) m)

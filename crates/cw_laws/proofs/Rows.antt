@@ -11,7 +11,7 @@ use Rattle.cw_lex.specs.Lexing.{tokens_of}
 use Rattle.cw_lex.specs.Openings.{tokens_in}
 use Rattle.cw_phase1.specs.Book.{book}
 use Rattle.cw_phase1.specs.Sections.{span}
-use Rattle.cw_texpart.specs.Limbo.{limbo_text}
+use Rattle.cw_texpart.specs.Limbo.{printed_limbo}
 use Rattle.cw_laws.specs.Ends.{before_end, control_size, ends_piece, is_pair, single_place}
 use Rattle.cw_laws.specs.NotePlaces.{NotesLie}
 use Rattle.cw_laws.specs.Pieces.{book_pieces, piece_bytes, pieces_with}
@@ -114,11 +114,11 @@ a_comment_without_end : ends_in (codes "/*a") ≡ span 3 3 ∷ []
 a_comment_without_end = refl
 
 -- In limbo a bar and a backslash are bytes as others. An empty line stays, and the last line is ended.
-a_limbo : limbo_text (codes "a|b\n\n\\c") (span 0 7) ≡ codes "a|b\n\n\\c\n"
+a_limbo : printed_limbo (codes "a|b\n\n\\c") (span 0 7) ≡ codes "a|b\n\n\\c\n"
 a_limbo = refl
 
 -- Its first line's end is dropped where other bytes stand before it on its line.
-no_first_end : limbo_text (codes "a\nb") (span 1 3) ≡ codes "b\n"
+no_first_end : printed_limbo (codes "a\nb") (span 1 3) ≡ codes "b\n"
 no_first_end = refl
 
 the_kept : last_line_ended (kept_bytes (codes "a\nb") (span 1 3)) ≡ codes "b\n"

@@ -9,14 +9,14 @@ use Rattle.cw_base.specs.Text.{bar}
 use Rattle.cw_lex.specs.Lexing.{last_after}
 use Rattle.cw_names.specs.Names.{Entry}
 use Rattle.cw_phase1.specs.declared.sections.Section.{Section}
-use Rattle.cw_texpart.specs.Done.{plain}
+use Rattle.cw_texpart.specs.Done.{as_it_is}
 use Rattle.cw_texpart.specs.Beside.{is_nothing}
 use Rattle.cw_texpart.specs.Heads.{head}
 use Rattle.cw_texpart.specs.Inks.{bytes_of, end_if, ends_empty_line}
-use Rattle.cw_texpart.specs.Limbo.{limbo_text}
+use Rattle.cw_texpart.specs.Limbo.{printed_limbo}
 use Rattle.cw_texpart.specs.Texts.{Setting}
 use Rattle.cw_texpart.specs.TexParts.{beside_in, tex_done}
-use Rattle.cw_texts.specs.TexPieces.{TexPiece, Copied, InnerText, Cited, pieces_of}
+use Rattle.cw_texts.specs.TexPieces.{TexPiece, Copied, InnerText, Cited, tex_pieces_of}
 
 -- this byte isn't among the bytes
 abbrev pub HasNo : ℕ → List ℕ → Type 0
@@ -47,10 +47,10 @@ is_copied (Cited part) = false
 -- they are.
 pub record PlainTextIsKept : Type 0 where
   pub limbo : (text : List ℕ) (part : Span) → HasNo at_sign (bytes_of text part)
-      → limbo_text text part ≡ last_line_ended (kept_bytes text part)
+      → printed_limbo text part ≡ last_line_ended (kept_bytes text part)
   pub no_c_text : (text : List ℕ) (part : Span) → HasNo at_sign (bytes_of text part) → HasNo bar (bytes_of text part)
-      → All (λ piece. is_copied piece ≡ true) (pieces_of text part)
+      → All (λ piece. is_copied piece ≡ true) (tex_pieces_of text part)
   pub tex : (s : Setting) (section : Section) (names : List Entry) → HasNo at_sign (bytes_of s.text section.tex)
       → HasNo bar (bytes_of s.text section.tex) → is_nothing (beside_in s section) ≡ true
       → tex_done s section names
-      ≡ plain (last_line_ended (head s.flags.ranged s.text s.section section ++ bytes_of s.text section.tex)) names
+      ≡ as_it_is (last_line_ended (head s.flags.ranged s.text s.section section ++ bytes_of s.text section.tex)) names

@@ -18,7 +18,7 @@ use Rattle.cw_table.specs.declared.types.Row.{Row}
 use Rattle.cw_table.specs.Rows.{result_at}
 use Rattle.cw_table.specs.Sound.{is_exp}
 use Rattle.cw_table.specs.Rewriting.{cats_of, row_pieces, math_piece, joined_of, alone, with_cat, new_scrap}
-use Rattle.cw_table.specs.Rewriting.{search_in, reserved_in, reserved_at, is_name, named_scrap, named_right}
+use Rattle.cw_table.specs.Rewriting.{search_in, reserved_in, reserved_at, is_bare_name, named_scrap, named_right}
 use Rattle.cw_table.specs.Rewriting.{rewrite_from}
 use Rattle.cw_table.specs.Rewriting.{State, rewrite}
 use Rattle.cw_table.specs.Normal.{Place, Nowhere, At, least_place, rank_with, weight, Production, log_of, log}
@@ -152,7 +152,7 @@ reserved-at-seen (Some k) ss =
     ∙ ap (λ s. set (map sight ss) k s)
     (reserved-seen (get_or ss k no_scrap) ∙ ap seen_reserved (sym (get-sight ss k)))
 
-name-same : (n : ℕ) (o : Option ℕ) → is_name n o ≡ is_same eqb n o
+name-same : (n : ℕ) (o : Option ℕ) → is_bare_name n o ≡ is_same eqb n o
 name-same n None = refl
 name-same n (Some b) = refl
 
@@ -164,7 +164,7 @@ turned-seen true s = ap (seen_as RawInt) (reserved-seen s)
 turned-seen false s = refl
 
 named-seen : (n : ℕ) (s : Scrap) → sight (named_scrap n s) ≡ seen_named eqb n (sight s)
-named-seen n s = turned-seen (is_exp s.cat && is_name n (bare_name s.tree)) s
+named-seen n s = turned-seen (is_exp s.cat && is_bare_name n (bare_name s.tree)) s
     ∙ ap (λ b. turned_if (is_exp s.cat && b) (sight s)) (name-same n (bare_name s.tree))
 
 all-named : (n : ℕ) (ss : List Scrap) → map sight (map (named_scrap n) ss) ≡ map (seen_named eqb n) (map sight ss)

@@ -19,7 +19,7 @@ use Rattle.cw_phase1.specs.Book.{answers_of, book}
 use Rattle.cw_phase1.specs.Roles.{Placed, placed}
 use Rattle.cw_phase1.specs.Texts.{entry_text}
 use Rattle.cw_phase1.specs.Uses.{references_of}
-use Rattle.cw_phase1.specs.Words.{Known, category_of, known_after, known_behind, name_id, with_format}
+use Rattle.cw_phase1.specs.Words.{KnownNames, category_of, known_after, known_behind, name_id, with_format}
 use Rattle.cw_phase1.specs.declared.roles.Role.{Role}
 use Rattle.cw_phase1.specs.declared.roles.Role.TheVariants as roles
 use Rattle.cw_secnames.specs.Kept.{SecName}
@@ -93,7 +93,7 @@ good-format (Some first) second es g = (
   have-at first.index (category_of (slice_get es second.index)) es (category-real es second.index g.1) g.1,
 )
 
-good-behind : (role : Role) (text : List ℕ) (k : Known) → Good k.names → Good (known_behind role text k).names
+good-behind : (role : Role) (text : List ℕ) (k : KnownNames) → Good k.names → Good (known_behind role text k).names
 good-behind roles.MacroName text k g = good-entry Ident text k.names g
 good-behind roles.Parameter text k g = good-entry Ident text k.names g
 good-behind roles.Word text k g = good-entry Ident text k.names g
@@ -103,7 +103,7 @@ good-behind (roles.SecondName silent) text k g =
 good-behind (roles.Entry kind) text k g = good-entry kind (entry_text text) k.names g
 good-behind _ text k g = g
 
-good-after : (ps : List Placed) (k : Known) → Good k.names → Good (known_after ps k).names
+good-after : (ps : List Placed) (k : KnownNames) → Good k.names → Good (known_after ps k).names
 good-after [] k g = g
 good-after (p ∷ ps) k g =
     good-after ps (known_behind p.role p.token.text k) (good-behind p.role p.token.text k g)

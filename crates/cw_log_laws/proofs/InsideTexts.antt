@@ -23,11 +23,11 @@ use Rattle.cw_phase1.specs.Sound.{LiesIn}
 use Rattle.cw_phase1.specs.declared.sections.Section.{Section}
 use Rattle.cw_phase1.proofs.SpanLaws.{Follow, all-lie, follows}
 use Rattle.cw_secnames.specs.Uses.{NameUse}
-use Rattle.cw_texts.specs.Definitions.{begun_by, beginning, definitions_in, definitions_of, ended_at, not_silent}
+use Rattle.cw_texts.specs.Definitions.{begun_by, next_begin, definitions_in, definitions_of, ended_at, not_silent}
 use Rattle.cw_texts.specs.Definitions.{printed_definitions, with_begun}
 use Rattle.cw_texts.specs.Printed.{is_kept, is_printed}
 use Rattle.cw_texts.specs.Scans.{scanned}
-use Rattle.cw_texts.specs.TexPieces.{Cited, Copied, InnerText, TexPiece, pieces_of, tex_pieces, token_piece}
+use Rattle.cw_texts.specs.TexPieces.{Cited, Copied, InnerText, TexPiece, tex_pieces_of, tex_pieces, token_piece}
 use Rattle.cw_texts.specs.Texts.{definition_ref, definition_refs, part_refs, piece_refs, refs_from, section_refs}
 use Rattle.cw_texts.specs.Texts.{tex_refs, text_ref, texts_of}
 use Rattle.cw_texts.specs.declared.definitions.Begun.{Begun}
@@ -106,7 +106,7 @@ module _ (low high : ℕ) where
   kind-begins _ start h g = tt
 
   module _ (end : ℕ) (within : end ≤ high) where
-    beginning-in : (ds : List Definition) → All IsDefined ds → beginning end ds ≤ high
+    beginning-in : (ds : List Definition) → All IsDefined ds → next_begin end ds ≤ high
     beginning-in [] all = within
     beginning-in (d ∷ ds) all = (All-head IsDefined d ds all).starts
 
@@ -114,7 +114,7 @@ module _ (low high : ℕ) where
         → All IsDefined (with_begun o end ds)
     begun-in None ds h all = all
     begun-in (Some b) ds h all =
-        All-cons IsDefined (ended_at (beginning end ds) b) ds
+        All-cons IsDefined (ended_at (next_begin end ds) b) ds
         (record { begins = h.0; starts = h.1; ends = beginning-in ds all }) all
 
     definitions-in : (answers : List Answer) → AreWithin low high answers → All IsDefined (definitions_of end answers)
@@ -172,10 +172,10 @@ section-inside printed text uses number s short l some =
     (omega (arith, l.tex_ends, l.definitions, l.definitions_end, l.c_part, l.within)) in
     let defs = tokens-within text s.definitions.start s.definitions.«end» modes.Definition l.definitions
     (omega (arith, l.definitions_end, l.c_part, l.within)) in
-    All-append IsInsideRef (tex_refs uses number (pieces_of text s.tex)) (ds ++ part_refs printed number s.c_part)
+    All-append IsInsideRef (tex_refs uses number (tex_pieces_of text s.tex)) (ds ++ part_refs printed number s.c_part)
     (tex-inside s.tex.start s.tex.«end» some
     (omega (arith, l.tex_ends, l.definitions, l.definitions_end, l.c_part, l.within, short)) uses number
-    (pieces_of text s.tex) (pieces-in s.tex.start s.tex.«end» 0 0 (scanned modes.TexText text s.tex) tex tt))
+    (tex_pieces_of text s.tex) (pieces-in s.tex.start s.tex.«end» 0 0 (scanned modes.TexText text s.tex) tex tt))
     (All-append IsInsideRef ds (part_refs printed number s.c_part)
     (definitions-inside s.definitions.start s.definitions.«end» (omega (arith, some, l.tex, l.tex_ends))
     (omega (arith, l.definitions_end, l.c_part, l.within, short)) number (definitions_in text s.definitions)

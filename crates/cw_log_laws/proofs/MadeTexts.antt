@@ -15,7 +15,7 @@ use Rattle.cw_table.specs.Productions.{productions}
 use Rattle.cw_table.specs.Rewriting.{State}
 use Rattle.cw_scraps.specs.Leaves.{LeafForm, names_with, token_form}
 use Rattle.cw_logtext.specs.LogText.{greatest}
-use Rattle.cw_translator.specs.Translating.{CommentItem, Piece, InnerText, Known, Made, as_item, before, beside}
+use Rattle.cw_translator.specs.Translating.{CommentItem, Piece, InnerText, Known, Made, as_item, made_before, beside}
 use Rattle.cw_translator.specs.Translating.{comment_rest, comment_scrap, end_of, form_made, group_made, leaf_scrap}
 use Rattle.cw_translator.specs.Translating.{made, no_name, nothing, one_item, one_scrap, plain_text, state_in}
 use Rattle.cw_translator.specs.Translating.{token_made, with_names}
@@ -117,7 +117,7 @@ well-beside m n k a b v w = record {
 }
 
 pub well-before : (m n : ℕ) (k : Known) (a : Made) (rest : Known → Made) → IsWellMade m k a
-    → (HaveCats a.known.names → IsWellMade n a.known (rest a.known)) → IsWellMade (m + n) k (before a rest)
+    → (HaveCats a.known.names → IsWellMade n a.known (rest a.known)) → IsWellMade (m + n) k (made_before a rest)
 well-before m n k a rest v w = well-beside m n k a (rest a.known) v (w v.grows.cats)
 
 -- ## The end of a text
@@ -238,14 +238,15 @@ module _ (flags : Flags) (name : ℕ → Known → Made) (names : AreWellNamed n
   well-made End known cats h = well-nothing 0 known known (grows-none known cats)
   well-made (Leaf t rest) known cats h =
       let first = token_made name t.kind t known in
-      well-wider (1 + nest_size rest) (suc (nest_size rest)) known (before first (made flags name rest)) (omega arith)
+      well-wider (1 + nest_size rest) (suc (nest_size rest)) known (made_before first (made flags name rest))
+      (omega arith)
       (well-before 1 (nest_size rest) known first (made flags name rest) (well-token name names t.kind t known cats h.0)
       (λ cats. well-made rest first.known cats h.1))
   well-made (Group t inner rest) known cats h =
       let within = made flags name inner known in
       let first = group_made flags t.kind t within in
       well-wider (suc (nest_size inner) + nest_size rest) (suc (nest_size inner + nest_size rest)) known
-      (before first (made flags name rest)) (omega arith)
+      (made_before first (made flags name rest)) (omega arith)
       (well-before (suc (nest_size inner)) (nest_size rest) known first (made flags name rest)
       (well-group flags t.kind t (nest_size inner) known within (well-made inner known cats h.0))
       (λ cats. well-made rest first.known cats h.1))

@@ -23,7 +23,7 @@ use Rattle.cw_tokens.specs.declared.token.Token.TheVariants as token
 use Rattle.cw_tokens.specs.Shapes.{tree_in}
 use Rattle.cw_scraps.specs.Leaves.{names_with, token_form}
 use Rattle.cw_logtext.specs.LogText.{greatest}
-use Rattle.cw_translator.specs.Translating.{Known, NameTexts, Spelled, before, begin, dead, dollared, end_of}
+use Rattle.cw_translator.specs.Translating.{Known, NameTexts, Spelled, made_before, begin, dead, dollared, end_of}
 use Rattle.cw_translator.specs.Translating.{first_word, format_made, head_made, headed_made, later_words, leaf_of_name}
 use Rattle.cw_translator.specs.Translating.{leaf_scrap, macro_made, made, plain_text, sign_behind, spelled, texts_made}
 use Rattle.cw_translator.specs.Translating.{is_macro, name_in_text, names_in_text, texts_named, translated, with_names}
@@ -312,7 +312,8 @@ headed-well flags named plain n known cats h =
     let fits = headed-fits n h in
     let first = head_made flags named (headed n).head known in
     let rest = made flags (leaf_of_name flags named) (headed n).rest in
-    well-wider (head_size (headed n).head + nest_size (headed n).rest) (nest_size n) known (before first rest) fits.few
+    well-wider (head_size (headed n).head + nest_size (headed n).rest) (nest_size n) known (made_before first rest)
+    fits.few
     (well-before (head_size (headed n).head) (nest_size (headed n).rest) known first rest
     (head-well flags named plain (headed n).head known cats fits.words)
     (λ cats. well-made flags (leaf_of_name flags named) (names-well flags named plain) (headed n).rest first.known cats

@@ -16,7 +16,7 @@ use Rattle.cw_texpart.specs.TexParts.{IsWhole, IsWholePiece}
 use Rattle.cw_texpart.specs.WholePieces.{TexPartsAreWhole}
 use Rattle.cw_texts.specs.Definitions.{definitions_in, not_silent, printed_definitions}
 use Rattle.cw_texts.specs.Printed.{is_kept, is_printed}
-use Rattle.cw_texts.specs.TexPieces.{Cited, Copied, InnerText, TexPiece, pieces_of}
+use Rattle.cw_texts.specs.TexPieces.{Cited, Copied, InnerText, TexPiece, tex_pieces_of}
 use Rattle.cw_texts.specs.Texts.{definition_ref, definition_refs, part_refs, piece_refs, refs_from, section_refs}
 use Rattle.cw_texts.specs.Texts.{tex_refs, text_ref}
 use Rattle.cw_texts.specs.declared.definitions.Definition.{Definition}
@@ -81,13 +81,13 @@ module _ (text : List ℕ) (short : length text ≤ 2 ^ 24) where
       (definition-whole number) ds are))
 
   section-whole : (printed : Bool) (uses : List NameUse) (number : ℕ) (section : Section)
-      → All (IsWholePiece text) (pieces_of text section.tex) → IsWholeRest text section
+      → All (IsWholePiece text) (tex_pieces_of text section.tex) → IsWholeRest text section
       → AreWhole (section_refs printed text uses number section)
   section-whole printed uses number section tex rest =
       let ds : List TextRef = definition_refs number (printed_definitions text section.definitions) in
-      All-append (IsWholeRef text) (tex_refs uses number (pieces_of text section.tex))
+      All-append (IsWholeRef text) (tex_refs uses number (tex_pieces_of text section.tex))
       (ds ++ part_refs printed number section.c_part)
-      (tex-whole uses number (pieces_of text section.tex) tex)
+      (tex-whole uses number (tex_pieces_of text section.tex) tex)
       (All-append (IsWholeRef text) ds (part_refs printed number section.c_part)
       (definitions-whole number (definitions_in text section.definitions) rest.each)
       (one-if printed (text_ref number CPart section.c_part) (c_part-whole number section.c_part rest.c_part)))

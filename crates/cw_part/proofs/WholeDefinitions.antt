@@ -18,7 +18,7 @@ use Rattle.cw_lex.proofs.TokensWithin.{tokens-within}
 use Rattle.cw_lex.proofs.Openings.{uncut-right}
 use Rattle.cw_texts.specs.declared.definitions.Begun.{Begun}
 use Rattle.cw_texts.specs.declared.definitions.Definition.{Definition}
-use Rattle.cw_texts.specs.Definitions.{begun_by, beginning, ended_at, with_begun, definitions_of}
+use Rattle.cw_texts.specs.Definitions.{begun_by, next_begin, ended_at, with_begun, definitions_of}
 use Rattle.cw_part.specs.WholeDefinitions.{DefinitionsAreWhole, RestsAreWhole}
 use Rattle.cw_part.specs.WholeTexts.{IsWholeIn, IsWholeDefinition}
 use Rattle.cw_texts.specs.Scans.{scanned}
@@ -85,7 +85,7 @@ IsGoodDefinition text d = IsGood text d.span.start d.span.«end»
 
 -- where a token begins no definition, and where one does
 abbrev next_by : ℕ → Option Begun → List Answer → ℕ
-next_by size b ys = beginning size (with_begun b size (definitions_of size ys))
+next_by size b ys = next_begin size (with_begun b size (definitions_of size ys))
 
 module _ (openings : TextsEndAtOpenings) (text : List ℕ) where
   abbrev scan : ℕ → List Answer
@@ -94,7 +94,7 @@ module _ (openings : TextsEndAtOpenings) (text : List ℕ) where
   -- the text up to the next definition, or to the end
   up-to-next : (start : ℕ) (xs ys : List Answer) → start ≤ length text → scan start ≡ xs ++ ys →
       begins_section_in (xs ++ ys) ≡ false → AreWithin 0 (length text) ys
-      → IsGood text start (beginning (length text) (definitions_of (length text) ys))
+      → IsGood text start (next_begin (length text) (definitions_of (length text) ys))
   up-to-next start xs [] l e h a = record {
     order = l;
     within = omega arith;
@@ -108,7 +108,7 @@ module _ (openings : TextsEndAtOpenings) (text : List ℕ) where
     where
       by : (begun_by t.kind t.span.start ≡ None) ⊎ ((b : Begun) × (begun_by t.kind t.span.start ≡ Some b) ×
           Begins t.kind t.span.start b)
-          → IsGood text start (beginning (length text) (definitions_of (length text) ys)) →
+          → IsGood text start (next_begin (length text) (definitions_of (length text) ys)) →
           IsGood text start (next_by (length text) (begun_by t.kind t.span.start) ys)
       by (inl none) rec = subst (λ (o : Option Begun). IsGood text start (next_by (length text) o ys)) (sym none) rec
       by (inr some) rec =
@@ -147,13 +147,13 @@ module _ (openings : TextsEndAtOpenings) (text : List ℕ) where
           let b = some.0 in
           let law = openings text start modes.Definition modes.Definition xs t ys refl e
           (some.2.opened (has_sign ys)) in
-          let d = ended_at (beginning (length text) (definitions_of (length text) ys)) b in
+          let d = ended_at (next_begin (length text) (definitions_of (length text) ys)) b in
           let good = up-to-next t.span.start (Token t ∷ []) ys (omega (arith, a.0.1, a.0.2)) (sym law.1)
           (uncut-right xs (Token t ∷ ys) h) a.1 in
           subst (λ (o : Option Begun). All (IsGoodDefinition text)
           (with_begun o (length text) (definitions_of (length text) ys))) (sym some.1)
           (All-cons (IsGoodDefinition text) d (definitions_of (length text) ys)
-          (subst (λ n. IsGood text n (beginning (length text) (definitions_of (length text) ys))) (sym some.2.at)
+          (subst (λ n. IsGood text n (next_begin (length text) (definitions_of (length text) ys))) (sym some.2.at)
           good) rec)
   each start xs (Begin t ∷ ys) e h a = each start (xs ++ Begin t ∷ []) ys (e ∙ sym (append_assoc xs (Begin t ∷ []) ys))
       (ap begins_section_in (append_assoc xs (Begin t ∷ []) ys) ∙ h) a.1

@@ -13,7 +13,7 @@ use Rattle.cw_names.specs.declared.xrefs.Occurrence.{Occurrence}
 use Rattle.cw_translator.specs.Counting.{limit_in, productions_in, scraps_in, ticks_in}
 use Rattle.cw_table.specs.Productions.{productions}
 use Rattle.cw_texpart.specs.declared.counts.Counts.{Counts}
-use Rattle.cw_texpart.specs.Done.{Done, joined, plain, then}
+use Rattle.cw_texpart.specs.Done.{Done, joined_done, as_it_is, then}
 use Rattle.cw_texpart.specs.Texts.{Setting}
 use Rattle.cw_texpart.specs.Weaving.{Press, Weaves, underlined}
 use Rattle.cw_texpart.proofs.WeavingLaws.{joined-joined, limit-append, productions-append, scraps-append}
@@ -36,7 +36,7 @@ nothing-more counts = record { scraps = omega arith; productions = omega arith }
 pub weaves-bytes : {T : Type 0} {s : Setting} {bytes : List ℕ} {old : Press} {line : LineState} {told : Told}
     {value : T}
     → Puts {T = T} bytes old.line line old.told told (Ok value)
-    → Weaves s (plain bytes old.book.names) old
+    → Weaves s (as_it_is bytes old.book.names) old
     (record { book = old.book; line = line; told = told; steps = old.steps }) (Ok no_counts)
 weaves-bytes {s = s} {old = old} {line = line} {told = told} put = record {
   puts = puts-bytes (append-nil _) (puts-then put (puts-none line told no_counts));
@@ -50,13 +50,13 @@ weaves-bytes {s = s} {old = old} {line = line} {told = told} put = record {
   bound = omega arith;
 }
 
-pub weaves-nothing : (s : Setting) (old : Press) → Weaves s (plain [] old.book.names) old old (Ok no_counts)
+pub weaves-nothing : (s : Setting) (old : Press) → Weaves s (as_it_is [] old.book.names) old old (Ok no_counts)
 weaves-nothing s old = weaves-bytes (puts-none old.line old.told (tt {0}))
 
 pub bytes-refused : {T : Type 0} {s : Setting} {bytes : List ℕ} {old : Press} {line : LineState} {told : Told}
     {error : PutError} {result : Result Counts PutError}
     → Puts {T = T} bytes old.line line old.told told (Err error) → IsErrAnd result (λ found. found ≡ error)
-    → Weaves s (plain bytes old.book.names) old
+    → Weaves s (as_it_is bytes old.book.names) old
     (record { book = old.book; line = line; told = told; steps = old.steps }) result
 bytes-refused {error = error} put is =
     weaves-refused error (puts-bytes (append-nil _) (puts-stop [] put is)) refl (omega arith) is
@@ -65,7 +65,7 @@ bytes-refused {error = error} put is =
 
 pub weaves-joined : {s : Setting} {a b : Done ℕ} {old mid new : Press} {first more sum : Counts}
     → Weaves s a old mid (Ok first) → Weaves s b mid new (Ok more) → AreSums sum first more
-    → Weaves s (joined a b) old new (Ok sum)
+    → Weaves s (joined_done a b) old new (Ok sum)
 weaves-joined {s = s} {a = a} {b = b} {old = old} {mid = mid} {new = new} {first = first} {more = more}
     {sum = sum} begun ended sums = record {
       puts = puts-bytes (append-nil _) (puts-then (puts-then begun.puts ended.puts) (puts-none new.line new.told sum));
@@ -100,7 +100,8 @@ weaves-joined {s = s} {a = a} {b = b} {old = old} {mid = mid} {new = new} {first
 -- the first is refused
 pub weaves-stopped : {s : Setting} {a : Done ℕ} (b : Done ℕ) {old new : Press} {error : PutError}
     {result : Result Counts PutError}
-    → Weaves s a old new (Err error) → IsErrAnd result (λ found. found ≡ error) → Weaves s (joined a b) old new result
+    → Weaves s a old new (Err error) → IsErrAnd result (λ found. found ≡ error)
+    → Weaves s (joined_done a b) old new result
 weaves-stopped {s = s} {a = a} b {old = old} {new = new} {error = error} begun is =
     weaves-refused error (puts-stop b.out begun.puts is) begun.same
     (let x : new.steps ≤ old.steps + limit_in s.flags a.ended = begun.bound in
@@ -112,7 +113,7 @@ weaves-stopped {s = s} {a = a} b {old = old} {new = new} {error = error} begun i
 pub weaves-joined-refused : {s : Setting} {a b : Done ℕ} {old mid new : Press} {first : Counts} {error : PutError}
     {result : Result Counts PutError}
     → Weaves s a old mid (Ok first) → Weaves s b mid new (Err error) → IsErrAnd result (λ found. found ≡ error)
-    → Weaves s (joined a b) old new result
+    → Weaves s (joined_done a b) old new result
 weaves-joined-refused {s = s} {a = a} {b = b} {old = old} {mid = mid} {new = new} {error = error} begun ended is =
     weaves-refused error (puts-bytes (append-nil _) (puts-stop [] (puts-then begun.puts ended.puts) is))
     (ended.same ∙ begun.same)
@@ -125,7 +126,8 @@ weaves-joined-refused {s = s} {a = a} {b = b} {old = old} {mid = mid} {new = new
 -- memory is wanted behind the first
 pub weaves-wanting : {s : Setting} {a : Done ℕ} (b : Done ℕ) {old now : Press} {first : Counts}
     {result : Result Counts PutError}
-    → Weaves s a old now (Ok first) → IsErrAnd result (λ found. found ≡ Memory) → Weaves s (joined a b) old now result
+    → Weaves s a old now (Ok first) → IsErrAnd result (λ found. found ≡ Memory)
+    → Weaves s (joined_done a b) old now result
 weaves-wanting {s = s} {a = a} b {old = old} {now = now} begun is =
     weaves-refused Memory (puts-then begun.puts (puts-nothing b.out now.line now.told is)) begun.same
     (let x : now.steps ≤ old.steps + limit_in s.flags a.ended = begun.bound in
@@ -140,13 +142,13 @@ pub record Weaving (s : Setting) (rest : List Entry → Done ℕ) (all : Done �
     (counts : Counts) : Type 0 where
   pub done : Done ℕ
   pub woven : Weaves s done old now (Ok counts)
-  pub goes : joined done (rest done.names) ≡ all
+  pub goes : joined_done done (rest done.names) ≡ all
 
 pub weaving-begun : (s : Setting) (rest : List Entry → Done ℕ) (press : Press) {counts : Counts}
     → AreSums counts no_counts no_counts
     → Weaving s rest (rest press.book.names) press press counts
 weaving-begun s rest press none = record {
-  done = plain [] press.book.names;
+  done = as_it_is [] press.book.names;
   woven = weaves-joined (weaves-nothing s press) (weaves-nothing s press) none;
   goes = refl;
 }
@@ -154,9 +156,10 @@ weaving-begun s rest press none = record {
 -- what is to come behind a piece that is woven next
 goes-next : {s : Setting} (d rest : List Entry → Done ℕ) {all : Done ℕ} {old mid : Press} {counts : Counts}
     (w : Weaving s (λ names. then (d names) rest) all old mid counts)
-    → joined w.done (joined (d mid.book.names) (rest (d mid.book.names).names)) ≡ all
+    → joined_done w.done (joined_done (d mid.book.names) (rest (d mid.book.names).names)) ≡ all
 goes-next d rest {mid = mid} w =
-    ap (λ (names : List Entry). joined w.done (joined (d names) (rest (d names).names))) w.woven.names ∙ w.goes
+    ap (λ (names : List Entry). joined_done w.done (joined_done (d names) (rest (d names).names))) w.woven.names
+    ∙ w.goes
 
 pub weaving-next : {s : Setting} (d rest : List Entry → Done ℕ) {all : Done ℕ} {old mid new : Press}
     {counts more sum : Counts}
@@ -164,7 +167,7 @@ pub weaving-next : {s : Setting} (d rest : List Entry → Done ℕ) {all : Done 
     → AreSums sum counts more
     → Weaving s rest all old new sum
 weaving-next {s = s} d rest {all = all} {old = old} {mid = mid} w woven sums = record {
-  done = joined w.done (d mid.book.names);
+  done = joined_done w.done (d mid.book.names);
   woven = weaves-joined w.woven woven sums;
   goes = joined-joined w.done (d mid.book.names) (rest (d mid.book.names).names) ∙ goes-next d rest w;
 }
@@ -184,11 +187,11 @@ weaving-wanting {rest = rest} w is = weaves-as w.goes (weaves-wanting (rest w.do
 
 -- nothing more is to come
 pub weaving-ended : {s : Setting} {rest : List Entry → Done ℕ} {all : Done ℕ} {old now : Press} {counts : Counts}
-    → Weaving s rest all old now counts → ((names : List Entry) → rest names ≡ plain [] names)
+    → Weaving s rest all old now counts → ((names : List Entry) → rest names ≡ as_it_is [] names)
     → Weaves s all old now (Ok counts)
 weaving-ended {s = s} {rest = rest} {all = all} {old = old} {now = now} {counts = counts} w none =
-    weaves-as (ap (λ (names : List Entry). joined w.done (plain [] names)) w.woven.names
-    ∙ ap (joined w.done) (sym (none w.done.names)) ∙ w.goes)
+    weaves-as (ap (λ (names : List Entry). joined_done w.done (as_it_is [] names)) w.woven.names
+    ∙ ap (joined_done w.done) (sym (none w.done.names)) ∙ w.goes)
     (weaves-joined w.woven (weaves-nothing s now) (nothing-more counts))
 
 -- The last piece.
@@ -197,7 +200,7 @@ pub weaving-last : {s : Setting} {d : List Entry → Done ℕ} {all : Done ℕ} 
     → Weaving s d all old mid counts → Weaves s (d mid.book.names) mid new (Ok more) → AreSums sum counts more
     → Weaves s all old new (Ok sum)
 weaving-last {d = d} w woven sums =
-    weaves-as (ap (λ (names : List Entry). joined w.done (d names)) w.woven.names ∙ w.goes)
+    weaves-as (ap (λ (names : List Entry). joined_done w.done (d names)) w.woven.names ∙ w.goes)
     (weaves-joined w.woven woven sums)
 
 pub weaving-last-stopped : {s : Setting} {d : List Entry → Done ℕ} {all : Done ℕ} {old mid new : Press}
@@ -206,5 +209,5 @@ pub weaving-last-stopped : {s : Setting} {d : List Entry → Done ℕ} {all : Do
     → IsErrAnd result (λ found. found ≡ error)
     → Weaves s all old new result
 weaving-last-stopped {d = d} w woven is =
-    weaves-as (ap (λ (names : List Entry). joined w.done (d names)) w.woven.names ∙ w.goes)
+    weaves-as (ap (λ (names : List Entry). joined_done w.done (d names)) w.woven.names ∙ w.goes)
     (weaves-joined-refused w.woven woven is)

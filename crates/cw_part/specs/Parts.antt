@@ -6,7 +6,7 @@ use Rattle.cw_names.specs.Names.{Entry}
 use Rattle.cw_texts.specs.declared.definitions.Definition.{Definition}
 use Rattle.cw_phase1.specs.declared.sections.Section.{Section}
 use Rattle.cw_translator.specs.Counting.{scraps_in}
-use Rattle.cw_texpart.specs.Done.{Done, plain, reprinted, then}
+use Rattle.cw_texpart.specs.Done.{Done, as_it_is, reprinted, then}
 use Rattle.cw_texpart.specs.TexParts.{beside_in}
 use Rattle.cw_texpart.specs.Texts.{Setting, text_done}
 use Rattle.cw_texpart.specs.declared.beside.Beside.{Beside}
@@ -32,7 +32,7 @@ definition_done s opening d names = paragraph opening (text_done s modes.Definit
 
 -- Definitions one after another, the first behind this opening.
 abbrev pub definitions_done : Setting → List ℕ → List Definition → List Entry → Done ℕ
-definitions_done s opening [] names = plain [] names
+definitions_done s opening [] names = as_it_is [] names
 definitions_done s opening (d ∷ ds) names =
     then (definition_done s opening d names) (definitions_done s later_opening ds)
 
@@ -44,8 +44,8 @@ paragraph_if true front d = paragraph front d
 paragraph_if false front d = reprinted (λ out. []) d
 
 -- The C part is printed where it is named or has a scrap.
-abbrev pub is_printed : Section → Done ℕ → Bool
-is_printed section d = is_some section.name || nat_lt 0 (scraps_in d.ended)
+abbrev pub prints_code : Section → Done ℕ → Bool
+prints_code section d = is_some section.name || nat_lt 0 (scraps_in d.ended)
 
 -- With flag r a name at its head stands one step to the left, as definitions do.
 abbrev pub step_left : Bool → Section → List ℕ
@@ -57,7 +57,7 @@ part_opening besides.CPart ranged section = codes "\\B"
 part_opening other ranged section = codes "\\Y\\B" ++ step_left ranged section
 
 abbrev pub part_from : List ℕ → Section → Done ℕ → Done ℕ
-part_from opening section d = paragraph_if (is_printed section d) opening d
+part_from opening section d = paragraph_if (prints_code section d) opening d
 
 -- the C part of a section that has this code beside its number
 abbrev pub part_by : Beside → Setting → Section → List Entry → Done ℕ

@@ -18,7 +18,7 @@ use Rattle.cw_phase1.specs.declared.told.Told.{Told}
 use Rattle.cw_phase1.specs.Texts.{Void, naming_by, name_text}
 use Rattle.cw_phase1.specs.Notes.{scanned_note, scanned_notes}
 use Rattle.cw_phase1.specs.Entering.{entering, enters, entered_name, name_of_entering, kept_by, kept_behind, kept_after}
-use Rattle.cw_phase1.specs.Entering.{note_by, note_of, is_unended, with_note, noted_from}
+use Rattle.cw_phase1.specs.Entering.{note_by, note_of, is_unended, note_behind_end, noted_from}
 use Rattle.cw_phase1.specs.Roles.{Placed, Step, name_step, token_step, token_step_by, behind_begin, placed_by}
 use Rattle.cw_phase1.specs.Roles.{placed_from}
 use Rattle.cw_phase1.specs.Telling.{told_step, told_all}
@@ -157,33 +157,33 @@ kept-passes lines (Note kind place) h answers = refl
 -- ## Notes
 
 abbrev pub notes_at_end : List MergedLine → HeldState → List Answer → List NoteRecord
-notes_at_end lines h answers = h.notes ++ scanned_notes lines (with_note h.remark (noted_from h.kept answers))
+notes_at_end lines h answers = h.notes ++ scanned_notes lines (note_behind_end h.remark (noted_from h.kept answers))
 
 put-token : (lines : List MergedLine) (r : Option Answer) (t : Seen) (answers : List Answer)
-    → scanned_notes lines (with_note r (Token t ∷ answers)) ≡ remark_notes lines r ++ scanned_notes lines answers
+    → scanned_notes lines (note_behind_end r (Token t ∷ answers)) ≡ remark_notes lines r ++ scanned_notes lines answers
 put-token lines None t answers = refl
 put-token lines (Some note) t answers = refl
 
 put-begin : (lines : List MergedLine) (r : Option Answer) (t : Seen) (answers : List Answer)
-    → scanned_notes lines (with_note r (Begin t ∷ answers)) ≡ remark_notes lines r ++ scanned_notes lines answers
+    → scanned_notes lines (note_behind_end r (Begin t ∷ answers)) ≡ remark_notes lines r ++ scanned_notes lines answers
 put-begin lines None t answers = refl
 put-begin lines (Some note) t answers = refl
 
 put-finish : (lines : List MergedLine) (r : Option Answer) (t : Seen) (answers : List Answer)
-    → scanned_notes lines (with_note r (Finish t ∷ answers)) ≡ remark_notes lines r ++ scanned_notes lines answers
+    → scanned_notes lines (note_behind_end r (Finish t ∷ answers)) ≡ remark_notes lines r ++ scanned_notes lines answers
 put-finish lines None t answers = refl
 put-finish lines (Some note) t answers = refl
 
 notes-token : (b : Bool) (lines : List MergedLine) (t : Seen) (h : HeldState) (answers : List Answer)
     → is_name_kind t.kind
     ≡ b → h.remark ≡ None
-    → h.notes ++ scanned_notes lines (with_note (note_of t h.kept) (noted_from (kept_behind t h.kept) answers))
+    → h.notes ++ scanned_notes lines (note_behind_end (note_of t h.kept) (noted_from (kept_behind t h.kept) answers))
     ≡ notes_at_end lines (token_held_by b lines t h) answers
 notes-token true lines t h answers e r = refl
 notes-token false lines t h answers e r =
     ap (λ (o : Option Entering). h.notes ++ scanned_notes lines
-    (with_note (note_by o t.span.start) (noted_from (kept_by o h.kept) answers))) (enters-nothing t h.kept e) ∙
-    ap (λ (o : Option Answer). h.notes ++ scanned_notes lines (with_note o (noted_from h.kept answers))) (sym r)
+    (note_behind_end (note_by o t.span.start) (noted_from (kept_by o h.kept) answers))) (enters-nothing t h.kept e) ∙
+    ap (λ (o : Option Answer). h.notes ++ scanned_notes lines (note_behind_end o (noted_from h.kept answers))) (sym r)
 
 note-by : (b : Bool) (lines : List MergedLine) (note : Answer) (kind : NoteKind) (place : ℕ) (answers : List Answer)
     → is_unended kind ≡ b
@@ -201,7 +201,7 @@ note-by false lines note kind place answers e =
     sym (append_assoc (scanned_note lines note) (scanned_note lines (Note kind place)) (scanned_notes lines answers))
 
 put-note : (lines : List MergedLine) (r : Option Answer) (kind : NoteKind) (place : ℕ) (answers : List Answer)
-    → scanned_notes lines (with_note r (Note kind place ∷ answers))
+    → scanned_notes lines (note_behind_end r (Note kind place ∷ answers))
     ≡ notes_by r lines kind place ++ scanned_notes lines answers
 put-note lines None kind place answers = refl
 put-note lines (Some note) kind place answers = note-by (is_unended kind) lines note kind place answers refl
@@ -210,9 +210,9 @@ pub notes-pass : (lines : List MergedLine) (answer : Answer) (h : HeldState) (an
     → notes_at_end lines h (answer ∷ answers) ≡ notes_at_end lines (held_step lines answer h) answers
 notes-pass lines (Token t) h answers =
     ap (λ ns. h.notes ++ ns) (put-token lines h.remark t
-    (with_note (note_of t h.kept) (noted_from (kept_behind t h.kept) answers))) ∙
+    (note_behind_end (note_of t h.kept) (noted_from (kept_behind t h.kept) answers))) ∙
     (sym (append_assoc h.notes (remark_notes lines h.remark)
-    (scanned_notes lines (with_note (note_of t h.kept) (noted_from (kept_behind t h.kept) answers)))) ∙
+    (scanned_notes lines (note_behind_end (note_of t h.kept) (noted_from (kept_behind t h.kept) answers)))) ∙
     notes-token (is_name_kind t.kind) lines t (settled lines (is_head_sign t.kind) (remark_put lines h)) answers refl
     refl)
 notes-pass lines (Begin t) h answers =

@@ -18,7 +18,7 @@ use Rattle.cw_secnames.specs.declared.kinds.RefKind.{RefKind}
 use Rattle.cw_secnames.specs.declared.kinds.RefKind.TheVariants.{Defined, Used, Cited}
 use Rattle.cw_secnames.specs.declared.kinds.SecId.{SecId}
 use Rattle.cw_secnames.specs.Kept.{SecName}
-use Rattle.cw_secnames.specs.Marks.{is_in}
+use Rattle.cw_secnames.specs.Marks.{is_one_of}
 use Rattle.cw_secnames.specs.OnceLaws.{head-in, in-once, not-in, once-ascends, tail-in}
 use Rattle.cw_secnames.specs.References.{AscendFrom, Reference, once, is_of, referred}
 use Rattle.cw_secnames.specs.Uses.{NameUse}
@@ -237,18 +237,18 @@ rise-filter test low high (reference ∷ references) r =
     (rise-filter test reference.section high references r.2)
 
 -- each of them is between the two
-risen : (low high : ℕ) (ns : List ℕ) → Rise low high ns → (k : ℕ) → is_in k ns ≡ true → (low ≤ k) × (k ≤ high)
+risen : (low high : ℕ) (ns : List ℕ) → Rise low high ns → (k : ℕ) → is_one_of k ns ≡ true → (low ≤ k) × (k ≤ high)
 risen low high [] r k e = absurd (true≢false (sym e))
 risen low high (n ∷ ns) r k e = by (n == k) refl e (risen n high ns r.2 k)
   where
-    by : (t : Bool) → (n == k) ≡ t → (t || is_in k ns) ≡ true → (is_in k ns ≡ true → (n ≤ k) × (k ≤ high))
+    by : (t : Bool) → (n == k) ≡ t → (t || is_one_of k ns) ≡ true → (is_one_of k ns ≡ true → (n ≤ k) × (k ≤ high))
         → (low ≤ k) × (k ≤ high)
     by true same e more = let is : n ≡ k = eqb-true n k same in (omega (arith, r.0), omega (arith, r.1))
     by false same e more = let there : (n ≤ k) × (k ≤ high) = more e in (omega (arith, r.0, there.0), there.1)
 
 -- what ascends between two numbers
 between : (low high least : ℕ) (ns : List ℕ) → AscendFrom least ns
-    → ((k : ℕ) → is_in k ns ≡ true → (low ≤ k) × (k ≤ high)) → Ascend low high ns
+    → ((k : ℕ) → is_one_of k ns ≡ true → (low ≤ k) × (k ≤ high)) → Ascend low high ns
 between low high least [] up there = tt
 between low high least (n ∷ ns) up there =
     let here : (low ≤ n) × (n ≤ high) = there n (head-in n ns) in (
@@ -258,7 +258,7 @@ between low high least (n ∷ ns) up there =
           (above k (nat_lt k (n + 1)) refl e, (there k (tail-in k n ns e)).1)),
     )
   where
-    above : (k : ℕ) (t : Bool) → nat_lt k (n + 1) ≡ t → is_in k ns ≡ true → n + 1 ≤ k
+    above : (k : ℕ) (t : Bool) → nat_lt k (n + 1) ≡ t → is_one_of k ns ≡ true → n + 1 ≤ k
     above k true less e =
         absurd (true≢false (sym e ∙ not-in k (n + 1) ns (ltb-true k (n + 1) less) up.1))
     above k false less e = ltb-false k (n + 1) less

@@ -33,12 +33,12 @@ use Rattle.cw_phase1.specs.Sections.{is_section_code}
 use Rattle.cw_phase1.specs.Texts.{entry_text}
 use Rattle.cw_phase1.specs.Uses.{use_by, reference_by}
 use Rattle.cw_phase1.specs.Outlining.{closing_by, closed_at, open_with, section_told_by}
-use Rattle.cw_phase1.specs.Words.{Known, known_behind, with_format}
+use Rattle.cw_phase1.specs.Words.{KnownNames, known_behind, with_format}
 use Rattle.cw_phase1.specs.Telling.{IsKnown, word_told, known_of, told_step, told_all, told_start}
 use Rattle.cw_phase1.specs.declared.told.Told.{Told}
 use Rattle.cw_phase1.specs.declared.held.Waiting.{Waiting as WaitingToken}
 use Rattle.cw_phase1.specs.Notes.{scanned_note, scanned_notes}
-use Rattle.cw_phase1.specs.Entering.{kept_after, noted, with_note}
+use Rattle.cw_phase1.specs.Entering.{kept_after, with_notes, note_behind_end}
 use Rattle.cw_phase1.specs.Ending.{IsScanned, open_count, section_total}
 use Rattle.cw_phase1.specs.Book.{answers_of}
 use Rattle.cw_base.specs.Web.{text_of}
@@ -67,11 +67,11 @@ format-length : (o : Option NameId) (second : NameId) (entries : List names.Entr
 format-length None second entries = refl
 format-length (Some first) second entries = category-length first.index _ entries
 
-word-known : (other : EntryKind) (text : List ℕ) (k : Known) → IfSome k.first (λ id. id.index < length k.names)
+word-known : (other : EntryKind) (text : List ℕ) (k : KnownNames) → IfSome k.first (λ id. id.index < length k.names)
     → IfSome k.first (λ id. id.index < length (names.with_entry other text k.names))
 word-known other text k h = known-more k.first _ _ (entry-grows other text k.names) h
 
-role-known : (role : Role) (text : List ℕ) (k : Known) → IfSome k.first (λ id. id.index < length k.names)
+role-known : (role : Role) (text : List ℕ) (k : KnownNames) → IfSome k.first (λ id. id.index < length k.names)
     → IfSome (known_behind role text k).first (λ id. id.index < length (known_behind role text k).names)
 role-known roles.MacroName text k h = word-known Ident text k h
 role-known roles.Parameter text k h = word-known Ident text k h
@@ -509,7 +509,7 @@ note-step lines text all h new kind place rest u e = record {
 
 -- ## When all came
 
-last-remark : (lines : List MergedLine) (r : Option Answer) → scanned_notes lines (with_note r [])
+last-remark : (lines : List MergedLine) (r : Option Answer) → scanned_notes lines (note_behind_end r [])
     ≡ remark_notes lines r
 last-remark lines None = refl
 last-remark lines (Some note) = append-nil (scanned_note lines note)
@@ -527,7 +527,7 @@ scanned lines text all h new u e same tokens covers =
       told = sym (settle-told lines h []) ∙ (u.told ∙ ap (λ answers. told_all lines (placed answers) told_start) whole);
       kept = u.kept ∙ ap (λ answers. kept_after [] answers) whole;
       notes = ap (λ ns. h.notes ++ ns) (sym (last-remark lines h.remark))
-          ∙ (u.notes ∙ ap (λ answers. scanned_notes lines (noted answers)) whole);
+          ∙ (u.notes ∙ ap (λ answers. scanned_notes lines (with_notes answers)) whole);
       ids = q.ids;
       total = omega (arith, q.total, q.section, u.limit);
       few = omega (arith, u.ready.few, u.limit);

@@ -18,7 +18,8 @@ use Rattle.cw_phase1.specs.declared.roles.Role.TheVariants as roles
 use Rattle.cw_phase1.specs.declared.told.Told.{Told}
 use Rattle.cw_phase1.specs.Roles.{Placed}
 use Rattle.cw_phase1.specs.Texts.{entry_text}
-use Rattle.cw_phase1.specs.Words.{Known, Mention, mention, word, with_format, known_behind, known_after, names_after}
+use Rattle.cw_phase1.specs.Words.{KnownNames, Mention, mention, word, with_format, known_behind, known_after}
+use Rattle.cw_phase1.specs.Words.{names_after}
 use Rattle.cw_phase1.specs.Words.{mention_by, mentions_from, waits_behind, occurrence, occurrences}
 use Rattle.cw_phase1.specs.Uses.{use_of, uses_of, reference_of, references_of}
 use Rattle.cw_phase1.specs.Telling.{known_of, told_step, told_all, told_start}
@@ -113,7 +114,7 @@ entered : (kind : EntryKind) (text : List ℕ) (entries : List names.Entry)
     → Stands kind text (names.place_of kind text entries) (names.with_entry kind text entries)
 entered kind text entries = new-by (nat_lt (names.place_of kind text entries) (length entries)) kind text entries refl
 
-role-keeps : (kind : EntryKind) (text : List ℕ) (n : ℕ) (role : Role) (word : List ℕ) (k : Known)
+role-keeps : (kind : EntryKind) (text : List ℕ) (n : ℕ) (role : Role) (word : List ℕ) (k : KnownNames)
     → Stands kind text n k.names → Stands kind text n (known_behind role word k).names
 role-keeps kind text n roles.MacroName word k s = with-entry kind text n Ident word k.names s
 role-keeps kind text n roles.Parameter word k s = with-entry kind text n Ident word k.names s
@@ -127,20 +128,20 @@ role-keeps kind text n roles.Underline word k s = s
 role-keeps kind text n (roles.Name how) word k s = s
 role-keeps kind text n roles.Plain word k s = s
 
-keeps : (kind : EntryKind) (text : List ℕ) (n : ℕ) (ps : List Placed) (k : Known)
+keeps : (kind : EntryKind) (text : List ℕ) (n : ℕ) (ps : List Placed) (k : KnownNames)
     → Stands kind text n k.names → Stands kind text n (known_after ps k).names
 keeps kind text n [] k s = s
 keeps kind text n (p ∷ ps) k s = keeps kind text n ps (known_behind p.role p.token.text k)
     (role-keeps kind text n p.role p.token.text k s)
 
-one : (m : Mention) (entries : List names.Entry) (ps : List Placed) (k : Known)
+one : (m : Mention) (entries : List names.Entry) (ps : List Placed) (k : KnownNames)
     → Stands m.kind m.text (names.place_of m.kind m.text entries) k.names
     → map (occurrence entries) (m ∷ []) ≡ map (occurrence (known_after ps k).names) (m ∷ [])
 one m entries ps k s =
     ap (λ n. record { name = record { index = n }; section = m.section; underlined = m.underlined } ∷ [])
     (sym (keeps m.kind m.text (names.place_of m.kind m.text entries) ps k s).place)
 
-mentioned : (role : Role) (p : Placed) (waits : Bool) (ps : List Placed) (k : Known)
+mentioned : (role : Role) (p : Placed) (waits : Bool) (ps : List Placed) (k : KnownNames)
     → map (occurrence k.names) (mention_by role p waits)
     ≡ map (occurrence (known_after ps (known_behind role p.token.text k)).names) (mention_by role p waits)
 mentioned roles.MacroName p waits ps k = one (word p true) k.names ps _ (entered Ident p.token.text k.names)

@@ -6,7 +6,7 @@ use Rattle.cw_lex.specs.Lexing.{tokens_of}
 use Rattle.cw_rules.specs.declared.tokens.Mode.TheVariants as modes
 use Rattle.cw_names.specs.Words.{built_in_words}
 use Rattle.cw_phase1.specs.declared.book.Book.{Book}
-use Rattle.cw_phase1.specs.Entering.{kept_after, noted}
+use Rattle.cw_phase1.specs.Entering.{kept_after, with_notes}
 use Rattle.cw_phase1.specs.Roles.{placed}
 use Rattle.cw_phase1.specs.Words.{names_after, occurrences}
 use Rattle.cw_phase1.specs.Uses.{uses_of, section_names}
@@ -36,6 +36,7 @@ book lines =
       outline = record {
         limbo = limbo_of size tokens;
         sections = sections;
-        notes = scanned_notes lines (noted answers) ++ (missing_equals lines uses kept sections ++ name_notes kept);
+        notes = scanned_notes lines (with_notes answers)
+            ++ (missing_equals lines uses kept sections ++ name_notes kept);
       };
     }

@@ -7,7 +7,7 @@ use Rattle.cw_secnames.specs.References.{Reference, with_reference}
 use Rattle.cw_phase1.specs.declared.sections.Open.{Open}
 use Rattle.cw_phase1.specs.declared.sections.Sections.{Sections}
 use Rattle.cw_phase1.specs.Book.{answers_of}
-use Rattle.cw_phase1.specs.Entering.{kept_after, noted}
+use Rattle.cw_phase1.specs.Entering.{kept_after, with_notes}
 use Rattle.cw_phase1.specs.Notes.{notes_on, scanned_notes}
 use Rattle.cw_base.specs.declared.notes.Note.{Note}
 use Rattle.cw_phase1.specs.Roles.{placed}
@@ -30,7 +30,7 @@ AreOfKept kept references = All (λ r. r.name < length kept) references
 pub record IsScanned (lines : List MergedLine) (h : HeldState) : Type 0 where
   pub told : h.told ≡ told_all lines (placed (answers_of lines)) told_start
   pub kept : h.kept ≡ kept_after [] (answers_of lines)
-  pub notes : h.notes ≡ scanned_notes lines (noted (answers_of lines))
+  pub notes : h.notes ≡ scanned_notes lines (with_notes (answers_of lines))
   pub ids : AreOfKept h.kept h.told.named.references
   pub total : section_total h.told.sections ≤ 16777216
   pub few : length h.kept ≤ 16777216

@@ -51,15 +51,15 @@ kept_after kept (Note kind place ∷ answers) = kept_after kept answers
 
 -- ## Notes
 
-abbrev pub note_on : Entered → ℕ → Option Answer
-note_on (Known k) place = None
-note_on (New k) place = None
-note_on (Ambiguous k next) place = Some (Note notes.AmbiguousPrefix place)
-note_on (Conflict k) place = Some (Note notes.NameConflict place)
+abbrev pub note_on_name : Entered → ℕ → Option Answer
+note_on_name (Known k) place = None
+note_on_name (New k) place = None
+note_on_name (Ambiguous k next) place = Some (Note notes.AmbiguousPrefix place)
+note_on_name (Conflict k) place = Some (Note notes.NameConflict place)
 
 abbrev pub note_by : Option Entering → ℕ → Option Answer
 note_by None place = None
-note_by (Some e) place = note_on e.answer place
+note_by (Some e) place = note_on_name e.answer place
 
 -- the note on what a token stands for
 abbrev pub note_of : Seen → List SecName → Option Answer
@@ -78,21 +78,21 @@ behind_end note (Finish token ∷ answers) = note ∷ Finish token ∷ answers
 behind_end note (Note kind place ∷ answers) =
     elim (is_unended kind) [ true ↦ Note kind place ∷ note ∷ answers | false ↦ note ∷ Note kind place ∷ answers ]
 
-abbrev pub with_note : Option Answer → List Answer → List Answer
-with_note None answers = answers
-with_note (Some note) answers = behind_end note answers
+abbrev pub note_behind_end : Option Answer → List Answer → List Answer
+note_behind_end None answers = answers
+note_behind_end (Some note) answers = behind_end note answers
 
 -- The answers of the scanner with the notes on section names among them.
 abbrev pub noted_from : List SecName → List Answer → List Answer
 noted_from kept [] = []
 noted_from kept (Token token ∷ answers) =
-    Token token ∷ with_note (note_of token kept) (noted_from (kept_behind token kept) answers)
+    Token token ∷ note_behind_end (note_of token kept) (noted_from (kept_behind token kept) answers)
 noted_from kept (Begin token ∷ answers) = Begin token ∷ noted_from kept answers
 noted_from kept (Finish token ∷ answers) = Finish token ∷ noted_from kept answers
 noted_from kept (Note kind place ∷ answers) = Note kind place ∷ noted_from kept answers
 
-abbrev pub noted : List Answer → List Answer
-noted answers = noted_from [] answers
+abbrev pub with_notes : List Answer → List Answer
+with_notes answers = noted_from [] answers
 
 -- what entering a name answers
 abbrev pub answer_of : Option Entering → Option Entered

@@ -116,14 +116,14 @@ abbrev pub placed_by : Seen → Option SecId → Step → Placed
 placed_by token name s =
     record { section = s.next.section; part = s.next.part; role = s.role; token = token; name = name }
 
-abbrev pub before : Seen → Option SecId → Step → (Standing → List Placed) → List Placed
-before token name s rest = placed_by token name s ∷ rest s.next
+abbrev pub placed_before : Seen → Option SecId → Step → (Standing → List Placed) → List Placed
+placed_before token name s rest = placed_by token name s ∷ rest s.next
 
 -- The tokens of answers, where the text stands in such a way and these names are kept.
 abbrev pub placed_from : Standing → List SecName → List Answer → List Placed
 placed_from s kept [] = []
 placed_from s kept (Token token ∷ answers) =
-    before token (entered_name token kept) (token_step token.kind (has_sign answers) s token.span)
+    placed_before token (entered_name token kept) (token_step token.kind (has_sign answers) s token.span)
     (λ next. placed_from next (kept_behind token kept) answers)
 placed_from s kept (Begin token ∷ answers) = placed_from (behind_begin s) kept answers
 placed_from s kept (Finish token ∷ answers) = placed_from s kept answers

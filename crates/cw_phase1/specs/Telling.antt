@@ -9,11 +9,11 @@ use Rattle.cw_phase1.specs.Roles.{Placed}
 use Rattle.cw_names.specs.Words.{built_in_words}
 use Rattle.cw_phase1.specs.declared.roles.Role.{Role}
 use Rattle.cw_names.specs.declared.xrefs.Occurrence.{Occurrence}
-use Rattle.cw_phase1.specs.Words.{Known, known_behind, mention_by, waits_behind, occurrence, word}
+use Rattle.cw_phase1.specs.Words.{KnownNames, known_behind, mention_by, waits_behind, occurrence, word}
 use Rattle.cw_phase1.specs.Uses.{use_of, reference_of}
 use Rattle.cw_phase1.specs.Outlining.{section_told}
 
-abbrev pub known_of : Words → Known
+abbrev pub known_of : Words → KnownNames
 known_of w = record { first = w.first; names = w.names }
 
 -- A token that has this role in its place. A name that occurs has its place from its first occurrence on.

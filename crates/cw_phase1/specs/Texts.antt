@@ -13,20 +13,20 @@ use Rattle.cw_secnames.specs.declared.kinds.SecKind.{SecKind}
 use Rattle.cw_secnames.specs.declared.kinds.SecKind.TheVariants.{Named, File}
 
 -- The control text of an entry, behind its code: up to the first `@>`, where `@@` is one `@`, and another `@` is kept.
-abbrev pub control_text : List ℕ → List ℕ
-control_text [] = []
-control_text (byte ∷ []) = byte ∷ []
-control_text (byte ∷ next ∷ bytes) =
+abbrev pub indexed_text : List ℕ → List ℕ
+indexed_text [] = []
+indexed_text (byte ∷ []) = byte ∷ []
+indexed_text (byte ∷ next ∷ bytes) =
     elim (byte == 64) [
       | true ↦ elim (next == 62) [
         | true ↦ []
-        | false ↦ elim (next == 64) [ true ↦ 64 ∷ control_text bytes | false ↦ 64 ∷ control_text (next ∷ bytes) ]
+        | false ↦ elim (next == 64) [ true ↦ 64 ∷ indexed_text bytes | false ↦ 64 ∷ indexed_text (next ∷ bytes) ]
       ]
-      | false ↦ byte ∷ control_text (next ∷ bytes)
+      | false ↦ byte ∷ indexed_text (next ∷ bytes)
     ]
 
 abbrev pub entry_text : List ℕ → List ℕ
-entry_text token = control_text (drop 2 token)
+entry_text token = indexed_text (drop 2 token)
 
 -- White space is reduced to single blanks and dropped at both ends.
 abbrev pub blank_before : List ℕ → List ℕ

@@ -15,7 +15,7 @@ use Rattle.cw_phase1.specs.Texts.{entry_text}
 -- ## Names
 
 -- the names, and the first name of the last format definition
-pub record Known : Type 0 where
+pub record KnownNames : Type 0 where
   pub first : Option NameId
   pub names : List names.Entry
 
@@ -32,12 +32,12 @@ with_format None second entries = entries
 with_format (Some first) second entries =
     names.with_category first.index (category_of (slice_get entries second.index)) entries
 
-abbrev pub with_word : List ℕ → Known → Known
+abbrev pub with_word : List ℕ → KnownNames → KnownNames
 with_word text k = record k { names = names.with_entry Ident text k.names }
 
 -- Each identifier and each index entry is a name from its first appearance on. A format definition is done behind its
 -- second name.
-abbrev pub known_behind : Role → List ℕ → Known → Known
+abbrev pub known_behind : Role → List ℕ → KnownNames → KnownNames
 known_behind roles.MacroName text k = with_word text k
 known_behind roles.Parameter text k = with_word text k
 known_behind roles.Word text k = with_word text k
@@ -48,7 +48,7 @@ known_behind (roles.SecondName silent) text k =
 known_behind (roles.Entry kind) text k = record k { names = names.with_entry kind (entry_text text) k.names }
 known_behind role text k = k
 
-abbrev pub known_after : List Placed → Known → Known
+abbrev pub known_after : List Placed → KnownNames → KnownNames
 known_after [] k = k
 known_after (p ∷ ps) k = known_after ps (known_behind p.role p.token.text k)
 
@@ -96,12 +96,12 @@ abbrev pub mentions_from : Bool → List Placed → List Mention
 mentions_from waits [] = []
 mentions_from waits (p ∷ ps) = mention_here waits p ++ mentions_from (waits_behind p.role waits) ps
 
-abbrev pub mentions : List Placed → List Mention
-mentions ps = mentions_from false ps
+abbrev pub all_mentions : List Placed → List Mention
+all_mentions ps = mentions_from false ps
 
 -- An occurrence of the name at its place among all names.
 abbrev pub occurrence : List names.Entry → Mention → Occurrence
 occurrence entries m = record { name = name_id m.kind m.text entries; section = m.section; underlined = m.underlined }
 
 abbrev pub occurrences : List names.Entry → List Placed → List Occurrence
-occurrences entries ps = map (occurrence entries) (mentions ps)
+occurrences entries ps = map (occurrence entries) (all_mentions ps)

@@ -4,7 +4,7 @@ ghost use Rattle.cw_base.specs.Web.{MergedLine};
 ghost use Rattle.cw_lex.specs.Limbo.{is_name_kind};
 ghost use Rattle.cw_rules.specs.Answers.{seen, Token, Note as NoteAnswer};
 ghost use Rattle.cw_rules.specs.Answers.{is_head_sign};
-ghost use Rattle.cw_phase1.specs.Entering.{is_unended, note_on};
+ghost use Rattle.cw_phase1.specs.Entering.{is_unended, note_on_name};
 ghost use Rattle.cw_phase1.specs.Holding.{
   begun_held,
   ended_held,
@@ -92,7 +92,7 @@ fn is_unended(kind: NoteKind) -> bool
 
 // The note on what became of a name.
 fn remark_on(entered: Entered, place: usize) -> Option<Remark>
-    ensures { remark_of result ≡ note_on entered place }
+    ensures { remark_of result ≡ note_on_name entered place }
 {
     match entered {
         Entered::Known(_) | Entered::New(_) => None,

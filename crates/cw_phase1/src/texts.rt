@@ -3,7 +3,7 @@ ghost use Rattle.std.specs.Prelude.{◌≡◌, ◌<◌, ◌≤◌, ◌∷◌, �
 ghost use Rattle.cw_rules.specs.Bytes.{is_in};
 ghost use Rattle.cw_rules.specs.Names.{uncoded};
 ghost use Rattle.cw_rules.specs.declared.classes.Class.TheVariants.{White};
-ghost use Rattle.cw_phase1.specs.Texts.{byte_of, control_text, entry_text, is_begun, name_text, rest_of};
+ghost use Rattle.cw_phase1.specs.Texts.{byte_of, indexed_text, entry_text, is_begun, name_text, rest_of};
 
 use cw_base::Memory;
 
@@ -17,8 +17,8 @@ struct Piece {
 // The first byte of a control text; None where it ends.
 fn first_piece(bytes: &[u8]) -> Option<Piece>
     requires { 0 < length bytes.now }
-    ensures value { MatchOption result (control_text bytes.now ≡ [])
-        (λ p. control_text bytes.now ≡ p.byte ∷ control_text (drop p.size bytes.now)) }
+    ensures value { MatchOption result (indexed_text bytes.now ≡ [])
+        (λ p. indexed_text bytes.now ≡ p.byte ∷ indexed_text (drop p.size bytes.now)) }
     ensures size { MatchOption result (Unit {0}) (λ p. (0 < p.size) × (p.size ≤ length bytes.now)) }
 {
     let byte = bytes[0];

@@ -1,6 +1,6 @@
 -- Plain text that is made item by item is that of the definition.
 use Rattle.std.proofs.Common.{◌≡◌, ℕ, zero, suc, List, [], ◌∷◌, ◌++◌, refl, ap, ◌∙◌}
-use Rattle.cw_trees.specs.Flat.{Item, trimmed}
+use Rattle.cw_trees.specs.Flat.{Item, trimmed_items}
 use Rattle.cw_plain.specs.Laying.{piece_text, pieces_text}
 use Rattle.cw_plain.specs.Pieces.{Source, item_placed, passed, pieces, pieces_from, pieces_in}
 use Rattle.cw_plain.specs.Plain.{plain}
@@ -25,11 +25,11 @@ items-pieces s [] w = refl
 items-pieces s (item ∷ items) w = item-pieces w.stand.name s w item items (items-pieces s items)
 
 -- all items of a flat list that is trimmed
-pub items-plain : (s : Source) (items : List Item) → items_text s walk_begun (trimmed items) ≡ plain s items
-items-plain s items = items-pieces s (trimmed items) walk_begun ∙ pieces-laid (pieces s (trimmed items))
+pub items-plain : (s : Source) (items : List Item) → items_text s walk_begun (trimmed_items items) ≡ plain s items
+items-plain s items = items-pieces s (trimmed_items items) walk_begun ∙ pieces-laid (pieces s (trimmed_items items))
 
 -- the same, of a walk that begins, over a list that has these items
 pub all-plain : (s : Source) (w : Walk) (given items : List Item) (out before : List ℕ) → w ≡ walk_begun
-    → given ≡ trimmed items → before ≡ [] → out ≡ before ++ items_text s w given → out ≡ plain s items
+    → given ≡ trimmed_items items → before ≡ [] → out ≡ before ++ items_text s w given → out ≡ plain s items
 all-plain s w given items out before begins same none is =
     is ∙ (λ i. none i ++ items_text s (begins i) (same i)) ∙ items-plain s items

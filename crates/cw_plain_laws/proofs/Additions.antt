@@ -12,7 +12,7 @@ use Rattle.cw_plain_laws.proofs.SpacedLaws.{white-run}
 use Rattle.cw_plain_laws.specs.OwnLaws.{AddsLittle, MayBeAdded, PlainAddsLittle}
 use Rattle.cw_rules.specs.Bytes.{is_in}
 use Rattle.cw_rules.specs.declared.classes.Class.TheVariants.{White}
-use Rattle.cw_trees.specs.Flat.{trimmed}
+use Rattle.cw_trees.specs.Flat.{trimmed_items}
 
 white-all : (bytes : List ℕ) → AreWhite bytes → list_all (λ byte. is_in White byte) bytes ≡ true
 white-all [] white = refl
@@ -58,5 +58,5 @@ laid-adds s l (Other Nothing ∷ ss) own = laid-adds s (behind_piece l Nothing) 
 
 pub plain-adds-little : PlainAddsLittle
 plain-adds-little s items =
-    let ps = pieces s (trimmed items) in
-    laid-adds s at_start (stretches ps) (stretched-own s ps (pieces-own s (trimmed items) outside))
+    let ps = pieces s (trimmed_items items) in
+    laid-adds s at_start (stretches ps) (stretched-own s ps (pieces-own s (trimmed_items items) outside))

@@ -28,7 +28,7 @@ use Rattle.cw_translator.specs.Translating.{leaf_scrap}
 use Rattle.cw_translator.specs.Translating.{made, state_in, token_made, translated}
 use Rattle.cw_trees.specs.Flat.{Item, SourceItem, IdentItem, ReservedItem, SignItem, Open, Close, begins_after}
 use Rattle.cw_trees.specs.Flat.{ends_text}
-use Rattle.cw_trees.specs.Flat.{flat, is_break, is_inserted, leaf_item, trim_back, trim_front, trimmed}
+use Rattle.cw_trees.specs.Flat.{flat, is_break, is_inserted, leaf_item, trim_back, trim_front, trimmed_items}
 use Rattle.cw_trees.specs.Flat.{without_inserted}
 use Rattle.cw_trees.specs.Tree.{Leaf as TreeLeaf, Source as SourceLeaf, Ident, Reserved, Sign, Tree, Empty, Then, Sub}
 use Rattle.cw_trees.specs.Tree.{Inner}
@@ -125,7 +125,7 @@ back-bare (item ∷ items) bare =
     let rest = back-bare items bare.1 in
     either-bare (is_break item && ends_text items) item (trim_back items) (trim_back items) bare.0 rest rest
 
-trimmed-bare : (items : List Item) → BareItems items → BareItems (trimmed items)
+trimmed-bare : (items : List Item) → BareItems items → BareItems (trimmed_items items)
 trimmed-bare items bare = back-bare (trim_front true (without_inserted items))
     (front-bare true (without_inserted items) (without-bare items bare))
 
@@ -159,8 +159,8 @@ pieces-unbarred s (item ∷ items) stand bare =
     next-unbarred s stand.name item stand (pieces_from s items) bare.0 (λ st. pieces-unbarred s items st bare.1)
 
 pub bare-pieces : (s : Source) (t : Tree) (stand : Stand) → IsBare t
-    → AreUnbarred (pieces_from s (trimmed (flat t)) stand)
-bare-pieces s t stand bare = pieces-unbarred s (trimmed (flat t)) stand (trimmed-bare (flat t) (flat-bare t bare))
+    → AreUnbarred (pieces_from s (trimmed_items (flat t)) stand)
+bare-pieces s t stand bare = pieces-unbarred s (trimmed_items (flat t)) stand (trimmed-bare (flat t) (flat-bare t bare))
 
 -- ## The translation of simple tokens
 

@@ -8,7 +8,7 @@ use Rattle.cw_rules.specs.declared.classes.Class.{Class}
 use Rattle.cw_rules.specs.declared.classes.Class.TheVariants as classes
 use Rattle.cw_rules.specs.Bytes.{is_in, is_letter, is_letter_of, is_suffix, run, apostrophe, dot, digit_0, begins}
 use Rattle.cw_rules.specs.Bytes.{begins_by, plus, minus}
-use Rattle.cw_rules.specs.Constants.{binary, constant, decimal, digits, exponent, exponent_sign, fraction, goes_on}
+use Rattle.cw_rules.specs.Constants.{binary, constant, decimal, digits, exponent, exponent_sign, fraction, digits_go_on}
 use Rattle.cw_rules.specs.Constants.{hexadecimal, is_prefixed, mantissa, more_digits, number, scaled}
 use Rattle.cw_rules.proofs.Ahead.{drop-same}
 use Rattle.cw_rules.proofs.Sizes.{digits-le, mantissa-le, number-le}
@@ -82,7 +82,7 @@ module _ (z : ℕ) (more : List ℕ) (beyond : IsBeyond z) where
   dot-same [] = beyond.dotless
   dot-same (b ∷ bs) = refl
 
-  stops : (class : Class) → is_in class z ≡ false → goes_on class z more ≡ false
+  stops : (class : Class) → is_in class z ≡ false → digits_go_on class z more ≡ false
   stops class h = or-false (is_in class z) (z == apostrophe && begins_by (is_in class) more) h
       (ap (λ t. t && begins_by (is_in class) more) beyond.markless)
 

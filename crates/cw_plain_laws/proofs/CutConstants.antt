@@ -16,7 +16,7 @@ use Rattle.cw_rules.proofs.Ahead.{drop-same}
 use Rattle.cw_rules.proofs.Choices.{and-none}
 use Rattle.cw_rules.proofs.Sizes.{digits-le, mantissa-le, number-le}
 use Rattle.cw_rules.specs.Bytes.{apostrophe, begins, begins_by, digit_0, dot, is_in, is_letter_of, run}
-use Rattle.cw_rules.specs.Constants.{binary, constant, decimal, digits, exponent, exponent_sign, fraction, goes_on}
+use Rattle.cw_rules.specs.Constants.{binary, constant, decimal, digits, exponent, exponent_sign, fraction, digits_go_on}
 use Rattle.cw_rules.specs.Constants.{hexadecimal, is_prefixed, mantissa, more_digits, number, scaled}
 use Rattle.cw_rules.specs.declared.classes.Class.{Class}
 use Rattle.cw_rules.specs.declared.classes.Class.TheVariants as classes
@@ -132,16 +132,16 @@ more-cut : (class : Class) → Cuts (more_digits class)
 more-cut class [] r h = let k : more_digits class r ≤ 0 = h in omega arith
 more-cut class (b ∷ []) r h =
     last-more (is_in class b) (b == apostrophe) (begins_by (is_in class) r) (more_digits class r) (more-some class r) h
-more-cut class (b ∷ c ∷ t) r h = by (goes_on class b (c ∷ t)) refl (more-cut class (c ∷ t) r)
+more-cut class (b ∷ c ∷ t) r h = by (digits_go_on class b (c ∷ t)) refl (more-cut class (c ∷ t) r)
   where
-    by : (x : Bool) → goes_on class b (c ∷ t) ≡ x
+    by : (x : Bool) → digits_go_on class b (c ∷ t) ≡ x
         → (more_digits class (c ∷ (t ++ r)) ≤ suc (length t)
         → more_digits class (c ∷ t) ≡ more_digits class (c ∷ (t ++ r)))
         → more_digits class (b ∷ c ∷ t) ≡ more_digits class (b ∷ c ∷ (t ++ r))
     by true e cut =
         let most : 1 + more_digits class (c ∷ (t ++ r)) ≤ suc (suc (length t)) =
         subst (λ (x : Bool). counted x (more_digits class (c ∷ (t ++ r))) ≤ suc (suc (length t))) e h in
-        ap (counted (goes_on class b (c ∷ t))) (cut (omega arith))
+        ap (counted (digits_go_on class b (c ∷ t))) (cut (omega arith))
     by false e cut = ap (λ x. counted x (more_digits class (c ∷ t))) e
         ∙ sym (ap (λ x. counted x (more_digits class (c ∷ (t ++ r)))) e)
 
@@ -514,7 +514,7 @@ more-last class wordy b [] e = wordy b (only (is_in class b) (b == apostrophe) e
     only true mark e = refl
     only false true e = absurd (let k : 0 ≡ 1 = e in omega arith)
     only false false e = absurd (let k : 0 ≡ 1 = e in omega arith)
-more-last class wordy b (c ∷ bs) e = more-last class wordy c bs (rest (goes_on class b (c ∷ bs)) e)
+more-last class wordy b (c ∷ bs) e = more-last class wordy c bs (rest (digits_go_on class b (c ∷ bs)) e)
   where
     rest : (t : Bool) → counted t (more_digits class (c ∷ bs)) ≡ suc (suc (length bs))
         → more_digits class (c ∷ bs) ≡ suc (length bs)

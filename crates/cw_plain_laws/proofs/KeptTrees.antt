@@ -17,7 +17,8 @@ use Rattle.cw_table.specs.Rewriting.{State, joined_of, math_piece, rewrite, rewr
 use Rattle.cw_table.specs.declared.types.Piece.{Piece}
 use Rattle.cw_table.specs.declared.types.Piece.TheVariants as piece
 use Rattle.cw_table.specs.declared.types.Row.{Row}
-use Rattle.cw_trees.specs.Joining.{Scrap, no_scrap, Joined, Whole, Mark, after, blank_and_whole, dollar_before, in_text}
+use Rattle.cw_trees.specs.Joining.{Scrap, no_scrap, Joined, Whole, Mark, after, blank_and_whole, dollar_before}
+use Rattle.cw_trees.specs.Joining.{scrap_in_text}
 use Rattle.cw_trees.specs.Joining.{joined_tree, needs, toggled, whole}
 use Rattle.cw_trees.specs.Tree.{Tree, Empty, Then, Sub, Sign, reserve_first}
 use Rattle.cw_trees.specs.declared.Control.{Control}
@@ -110,13 +111,13 @@ module _ (T : Tree → Type 0) (empty : T Empty) (subs : (a b : Tree) → T a �
   dollar-kept Text t h = h
   dollar-kept Maybe t h = h
 
-  in_text-kept : (s : Scrap) (rest : Tree) → T s.tree → T rest → T (in_text s rest)
+  in_text-kept : (s : Scrap) (rest : Tree) → T s.tree → T rest → T (scrap_in_text s rest)
   in_text-kept s rest h r = dollar-kept s.left (Sub s.tree (dollar_before s.right rest))
       (subs s.tree (dollar_before s.right rest) h (dollar-kept s.right rest r))
 
   blank-kept : (scraps : List Scrap) → All (OfScrap T) scraps → T (blank_and_whole scraps)
   blank-kept [] all = empty
-  blank-kept (s ∷ scraps) all = signs control.Blank (in_text s (blank_and_whole scraps)) tt
+  blank-kept (s ∷ scraps) all = signs control.Blank (scrap_in_text s (blank_and_whole scraps)) tt
       (in_text-kept s (blank_and_whole scraps) (All-head (OfScrap T) s scraps all)
       (blank-kept scraps (All-tail (OfScrap T) s scraps all)))
 

@@ -16,7 +16,7 @@ use Rattle.cw_rules.specs.declared.codes.Code.TheVariants as code
 use Rattle.cw_rules.specs.declared.tokens.TokKind.{TokKind}
 use Rattle.cw_rules.specs.declared.tokens.TokKind.TheVariants as kind
 use Rattle.cw_trees.specs.Flat.{Item, SourceItem, IdentItem, ReservedItem, SignItem, Open, Close, flat, struck}
-use Rattle.cw_trees.specs.Flat.{trimmed}
+use Rattle.cw_trees.specs.Flat.{trimmed_items}
 use Rattle.cw_trees.specs.Tree.{Tree}
 use Rattle.cw_trees.specs.declared.Control.{Control}
 use Rattle.cw_trees.specs.declared.Control.TheVariants.{CommentEnd}
@@ -161,7 +161,8 @@ laid-own s l (Other (Move c) ∷ ss) own = laid-own s (behind_piece l (Move c)) 
 laid-own s l (Other Nothing ∷ ss) own = laid-own s (behind_piece l Nothing) ss own.1
 
 -- A tree that has the bytes of its tokens is laid out as these.
-pub walked-owners : (s : Source) (tree : Tree) → Walks s tree → owners (pieces s (trimmed (flat tree))) ≡ struck tree
+pub walked-owners : (s : Source) (tree : Tree) → Walks s tree → owners (pieces s (trimmed_items (flat tree)))
+    ≡ struck tree
 walked-owners s tree walks =
     trims-no-bytes s (flat tree) outside
     ∙ ap (λ l. owners (pieces_from s l outside)) (sym (append-nil (flat tree)))
@@ -171,6 +172,6 @@ walked-owners s tree walks =
 pub walked-inks : (s : Source) (tree : Tree) → Walks s tree
     → own_inks (plain_inks s (flat tree)) ≡ map (own_ink s) (struck tree)
 walked-inks s tree walks =
-    let ps = pieces s (trimmed (flat tree)) in
-    laid-own s at_start (stretches ps) (stretched-own s ps (pieces-own s (trimmed (flat tree)) outside))
+    let ps = pieces s (trimmed_items (flat tree)) in
+    laid-own s at_start (stretches ps) (stretched-own s ps (pieces-own s (trimmed_items (flat tree)) outside))
     ∙ ap (map (own_ink s)) (stretched-owners ps ∙ walked-owners s tree walks)

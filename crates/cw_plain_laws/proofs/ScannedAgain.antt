@@ -27,7 +27,7 @@ use Rattle.cw_rules.specs.declared.tokens.Mode.TheVariants.{CPart}
 use Rattle.cw_rules.specs.declared.tokens.TokKind.{TokKind}
 use Rattle.cw_rules.specs.declared.tokens.TokKind.TheVariants as kind
 use Rattle.cw_translator.specs.NameParts.{name_texts}
-use Rattle.cw_trees.specs.Flat.{flat, trimmed}
+use Rattle.cw_trees.specs.Flat.{flat, trimmed_items}
 use Rattle.cw_trees.specs.declared.Control.{Control}
 
 -- ## Pieces of simple tokens
@@ -177,13 +177,13 @@ plain-scans-again flags kept uses text span names marks rest begun are =
     let s = text_source kept uses text span CPart in
     let uncut = part-uncut answers rest begun are in
     let tree = text_tree flags kept uses text span CPart names marks in
-    let ps = pieces s (trimmed (flat tree)) in
+    let ps = pieces s (trimmed_items (flat tree)) in
     let walks = text-walks flags kept uses text span CPart names marks refl uncut in
     let numbers : owners ps ≡ starts_of rest = walked-owners s tree walks
     ∙ translated-shown flags named answers names marks
     (c-texts-nested text span.start span.end CPart refl uncut)
     ∙ part-shown (λ number. is_some (named number)) answers rest begun are in
-    let w = words-are s ps rest (pieces-own s (trimmed (flat tree)) outside)
+    let w = words-are s ps rest (pieces-own s (trimmed_items (flat tree)) outside)
     (bare-pieces s tree outside (part-bare flags named answers names marks rest begun are)) numbers are
     (part-alone text span.start span.end rest begun are)
     (rest-found (IsFound s.answers) answers rest begun (tokens-found text span.start span.end CPart)) in

@@ -5,7 +5,7 @@ use Rattle.cw_trees.specs.declared.Control.{Control}
 use Rattle.cw_trees.specs.declared.Control.TheVariants as control
 use Rattle.cw_trees.specs.Flat.{Item, SourceItem, IdentItem, ReservedItem, SignItem, Open, Close, begins_after}
 use Rattle.cw_trees.specs.Flat.{ends_text}
-use Rattle.cw_trees.specs.Flat.{is_break, is_inserted, trim_back, trim_front, trimmed, without_inserted}
+use Rattle.cw_trees.specs.Flat.{is_break, is_inserted, trim_back, trim_front, trimmed_items, without_inserted}
 use Rattle.cw_plain.specs.Pieces.{Ending, Closing, Move, Nothing, Opening, Part, Piece, Source, Stand, Word}
 use Rattle.cw_plain.specs.Pieces.{item_placed, passed}
 use Rattle.cw_plain.specs.Pieces.{pieces_from, pieces_in}
@@ -123,7 +123,7 @@ back-owns s (item ∷ items) stand = either s (is_break item && ends_text items)
     (λ e. break-quiet s item items (both-left (is_break item) (ends_text items) e)) (back-owns s items) stand
 
 pub trims-no-bytes : (s : Source) (items : List Item) (stand : Stand)
-    → owners (pieces_from s (trimmed items) stand) ≡ owners (pieces_from s items stand)
+    → owners (pieces_from s (trimmed_items items) stand) ≡ owners (pieces_from s items stand)
 trims-no-bytes s items stand =
     back-owns s (trim_front true (without_inserted items)) stand
     ∙ front-owns s true (without_inserted items) stand

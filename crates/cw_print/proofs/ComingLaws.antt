@@ -7,7 +7,7 @@ use Rattle.cw_trees.specs.declared.Control.{Control}
 use Rattle.cw_trees.specs.Tree.{Leaf, Source, Ident, Reserved, Sign, Tree, Empty, Then, Sub, Inner}
 use Rattle.cw_trees.specs.Flat.{Item, SourceItem, IdentItem, ReservedItem, SignItem, Open, Close, leaf_item, flat}
 use Rattle.cw_trees.specs.Flat.{begins_after, ends_text, is_break, is_break_sign, is_inserted, is_inserted_sign}
-use Rattle.cw_trees.specs.Flat.{sign_is, trim_back, trim_front, trimmed, without_inserted}
+use Rattle.cw_trees.specs.Flat.{sign_is, trim_back, trim_front, trimmed_items, without_inserted}
 use Rattle.cw_trees.specs.Printing.{opened}
 use Rattle.cw_tokens.specs.declared.flat.FlatItem.{FlatItem}
 use Rattle.cw_tokens.specs.declared.flat.FlatItem.TheVariants as flat_item
@@ -113,7 +113,8 @@ module _ (may : ℕ → Item → Type 0) where
   back-may (item ∷ items) depth all = back-step item items depth (is_break item && ends_text items) refl
       (back-may items) all
 
-pub trimmed-may : (count : ℕ) (tree : Tree) → IsNamedBelow count tree → AllMay (MayCome count) 0 (trimmed (flat tree))
+pub trimmed-may : (count : ℕ) (tree : Tree) → IsNamedBelow count tree
+    → AllMay (MayCome count) 0 (trimmed_items (flat tree))
 trimmed-may count tree named =
     let all : AllMay (MayStand count) 0 (flat tree) =
     subst (λ (items : List Item). AllMay (MayStand count) 0 items) (append-nil (flat tree))

@@ -3,9 +3,10 @@ use Rattle.std.proofs.Common.{◌≡◌, ℕ, suc, ◌+◌, ◌||◌, ◌&&◌, 
 use Rattle.std.proofs.Common.{drop, refl, ap, sym, ◌∙◌, ◌==◌, arith}
 use Rattle.std.specs.List.{position_or_len}
 use Rattle.std.proofs.lemmas.List.{append_assoc}
-use Rattle.cw_print.specs.Comments.{Piece, Prints, blank_for, byte_piece, closed, comment_piece, is_special, joined}
-use Rattle.cw_print.specs.Comments.{prints}
-use Rattle.cw_print.specs.Comments.{then}
+use Rattle.cw_print.specs.Comments.{CommentPiece, Prints, blank_for, byte_piece, closed, comment_piece, is_special}
+use Rattle.cw_print.specs.Comments.{joined_pieces}
+use Rattle.cw_print.specs.Comments.{piece_of}
+use Rattle.cw_print.specs.Comments.{piece_then}
 
 -- ## Bytes that print themselves
 
@@ -30,32 +31,32 @@ all-other false false true d e is = absurd (cc)
 all-other false false false true e is = absurd (cc)
 all-other false false false false true is = absurd (cc)
 
-byte-plain : (byte braces : ℕ) → is_special byte ≡ false → byte_piece byte braces ≡ prints (byte ∷ []) braces
+byte-plain : (byte braces : ℕ) → is_special byte ≡ false → byte_piece byte braces ≡ piece_of (byte ∷ []) braces
 byte-plain byte braces is =
     let o = all-other (byte == 10) (byte == 64) (byte == 92) (byte == 123) (byte == 125) is in
     λ i. elim (o.second i) [
-      | true ↦ prints [] braces
+      | true ↦ piece_of [] braces
       | false ↦ elim (o.fourth i) [
-        | true ↦ prints (byte ∷ []) (suc braces)
+        | true ↦ piece_of (byte ∷ []) (suc braces)
         | false ↦ elim (o.fifth i) [
           | true ↦ closed braces
-          | false ↦ prints (elim (o.first i) [ true ↦ 32 | false ↦ byte ] ∷ []) braces
+          | false ↦ piece_of (elim (o.first i) [ true ↦ 32 | false ↦ byte ] ∷ []) braces
         ]
       ]
     ]
 
 one-plain : (byte : ℕ) (bytes : List ℕ) (braces : ℕ) → is_special byte ≡ false
-    → comment_piece (byte ∷ bytes) braces ≡ joined (prints (byte ∷ []) braces) (comment_piece bytes braces)
+    → comment_piece (byte ∷ bytes) braces ≡ joined_pieces (piece_of (byte ∷ []) braces) (comment_piece bytes braces)
 one-plain byte [] braces is =
     let o = all-other (byte == 10) (byte == 64) (byte == 92) (byte == 123) (byte == 125) is in
-    λ i. elim (o.third i) [ true ↦ prints (byte ∷ 32 ∷ []) braces | false ↦ byte-plain byte braces is i ]
+    λ i. elim (o.third i) [ true ↦ piece_of (byte ∷ 32 ∷ []) braces | false ↦ byte-plain byte braces is i ]
 one-plain byte (next ∷ bytes) braces is =
     let o = all-other (byte == 10) (byte == 64) (byte == 92) (byte == 123) (byte == 125) is in
     λ i. elim (o.third i && not (next == 64)) [
-      | true ↦ then (prints (byte ∷ blank_for next ∷ []) braces) (comment_piece bytes)
+      | true ↦ piece_then (piece_of (byte ∷ blank_for next ∷ []) braces) (comment_piece bytes)
       | false ↦ elim (o.second i && next == 64) [
-        | true ↦ then (prints (byte ∷ []) braces) (comment_piece bytes)
-        | false ↦ then (byte-plain byte braces is i) (comment_piece (next ∷ bytes))
+        | true ↦ piece_then (piece_of (byte ∷ []) braces) (comment_piece bytes)
+        | false ↦ piece_then (byte-plain byte braces is i) (comment_piece (next ∷ bytes))
       ]
     ]
 
@@ -65,15 +66,15 @@ plain text = position_or_len is_special text
 one-add : (n : ℕ) → 1 + n ≡ suc n
 one-add n = omega arith
 
-abbrev parted : List ℕ → ℕ → ℕ → Piece
-parted text braces n = joined (prints (take n text) braces) (comment_piece (drop n text) braces)
+abbrev parted : List ℕ → ℕ → ℕ → CommentPiece
+parted text braces n = joined_pieces (piece_of (take n text) braces) (comment_piece (drop n text) braces)
 
 plain-by : (x : ℕ) (xs : List ℕ) (braces : ℕ) (b : Bool) → is_special x ≡ b → comment_piece xs braces
     ≡ parted xs braces (plain xs)
     → comment_piece (x ∷ xs) braces ≡ parted (x ∷ xs) braces (cond (not b) (1 + plain xs) 0)
 plain-by x xs braces true is rest = refl
 plain-by x xs braces false is rest =
-    one-plain x xs braces is ∙ ap (λ (p : Piece). joined (prints (x ∷ []) braces) p) rest
+    one-plain x xs braces is ∙ ap (λ (p : CommentPiece). joined_pieces (piece_of (x ∷ []) braces) p) rest
     ∙ ap (parted (x ∷ xs) braces) (sym (one-add (plain xs)))
 
 plain-front : (text : List ℕ) (braces : ℕ) → comment_piece text braces ≡ parted text braces (plain text)
@@ -88,12 +89,12 @@ pub plain-printed : (begun text first rest : List ℕ) (size : ℕ) → size ≡
 plain-printed begun text first rest size is front back out appended braces =
     let front' : take (plain text) text ≡ first = sym (front ∙ ap (λ (n : ℕ). take n text) is) in
     let back' : drop (plain text) text ≡ rest = sym (back ∙ ap (λ (n : ℕ). drop n text) is) in
-    let whole : comment_piece text braces ≡ joined (prints first braces) (comment_piece rest braces) =
-    plain-front text braces ∙ (λ i. joined (prints (front' i) braces) (comment_piece (back' i) braces)) in
+    let whole : comment_piece text braces ≡ joined_pieces (piece_of first braces) (comment_piece rest braces) =
+    plain-front text braces ∙ (λ i. joined_pieces (piece_of (front' i) braces) (comment_piece (back' i) braces)) in
     record {
       bytes =
           ap (λ (l : List ℕ). l ++ (comment_piece rest braces).bytes) appended
           ∙ append_assoc begun first (comment_piece rest braces).bytes
-          ∙ ap (λ (p : Piece). begun ++ p.bytes) (sym whole);
-      braces = ap (λ (p : Piece). p.braces) (sym whole);
+          ∙ ap (λ (p : CommentPiece). begun ++ p.bytes) (sym whole);
+      braces = ap (λ (p : CommentPiece). p.braces) (sym whole);
     }

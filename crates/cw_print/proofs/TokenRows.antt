@@ -3,7 +3,7 @@ use Rattle.std.proofs.Common.{◌≡◌, [], codes, refl}
 use Rattle.cw_rules.specs.declared.codes.Code.TheVariants as code
 use Rattle.cw_rules.specs.declared.signs.Sign.TheVariants as sign
 use Rattle.cw_rules.specs.declared.tokens.TokKind.TheVariants as kind
-use Rattle.cw_print.specs.Comments.{comment_piece, prints, closing_braces}
+use Rattle.cw_print.specs.Comments.{comment_piece, piece_of, closing_braces}
 use Rattle.cw_print.specs.Tokens.{token_bytes, sign_macro}
 
 -- constants
@@ -217,19 +217,19 @@ long_comment = refl
 short_comment : token_bytes kind.ShortComment (codes "//") ≡ codes "\\SHC{"
 short_comment = refl
 
-comment_text : comment_piece (codes "a {@@b}}\nc@d \\{") 0 ≡ prints (codes "a {@b} cd \\{") 0
+comment_text : comment_piece (codes "a {@@b}}\nc@d \\{") 0 ≡ piece_of (codes "a {@b} cd \\{") 0
 comment_text = refl
 
-open_brace : comment_piece (codes "x{y") 1 ≡ prints (codes "x{y") 2
+open_brace : comment_piece (codes "x{y") 1 ≡ piece_of (codes "x{y") 2
 open_brace = refl
 
-backslash_at_a_line_end : comment_piece (codes "a\\\nb\\@@") 0 ≡ prints (codes "a\\ b\\@") 0
+backslash_at_a_line_end : comment_piece (codes "a\\\nb\\@@") 0 ≡ piece_of (codes "a\\ b\\@") 0
 backslash_at_a_line_end = refl
 
-backslash_at_the_end : comment_piece (codes " x \\") 0 ≡ prints (codes " x \\ ") 0
+backslash_at_the_end : comment_piece (codes " x \\") 0 ≡ piece_of (codes " x \\ ") 0
 backslash_at_the_end = refl
 
-two_backslashes_at_the_end : comment_piece (codes " x \\\\") 0 ≡ prints (codes " x \\\\") 0
+two_backslashes_at_the_end : comment_piece (codes " x \\\\") 0 ≡ piece_of (codes " x \\\\") 0
 two_backslashes_at_the_end = refl
 
 missing_braces : closing_braces 2 ≡ codes "}}}"

@@ -3,41 +3,41 @@ use Rattle.std.specs.Prelude.{◌≡◌, ℕ, zero, suc, ◌&&◌, ◌||◌, ◌
 use Rattle.cw_print.specs.Texts.{is_at_pair}
 
 -- What bytes of a comment print, and how many of its braces are open behind them.
-pub record Piece : Type 0 where
+pub record CommentPiece : Type 0 where
   pub bytes : List ℕ
   pub braces : ℕ
 
-abbrev pub prints : List ℕ → ℕ → Piece
-prints bytes braces = record { bytes = bytes; braces = braces }
+abbrev pub piece_of : List ℕ → ℕ → CommentPiece
+piece_of bytes braces = record { bytes = bytes; braces = braces }
 
-abbrev pub joined : Piece → Piece → Piece
-joined first second = record { bytes = first.bytes ++ second.bytes; braces = second.braces }
+abbrev pub joined_pieces : CommentPiece → CommentPiece → CommentPiece
+joined_pieces first second = record { bytes = first.bytes ++ second.bytes; braces = second.braces }
 
-abbrev pub then : Piece → (ℕ → Piece) → Piece
-then first rest = joined first (rest first.braces)
+abbrev pub piece_then : CommentPiece → (ℕ → CommentPiece) → CommentPiece
+piece_then first rest = joined_pieces first (rest first.braces)
 
 -- a line's end is a blank
 abbrev pub blank_for : ℕ → ℕ
 blank_for byte = elim (byte == 10) [ true ↦ 32 | false ↦ byte ]
 
 -- One byte. An `@` and a `}` without its `{` are dropped.
-abbrev pub closed : ℕ → Piece
-closed zero = prints [] 0
-closed (suc braces) = prints (125 ∷ []) braces
+abbrev pub closed : ℕ → CommentPiece
+closed zero = piece_of [] 0
+closed (suc braces) = piece_of (125 ∷ []) braces
 
-abbrev pub byte_piece : ℕ → ℕ → Piece
+abbrev pub byte_piece : ℕ → ℕ → CommentPiece
 byte_piece byte braces = elim (byte == 64) [
-  | true ↦ prints [] braces
+  | true ↦ piece_of [] braces
   | false ↦ elim (byte == 123) [
-    | true ↦ prints (byte ∷ []) (suc braces)
-    | false ↦ elim (byte == 125) [ true ↦ closed braces | false ↦ prints (blank_for byte ∷ []) braces ]
+    | true ↦ piece_of (byte ∷ []) (suc braces)
+    | false ↦ elim (byte == 125) [ true ↦ closed braces | false ↦ piece_of (blank_for byte ∷ []) braces ]
   ]
 ]
 
 -- A backslash that is the last byte takes nothing along: a blank keeps it from the brace that closes the comment.
-abbrev pub last_piece : ℕ → ℕ → Piece
-last_piece byte braces = elim (byte == 92) [
-  | true ↦ prints (byte ∷ 32 ∷ []) braces
+abbrev pub last_byte_piece : ℕ → ℕ → CommentPiece
+last_byte_piece byte braces = elim (byte == 92) [
+  | true ↦ piece_of (byte ∷ 32 ∷ []) braces
   | false ↦ byte_piece byte braces
 ]
 
@@ -45,14 +45,14 @@ last_piece byte braces = elim (byte == 92) [
 abbrev pub takes_along : ℕ → ℕ → Bool
 takes_along byte next = byte == 92 && not (next == 64)
 
-abbrev pub comment_piece : List ℕ → ℕ → Piece
-comment_piece [] braces = prints [] braces
-comment_piece (byte ∷ []) braces = last_piece byte braces
+abbrev pub comment_piece : List ℕ → ℕ → CommentPiece
+comment_piece [] braces = piece_of [] braces
+comment_piece (byte ∷ []) braces = last_byte_piece byte braces
 comment_piece (byte ∷ next ∷ bytes) braces = elim (takes_along byte next) [
-  | true ↦ then (prints (byte ∷ blank_for next ∷ []) braces) (comment_piece bytes)
+  | true ↦ piece_then (piece_of (byte ∷ blank_for next ∷ []) braces) (comment_piece bytes)
   | false ↦ elim (is_at_pair byte next) [
-    | true ↦ then (prints (byte ∷ []) braces) (comment_piece bytes)
-    | false ↦ then (byte_piece byte braces) (comment_piece (next ∷ bytes))
+    | true ↦ piece_then (piece_of (byte ∷ []) braces) (comment_piece bytes)
+    | false ↦ piece_then (byte_piece byte braces) (comment_piece (next ∷ bytes))
   ]
 ]
 

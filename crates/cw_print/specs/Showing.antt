@@ -3,7 +3,7 @@ use Rattle.std.specs.Prelude.{ℕ, Bool, List, [], ◌∷◌, Option, Some, None
 use Rattle.cw_rules.specs.Answers.{Seen}
 use Rattle.cw_rules.specs.declared.tokens.TokKind.{TokKind}
 use Rattle.cw_rules.specs.declared.tokens.TokKind.TheVariants as kind
-use Rattle.cw_print.specs.Comments.{Piece, comment_piece}
+use Rattle.cw_print.specs.Comments.{CommentPiece, comment_piece}
 use Rattle.cw_print.specs.Tokens.{token_bytes}
 
 abbrev pub innermost : List ℕ → ℕ
@@ -19,7 +19,7 @@ pub record TokenShown : Type 0 where
   pub bytes : List ℕ
   pub braces : List ℕ
 
-abbrev pub piece_in : Piece → List ℕ → TokenShown
+abbrev pub piece_in : CommentPiece → List ℕ → TokenShown
 piece_in p braces = record { bytes = p.bytes; braces = p.braces ∷ others braces }
 
 -- the sign behind the name that begins a C part, in the first section that defines the name and in later ones
@@ -42,6 +42,6 @@ token_shown first kind.HeadSign text braces = record { bytes = head_sign first; 
 token_shown first k text braces = record { bytes = token_bytes k text; braces = braces }
 
 -- A number without a token prints nothing.
-abbrev pub found : Bool → Option Seen → List ℕ → TokenShown
-found first None braces = record { bytes = []; braces = braces }
-found first (Some token) braces = token_shown first token.kind token.text braces
+abbrev pub number_shown : Bool → Option Seen → List ℕ → TokenShown
+number_shown first None braces = record { bytes = []; braces = braces }
+number_shown first (Some token) braces = token_shown first token.kind token.text braces

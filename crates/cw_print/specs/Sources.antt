@@ -89,5 +89,5 @@ source_by answers book section flags = record {
   names = book.names;
 }
 
-abbrev pub source : List ℕ → Span → Mode → Book → ℕ → Flags → Source
-source text span mode book section flags = source_by (tokens_of text span.start span.«end» mode) book section flags
+abbrev pub source_at : List ℕ → Span → Mode → Book → ℕ → Flags → Source
+source_at text span mode book section flags = source_by (tokens_of text span.start span.«end» mode) book section flags

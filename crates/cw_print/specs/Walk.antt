@@ -14,14 +14,14 @@ use Rattle.cw_rules.specs.declared.signs.Sign.{Sign}
 use Rattle.cw_trees.specs.declared.Control.{Control}
 use Rattle.cw_trees.specs.declared.Control.TheVariants.{CommentEnd, NameText, NameEnd}
 use Rattle.cw_trees.specs.Tree.{Tree}
-use Rattle.cw_trees.specs.Flat.{Item, SourceItem, IdentItem, ReservedItem, SignItem, Open, Close, flat, trimmed}
+use Rattle.cw_trees.specs.Flat.{Item, SourceItem, IdentItem, ReservedItem, SignItem, Open, Close, flat, trimmed_items}
 use Rattle.cw_trees.specs.Printing.{Printable, sign_bytes, ident_bytes, reserved_bytes, printed}
 use Rattle.cw_secnames.specs.Parts.{inner_parts}
 use Rattle.cw_join.specs.Tokens.{word_at}
 use Rattle.cw_print.specs.Escaping.{typewriter}
 use Rattle.cw_print.specs.Comments.{closing_braces}
 use Rattle.cw_print.specs.Tokens.{sign_macro}
-use Rattle.cw_print.specs.Showing.{TokenShown, found, innermost, others}
+use Rattle.cw_print.specs.Showing.{TokenShown, number_shown, innermost, others}
 use Rattle.cw_print.specs.Found.{numbered}
 
 -- ## Section names
@@ -103,8 +103,8 @@ pub record Shown : Type 0 where
   pub bytes : List ℕ
   pub stand : Stand
 
-abbrev pub prints : List ℕ → Stand → Shown
-prints bytes stand = record { bytes = bytes; stand = stand }
+abbrev pub shown_as : List ℕ → Stand → Shown
+shown_as bytes stand = record { bytes = bytes; stand = stand }
 
 abbrev pub with_braces : List ℕ → Stand → Stand
 with_braces braces stand = record { name = stand.name; braces = braces }
@@ -122,25 +122,25 @@ behind_next [] = record { answers = []; pieces = [] }
 behind_next (p ∷ pieces) = record { answers = p.answers; pieces = pieces }
 
 abbrev pub piece_shown : List ℕ → List NamePiece → Stand → Shown
-piece_shown before pieces stand = prints (before ++ next_bytes pieces) (with_name (Some (behind_next pieces)) stand)
+piece_shown before pieces stand = shown_as (before ++ next_bytes pieces) (with_name (Some (behind_next pieces)) stand)
 
 abbrev pub name_begins : Bool → Title → Stand → Shown
 name_begins lists title stand = piece_shown (front lists title) (name_pieces title) stand
 
 abbrev pub name_goes_on : Option InName → Stand → Shown
-name_goes_on None stand = prints [] stand
+name_goes_on None stand = shown_as [] stand
 name_goes_on (Some name) stand = piece_shown [] name.pieces stand
 
 -- ## Comments and tokens
 
 abbrev pub in_stand : Stand → TokenShown → Shown
-in_stand stand shown = prints shown.bytes (with_braces shown.braces stand)
+in_stand stand shown = shown_as shown.bytes (with_braces shown.braces stand)
 
 abbrev pub found_shown : Bool → Option Seen → Stand → Shown
-found_shown first token stand = in_stand stand (found first token stand.braces)
+found_shown first token stand = in_stand stand (number_shown first token stand.braces)
 
 abbrev pub comment_ends : Stand → Shown
-comment_ends stand = prints (closing_braces (innermost stand.braces)) (with_braces (others stand.braces) stand)
+comment_ends stand = shown_as (closing_braces (innermost stand.braces)) (with_braces (others stand.braces) stand)
 
 -- ## Items
 
@@ -154,15 +154,15 @@ pub record Fixed : Type 0 where
 
 -- A section name prints its title, where it has one.
 abbrev pub named_shown : Bool → Option Title → Stand → Shown
-named_shown lists None stand = prints [] stand
+named_shown lists None stand = shown_as [] stand
 named_shown lists (Some title) stand = name_begins lists title stand
 
-abbrev pub is_name : Option Seen → Bool
-is_name None = false
-is_name (Some token) = is_name_kind token.kind
+abbrev pub is_name_token : Option Seen → Bool
+is_name_token None = false
+is_name_token (Some token) = is_name_kind token.kind
 
 abbrev pub seen_shown : Bool → Bool → Option Title → Option Seen → Stand → Shown
-seen_shown first lists title token stand = elim (is_name token) [
+seen_shown first lists title token stand = elim (is_name_token token) [
   | true ↦ named_shown lists title stand
   | false ↦ found_shown first token stand
 ]
@@ -171,7 +171,7 @@ seen_shown first lists title token stand = elim (is_name token) [
 abbrev pub PrintsSign : Sign → Option Seen → Type 0
 PrintsSign sign token =
     (first lists : Bool) (title : Option Title) (stand : Stand) → seen_shown first lists title token stand
-    ≡ prints (sign_macro sign) stand
+    ≡ shown_as (sign_macro sign) stand
 
 abbrev pub outer_shown : Fixed → Option Title → ℕ → Stand → Shown
 outer_shown f title number stand = seen_shown f.first f.lists title (numbered number f.answers) stand
@@ -188,16 +188,16 @@ bracket wraps bytes = list_if wraps bytes
 abbrev pub control_shown : Control → Stand → Shown
 control_shown CommentEnd stand = comment_ends stand
 control_shown NameText stand = name_goes_on stand.name stand
-control_shown NameEnd stand = prints (codes "\\X") (with_name None stand)
-control_shown control stand = prints [] stand
+control_shown NameEnd stand = shown_as (codes "\\X") (with_name None stand)
+control_shown control stand = shown_as [] stand
 
 -- What an item prints by where it stands, where this is the title of its number.
 abbrev pub placed_shown : Fixed → Option Title → Item → Stand → Shown
 placed_shown f title (SourceItem number) stand = source_shown f title stand.name number stand
 placed_shown f title (SignItem control) stand = control_shown control stand
-placed_shown f title Open stand = prints (bracket f.wraps (codes "\\PB{")) stand
-placed_shown f title Close stand = prints (bracket f.wraps (codes "}")) stand
-placed_shown f title item stand = prints [] stand
+placed_shown f title Open stand = shown_as (bracket f.wraps (codes "\\PB{")) stand
+placed_shown f title Close stand = shown_as (bracket f.wraps (codes "}")) stand
+placed_shown f title item stand = shown_as [] stand
 
 -- What an item prints wherever it stands: names, and all other signs.
 abbrev pub own_sign : Control → List ℕ
@@ -221,17 +221,17 @@ title_in titles (SourceItem number) = titles number
 title_in titles item = None
 
 abbrev pub behind_own : List ℕ → Shown → Shown
-behind_own bytes shown = prints (bytes ++ shown.bytes) shown.stand
+behind_own bytes shown = shown_as (bytes ++ shown.bytes) shown.stand
 
 abbrev pub item_shown : Source → Item → Stand → Shown
 item_shown s item stand = behind_own (own_bytes s.names item) (placed_shown s.fixed (title_in s.titles item) item stand)
 
-abbrev pub before : Item → Shown → (Stand → List Printable) → List Printable
-before item shown rest = record { item = item; bytes = shown.bytes } ∷ rest shown.stand
+abbrev pub shown_before : Item → Shown → (Stand → List Printable) → List Printable
+shown_before item shown rest = record { item = item; bytes = shown.bytes } ∷ rest shown.stand
 
 abbrev pub items_shown : Source → List Item → Stand → List Printable
 items_shown s [] stand = []
-items_shown s (item ∷ items) stand = before item (item_shown s item stand) (items_shown s items)
+items_shown s (item ∷ items) stand = shown_before item (item_shown s item stand) (items_shown s items)
 
 -- where the printing stands behind a list
 abbrev pub stand_after : Source → List Item → Stand → Stand
@@ -242,7 +242,7 @@ stand_after s (item ∷ items) stand = stand_after s items (item_shown s item st
 
 -- a flat list, as the C text of a part or a definition, or as inner C text
 abbrev pub flat_bytes : Bool → Source → List Item → List ℕ
-flat_bytes inner s items = printed inner (items_shown s (trimmed items) outside)
+flat_bytes inner s items = printed inner (items_shown s (trimmed_items items) outside)
 
 -- Inner C text is wrapped, also where it is the text itself.
 abbrev pub wrapped : Bool → List ℕ → List ℕ

@@ -16,7 +16,7 @@ ghost use Rattle.cw_join.specs.Tokens.{CanCome, word_at};
 ghost use Rattle.cw_print.specs.Coming.{AllMay, MayCome};
 ghost use Rattle.cw_print.specs.Printing.{IsBehind, IsMidway, IsOnlyName, Midway, PrintsOn, shown};
 ghost use Rattle.cw_print.specs.Printing.{shown_next, source_of};
-ghost use Rattle.cw_print.specs.Sources.{lists_all, source, source_by};
+ghost use Rattle.cw_print.specs.Sources.{lists_all, source_at, source_by};
 ghost use Rattle.cw_print.specs.Walk.{Source, bracket, tree_bytes, wrapped};
 
 use crate::book_titles::is_first;
@@ -356,7 +356,7 @@ pub fn print_list<D: Desk>(
     requires uncut { begins_section_in (tokens_of text.now span.start span.end mode) ≡ false }
     requires list { id.index < length store.now.lists }
     requires named { IsNamedBelow (length book.now.names) (unfolded store.now.lists id.index) }
-    ensures puts { Puts (tree_bytes inner (source text.now span mode book.now section flags.now)
+    ensures puts { Puts (tree_bytes inner (source_at text.now span mode book.now section flags.now)
         (unfolded store.now.lists id.index))
         out.old out.new (D.told desk.old) (D.told desk.new) result }
 {

@@ -1,7 +1,7 @@
 //! What a token prints where comments are open.
 ghost use Rattle.std.specs.Prelude.{◌≡◌, ◌++◌, OnOk, option_map};
 ghost use Rattle.cw_rules.specs.Answers.{seen};
-ghost use Rattle.cw_print.specs.Showing.{found, head_sign, token_shown};
+ghost use Rattle.cw_print.specs.Showing.{number_shown, head_sign, token_shown};
 
 use crate::braces::OpenBraces;
 use crate::comments::put_piece;
@@ -56,8 +56,9 @@ pub(crate) fn put_found(
     token: Option<Tok>,
     braces: &mut OpenBraces,
 ) -> Result<(), Memory>
-    ensures bytes { OnOk result (out.new ≡ out.old ++ (found first (option_map seen token.entry) braces.old).bytes) }
-    ensures braces { OnOk result (braces.new ≡ (found first (option_map seen token.entry) braces.old).braces) }
+    ensures bytes { OnOk result
+        (out.new ≡ out.old ++ (number_shown first (option_map seen token.entry) braces.old).bytes) }
+    ensures braces { OnOk result (braces.new ≡ (number_shown first (option_map seen token.entry) braces.old).braces) }
 {
     match token {
         Some(token) => put_shown(out, first, token.kind, token.text, braces),

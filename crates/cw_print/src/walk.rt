@@ -3,11 +3,11 @@ ghost use Rattle.std.specs.Prelude.{◌≡◌, ◌++◌, [], Bool, None, Option,
 ghost use Rattle.std.specs.Bool.{OnFalse};
 ghost use Rattle.cw_rules.specs.Answers.{seen};
 ghost use Rattle.cw_print.specs.Found.{numbered};
-ghost use Rattle.cw_print.specs.Showing.{found};
+ghost use Rattle.cw_print.specs.Showing.{number_shown};
 ghost use Rattle.cw_print.specs.Sources.{titles};
 ghost use Rattle.cw_print.specs.Tokens.{sign_macro};
-ghost use Rattle.cw_print.specs.Walk.{Stand, Title, bracket, control_shown, is_name, named_shown, outer_shown, outside};
-ghost use Rattle.cw_print.specs.Walk.{prints, seen_shown, source_shown};
+ghost use Rattle.cw_print.specs.Walk.{Stand, Title, bracket, control_shown, is_name_token, named_shown, outer_shown, outside};
+ghost use Rattle.cw_print.specs.Walk.{shown_as, seen_shown, source_shown};
 ghost use Rattle.cw_print.specs.Walked.{behind};
 
 use crate::book_titles::title_at;
@@ -194,7 +194,7 @@ impl<'s, 'a> TextWalk<'s, 'a> {
 
 /// Whether a control prints by where it stands: the end of a comment, or a place in a section name.
 pub(crate) fn is_placed(control: Control) -> bool
-    ensures { OnFalse result ((stand : Stand) → control_shown control stand ≡ prints [] stand) }
+    ensures { OnFalse result ((stand : Stand) → control_shown control stand ≡ shown_as [] stand) }
 {
     matches!(
         control,
@@ -204,7 +204,7 @@ pub(crate) fn is_placed(control: Control) -> bool
 
 // Whether a token was found and is a section name.
 fn is_name(token: Option<Tok>) -> bool
-    ensures { result ≡ is_name (option_map seen token.entry) }
+    ensures { result ≡ is_name_token (option_map seen token.entry) }
 {
     match token {
         Some(token) => matches!(

@@ -8,7 +8,8 @@ use Rattle.cw_reduce.proofs.Terms.{NamesOfHead, NamesOfHeaded, NamesOfHeld, in_n
 use Rattle.cw_reduce.proofs.Terms.{head_begun, headed_text, of_head, over_head, over_headed, to_headed, name_texts}
 use Rattle.cw_reduce.proofs.Terms.{parts_by_kind, held_answers, with_texts, Translator, Work, IsSoundFrame}
 use Rattle.cw_reduce.proofs.Terms.{IsTranslating, StartsBelow, CText, Progress, after_answers, all_ended, with_held}
-use Rattle.cw_reduce.proofs.Terms.{with_made, NamesAmong, NamesOnTheWay, here, Known, NameTexts, before, begin, end_of}
+use Rattle.cw_reduce.proofs.Terms.{with_made, NamesAmong, NamesOnTheWay, here, Known, NameTexts, made_before, begin}
+use Rattle.cw_reduce.proofs.Terms.{end_of}
 use Rattle.cw_reduce.proofs.Terms.{head_made, leaf_of_name, made, sign_behind, texts_named, with_names, Told, Advances}
 use Rattle.cw_reduce.proofs.Terms.{EndsIn, over, progress_over, Advancing, advances-done, advances-none}
 use Rattle.cw_reduce.proofs.Terms.{advancing-begun, advancing-next, ends-as, same-names, append_assoc}
@@ -70,9 +71,9 @@ module _ (flags : Flags) (named : NameTexts) (nested : AllNested named) (lists :
       ≡ translated flags named answers old marks
   unfolding translated
   headed-translated head rest answers old new marks makes leaves =
-      ap (λ m. end_of flags (before m (made flags (leaf_of_name flags named) (nest rest))))
+      ap (λ m. end_of flags (made_before m (made flags (leaf_of_name flags named) (nest rest))))
       (sym (makes flags named (begin old marks)))
-      ∙ ap (λ n. end_of flags (before (head_made flags named (headed (nest answers)).head (begin old marks))
+      ∙ ap (λ n. end_of flags (made_before (head_made flags named (headed (nest answers)).head (begin old marks))
       (made flags (leaf_of_name flags named) n))) leaves
 
 -- The answers behind a head: those read beyond it, and all others.

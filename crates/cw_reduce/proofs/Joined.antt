@@ -6,7 +6,7 @@ use Rattle.cw_reduce.proofs.Terms.{after_begin as level_begin, after_finish as l
 use Rattle.cw_reduce.proofs.Terms.{all_levels_after, Scrap, LeafForm, token_form, names_with, Frame, CText, Comment}
 use Rattle.cw_reduce.proofs.Terms.{with_scrap, with_item, with_form, Progress, extended, with_made, after_answers}
 use Rattle.cw_reduce.proofs.Terms.{CommentItem, Piece, InnerText, comment_scrap, leaf_scrap, Known, Made, nothing}
-use Rattle.cw_reduce.proofs.Terms.{one_item, beside, before, end_of, as_item, form_made, with_names, token_made}
+use Rattle.cw_reduce.proofs.Terms.{one_item, beside, made_before, end_of, as_item, form_made, with_names, token_made}
 use Rattle.cw_reduce.proofs.Terms.{group_made, made, no_name, SameSize, some-levels, first-levels, nests-size}
 use Rattle.cw_reduce.proofs.Terms.{append_assoc}
 use Rattle.cw_rules.specs.declared.codes.Code.TheVariants as code
@@ -63,7 +63,7 @@ form-known (Some form) known = refl
 
 -- one after the other
 pub level-before : (flags : Flags) (name : ℕ → Known → Made) (m : Made) (n : Nest) (frames : List Frame)
-    → with_made frames (before m (made flags name n)) ≡ level flags name n (with_made frames m)
+    → with_made frames (made_before m (made flags name n)) ≡ level flags name n (with_made frames m)
 level-before flags name m n frames = ap (λ fs. record { frames = fs; known = (made flags name n m.known).known })
     (extended-beside m (made flags name n m.known) frames)
 
@@ -88,7 +88,7 @@ step-token k token a = at-form (token_form k token.text token.hash_line token.sp
 level-inner : (flags : Flags) (name : ℕ → Known → Made) (token : Seen) (inner rest : Nest) (a : Progress)
     → level flags name rest
     (closed flags (level flags name inner (record { frames = CText [] ∷ a.frames; known = a.known })))
-    ≡ with_made a.frames (before (group_made flags kind.InnerText token (made flags name inner a.known))
+    ≡ with_made a.frames (made_before (group_made flags kind.InnerText token (made flags name inner a.known))
     (made flags name rest))
 level-inner flags name token inner rest a =
     let m = made flags name inner a.known in
@@ -102,7 +102,7 @@ level-comment : (flags : Flags) (name : ℕ → Known → Made) (token : Seen) (
       frames = Comment (holder.Comment token.span.start) [] ∷ a.frames;
       known = a.known;
     })))
-    ≡ with_made a.frames (before (group_made flags kind.LongComment token (made flags name inner a.known))
+    ≡ with_made a.frames (made_before (group_made flags kind.LongComment token (made flags name inner a.known))
     (made flags name rest))
 level-comment flags name token inner rest a =
     let m = made flags name inner a.known in
@@ -124,7 +124,7 @@ step-begin k number levels next a h = absurd cc
 level-begin : (flags : Flags) (name : ℕ → Known → Made) (k : TokKind) (token : Seen) (inner rest : Nest)
     (levels next : List Level) (a : Progress) → level_begin k levels ≡ Some next → level flags name rest
     (closed flags (level flags name inner (record { frames = pushed k token.span.start a.frames; known = a.known })))
-    ≡ with_made a.frames (before (group_made flags k token (made flags name inner a.known)) (made flags name rest))
+    ≡ with_made a.frames (made_before (group_made flags k token (made flags name inner a.known)) (made flags name rest))
 level-begin flags name kind.InnerText token inner rest levels next a h = level-inner flags name token inner rest a
 level-begin flags name kind.LongComment token inner rest levels next a h = level-comment flags name token inner rest a
 level-begin flags name kind.ShortComment token inner rest levels next a h = level-comment flags name token inner rest a

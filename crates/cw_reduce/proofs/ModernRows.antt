@@ -1,6 +1,7 @@
 -- Worked rows of modern C: which productions join some texts, and the words that stand in their translations.
 use Rattle.cw_reduce.proofs.Terms.{◌≡◌, ℕ, List, [], ◌∷◌, map, codes, refl, Some, start_flags, Text, Item, SourceItem}
-use Rattle.cw_reduce.proofs.Terms.{IdentItem, ReservedItem, SignItem, flat, trimmed, struck, reads, logs_in, Ended}
+use Rattle.cw_reduce.proofs.Terms.{IdentItem, ReservedItem, SignItem, flat, trimmed_items, struck, reads, logs_in}
+use Rattle.cw_reduce.proofs.Terms.{Ended}
 use Rattle.cw_trees.specs.declared.Control.TheVariants as control
 use Rattle.cw_table.specs.Normal.{normal, log, count}
 use Rattle.cw_table.specs.NormalWalk.{positions}
@@ -14,7 +15,7 @@ abbrev numbers : Ended → List (List ℕ)
 numbers text = map (λ log. map (λ p. p.number) log) (logs_in start_flags text.known.ended)
 
 abbrev items : Ended → List Item
-items text = trimmed (flat text.tree)
+items text = trimmed_items (flat text.tree)
 
 -- A macro of TeX is an expression in math, and a reserved word: `NULL` is the word at 86.
 macro_log : numbers (in_c_part (codes "@c a=NULL;")) ≡ (6 ∷ 8 ∷ []) ∷ []

@@ -8,7 +8,8 @@ use Rattle.cw_reduce.proofs.Terms.{SecName, inner_parts, NameUse, name_at, SecKi
 use Rattle.cw_reduce.proofs.Terms.{Sign, Holder, name_texts, parts_by_kind, texts_kept, texts_of_name, held_answers}
 use Rattle.cw_reduce.proofs.Terms.{name_answers, text_answers, text_token, texts_answers, token_answers, with_texts}
 use Rattle.cw_reduce.proofs.Terms.{Frame, CText, Comment, with_scrap, Progress, with_made, after_answers, all_ended}
-use Rattle.cw_reduce.proofs.Terms.{ended_in, with_held, CommentItem, InnerText, Known, Made, nothing, before, end_of}
+use Rattle.cw_reduce.proofs.Terms.{ended_in, with_held, CommentItem, InnerText, Known, Made, nothing, made_before}
+use Rattle.cw_reduce.proofs.Terms.{end_of}
 use Rattle.cw_reduce.proofs.Terms.{token_made, made, no_name, plain_text, NameTexts, texts_made, texts_named}
 use Rattle.cw_reduce.proofs.Terms.{leaf_of_name, after-append, append_assoc}
 use Rattle.cw_rules.specs.declared.codes.Code.TheVariants as code
@@ -152,7 +153,7 @@ module _ (flags : Flags) (named : NameTexts) (nested : AllNested named) where
   -- what is made of a head, and then the answers behind it
   pub named-translation : (head : Made) (answers : List Answer) → IsNested answers
       → all_ended flags (after_answers flags (with_texts named answers) (with_made (CText [] ∷ []) head))
-      ≡ end_of flags (before head (made flags name (nest answers)))
+      ≡ end_of flags (made_before head (made flags name (nest answers)))
   named-translation head answers h =
       let a : Progress = with_made (CText [] ∷ []) head in
       ap (all_ended flags) (run-named answers (InCode ∷ []) a h

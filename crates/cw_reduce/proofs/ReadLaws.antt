@@ -4,7 +4,7 @@ use Rattle.cw_reduce.proofs.Terms.{◌≡◌, ℕ, ◌+◌, Bool, true, Option, 
 use Rattle.cw_reduce.proofs.Terms.{arith, All, list_all, All-append, All-cons, All-head, All-tail, both, Cat, Dead, Exp}
 use Rattle.cw_reduce.proofs.Terms.{SectionScrap, Flags, MathMode, Text, Math, Maybe, Answer, Seen, Code, TokKind, Nest}
 use Rattle.cw_reduce.proofs.Terms.{End, Leaf, Group, nest, NameId, Ident as ident_kind, Entry, place_of, Tree, Empty}
-use Rattle.cw_reduce.proofs.Terms.{Then, Sub, Sign, Scrap, scrap_agrees, Agrees, dollar_before, in_text}
+use Rattle.cw_reduce.proofs.Terms.{Then, Sub, Sign, Scrap, scrap_agrees, Agrees, dollar_before, scrap_in_text}
 use Rattle.cw_reduce.proofs.Terms.{blank_and_whole, whole, reads, leads_on, all-append, is_fine, State, tree_in}
 use Rattle.cw_reduce.proofs.Terms.{LeafForm, code_form, word_form, token_form, names_with, IsGood, token-good}
 use Rattle.cw_reduce.proofs.Terms.{InnersRead, ReadsInText, leaf_scrap, CommentItem, Piece, InnerText, comment_rest}
@@ -48,7 +48,7 @@ dollar-inners Math tree h = h
 dollar-inners Text tree h = h
 dollar-inners Maybe tree h = h
 
-in_text-inners : (s : Scrap) (rest : Tree) → InnersRead s.tree → InnersRead rest → InnersRead (in_text s rest)
+in_text-inners : (s : Scrap) (rest : Tree) → InnersRead s.tree → InnersRead rest → InnersRead (scrap_in_text s rest)
 in_text-inners s rest h r = dollar-inners s.left (Sub s.tree (dollar_before s.right rest))
     (h, dollar-inners s.right rest r)
 

@@ -2,7 +2,7 @@
 use Rattle.cw_reduce.proofs.Terms.{◌≡◌, ℕ, Bool, true, false, not, is_some, Option, Some, None, List, [], ◌∷◌, ◌++◌}
 use Rattle.cw_reduce.proofs.Terms.{refl, sym, ◌∙◌, ap, append-nil, list_all, both, Cat, Exp, SectionScrap, Flags}
 use Rattle.cw_reduce.proofs.Terms.{MathMode, Math, Maybe, Answer, Seen, Code, TokKind, NameId, Entry, Tree, Sub}
-use Rattle.cw_reduce.proofs.Terms.{continues_name, struck, Scrap, dollar_before, in_text, blank_and_whole, whole}
+use Rattle.cw_reduce.proofs.Terms.{continues_name, struck, Scrap, dollar_before, scrap_in_text, blank_and_whole, whole}
 use Rattle.cw_reduce.proofs.Terms.{is_fine, productions-sound, all-append, tree_in, LeafForm, code_form, word_form}
 use Rattle.cw_reduce.proofs.Terms.{token_form, Then, Sign, Empty, leaf_scrap, CommentItem, Piece, InnerText}
 use Rattle.cw_reduce.proofs.Terms.{comment_rest, comment_tree, is_shown, is_shown_code, is_comment, list_if, Nest, End}
@@ -22,7 +22,7 @@ struck-dollar : (mode : MathMode) (tree : Tree) → struck (dollar_before mode t
 struck-dollar Math tree = refl
 struck-dollar _ tree = refl
 
-struck-in-text : (scrap : Scrap) (rest : Tree) → struck (in_text scrap rest) ≡ struck scrap.tree ++ struck rest
+struck-in-text : (scrap : Scrap) (rest : Tree) → struck (scrap_in_text scrap rest) ≡ struck scrap.tree ++ struck rest
 struck-in-text scrap rest = struck-dollar scrap.left (Sub scrap.tree (dollar_before scrap.right rest))
     ∙ ap (λ ns. struck scrap.tree ++ ns) (struck-dollar scrap.right rest)
 

@@ -95,7 +95,7 @@ pub use Rattle.cw_translator.specs.Opening.{HasEnded, of_leaf, StartsBelow, of_n
 pub use Rattle.cw_translator.specs.Reading.{with_held, with_made, extended, ended_in}
 pub use Rattle.cw_translator.specs.Translating.{NameTexts, begin, end_of, head_made, headed_made, first_word}
 pub use Rattle.cw_translator.specs.Translating.{form_tokens, later_words, spelled, spelled_behind, word_tokens, Made}
-pub use Rattle.cw_translator.specs.Translating.{dollared, dead, leaf_of_name, made, before, texts_named, is_macro}
+pub use Rattle.cw_translator.specs.Translating.{dollared, dead, leaf_of_name, made, made_before, texts_named, is_macro}
 pub use Rattle.cw_translator.specs.Translating.{nothing, one_item, beside, as_item, form_made, token_made, group_made}
 pub use Rattle.cw_translator.specs.Translating.{no_name, plain_text, texts_made, unnamed}
 pub use Rattle.cw_translator.specs.Working.{texts_in}
@@ -104,10 +104,10 @@ pub use Rattle.cw_translator.specs.declared.holders.Holder.{Holder}
 pub use Rattle.cw_translator.specs.declared.translator.Translated.{Translated}
 pub use Rattle.cw_translator.specs.declared.translator.Translator.{Translator}
 pub use Rattle.cw_translator.specs.declared.work.Work.{Work}
-pub use Rattle.cw_trees.specs.Flat.{struck, Item, SourceItem, IdentItem, ReservedItem, SignItem, flat, trimmed}
+pub use Rattle.cw_trees.specs.Flat.{struck, Item, SourceItem, IdentItem, ReservedItem, SignItem, flat, trimmed_items}
 pub use Rattle.cw_trees.specs.Flat.{continues_name, Open, Close}
 pub use Rattle.cw_trees.specs.Joining.{leads_on, stays, no_scrap, Joined, Whole, Mark, needs, after, toggled}
-pub use Rattle.cw_trees.specs.Joining.{joined_tree, Agrees, dollar_before, in_text, blank_and_whole}
+pub use Rattle.cw_trees.specs.Joining.{joined_tree, Agrees, dollar_before, scrap_in_text, blank_and_whole}
 pub use Rattle.cw_trees.specs.Tree.{Sub, Search, Found, Stopped, Nothing, search_leaf, first_ident, reserve_first}
 pub use Rattle.std.proofs.Common.{Bool, false, not, Result, ◌^◌, Ok, zero, nat_lt, is_some, codes, nat_eq, eqb, rules}
 pub use Rattle.std.proofs.Common.{IfOk, Err}

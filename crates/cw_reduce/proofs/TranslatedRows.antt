@@ -2,7 +2,7 @@
 use Rattle.cw_reduce.proofs.Terms.{◌≡◌, ℕ, Bool, false, true, List, [], ◌∷◌, map, codes, get_or, length, eqb, refl}
 use Rattle.cw_reduce.proofs.Terms.{Option, Some, None, start_flags, Text, CPart, Definition, inner_mode as InnerMode}
 use Rattle.cw_reduce.proofs.Terms.{Answer, tokens_of, Entry, Item, SourceItem, IdentItem, ReservedItem, SignItem, Open}
-use Rattle.cw_reduce.proofs.Terms.{Close, flat, trimmed, struck, reads, scraps_in, productions_in, logs_in}
+use Rattle.cw_reduce.proofs.Terms.{Close, flat, trimmed_items, struck, reads, scraps_in, productions_in, logs_in}
 use Rattle.cw_reduce.proofs.Terms.{parts_of_name, Ended, unnamed, shown as shown_numbers}
 use Rattle.cw_base.specs.declared.category.Cat.TheVariants as cat
 use Rattle.cw_names.specs.Words.{built_in_words}
@@ -47,7 +47,7 @@ shown texts names Open = record { item = Open; bytes = codes "\\PB{" }
 shown texts names Close = record { item = Close; bytes = codes "}" }
 
 abbrev pub bytes_of : List (ℕ × List ℕ) → Ended → List ℕ
-bytes_of texts t = printed false (map (shown texts t.known.names) (trimmed (flat t.tree)))
+bytes_of texts t = printed false (map (shown texts t.known.names) (trimmed_items (flat t.tree)))
 
 -- the scraps and the productions
 abbrev done : Ended → List ℕ

@@ -15,7 +15,8 @@ use Rattle.cw_reduce.specs.HeadReading.{NamesWithin, head_line, read_made, words
 use Rattle.cw_reduce.specs.Naming.{held_answers, with_texts}
 use Rattle.cw_translator.specs.Reading.{CText, Progress, after_answers, with_held}
 use Rattle.cw_translator.specs.Retyping.{NamesAmong, NamesOnTheWay}
-use Rattle.cw_translator.specs.Translating.{Ended, Known, NameTexts, before, begin, end_of, head_made, leaf_of_name}
+use Rattle.cw_translator.specs.Translating.{Ended, Known, NameTexts, made_before, begin, end_of, head_made}
+use Rattle.cw_translator.specs.Translating.{leaf_of_name}
 use Rattle.cw_translator.specs.Translating.{made, translated}
 use Rattle.cw_translator.specs.declared.nesting.Open.TheVariants as opens
 use Rattle.cw_translator.specs.declared.translator.Translator.{Translator}
@@ -24,7 +25,8 @@ use Rattle.cw_translator.specs.Working.{Route, Target}
 -- the translation of a text with this head and these answers behind it
 abbrev pub headed_text : Flags → NameTexts → List (List Token) → HeadRead → List Answer → Known → Ended
 headed_text flags named lists head rest known =
-    end_of flags (before (read_made flags named lists head known) (made flags (leaf_of_name flags named) (nest rest)))
+    end_of flags (made_before (read_made flags named lists head known)
+    (made flags (leaf_of_name flags named) (nest rest)))
 
 -- The name at the head of a C part, with its inner texts.
 abbrev pub after_held : Flags → Option (List (List Answer)) → Holder → Progress → Progress

@@ -58,7 +58,7 @@ run-drop-le class n bytes = omega (arith, run-le class (drop n bytes), length-dr
 
 more_digits-le : (class : Class) (bytes : List ℕ) → more_digits class bytes ≤ length bytes
 more_digits-le class [] = omega arith
-more_digits-le class (b ∷ bs) = by (constants.goes_on class b bs) (more_digits-le class bs)
+more_digits-le class (b ∷ bs) = by (constants.digits_go_on class b bs) (more_digits-le class bs)
   where
     by : (t : Bool) → more_digits class bs ≤ length bs
         → (elim t [ true ↦ 1 + more_digits class bs | false ↦ 0 ]) ≤ suc (length bs)

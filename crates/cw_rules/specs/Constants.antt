@@ -6,13 +6,16 @@ use Rattle.cw_rules.specs.declared.classes.Class.TheVariants.{Digit, HexDigit, B
 use Rattle.cw_rules.specs.Bytes.{begins, begins_by, is_in, is_letter_of, run, apostrophe, plus, minus, dot, digit_0}
 
 -- A run of digits goes on with a digit of its class, and with a `'` between two of them.
-abbrev pub goes_on : Class → ℕ → List ℕ → Bool
-goes_on class byte bytes = is_in class byte || (byte == apostrophe && begins_by (is_in class) bytes)
+abbrev pub digits_go_on : Class → ℕ → List ℕ → Bool
+digits_go_on class byte bytes = is_in class byte || (byte == apostrophe && begins_by (is_in class) bytes)
 
 -- how many bytes go on with a run behind one of its digits
 abbrev pub more_digits : Class → List ℕ → ℕ
 more_digits class [] = 0
-more_digits class (byte ∷ bytes) = elim (goes_on class byte bytes) [ true ↦ 1 + more_digits class bytes | false ↦ 0 ]
+more_digits class (byte ∷ bytes) = elim (digits_go_on class byte bytes) [
+  | true ↦ 1 + more_digits class bytes
+  | false ↦ 0
+]
 
 -- how many bytes a run of digits has, which begins with a digit
 abbrev pub digits : Class → List ℕ → ℕ

@@ -1,7 +1,7 @@
 //! How far a constant of C goes.
 ghost use Rattle.std.specs.Prelude.{◌≡◌, ◌≤◌, ◌<◌, true, length};
 ghost use Rattle.cw_rules.specs.Bytes.{begins_by, is_in};
-ghost use Rattle.cw_rules.specs.Constants.{goes_on, digits, fraction, exponent_sign, exponent, mantissa, scaled};
+ghost use Rattle.cw_rules.specs.Constants.{digits_go_on, digits, fraction, exponent_sign, exponent, mantissa, scaled};
 ghost use Rattle.cw_rules.specs.Constants.{is_prefixed, hexadecimal, binary, decimal, number, constant};
 
 use crate::classes::{Class, begins, from, is_letter_of, run};
@@ -155,7 +155,7 @@ fn digits(class: Class, bytes: &[u8]) -> usize
 // Whether a run of digits goes on with this byte, before the others.
 #[inline(always)]
 fn goes_on(class: Class, byte: u8, bytes: &[u8]) -> bool
-    ensures { result ≡ goes_on class byte bytes.now }
+    ensures { result ≡ digits_go_on class byte bytes.now }
 {
     class.has(byte) || (byte == b'\'' && begins_digit(class, bytes))
 }

@@ -10,7 +10,7 @@ use Rattle.cw_base.specs.Category.{in_set}
 use Rattle.cw_table.specs.declared.types.Row.{Row}
 use Rattle.cw_table.specs.declared.types.RowResult.TheVariants.{SameAs}
 use Rattle.cw_table.specs.Fitting.{row_fits}
-use Rattle.cw_table.specs.Rows.{pieces_by, test, tests_of}
+use Rattle.cw_table.specs.Rows.{pieces_for, test, tests_of}
 use Rattle.cw_table.specs.Sound.{IsSound, row_is_sound, scraps_in, numbers_from}
 use Rattle.cw_table.specs.Rewriting.{alone, takes_other}
 use Rattle.cw_table.proofs.Soundness.{sound-row}
@@ -40,7 +40,7 @@ there row cats k sound fits tested not_end = elim (cases_lt k (length cats)) [
     differ e = cc
 
 -- a row has at most twelve pieces
-pieces-few : (row : Row) → IsSound row → (b : Bool) → length (pieces_by b row) ≤ 12
+pieces-few : (row : Row) → IsSound row → (b : Bool) → length (pieces_for b row) ≤ 12
 pieces-few row s true = let few : row.action.other.count ≤ 12 = s.other_short in
     omega (arith, length-take row.action.other.count row.action.other.pieces)
 pieces-few row s false = let few : row.action.usual.count ≤ 12 = s.usual_short in

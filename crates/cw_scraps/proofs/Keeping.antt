@@ -24,7 +24,7 @@ use Rattle.cw_table.specs.declared.types.Row.{Row}
 use Rattle.cw_table.specs.Rows.{result_at}
 use Rattle.cw_table.specs.Sound.{is_exp}
 use Rattle.cw_table.specs.Rewriting.{cats_of, row_pieces, math_piece, joined_of, alone, with_cat, new_from, new_scrap}
-use Rattle.cw_table.specs.Rewriting.{search_in, reserved_in, reserved_at, is_name, named_scrap, named_right}
+use Rattle.cw_table.specs.Rewriting.{search_in, reserved_in, reserved_at, is_bare_name, named_scrap, named_right}
 use Rattle.cw_table.specs.Rewriting.{rewrite_from}
 use Rattle.cw_scraps.specs.Lines.{leaf_named_below, IsNamedBelow}
 use Rattle.cw_scraps.specs.Modes.{piece_agrees}
@@ -58,14 +58,14 @@ module _ (P : Scrap → Type 0) (none : P no_scrap) (reserves : (s : Scrap) → 
         | None ↦ join cat (map (joined_of scraps) pieces)
       ]) e)) (joins cat scraps pieces all)
 
-  in_scrap : (b : Bool) (name : ℕ) (s : Scrap) → (is_exp s.cat && is_name name (bare_name s.tree)) ≡ b → P s
+  in_scrap : (b : Bool) (name : ℕ) (s : Scrap) → (is_exp s.cat && is_bare_name name (bare_name s.tree)) ≡ b → P s
       → P (named_scrap name s)
   in_scrap true name s e h = rw (e, named_scrap) (recats RawInt (reserved_in s) (reserves s h))
   in_scrap false name s e h = rw (e, named_scrap) h
 
   in_right : (found : Search) (scraps : List Scrap) → All P scraps → All P (named_right found scraps)
   in_right (Found name) scraps all = All-map P (named_scrap name) scraps
-      (λ k d h. in_scrap (is_exp (get_or scraps k d).cat && is_name name (bare_name (get_or scraps k d).tree)) name
+      (λ k d h. in_scrap (is_exp (get_or scraps k d).cat && is_bare_name name (bare_name (get_or scraps k d).tree)) name
       (get_or scraps k d) refl (all k d h))
   in_right Stopped scraps all = all
   in_right Nothing scraps all = all

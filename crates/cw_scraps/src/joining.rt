@@ -1,7 +1,7 @@
 //! The list that a production joins of its pieces.
 ghost use Rattle.std.specs.Prelude.{◌≡◌, ◌+◌, ◌-◌, ◌<◌, ◌≤◌, ◌++◌, [], ◌∷◌, length, drop, map, IsSome, option_map};
 ghost use Rattle.cw_base.specs.declared.mode.MathMode.TheVariants.{Maybe};
-ghost use Rattle.cw_table.specs.Rows.{pieces_by};
+ghost use Rattle.cw_table.specs.Rows.{pieces_for};
 ghost use Rattle.cw_tokens.specs.declared.token.Token.TheVariants.{Control as ControlOf};
 ghost use Rattle.cw_tokens.specs.Stored.{MayBePushed};
 ghost use Rattle.cw_scraps.specs.Lines.{roots_of, AreRoots};
@@ -29,15 +29,16 @@ pub fn join(
     requires idle { store.old.building ≡ None }
     requires room { PRODUCTION_TOKENS ≤ store.old.spare }
     requires place { place ≤ length line.now }
-    requires run { IsRun (pieces_by other row.now) (length (drop place line.now)) }
+    requires run { IsRun (pieces_for other row.now) (length (drop place line.now)) }
     requires roots { AreRoots store.old.lists (roots_of (drop place line.now)) }
     ensures lists { store.new.lists ≡ store.old.lists ++ tokens_of Maybe (map (inserting (drop place line.now))
-        (pieces_by other row.now)) ∷ [] }
+        (pieces_for other row.now)) ∷ [] }
     ensures idle { store.new.building ≡ None }
     ensures spare { store.old.spare ≤ store.new.spare + PRODUCTION_TOKENS }
     ensures list { result.list.index ≡ length store.old.lists }
-    ensures left { result.left ≡ left_of (map (inserting (drop place line.now)) (pieces_by other row.now)) }
-    ensures right { result.right ≡ right_after Maybe (map (inserting (drop place line.now)) (pieces_by other row.now)) }
+    ensures left { result.left ≡ left_of (map (inserting (drop place line.now)) (pieces_for other row.now)) }
+    ensures right { result.right
+        ≡ right_after Maybe (map (inserting (drop place line.now)) (pieces_for other row.now)) }
 {
     store.begin();
     let mut modes = Modes {

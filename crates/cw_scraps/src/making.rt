@@ -1,7 +1,7 @@
 //! The scrap that stands in place of those that a production replaces.
 ghost use Rattle.std.specs.Prelude.{◌≡◌, ◌<◌, ◌≤◌, true, length, drop};
 ghost use Rattle.cw_table.specs.Fitting.{row_fits};
-ghost use Rattle.cw_table.specs.Rows.{pieces_by};
+ghost use Rattle.cw_table.specs.Rows.{pieces_for};
 ghost use Rattle.cw_table.specs.Sound.{row_is_sound};
 ghost use Rattle.cw_scraps.specs.Lines.{roots_of, AreRoots};
 ghost use Rattle.cw_scraps.specs.Inserting.{entry_cats};
@@ -18,7 +18,7 @@ use cw_tokens::TokenStore;
 /// Whether a row takes its other pieces at a place.
 fn takes_others(row: &RowAtHand, flags: &Flags, line: &ScrapLine, place: usize) -> bool
     requires { place < length line.now }
-    ensures { pieces_by result row.now ≡ pieces_at flags.now row.now (drop place line.now) }
+    ensures { pieces_for result row.now ≡ pieces_at flags.now row.now (drop place line.now) }
 {
     takes_other(flags, row.choice(), line, place)
 }

@@ -4,7 +4,7 @@ ghost use Rattle.cw_base.specs.declared.mode.MathMode.TheVariants.{Maybe};
 ghost use Rattle.cw_trees.specs.Joining.{first_mode};
 ghost use Rattle.cw_table.specs.declared.types.Insertion.TheVariants.{Scrap};
 ghost use Rattle.cw_table.specs.declared.types.RowResult.TheVariants.{SameAs};
-ghost use Rattle.cw_table.specs.Rows.{pieces_by, result_at};
+ghost use Rattle.cw_table.specs.Rows.{pieces_for, result_at};
 ghost use Rattle.cw_table.specs.Rewriting.{alone, is_stmt, takes_other};
 ghost use Rattle.cw_scraps.specs.Inserting.{entry_cats, insert_in, inserted_by};
 
@@ -72,7 +72,7 @@ pub fn scrap_insert_in(mode: MathMode, line: &ScrapLine, place: usize, k: u8) ->
 
 /// The scrap that stays as it is: where one scrap is replaced and the pieces are that scrap alone.
 pub fn alone(row: &RowAtHand, other: bool) -> Option<u8>
-    ensures { result ≡ alone row.now.replaced (pieces_by other row.now) }
+    ensures { result ≡ alone row.now.replaced (pieces_for other row.now) }
 {
     if row.replaced() == 1 && row.piece_count(other) == 1 {
         only_scrap(row.piece(other, 0))

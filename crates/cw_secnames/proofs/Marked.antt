@@ -9,9 +9,9 @@ use Rattle.std.proofs.lemmas.List.Folds.{list_any-append}
 use Rattle.cw_base.proofs.TestLaws.{one-left, one-right}
 use Rattle.cw_secnames.specs.declared.kinds.SecKind.{SecKind}
 use Rattle.cw_secnames.specs.declared.marks.Marks.{Marks}
-use Rattle.cw_secnames.specs.Kept.{begins}
+use Rattle.cw_secnames.specs.Kept.{is_beginning_of}
 use Rattle.cw_secnames.specs.Marks.{first_mark, next_mark, mark_from, mark_of, is_kept_length, last_kept, Has, HasAll}
-use Rattle.cw_secnames.specs.Marks.{positions_at, is_in, wholes_at, IsMarked, KeepsMarks, IsNear}
+use Rattle.cw_secnames.specs.Marks.{positions_at, is_one_of, wholes_at, IsMarked, KeepsMarks, IsNear}
 
 -- ## What tables have under a mark
 
@@ -27,11 +27,11 @@ pub or-yes : (a b : Bool) → (a || b) ≡ true → (a ≡ true) ⊎ (b ≡ true
 or-yes true b h = inl refl
 or-yes false b h = inr h
 
-pub in-left : (k : ℕ) (xs ys : List ℕ) → is_in k xs ≡ true → is_in k (xs ++ ys) ≡ true
-in-left k xs ys h = list_any-append (λ other. other == k) xs ys ∙ one-left (is_in k xs) (is_in k ys) h
+pub in-left : (k : ℕ) (xs ys : List ℕ) → is_one_of k xs ≡ true → is_one_of k (xs ++ ys) ≡ true
+in-left k xs ys h = list_any-append (λ other. other == k) xs ys ∙ one-left (is_one_of k xs) (is_one_of k ys) h
 
-pub in-right : (k : ℕ) (xs ys : List ℕ) → is_in k ys ≡ true → is_in k (xs ++ ys) ≡ true
-in-right k xs ys h = list_any-append (λ other. other == k) xs ys ∙ one-right (is_in k xs) (is_in k ys) h
+pub in-right : (k : ℕ) (xs ys : List ℕ) → is_one_of k ys ≡ true → is_one_of k (xs ++ ys) ≡ true
+in-right k xs ys h = list_any-append (λ other. other == k) xs ys ∙ one-right (is_one_of k xs) (is_one_of k ys) h
 
 -- ## A byte more
 
@@ -52,7 +52,7 @@ pub record Found (marks : Marks) (kind : SecKind) (text : List ℕ) (count mark 
   pub within : count ≤ length text
   pub kept : is_kept_length at ≡ true
   pub start_is : start ≡ mark_of kind (take at text)
-  pub shorter : (before k : ℕ) → before < count → IsMarked marks kind (take before text) k → is_in k near ≡ true
+  pub shorter : (before k : ℕ) → before < count → IsMarked marks kind (take before text) k → is_one_of k near ≡ true
 
 pub found-first : (marks : Marks) (kind : SecKind) (text : List ℕ) (mark start : ℕ) (near : List ℕ)
     → mark ≡ first_mark kind → start ≡ first_mark kind
@@ -75,7 +75,7 @@ below-or a b h = grind arith
 found-here : (short : Bool) (marks : Marks) (kind : SecKind) (text : List ℕ) (count k mark : ℕ)
     → nat_lt count marks.shortest ≡ short
     → mark ≡ mark_of kind (take count text) → IsMarked marks kind (take count text) k
-    → is_in k (elim short as (λ _. List ℕ) [ true ↦ [] | false ↦ positions_at mark marks.wholes ]) ≡ true
+    → is_one_of k (elim short as (λ _. List ℕ) [ true ↦ [] | false ↦ positions_at mark marks.wholes ]) ≡ true
 found-here true marks kind text count k mark below is m =
     let low : count < marks.shortest = ltb-true count marks.shortest below in
     let size : length (take count text) ≡ min count (length text) = length-take count text in
@@ -86,9 +86,9 @@ found-here false marks kind text count k mark below is m =
 
 shorter-more : (marks : Marks) (kind : SecKind) (text : List ℕ) (count mark : ℕ) (near : List ℕ)
     → mark ≡ mark_of kind (take count text)
-    → ((before k : ℕ) → before < count → IsMarked marks kind (take before text) k → is_in k near ≡ true)
+    → ((before k : ℕ) → before < count → IsMarked marks kind (take before text) k → is_one_of k near ≡ true)
     → (before k : ℕ) → before < count + 1 → IsMarked marks kind (take before text) k
-    → is_in k (near ++ wholes_at marks count mark) ≡ true
+    → is_one_of k (near ++ wholes_at marks count mark) ≡ true
 shorter-more marks kind text count mark near is f before k h m = elim (below-or before count h) [
   | inl below ↦ in-left k near (wholes_at marks count mark) (f before k below m)
   | inr same ↦
@@ -139,18 +139,18 @@ found-next marks kind text count mark start new next d near more f h is last all
 
 -- ## What is found in the end
 
-begins-take : (first text : List ℕ) → begins first text ≡ true → first ≡ take (length first) text
+begins-take : (first text : List ℕ) → is_beginning_of first text ≡ true → first ≡ take (length first) text
 begins-take first text h = same_text first (take (length first) text) (sym h)
 
-not-longer : (first text : List ℕ) → begins first text ≡ true → length first ≤ length text
+not-longer : (first text : List ℕ) → is_beginning_of first text ≡ true → length first ≤ length text
 not-longer first text h =
     let e : length first ≡ min (length first) (length text) = ap length (begins-take first text h)
     ∙ length-take (length first) text in
     omega arith
 
 longer : (marks : Marks) (kind : SecKind) (text other : List ℕ) (k at : ℕ) → IsMarked marks kind other k
-    → begins text other ≡ true → at ≤ length text → is_kept_length at ≡ true
-    → is_in k (positions_at (mark_of kind (take at text)) marks.starts) ≡ true
+    → is_beginning_of text other ≡ true → at ≤ length text → is_kept_length at ≡ true
+    → is_one_of k (positions_at (mark_of kind (take at text)) marks.starts) ≡ true
 longer marks kind text other k at m h most kept =
     let below : length text ≤ length other = not-longer text other h in
     let same : take at other ≡ take at text =
@@ -160,18 +160,18 @@ longer marks kind text other k at m h most kept =
 decide : (a b : ℕ) → a ≤ b → (a < b) ⊎ (a ≡ b)
 decide a b h = grind arith
 
-pub begins-self : (text other : List ℕ) → other ≡ text → begins text other ≡ true
-begins-self text other h = subst (λ t. begins text t ≡ true) (sym h)
+pub begins-self : (text other : List ℕ) → other ≡ text → is_beginning_of text other ≡ true
+begins-self text other h = subst (λ t. is_beginning_of text t ≡ true) (sym h)
     (ap (pointwise nat_eq text) (take_all (length text) text (omega arith)) ∙ nat_list_eq_equiv.refl text)
 
 found-all : (marks : Marks) (kind : SecKind) (text other : List ℕ) (mark start k : ℕ) (near : List ℕ)
     → Found marks kind text (length text) mark start near → IsMarked marks kind other k → IsNear other text
-    → is_in k (near ++ positions_at start marks.starts) ≡ true
+    → is_one_of k (near ++ positions_at start marks.starts) ≡ true
 found-all marks kind text other mark start k near f m h =
-    let more = λ (begun : begins text other ≡ true). in-right k near (positions_at start marks.starts)
-    (subst (λ s. is_in k (positions_at s marks.starts) ≡ true) (sym f.start_is)
+    let more = λ (begun : is_beginning_of text other ≡ true). in-right k near (positions_at start marks.starts)
+    (subst (λ s. is_one_of k (positions_at s marks.starts) ≡ true) (sym f.start_is)
     (longer marks kind text other k f.at m begun f.at_most f.kept)) in
-    elim (or-yes (begins other text) (begins text other) h) [
+    elim (or-yes (is_beginning_of other text) (is_beginning_of text other) h) [
       | inl first ↦ elim (decide (length other) (length text) (not-longer other text first)) [
         | inl below ↦
             in-left k near (positions_at start marks.starts)
@@ -186,7 +186,7 @@ found-all marks kind text other mark start k near f m h =
 pub found-end : (marks : Marks) (kind : SecKind) (text other : List ℕ) (count mark start k : ℕ) (near : List ℕ)
     → Found marks kind text count mark start near → length text ≤ count → IsMarked marks kind other k
     → IsNear other text
-    → is_in k (near ++ positions_at start marks.starts) ≡ true
+    → is_one_of k (near ++ positions_at start marks.starts) ≡ true
 found-end marks kind text other count mark start k near f end m h =
     let within : count ≤ length text = f.within in
     let same : count ≡ length text = omega arith in

@@ -6,7 +6,7 @@ use Rattle.cw_secnames.specs.declared.name_marks.NameMarks.{NameMarks}
 use Rattle.cw_secnames.specs.declared.sec_names.Kept.{Kept}
 use Rattle.cw_secnames.specs.Inside.{name_of}
 use Rattle.cw_secnames.specs.Kept.{SecName}
-use Rattle.cw_secnames.specs.Marks.{HoldNear, IsMarked, is_in}
+use Rattle.cw_secnames.specs.Marks.{HoldNear, IsMarked, is_one_of}
 use Rattle.cw_secnames.specs.NameMarks.{AreMarkedNames, KeepsNames}
 use Rattle.cw_secnames.specs.References.{with_reference}
 use Rattle.cw_secnames.proofs.Nearest.{marked-behind, marked-more, marked-set, marked-with_reference}
@@ -32,7 +32,7 @@ named-with_reference m k i how section names h = λ live. marked-with_reference 
 
 -- positions that hold all of so many are near every text
 pub all-near : (positions : List ℕ) (kind : SecKind) (text : List ℕ) (k : ℕ) (names : List SecName)
-    → ((j : ℕ) → j < k + length names → is_in j positions ≡ true)
+    → ((j : ℕ) → j < k + length names → is_one_of j positions ≡ true)
     → HoldNear positions kind text k names
 all-near positions kind text k [] all = tt
 all-near positions kind text k (n ∷ names) all = (

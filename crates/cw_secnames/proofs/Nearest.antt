@@ -18,9 +18,9 @@ use Rattle.cw_secnames.specs.declared.kinds.RefKind.{RefKind}
 use Rattle.cw_secnames.specs.declared.kinds.RefKind.TheVariants.{Defined, Used, Cited}
 use Rattle.cw_secnames.specs.References.{with_reference, with_section}
 use Rattle.cw_secnames.specs.Inside.{name_of}
-use Rattle.cw_secnames.specs.Kept.{SecName, same_kind, begins, begins_properly, unreferred}
+use Rattle.cw_secnames.specs.Kept.{SecName, same_name_kind, is_beginning_of, begins_properly, unreferred}
 use Rattle.cw_secnames.specs.Asked.{kind_asked, passes, passes_at, is_below, chosen, is_lesser, least_of}
-use Rattle.cw_secnames.specs.Marks.{is_in, is_near, IsNear, IsMarked, KeepsMarks, AreMarked, HoldNear}
+use Rattle.cw_secnames.specs.Marks.{is_one_of, is_near, IsNear, IsMarked, KeepsMarks, AreMarked, HoldNear}
 use Rattle.cw_secnames.proofs.Finding.{length-named}
 use Rattle.cw_secnames.proofs.Marked.{both, and-yes, or-yes, begins-self}
 
@@ -52,7 +52,7 @@ marked-with_reference marks k (suc i) how section (n ∷ names) h =
 
 -- ## The names near a text
 
-same : (a b : SecKind) → same_kind a b ≡ true → b ≡ a
+same : (a b : SecKind) → same_name_kind a b ≡ true → b ≡ a
 same Named Named h = refl
 same File File h = refl
 same Named File h = absurd (cc)
@@ -60,60 +60,69 @@ same File Named h = absurd (cc)
 
 pub holds : (marks : Marks) (near : List ℕ) (kind : SecKind) (text : List ℕ) (k : ℕ) (names : List SecName)
     → AreMarked marks k names
-    → ((other : List ℕ) (k : ℕ) → IsMarked marks kind other k → IsNear other text → is_in k near ≡ true)
+    → ((other : List ℕ) (k : ℕ) → IsMarked marks kind other k → IsNear other text → is_one_of k near ≡ true)
     → HoldNear near kind text k names
 holds marks near kind text k [] h f = tt
 holds marks near kind text k (n ∷ names) h f = (
   λ is.
-      let each : (same_kind kind n.kind ≡ true) × (IsNear n.text text) =
-      both (same_kind kind n.kind) (begins n.text text || begins text n.text) is in
+      let each : (same_name_kind kind n.kind ≡ true) × (IsNear n.text text) =
+      both (same_name_kind kind n.kind) (is_beginning_of n.text text || is_beginning_of text n.text) is in
       f n.text k (subst (λ kind. IsMarked marks kind n.text k) (same kind n.kind each.0) h.0) each.1,
   holds marks near kind text (k + 1) names h.1 f,
 )
 
-begun : (kind : SecKind) (text : List ℕ) (n : SecName) → same_kind kind n.kind ≡ true → begins n.text text ≡ true
+begun : (kind : SecKind) (text : List ℕ) (n : SecName) → same_name_kind kind n.kind ≡ true → is_beginning_of n.text text
+    ≡ true
     → is_near kind text n ≡ true
-begun kind text n h k = and-yes (same_kind kind n.kind) (begins n.text text || begins text n.text) h
-    (one-left (begins n.text text) (begins text n.text) k)
+begun kind text n h k = and-yes (same_name_kind kind n.kind) (is_beginning_of n.text text
+    || is_beginning_of text n.text) h
+    (one-left (is_beginning_of n.text text) (is_beginning_of text n.text) k)
 
-begins-it : (kind : SecKind) (text : List ℕ) (n : SecName) → same_kind kind n.kind ≡ true → begins text n.text ≡ true
+begins-it : (kind : SecKind) (text : List ℕ) (n : SecName) → same_name_kind kind n.kind ≡ true
+    → is_beginning_of text n.text ≡ true
     → is_near kind text n ≡ true
-begins-it kind text n h k = and-yes (same_kind kind n.kind) (begins n.text text || begins text n.text) h
-    (one-right (begins n.text text) (begins text n.text) k)
+begins-it kind text n h k = and-yes (same_name_kind kind n.kind) (is_beginning_of n.text text
+    || is_beginning_of text n.text) h
+    (one-right (is_beginning_of n.text text) (is_beginning_of text n.text) k)
 
 -- a name that passes is near
 passes-near : (asked : Asked) (text : List ℕ) (n : SecName) → passes asked text n ≡ true
     → is_near (kind_asked asked) text n ≡ true
 passes-near (Whole kind) text n h =
-    let a : (n.complete ≡ true) × ((same_kind kind n.kind && pointwise nat_eq text n.text) ≡ true) =
-    both n.complete (same_kind kind n.kind && pointwise nat_eq text n.text) h in
-    let b : (same_kind kind n.kind ≡ true) × (pointwise nat_eq text n.text ≡ true) =
-    both (same_kind kind n.kind) (pointwise nat_eq text n.text) a.1 in
+    let a : (n.complete ≡ true) × ((same_name_kind kind n.kind && pointwise nat_eq text n.text) ≡ true) =
+    both n.complete (same_name_kind kind n.kind && pointwise nat_eq text n.text) h in
+    let b : (same_name_kind kind n.kind ≡ true) × (pointwise nat_eq text n.text ≡ true) =
+    both (same_name_kind kind n.kind) (pointwise nat_eq text n.text) a.1 in
     begins-it kind text n b.0 (begins-self text n.text (sym (same_text text n.text (sym b.1))))
 passes-near (Growing kind) text n h =
-    let a : (not n.complete ≡ true) × ((same_kind kind n.kind && begins n.text text) ≡ true) =
-    both (not n.complete) (same_kind kind n.kind && begins n.text text) h in
-    let b : (same_kind kind n.kind ≡ true) × (begins n.text text ≡ true) =
-    both (same_kind kind n.kind) (begins n.text text) a.1 in
+    let a : (not n.complete ≡ true) × ((same_name_kind kind n.kind && is_beginning_of n.text text) ≡ true) =
+    both (not n.complete) (same_name_kind kind n.kind && is_beginning_of n.text text) h in
+    let b : (same_name_kind kind n.kind ≡ true) × (is_beginning_of n.text text ≡ true) =
+    both (same_name_kind kind n.kind) (is_beginning_of n.text text) a.1 in
     begun kind text n b.0 b.1
 passes-near (Conflicting kind) text n h =
-    let a : (same_kind kind n.kind ≡ true) × ((begins_properly n.text text || begins_properly text n.text) ≡ true) =
-    both (same_kind kind n.kind) (begins_properly n.text text || begins_properly text n.text) h in
+    let a : (same_name_kind kind n.kind ≡ true) × ((begins_properly n.text text || begins_properly text n.text)
+    ≡ true) =
+    both (same_name_kind kind n.kind) (begins_properly n.text text || begins_properly text n.text) h in
     elim (or-yes (begins_properly n.text text) (begins_properly text n.text) a.1) [
-      | inl one ↦ begun kind text n a.0 (both (nat_lt (length n.text) (length text)) (begins n.text text) one).1
-      | inr one ↦ begins-it kind text n a.0 (both (nat_lt (length text) (length n.text)) (begins text n.text) one).1
+      | inl one ↦ begun kind text n a.0 (both (nat_lt (length n.text) (length text)) (is_beginning_of n.text text)
+          one).1
+      | inr one ↦ begins-it kind text n a.0 (both (nat_lt (length text) (length n.text)) (is_beginning_of text n.text)
+          one).1
     ]
 passes-near Candidate text n h =
-    let a : (same_kind Named n.kind ≡ true) × ((begins text n.text || (not n.complete && begins n.text text)) ≡ true) =
-    both (same_kind Named n.kind) (begins text n.text || (not n.complete && begins n.text text)) h in
-    elim (or-yes (begins text n.text) (not n.complete && begins n.text text) a.1) [
+    let a : (same_name_kind Named n.kind ≡ true)
+    × ((is_beginning_of text n.text || (not n.complete && is_beginning_of n.text text)) ≡ true) =
+    both (same_name_kind Named n.kind) (is_beginning_of text n.text || (not n.complete && is_beginning_of n.text text))
+    h in
+    elim (or-yes (is_beginning_of text n.text) (not n.complete && is_beginning_of n.text text) a.1) [
       | inl one ↦ begins-it Named text n a.0 one
-      | inr one ↦ begun Named text n a.0 (both (not n.complete) (begins n.text text) one).1
+      | inr one ↦ begun Named text n a.0 (both (not n.complete) (is_beginning_of n.text text) one).1
     ]
 
 pub is-held : (near : List ℕ) (asked : Asked) (text : List ℕ) (j : ℕ) (names : List SecName) (k : ℕ)
     → HoldNear near (kind_asked asked) text j names
-    → passes_at (passes asked text) names k ≡ true → is_in (j + k) near ≡ true
+    → passes_at (passes asked text) names k ≡ true → is_one_of (j + k) near ≡ true
 is-held near asked text j [] k h p =
     let a : (nat_lt k 0 ≡ true) × (passes asked text (get_or [] k (unreferred Named [] false)) ≡ true) =
     both (nat_lt k 0) _ p in
@@ -122,14 +131,14 @@ is-held near asked text j [] k h p =
 is-held near asked text j (n ∷ names) zero h p =
     let a : (nat_lt 0 (suc (length names)) ≡ true) × (passes asked text n ≡ true) =
     both (nat_lt 0 (suc (length names))) (passes asked text n) p in
-    subst (λ i. is_in i near ≡ true) (sym (add-zero j)) (h.0 (passes-near asked text n a.1))
+    subst (λ i. is_one_of i near ≡ true) (sym (add-zero j)) (h.0 (passes-near asked text n a.1))
 is-held near asked text j (n ∷ names) (suc k) h p =
     let at : SecName = get_or names k (unreferred Named [] false) in
     let a : (nat_lt (suc k) (suc (length names)) ≡ true) × (passes asked text at ≡ true) =
     both (nat_lt (suc k) (suc (length names))) (passes asked text at) p in
     let below : suc k < suc (length names) = ltb-true (suc k) (suc (length names)) a.0 in
     let one : (j + 1) + k ≡ j + suc k = omega arith in
-    subst (λ i. is_in i near ≡ true) one
+    subst (λ i. is_one_of i near ≡ true) one
     (is-held near asked text (j + 1) names k h.1
     (and-yes (nat_lt k (length names)) (passes asked text at) (lt-ltb k (length names) (omega arith)) a.1))
 
@@ -199,13 +208,13 @@ here test names from k least h p =
 
 pub at-most : (test : SecName → Bool) (names : List SecName) (from : ℕ) (least : Option ℕ) (positions : List ℕ) (k : ℕ)
     → from ≤ k
-    → passes_at test names k ≡ true → (is_in k positions ≡ true) ⊎ AtMost least k
+    → passes_at test names k ≡ true → (is_one_of k positions ≡ true) ⊎ AtMost least k
     → AtMost (least_of test names from least positions) k
 at-most test names from least [] k h p (inl e) = absurd (cc)
 at-most test names from least [] k h p (inr e) = e
 at-most test names from least (j ∷ positions) k h p (inr e) =
     at-most test names from (lesser test names from least j) positions k h p (inr (keeps test names from k j least e))
-at-most test names from least (j ∷ positions) k h p (inl e) = elim (or-yes (j == k) (is_in k positions) e) [
+at-most test names from least (j ∷ positions) k h p (inl e) = elim (or-yes (j == k) (is_one_of k positions) e) [
   | inl now ↦
       let is : k ≡ j = sym (eqb-true j k now) in
       at-most test names from (lesser test names from least j) positions k h p
@@ -274,7 +283,7 @@ least-first near asked text names from h =
     least-is (passes asked text) names from (least_of (passes asked text) names from None near)
     (sound (passes asked text) names from None near tt)
     (λ k low p. at-most (passes asked text) names from None near k low p
-    (inl (subst (λ i. is_in i near ≡ true) (zero-add k) (is-held near asked text 0 names k h p))))
+    (inl (subst (λ i. is_one_of i near ≡ true) (zero-add k) (is-held near asked text 0 names k h p))))
 
 pub from-first : (o : Option ℕ) → option_map (λ more. 0 + more) o ≡ o
 from-first None = refl

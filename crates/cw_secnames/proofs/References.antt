@@ -12,7 +12,7 @@ use Rattle.cw_secnames.specs.declared.kinds.RefKind.TheVariants.{Defined, Used, 
 use Rattle.cw_secnames.specs.declared.sec_names.Kept.{Kept}
 use Rattle.cw_secnames.specs.Inside.{listed, lists_of, name_of}
 use Rattle.cw_secnames.specs.Kept.{SecName}
-use Rattle.cw_secnames.specs.Marks.{is_in}
+use Rattle.cw_secnames.specs.Marks.{is_one_of}
 use Rattle.cw_secnames.specs.References.{Ascend, AscendFrom, ReferAscending, RefersAscending, with_number}
 use Rattle.cw_secnames.specs.References.{with_reference, with_section}
 use Rattle.cw_secnames.specs.OnceLaws.{with_number-ascends, with_number-is}
@@ -73,18 +73,18 @@ rises least (n ∷ ns) up zero (suc j) h low =
 rises least (n ∷ ns) up (suc i) zero h low = absurd (omega arith)
 rises least (n ∷ ns) up (suc i) (suc j) h low = rises (n + 1) ns up.1 i j (omega arith) (omega arith)
 
-found-in : (i n : ℕ) (ns : List ℕ) → i < length ns → get_or ns i 0 ≡ n → is_in n ns ≡ true
+found-in : (i n : ℕ) (ns : List ℕ) → i < length ns → get_or ns i 0 ≡ n → is_one_of n ns ≡ true
 found-in i n [] low is = absurd (omega arith)
-found-in zero n (x ∷ ns) low is = ap (λ b. b || is_in n ns) (eq-eqb x n is)
+found-in zero n (x ∷ ns) low is = ap (λ b. b || is_one_of n ns) (eq-eqb x n is)
 found-in (suc i) n (x ∷ ns) low is = ap (λ b. (x == n) || b) (found-in i n ns (omega arith) is) ∙ or-comm (x == n) true
 
 pub with_there : (i n : ℕ) (ns : List ℕ) → Ascend ns → i < length ns → get_or ns i 0 ≡ n → with_number n ns ≡ ns
 with_there i n ns up low is = with_number-is n ns ns up (λ k. by k (n == k) refl)
   where
-    by : (k : ℕ) (t : Bool) → (n == k) ≡ t → (is_in k ns || t) ≡ is_in k ns
-    by k true e = or-comm (is_in k ns) true
-        ∙ sym (subst (λ (j : ℕ). is_in j ns ≡ true) (eqb-true n k e) (found-in i n ns low is))
-    by k false e = or-false (is_in k ns)
+    by : (k : ℕ) (t : Bool) → (n == k) ≡ t → (is_one_of k ns || t) ≡ is_one_of k ns
+    by k true e = or-comm (is_one_of k ns) true
+        ∙ sym (subst (λ (j : ℕ). is_one_of j ns ≡ true) (eqb-true n k e) (found-in i n ns low is))
+    by k false e = or-false (is_one_of k ns)
 
 ascend-inserted : (least i n : ℕ) (ns : List ℕ) → AscendFrom least ns → i ≤ length ns → least ≤ n
     → ((k : ℕ) → k < i → get_or ns k 0 < n) → ((k : ℕ) → i ≤ k → k < length ns → n < get_or ns k 0)
@@ -100,11 +100,11 @@ ascend-inserted least (suc i) n (x ∷ ns) up within low before behind =
           (λ k h. before (suc k) (omega arith)) (λ k h low. behind (suc k) (omega arith) (omega arith)),
     )
 
-in-inserted : (i n k : ℕ) (ns : List ℕ) → (is_in k ns || (n == k)) ≡ is_in k (insert ns i n)
+in-inserted : (i n k : ℕ) (ns : List ℕ) → (is_one_of k ns || (n == k)) ≡ is_one_of k (insert ns i n)
 in-inserted zero n k [] = sym (or-false (n == k))
 in-inserted (suc i) n k [] = sym (or-false (n == k))
-in-inserted zero n k (x ∷ ns) = or-comm (is_in k (x ∷ ns)) (n == k)
-in-inserted (suc i) n k (x ∷ ns) = or-assoc (x == k) (is_in k ns) (n == k)
+in-inserted zero n k (x ∷ ns) = or-comm (is_one_of k (x ∷ ns)) (n == k)
+in-inserted (suc i) n k (x ∷ ns) = or-assoc (x == k) (is_one_of k ns) (n == k)
     ∙ ap (λ b. (x == k) || b) (in-inserted i n k ns)
 
 pub with_inserted : (i n : ℕ) (ns : List ℕ) → Ascend ns → i ≤ length ns

@@ -21,17 +21,17 @@ pub record SecName : Type 0 where
   pub used : List ℕ
   pub cited : List ℕ
 
-abbrev pub same_kind : SecKind → SecKind → Bool
-same_kind Named Named = true
-same_kind File File = true
-same_kind _ _ = false
+abbrev pub same_name_kind : SecKind → SecKind → Bool
+same_name_kind Named Named = true
+same_name_kind File File = true
+same_name_kind _ _ = false
 
 -- One text begins another. It begins it properly where it is shorter.
-abbrev pub begins : List ℕ → List ℕ → Bool
-begins first text = starts_with nat_eq text first
+abbrev pub is_beginning_of : List ℕ → List ℕ → Bool
+is_beginning_of first text = starts_with nat_eq text first
 
 abbrev pub begins_properly : List ℕ → List ℕ → Bool
-begins_properly first text = nat_lt (length first) (length text) && begins first text
+begins_properly first text = nat_lt (length first) (length text) && is_beginning_of first text
 
 -- What entering a name answers, and the names that are kept then.
 pub record Entering : Type 0 where
@@ -55,13 +55,13 @@ with_text (suc k) text complete (n ∷ names) = n ∷ with_text k text complete 
 -- ## A full name
 
 abbrev pub has_text : SecKind → List ℕ → SecName → Bool
-has_text kind text n = n.complete && (same_kind kind n.kind && pointwise nat_eq text n.text)
+has_text kind text n = n.complete && (same_name_kind kind n.kind && pointwise nat_eq text n.text)
 
 abbrev pub grows_to : SecKind → List ℕ → SecName → Bool
-grows_to kind text n = not n.complete && (same_kind kind n.kind && begins n.text text)
+grows_to kind text n = not n.complete && (same_name_kind kind n.kind && is_beginning_of n.text text)
 
 abbrev pub conflicts_with : SecKind → List ℕ → SecName → Bool
-conflicts_with kind text n = same_kind kind n.kind && (begins_properly n.text text || begins_properly text n.text)
+conflicts_with kind text n = same_name_kind kind n.kind && (begins_properly n.text text || begins_properly text n.text)
 
 -- The first case that holds: it is known; it completes the earliest name that begins it; it conflicts with the
 -- earliest name that begins it or that it begins; it is new.
@@ -82,7 +82,8 @@ enter kind text kept =
 
 -- A candidate: a name that the prefix begins, or an incomplete one that begins the prefix.
 abbrev pub is_candidate : List ℕ → SecName → Bool
-is_candidate prefix n = same_kind Named n.kind && (begins prefix n.text || (not n.complete && begins n.text prefix))
+is_candidate prefix n = same_name_kind Named n.kind
+    && (is_beginning_of prefix n.text || (not n.complete && is_beginning_of n.text prefix))
 
 -- A name that may grow to the prefix: an incomplete and shorter one.
 abbrev pub is_shorter : List ℕ → SecName → Bool

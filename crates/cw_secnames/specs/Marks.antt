@@ -9,7 +9,7 @@ use Rattle.cw_secnames.specs.declared.marks.Marks.{Marks}
 use Rattle.cw_secnames.specs.declared.tables.Link.{Link}
 use Rattle.cw_secnames.specs.declared.tables.Table.{Table}
 use Rattle.cw_secnames.specs.declared.tables.Tables.{Tables}
-use Rattle.cw_secnames.specs.Kept.{SecName, same_kind, begins}
+use Rattle.cw_secnames.specs.Kept.{SecName, same_name_kind, is_beginning_of}
 
 -- The mark of a kind alone, and the mark of a text with a byte more.
 abbrev pub first_mark : SecKind → ℕ
@@ -69,17 +69,17 @@ positions_in mark table = back_from table.links.items (length table.links.items)
 abbrev pub positions_at : ℕ → Tables → List ℕ
 positions_at mark tables = flat_map (positions_in mark) tables.full.items ++ positions_in mark tables.latest
 
-abbrev pub is_in : ℕ → List ℕ → Bool
-is_in k positions = list_any (λ other. other == k) positions
+abbrev pub is_one_of : ℕ → List ℕ → Bool
+is_one_of k positions = list_any (λ other. other == k) positions
 
 abbrev pub HasIn : Table → ℕ → ℕ → Type 0
-HasIn table mark k = is_in k (positions_in mark table) ≡ true
+HasIn table mark k = is_one_of k (positions_in mark table) ≡ true
 
 abbrev pub HasAllIn : Table → Table → Type 0
 HasAllIn table more = (mark k : ℕ) → HasIn table mark k → HasIn more mark k
 
 abbrev pub Has : Tables → ℕ → ℕ → Type 0
-Has tables mark k = is_in k (positions_at mark tables) ≡ true
+Has tables mark k = is_one_of k (positions_at mark tables) ≡ true
 
 -- the second tables have what the first have
 abbrev pub HasAll : Tables → Tables → Type 0
@@ -107,13 +107,13 @@ AreMarked marks k (n ∷ names) = IsMarked marks n.kind n.text k × AreMarked ma
 
 -- A text is near another where one of them begins the other.
 abbrev pub is_near : SecKind → List ℕ → SecName → Bool
-is_near kind text n = same_kind kind n.kind && (begins n.text text || begins text n.text)
+is_near kind text n = same_name_kind kind n.kind && (is_beginning_of n.text text || is_beginning_of text n.text)
 
 abbrev pub IsNear : List ℕ → List ℕ → Type 0
-IsNear other text = (begins other text || begins text other) ≡ true
+IsNear other text = (is_beginning_of other text || is_beginning_of text other) ≡ true
 
 -- The positions hold those of all names near a text.
 abbrev pub HoldNear : List ℕ → SecKind → List ℕ → ℕ → List SecName → Type 0
 HoldNear positions kind text k [] = Unit {0}
-HoldNear positions kind text k (n ∷ names) = (is_near kind text n ≡ true → is_in k positions ≡ true)
+HoldNear positions kind text k (n ∷ names) = (is_near kind text n ≡ true → is_one_of k positions ≡ true)
     × HoldNear positions kind text (k + 1) names

@@ -10,12 +10,13 @@ use Rattle.cw_secnames.specs.declared.kinds.RefKind.{RefKind}
 use Rattle.cw_secnames.specs.declared.kinds.RefKind.TheVariants.{Defined, Used, Cited}
 use Rattle.cw_secnames.specs.Kept.{SecName}
 use Rattle.cw_secnames.specs.OnceLaws.{once-more}
-use Rattle.cw_secnames.specs.References.{Reference, once, with_number, is_of, same_way, sections_of, referred}
+use Rattle.cw_secnames.specs.References.{Reference, once, with_number, is_of, same_way, referring_sections, referred}
 use Rattle.cw_secnames.specs.References.{with_section, with_reference}
 
 -- the sections with one reference more
 pub sections-more : (name : ℕ) (how : RefKind) (references : List Reference) (r : Reference) → is_of name how r ≡ true
-    → sections_of name how (references ++ r ∷ []) ≡ with_number r.section (sections_of name how references)
+    → referring_sections name how (references ++ r ∷ [])
+    ≡ with_number r.section (referring_sections name how references)
 sections-more name how references r h =
     ap (λ (rs : List Reference). once (map (λ (r : Reference). r.section) rs))
     (filter-append (is_of name how) references (r ∷ [])
@@ -24,7 +25,7 @@ sections-more name how references r h =
     ∙ once-more r.section (map (λ (r : Reference). r.section) (filter (is_of name how) references))
 
 pub sections-same : (name : ℕ) (how : RefKind) (references : List Reference) (r : Reference) → is_of name how r ≡ false
-    → sections_of name how (references ++ r ∷ []) ≡ sections_of name how references
+    → referring_sections name how (references ++ r ∷ []) ≡ referring_sections name how references
 sections-same name how references r h =
     ap (λ (rs : List Reference). once (map (λ (r : Reference). r.section) rs))
     (filter-append (is_of name how) references (r ∷ [])
@@ -58,13 +59,13 @@ at-name references how other section k = rw (eq-eqb k k refl) refl
 
 head-more : (references : List Reference) (how : RefKind) (section k : ℕ) (n : SecName)
     → record n {
-      defined = sections_of k Defined (references ++ record { name = k; how = how; section = section } ∷ []);
-      used = sections_of k Used (references ++ record { name = k; how = how; section = section } ∷ []);
-      cited = sections_of k Cited (references ++ record { name = k; how = how; section = section } ∷ []);
+      defined = referring_sections k Defined (references ++ record { name = k; how = how; section = section } ∷ []);
+      used = referring_sections k Used (references ++ record { name = k; how = how; section = section } ∷ []);
+      cited = referring_sections k Cited (references ++ record { name = k; how = how; section = section } ∷ []);
     } ≡ with_section how section (record n {
-      defined = sections_of k Defined references;
-      used = sections_of k Used references;
-      cited = sections_of k Cited references;
+      defined = referring_sections k Defined references;
+      used = referring_sections k Used references;
+      cited = referring_sections k Cited references;
     })
 head-more references Defined section k n =
     let r : Reference = record { name = k; how = Defined; section = section } in

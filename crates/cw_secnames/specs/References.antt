@@ -5,7 +5,7 @@ use Rattle.std.specs.List.{filter, range_with_len}
 use Rattle.cw_secnames.specs.declared.kinds.RefKind.{RefKind}
 use Rattle.cw_secnames.specs.declared.kinds.RefKind.TheVariants.{Defined, Used, Cited}
 use Rattle.cw_secnames.specs.Kept.{SecName}
-use Rattle.cw_secnames.specs.Marks.{is_in}
+use Rattle.cw_secnames.specs.Marks.{is_one_of}
 
 -- A section refers to a name.
 pub record Reference : Type 0 where
@@ -20,12 +20,12 @@ same_way Cited Cited = true
 same_way _ _ = false
 
 -- The least number that is above all of these.
-abbrev pub above_all : List ℕ → ℕ
-above_all numbers = fold (λ most n. max most (n + 1)) 0 numbers
+abbrev pub above_numbers : List ℕ → ℕ
+above_numbers numbers = fold (λ most n. max most (n + 1)) 0 numbers
 
 -- These numbers in ascending order, each once.
 abbrev pub once : List ℕ → List ℕ
-once numbers = filter (λ n. is_in n numbers) (range_with_len 0 (above_all numbers))
+once numbers = filter (λ n. is_one_of n numbers) (range_with_len 0 (above_numbers numbers))
 
 -- Numbers ascend, each once, from one on.
 abbrev pub AscendFrom : ℕ → List ℕ → Type 0
@@ -39,17 +39,17 @@ Ascend numbers = AscendFrom 0 numbers
 abbrev pub is_of : ℕ → RefKind → Reference → Bool
 is_of name how r = r.name == name && same_way r.how how
 
-abbrev pub sections_of : ℕ → RefKind → List Reference → List ℕ
-sections_of name how references = once (map (λ r. r.section) (filter (is_of name how) references))
+abbrev pub referring_sections : ℕ → RefKind → List Reference → List ℕ
+referring_sections name how references = once (map (λ r. r.section) (filter (is_of name how) references))
 
 -- The names from a position on, with their references.
 abbrev pub referred : List Reference → ℕ → List SecName → List SecName
 referred references k [] = []
 referred references k (n ∷ names) =
     record n {
-      defined = sections_of k Defined references;
-      used = sections_of k Used references;
-      cited = sections_of k Cited references;
+      defined = referring_sections k Defined references;
+      used = referring_sections k Used references;
+      cited = referring_sections k Cited references;
     } ∷ referred references (k + 1) names
 
 -- ## One reference more

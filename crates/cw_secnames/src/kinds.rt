@@ -1,6 +1,6 @@
 //! Small values: the kinds of names and references, and what entering a name answers.
 ghost use Rattle.std.specs.Prelude.{◌≡◌};
-ghost use Rattle.cw_secnames.specs.Kept.{same_kind};
+ghost use Rattle.cw_secnames.specs.Kept.{same_name_kind};
 
 /// The two kinds of section names, which never match each other.
 #[derive(Clone, Copy, PartialEq, Eq, Debug)]
@@ -51,7 +51,7 @@ pub enum Earliest {
 impl SecKind {
     /// Whether two kinds are the same.
     pub fn is(self, other: SecKind) -> bool
-        ensures { result ≡ same_kind self other }
+        ensures { result ≡ same_name_kind self other }
     {
         match self {
             SecKind::Named => matches!(other, SecKind::Named),

@@ -4,7 +4,7 @@ ghost use Rattle.cw_secnames.specs.Marks.{
   first_mark,
   Has,
   HasAll,
-  is_in,
+  is_one_of,
   is_kept_length,
   IsMarked,
   IsNear,
@@ -136,7 +136,7 @@ impl Marks {
     // The positions of the names of a kind that begin a text or that it begins, and maybe others.
     pub(crate) fn near(&self, kind: SecKind, text: &[u8]) -> Result<Vec<usize>, Memory>
         ensures { IfOk result (λ near. (other : List ℕ) (k : ℕ) → IsMarked self.now kind other k
-            → IsNear other text.now → is_in k near.items ≡ true) }
+            → IsNear other text.now → is_one_of k near.items ≡ true) }
     {
         let mut near = Vec::new(self.alloc);
         let mut mark = first_mark(kind);

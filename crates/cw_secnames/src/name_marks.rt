@@ -1,7 +1,7 @@
 //! The marks of names, until they are given back.
 ghost use Rattle.std.specs.Prelude.{◌≡◌, ℕ, ◌<◌, List, true, false, length, IfOk, OnOk};
 ghost use Rattle.cw_secnames.specs.Kept.{SecName};
-ghost use Rattle.cw_secnames.specs.Marks.{HoldNear, is_in};
+ghost use Rattle.cw_secnames.specs.Marks.{HoldNear, is_one_of};
 ghost use Rattle.cw_secnames.specs.NameMarks.{AreMarkedNames, IsMarkedName, KeepsNames};
 
 use crate::SecKind;
@@ -19,7 +19,7 @@ pub(crate) struct NameMarks {
 
 // All positions below a count.
 fn all_positions(alloc: Global, count: usize) -> Result<Vec<usize>, Memory>
-    ensures { IfOk result (λ all. (k : ℕ) → k < count → is_in k all.items ≡ true) }
+    ensures { IfOk result (λ all. (k : ℕ) → k < count → is_one_of k all.items ≡ true) }
 {
     let mut all = Vec::new(alloc);
     for index in 0..count {

@@ -5,7 +5,7 @@ ghost use Rattle.std.specs.List.{position};
 ghost use Rattle.std.specs.Option.{option_map};
 ghost use Rattle.cw_secnames.specs.Kept.{
   AreKept,
-  begins,
+  is_beginning_of,
   begins_properly,
   conflicts_with,
   earliest,
@@ -99,7 +99,7 @@ fn chosen(lesser: bool, index: usize, least: Option<usize>) -> Option<usize>
 }
 
 fn begins(first: &[u8], text: &[u8]) -> bool
-    ensures { result ≡ begins first.now text.now }
+    ensures { result ≡ is_beginning_of first.now text.now }
 {
     text.starts_with(first)
 }

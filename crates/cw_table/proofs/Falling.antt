@@ -18,7 +18,7 @@ use Rattle.cw_table.specs.declared.types.Piece.TheVariants as piece
 use Rattle.cw_table.specs.declared.types.Row.{Row}
 use Rattle.cw_table.specs.declared.types.RowResult.{RowResult}
 use Rattle.cw_table.specs.declared.types.RowResult.TheVariants.{Is, SameAs}
-use Rattle.cw_table.specs.Rows.{empty, tests_of, test, pieces_by, result_at}
+use Rattle.cw_table.specs.Rows.{empty, tests_of, test, pieces_for, result_at}
 use Rattle.cw_table.specs.Fitting.{all_hold, row_fits}
 use Rattle.cw_table.specs.Sound.{scraps_in, numbers_from, result_from, IsLowering, IsSound}
 use Rattle.cw_table.specs.Rewriting.{cats_of, takes_other, row_pieces, joined_of, alone, with_cat, new_scrap, search_in}
@@ -78,7 +78,7 @@ pub pieces-whole : (f : Flags) (r : Row) (cs : List Cat) → IsSound r → scrap
     ≡ numbers_from r.offset r.replaced
 pieces-whole f r cs s = go (takes_other f r.action.choice cs)
   where
-    go : (b : Bool) → scraps_in (pieces_by b r) ≡ numbers_from r.offset r.replaced
+    go : (b : Bool) → scraps_in (pieces_for b r) ≡ numbers_from r.offset r.replaced
     go true = s.other_whole
     go false = s.usual_whole
 

@@ -19,7 +19,7 @@ use Rattle.cw_table.specs.declared.types.RowResult.TheVariants.{Is}
 use Rattle.cw_table.specs.Insertions.{insertion_of}
 use Rattle.cw_table.specs.Joined.{joined}
 use Rattle.cw_table.specs.Productions.{productions}
-use Rattle.cw_table.specs.Rows.{no_row, pieces_by, row_numbered, row_of}
+use Rattle.cw_table.specs.Rows.{no_row, pieces_for, row_numbered, row_of}
 use Rattle.cw_table.specs.Sound.{IsSound, row_is_sound}
 use Rattle.cw_table.proofs.Examples.{productions-numbered}
 use Rattle.cw_table.proofs.Joining.{productions-length, zipped-get, zipped-is}
@@ -83,17 +83,17 @@ taken ps count i d inside =
 
 -- the pieces of a row, by the data at its place
 pub record HasPieces (other : Bool) (ps : List Piece) (count : ℕ) (row : Row) : Type 0 where
-  pub count_is : count ≡ length (pieces_by other row)
+  pub count_is : count ≡ length (pieces_for other row)
   pub twelve : count ≤ 12
-  pub piece : (i : ℕ) → i < length (pieces_by other row) → slice_get (pieces_by other row) i
+  pub piece : (i : ℕ) → i < length (pieces_for other row) → slice_get (pieces_for other row) i
       ≡ Some (get_or ps i (Scrap 0))
-  pub below : (i : ℕ) → i < length (pieces_by other row) → i < 12
+  pub below : (i : ℕ) → i < length (pieces_for other row) → i < 12
 
-has : (other : Bool) (ps : List Piece) (count : ℕ) (row : Row) → pieces_by other row ≡ take count ps → count ≤ 12
+has : (other : Bool) (ps : List Piece) (count : ℕ) (row : Row) → pieces_for other row ≡ take count ps → count ≤ 12
     → length ps ≡ 12 → HasPieces other ps count row
 has other ps count row is few twelve =
     let long : length (take count ps) ≡ count = length-take-le count ps (omega arith) in
-    let same : length (pieces_by other row) ≡ length (take count ps) = ap length is in
+    let same : length (pieces_for other row) ≡ length (take count ps) = ap length is in
     record {
       count_is = sym (same ∙ long);
       twelve = few;
@@ -106,16 +106,16 @@ pub usual-pieces : (i : ℕ) (other : Bool) (row : Row) → i < ROW_COUNT → ot
 usual-pieces i other row lt off is =
     let s : IsSound (row_at i) = sound-row (row_at i) (ap row_is_sound (row-at i lt)
     ∙ row-sound (i + 1) (omega arith) (omega arith)) in
-    has other (get_or USUAL i []) (get_or HEADS i no_head).usual_count row (ap (λ b. pieces_by b row) off
-    ∙ ap (pieces_by false) (sym (row-at i lt ∙ is))) s.usual_short (usual-places i lt)
+    has other (get_or USUAL i []) (get_or HEADS i no_head).usual_count row (ap (λ b. pieces_for b row) off
+    ∙ ap (pieces_for false) (sym (row-at i lt ∙ is))) s.usual_short (usual-places i lt)
 
 pub other-pieces : (i : ℕ) (other : Bool) (row : Row) → i < ROW_COUNT → other ≡ true → row_of productions (i + 1) ≡ row
     → HasPieces other (get_or OTHER i []) (get_or HEADS i no_head).other_count row
 other-pieces i other row lt on is =
     let s : IsSound (row_at i) = sound-row (row_at i) (ap row_is_sound (row-at i lt)
     ∙ row-sound (i + 1) (omega arith) (omega arith)) in
-    has other (get_or OTHER i []) (get_or HEADS i no_head).other_count row (ap (λ b. pieces_by b row) on
-    ∙ ap (pieces_by true) (sym (row-at i lt ∙ is))) s.other_short (other-places i lt)
+    has other (get_or OTHER i []) (get_or HEADS i no_head).other_count row (ap (λ b. pieces_for b row) on
+    ∙ ap (pieces_for true) (sym (row-at i lt ∙ is))) s.other_short (other-places i lt)
 
 -- what the data inserts is what its pieces insert
 abbrev inserted : List Piece → List Insertion
@@ -135,8 +135,8 @@ inserted-at rows i j d e row place =
     ∙ get_or-map insertion_of (get_or rows i []) j (Scrap 0) e place
 
 pub usual-insertion : (i j : ℕ) (d : List Insertion) (e : Insertion) (other : Bool) (row : Row) → i < ROW_COUNT
-    → other ≡ false → row_of productions (i + 1) ≡ row → j < length (pieces_by other row)
-    → option_map insertion_of (slice_get (pieces_by other row) j) ≡ Some (get_or (get_or USUAL_INSERTIONS i d) j e)
+    → other ≡ false → row_of productions (i + 1) ≡ row → j < length (pieces_for other row)
+    → option_map insertion_of (slice_get (pieces_for other row) j) ≡ Some (get_or (get_or USUAL_INSERTIONS i d) j e)
 usual-insertion i j d e other row lt off is inside =
     let has : HasPieces other (get_or USUAL i []) (get_or HEADS i no_head).usual_count row =
     usual-pieces i other row lt off is in
@@ -145,8 +145,8 @@ usual-insertion i j d e other row lt off is inside =
     ∙ inserted-at USUAL i j d e (omega arith) (omega (arith, usual-places i lt, has.below j inside))))
 
 pub other-insertion : (i j : ℕ) (d : List Insertion) (e : Insertion) (other : Bool) (row : Row) → i < ROW_COUNT
-    → other ≡ true → row_of productions (i + 1) ≡ row → j < length (pieces_by other row)
-    → option_map insertion_of (slice_get (pieces_by other row) j) ≡ Some (get_or (get_or OTHER_INSERTIONS i d) j e)
+    → other ≡ true → row_of productions (i + 1) ≡ row → j < length (pieces_for other row)
+    → option_map insertion_of (slice_get (pieces_for other row) j) ≡ Some (get_or (get_or OTHER_INSERTIONS i d) j e)
 other-insertion i j d e other row lt on is inside =
     let has : HasPieces other (get_or OTHER i []) (get_or HEADS i no_head).other_count row =
     other-pieces i other row lt on is in

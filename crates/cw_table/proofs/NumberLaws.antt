@@ -18,7 +18,7 @@ use Rattle.cw_table.specs.declared.types.Row.{Row}
 use Rattle.cw_table.specs.Rows.{result_at}
 use Rattle.cw_table.specs.Sound.{scraps_in, numbers_from, is_exp, row_is_sound, IsSound}
 use Rattle.cw_table.specs.Rewriting.{cats_of, row_pieces, math_piece, joined_of, alone, with_cat, new_from, new_scrap}
-use Rattle.cw_table.specs.Rewriting.{search_in, reserved_in, reserved_at, is_name, named_scrap, named_right}
+use Rattle.cw_table.specs.Rewriting.{search_in, reserved_in, reserved_at, is_bare_name, named_scrap, named_right}
 use Rattle.cw_table.specs.Rewriting.{rewrite_from, State, rewrite}
 use Rattle.cw_table.specs.Normal.{Place, Nowhere, At, next_place, weight, is_fine, steps, normal}
 use Rattle.cw_table.specs.SourceNumbers.{numbers_of}
@@ -111,7 +111,7 @@ numbers-at None xs = refl
 numbers-at (Some k) xs = numbers-set xs k
 
 numbers-named : (name : ℕ) (s : Scrap) → struck (named_scrap name s).tree ≡ struck s.tree
-numbers-named name s = go (is_exp s.cat && is_name name (bare_name s.tree))
+numbers-named name s = go (is_exp s.cat && is_bare_name name (bare_name s.tree))
   where
     go : (b : Bool) → struck (elim b as (λ _. Scrap) [ true ↦ with_cat RawInt (reserved_in s) | false ↦ s ]).tree
         ≡ struck s.tree

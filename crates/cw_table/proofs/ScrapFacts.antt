@@ -13,7 +13,8 @@ use Rattle.cw_trees.specs.Tree.{Source, Ident, Reserved, Sign, Tree, Empty, Then
 use Rattle.cw_trees.specs.Tree.{Stopped, Nothing, search_word, search_sign, first_ident, reserve_first}
 use Rattle.cw_trees.specs.Joining.{Scrap, no_scrap, Joined, Whole, Mark, toggled, joined_tree, needs}
 use Rattle.cw_table.specs.Sound.{is_exp}
-use Rattle.cw_table.specs.Rewriting.{cats_of, reserved_in, reserved_at, with_cat, is_name, named_scrap, named_right}
+use Rattle.cw_table.specs.Rewriting.{cats_of, reserved_in, reserved_at, with_cat, is_bare_name, named_scrap}
+use Rattle.cw_table.specs.Rewriting.{named_right}
 use Rattle.cw_table.specs.Normal.{rank_with, weight_of, weight, fine_with, is_fine}
 
 -- tests of lists
@@ -197,21 +198,21 @@ pub at-length : (o : Option ℕ) (xs : List Scrap) → length (reserved_at o xs)
 at-length o xs = sym (cats-length (reserved_at o xs)) ∙ ap length (at-cats o xs) ∙ cats-length xs
 
 -- the scraps to the right
-exp-named : (c : Cat) (b : Option ℕ) (name : ℕ) → (is_exp c && is_name name b) ≡ true → rank_with c b ≡ 4
+exp-named : (c : Cat) (b : Option ℕ) (name : ℕ) → (is_exp c && is_bare_name name b) ≡ true → rank_with c b ≡ 4
 exp-named Exp None name h = cc
 exp-named Exp (Some bare) name h = refl
 exp-named _ b name h = cc
 
 named-weight : (name : ℕ) (s : Scrap) → weight_of (named_scrap name s) ≤ weight_of s
-named-weight name s = go (is_exp s.cat && is_name name (bare_name s.tree)) refl
+named-weight name s = go (is_exp s.cat && is_bare_name name (bare_name s.tree)) refl
   where
-    go : (t : Bool) → (is_exp s.cat && is_name name (bare_name s.tree)) ≡ t
+    go : (t : Bool) → (is_exp s.cat && is_bare_name name (bare_name s.tree)) ≡ t
         → weight_of (elim t [ true ↦ with_cat RawInt (reserved_in s) | false ↦ s ]) ≤ weight_of s
     go true e = omega (arith, exp-named s.cat (bare_name s.tree) name e)
     go false e = omega arith
 
 named-fine : (name : ℕ) (s : Scrap) → is_fine s ≡ true → is_fine (named_scrap name s) ≡ true
-named-fine name s h = go (is_exp s.cat && is_name name (bare_name s.tree))
+named-fine name s h = go (is_exp s.cat && is_bare_name name (bare_name s.tree))
   where
     go : (t : Bool) → is_fine (elim t [ true ↦ with_cat RawInt (reserved_in s) | false ↦ s ]) ≡ true
     go true = ap (λ b. fine_with RawInt b) (reserve-bare s.tree)

@@ -2,7 +2,7 @@
 ghost use Rattle.std.specs.Prelude.{◌≡◌, ◌≤◌, ◌<◌, Some, true, length, option_map, slice_get};
 ghost use Rattle.cw_table.specs.Insertions.{insertion_of};
 ghost use Rattle.cw_table.specs.Productions.{productions};
-ghost use Rattle.cw_table.specs.Rows.{pieces_by, row_of};
+ghost use Rattle.cw_table.specs.Rows.{pieces_for, row_of};
 ghost use Rattle.cw_table.specs.Sound.{row_is_sound};
 
 use crate::productions::{HEADS, OTHER, OTHER_INSERTIONS, ROW_COUNT, USUAL, USUAL_INSERTIONS};
@@ -94,7 +94,7 @@ impl RowAtHand {
     /// The number of pieces of its usual translation, or of the other one.
     #[inline(always)]
     pub fn piece_count(&self, other: bool) -> usize
-        ensures count { result ≡ length (pieces_by other self.now) }
+        ensures count { result ≡ length (pieces_for other self.now) }
         ensures twelve { result ≤ 12 }
     {
         if other {
@@ -107,8 +107,8 @@ impl RowAtHand {
     /// A piece of its usual translation, or of the other one.
     #[inline(always)]
     pub fn piece(&self, other: bool, i: usize) -> Piece
-        requires { i < length (pieces_by other self.now) }
-        ensures { slice_get (pieces_by other self.now) i ≡ Some result }
+        requires { i < length (pieces_for other self.now) }
+        ensures { slice_get (pieces_for other self.now) i ≡ Some result }
     {
         if other {
             OTHER[self.index][i]
@@ -120,8 +120,8 @@ impl RowAtHand {
     /// What a piece of its usual translation, or of the other one, puts into a translation.
     #[inline(always)]
     pub fn insertion(&self, other: bool, i: usize) -> Insertion
-        requires { i < length (pieces_by other self.now) }
-        ensures { option_map insertion_of (slice_get (pieces_by other self.now) i) ≡ Some result }
+        requires { i < length (pieces_for other self.now) }
+        ensures { option_map insertion_of (slice_get (pieces_for other self.now) i) ≡ Some result }
     {
         if other {
             OTHER_INSERTIONS[self.index][i]

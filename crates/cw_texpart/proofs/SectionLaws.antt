@@ -7,7 +7,7 @@ use Rattle.cw_phase1.specs.declared.book.Book.{Book}
 use Rattle.cw_phase1.specs.declared.sections.Section.{Section}
 use Rattle.cw_texpart.specs.declared.counts.Counts.{Counts}
 use Rattle.cw_texpart.specs.TexParts.{IsWholePiece, tex_done}
-use Rattle.cw_texts.specs.TexPieces.{pieces_of}
+use Rattle.cw_texts.specs.TexPieces.{tex_pieces_of}
 use Rattle.cw_texpart.specs.Texts.{setting}
 use Rattle.cw_texpart.specs.Weaving.{Press, Weaves}
 
@@ -16,10 +16,10 @@ one-section found s s' is is' = cc
 
 -- the same C texts are whole
 pub whole-as : {text text' : List ℕ} {s s' : Section} → text ≡ text' → s ≡ s'
-    → All (IsWholePiece text) (pieces_of text s.tex) → All (IsWholePiece text') (pieces_of text' s'.tex)
+    → All (IsWholePiece text) (tex_pieces_of text s.tex) → All (IsWholePiece text') (tex_pieces_of text' s'.tex)
 whole-as {text' = text'} {s = s} same is whole =
-    subst (λ (x : Section). All (IsWholePiece text') (pieces_of text' x.tex)) is
-    (subst (λ (x : List ℕ). All (IsWholePiece x) (pieces_of x s.tex)) same whole)
+    subst (λ (x : Section). All (IsWholePiece text') (tex_pieces_of text' x.tex)) is
+    (subst (λ (x : List ℕ). All (IsWholePiece x) (tex_pieces_of x s.tex)) same whole)
 
 -- the same TeX part is woven
 pub woven-as : (flags : Flags) (n : ℕ) (b : Book) {text text' : List ℕ} {s s' : Section} {old new : Press}

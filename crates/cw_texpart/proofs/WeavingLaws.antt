@@ -25,13 +25,13 @@ use Rattle.cw_table.specs.Rewriting.{State}
 use Rattle.cw_table.specs.WalkCounts.{ticks}
 use Rattle.cw_texpart.specs.declared.counts.Counts.{Counts}
 use Rattle.cw_texts.specs.declared.pieces.Piece.{Piece}
-use Rattle.cw_texpart.specs.Done.{Done, behind, joined, plain, reprinted}
+use Rattle.cw_texpart.specs.Done.{Done, done_behind, joined_done, as_it_is, reprinted}
 use Rattle.cw_print.specs.Walk.{section_number}
 use Rattle.cw_texpart.specs.Heads.{head, head_by, printed_depth}
 use Rattle.cw_texpart.specs.Inks.{Ink, end_if, laid, prints}
 use Rattle.cw_texpart.specs.Laying.{held, held_behind, holds_bytes, inked}
 use Rattle.cw_texts.specs.PieceForms.{piece_is}
-use Rattle.cw_texpart.specs.TexParts.{piece_done, pieces_done, tex_by}
+use Rattle.cw_texpart.specs.TexParts.{piece_done, pieces_done, head_and_tex}
 use Rattle.cw_texts.specs.TexPieces.{TexPiece}
 use Rattle.cw_texpart.specs.Texts.{Setting, lasting, name_done_by, text_done}
 use Rattle.cw_texpart.specs.Weaving.{Press, Weaves, mark_at, underlined}
@@ -70,7 +70,7 @@ pub weaves-behind : {T : Type 0} {s : Setting} {front : List ℕ} {d : Done ℕ}
     {told : Told} {value : T} {result : Result Counts PutError}
     → Puts {T = T} front old.line line old.told told (Ok value)
     → Weaves s d (record { book = old.book; line = line; told = told; steps = old.steps }) new result
-    → Weaves s (behind front d) old new result
+    → Weaves s (done_behind front d) old new result
 weaves-behind put woven = record {
   puts = puts-then put woven.puts;
   names = woven.names;
@@ -116,7 +116,7 @@ pub weaves-piece : {s : Setting} {old new : Press} {result : Result Counts PutEr
 weaves-piece {s = s} holds names is =
     weaves-as (ap (λ (p : Piece). reprinted (inked holds) (piece_done s (piece_is p) names)) (sym is))
 
-pub joined-joined : {X : Type 0} (a b c : Done X) → joined (joined a b) c ≡ joined a (joined b c)
+pub joined-joined : {X : Type 0} (a b c : Done X) → joined_done (joined_done a b) c ≡ joined_done a (joined_done b c)
 joined-joined a b c =
     rw (append_assoc a.out b.out c.out, append_assoc a.marks b.marks c.marks, append_assoc a.ended b.ended c.ended) refl
 
@@ -133,12 +133,12 @@ pub record Weaving (s : Setting) (rest : List TexPiece) (all : Done Ink) (old ne
   pub productions_are : prods ≡ productions_in s.flags done.ended
   pub steps_are : new.steps ≡ old.steps + ticks_in s.flags done.ended
   pub bound : new.steps ≤ old.steps + limit_in s.flags done.ended
-  pub goes : joined done (pieces_done s rest done.names) ≡ all
+  pub goes : joined_done done (pieces_done s rest done.names) ≡ all
 
 pub weaving-begun : (s : Setting) (pieces : List TexPiece) (press : Press)
     → Weaving s pieces (pieces_done s pieces press.book.names) press press 0 0
 weaving-begun s pieces press = record {
-  done = plain [] press.book.names;
+  done = as_it_is [] press.book.names;
   put = puts-none press.line press.told (tt {0});
   names = refl;
   occurrences = sym (append-nil press.book.xrefs)
@@ -183,9 +183,10 @@ piece-is {s = s} {piece = piece} w = ap (piece_done s piece) w.names
 
 goes-on : {s : Setting} {piece : TexPiece} {rest : List TexPiece} {all : Done Ink} {old mid : Press} {scraps prods : ℕ}
     (w : Weaving s (piece ∷ rest) all old mid scraps prods)
-    → joined w.done (joined (next_piece s piece mid) (pieces_done s rest (next_piece s piece mid).names)) ≡ all
+    → joined_done w.done (joined_done (next_piece s piece mid) (pieces_done s rest (next_piece s piece mid).names))
+    ≡ all
 goes-on {s = s} {piece = piece} {rest = rest} w =
-    ap (λ (d : Done Ink). joined w.done (joined d (pieces_done s rest d.names))) (piece-is w) ∙ w.goes
+    ap (λ (d : Done Ink). joined_done w.done (joined_done d (pieces_done s rest d.names))) (piece-is w) ∙ w.goes
 
 pub weaving-next : {s : Setting} {piece : TexPiece} {rest : List TexPiece} {all : Done Ink} {old mid new : Press}
     {scraps prods : ℕ} {more : Counts}
@@ -196,7 +197,7 @@ weaving-next {s = s} {piece = piece} {rest = rest} {all = all} {old = old} {mid 
     {prods = prods} {more = more} w woven =
     let d : Done Ink = next_piece s piece mid in
     record {
-      done = joined w.done d;
+      done = joined_done w.done d;
       put = as-put (inks-then w.done.out d.out w.put woven.puts);
       names = woven.names;
       occurrences = woven.occurrences ∙ ap (λ (os : List Occurrence). os ++ underlined s.section d.marks) w.occurrences
@@ -332,7 +333,7 @@ pub weaves-put : {s : Setting} (bytes : List ℕ) {old : Press} {line : LineStat
     (result : Result Counts PutError)
     → Puts bytes old.line line old.told told result
     → IfOk result (λ counts. counts.scraps ≡ 0) → IfOk result (λ counts. counts.productions ≡ 0)
-    → Weaves s (plain bytes old.book.names) old
+    → Weaves s (as_it_is bytes old.book.names) old
     (record { book = old.book; line = line; told = told; steps = old.steps }) result
 weaves-put {s = s} bytes {old = old} (Ok counts) puts scraps prods = record {
   puts = puts;
@@ -361,21 +362,21 @@ pub weaves-plain : {s : Setting} (xs : List Ink) {old : Press} {line : LineState
     (result : Result Counts PutError)
     → Puts (inked (holds_bytes old.line) xs) old.line line old.told told result
     → IfOk result (λ counts. counts.scraps ≡ 0) → IfOk result (λ counts. counts.productions ≡ 0)
-    → Weaves s (reprinted (inked (holds_bytes old.line)) (plain xs old.book.names)) old
+    → Weaves s (reprinted (inked (holds_bytes old.line)) (as_it_is xs old.book.names)) old
     (record { book = old.book; line = line; told = told; steps = old.steps }) result
 weaves-plain xs {old = old} result puts scraps prods =
     weaves-put (inked (holds_bytes old.line) xs) result puts scraps prods
 
 -- nothing
 pub weaves-nothing : {s : Setting} {old : Press} {counts : Counts} → counts.scraps ≡ 0 → counts.productions ≡ 0
-    → Weaves s (plain [] old.book.names) old old (Ok counts)
+    → Weaves s (as_it_is [] old.book.names) old old (Ok counts)
 weaves-nothing {s = s} {old = old} {counts = counts} scraps prods =
     weaves-plain [] (Ok counts) (puts-none old.line old.told counts) scraps prods
 
 -- a section name that is ignored, and one that isn't
 pub ignored : {X : Type 0} (f : ℕ → X) (s : Setting) (inner : Bool) (part : Span) (names : List Entry)
     (name : Option ℕ) → None ≡ option_map f name
-    → name_done_by s inner part name names ≡ plain [] names
+    → name_done_by s inner part name names ≡ as_it_is [] names
 ignored f s inner part names None is = refl
 ignored f s inner part names (Some name) is = absurd (cc)
 
@@ -398,7 +399,7 @@ head-by-holds false holds depth number = brace-last holds (codes "\\M{" ++ numbe
 pub head-refused : {T : Type 0} {s : Setting} (section : Section) (goes : Bool) (front : List ℕ) {old : Press}
     {line : LineState} {told : Told} {error : PutError} {result : Result Counts PutError}
     → Puts {T = T} front old.line line old.told told (Err error) → IsErrAnd result (λ found. found ≡ error)
-    → Weaves s (tex_by goes front s section old.book.names) old
+    → Weaves s (head_and_tex goes front s section old.book.names) old
     (record { book = old.book; line = line; told = told; steps = old.steps }) result
 head-refused section true front puts is = weaves-refused _ (puts-stop _ puts is) refl (omega arith) is
 head-refused section false front puts is = weaves-refused _ (puts-failing refl puts is) refl (omega arith) is

@@ -20,7 +20,7 @@ use Rattle.cw_lex.specs.Openings.{opened_by, opens_part_before, opens_part_in}
 use Rattle.std.specs.Prelude.{is_some}
 use Rattle.cw_lex.specs.TexTexts.{tex_at, are_notes, GoesOn, HoldsInner, TexTextsGoOn}
 use Rattle.cw_phase1.specs.Sections.{span}
-use Rattle.cw_texts.specs.TexPieces.{TexPiece, Copied, InnerText, Cited, token_piece, tex_pieces, pieces_of}
+use Rattle.cw_texts.specs.TexPieces.{TexPiece, Copied, InnerText, Cited, token_piece, tex_pieces, tex_pieces_of}
 use Rattle.cw_texpart.specs.TexParts.{IsWhole, IsWholePiece}
 use Rattle.cw_texpart.specs.WholePieces.{PiecesAreWhole, TexPartsAreWhole}
 
@@ -228,7 +228,7 @@ pub pieces-whole : TexTextsGoOn → CTextsAreNested → PiecesAreWhole
 pieces-whole steps nested text part order within quiet =
     let cut = take part.«end» text in
     All-weaker (IsWholePiece cut) (IsWholePiece text) (λ piece w. piece-in-text text part.«end» piece within w)
-    (pieces_of text part)
+    (tex_pieces_of text part)
     (pieces steps nested cut (length cut) part.start zero (omega arith) quiet)
 
 pub tex-parts-whole : TexTextsGoOn → CTextsAreNested → TexPartsAreWhole

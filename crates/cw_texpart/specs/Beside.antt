@@ -7,7 +7,7 @@ use Rattle.cw_phase1.specs.declared.sections.Section.{Section}
 use Rattle.cw_secnames.specs.Uses.{NameUse}
 use Rattle.cw_texts.specs.Definitions.{printed_definitions}
 use Rattle.cw_texts.specs.Printed.{is_printed}
-use Rattle.cw_texts.specs.TexPieces.{TexPiece, Copied, InnerText, Cited, pieces_of}
+use Rattle.cw_texts.specs.TexPieces.{TexPiece, Copied, InnerText, Cited, tex_pieces_of}
 use Rattle.cw_texpart.specs.Inks.{token_inks}
 use Rattle.cw_texpart.specs.declared.beside.Beside.{Beside}
 use Rattle.cw_texpart.specs.declared.beside.Beside.TheVariants as besides
@@ -19,7 +19,7 @@ is_prose text (InnerText part) = true
 is_prose text (Cited part) = true
 
 abbrev pub has_prose : List ℕ → Span → Bool
-has_prose text tex = list_any (is_prose text) (pieces_of text tex)
+has_prose text tex = list_any (is_prose text) (tex_pieces_of text tex)
 
 abbrev pub has_definition : List ℕ → Span → Bool
 has_definition text part = not (length (printed_definitions text part) == 0)

@@ -5,9 +5,9 @@ use Rattle.cw_rules.specs.declared.tokens.Mode.TheVariants as modes
 use Rattle.cw_texts.specs.Scans.{scanned}
 use Rattle.cw_texpart.specs.Inks.{inks, laid}
 
-abbrev pub limbo_text : List ℕ → Span → List ℕ
-limbo_text text span = laid false (inks text (scanned modes.Limbo text span))
+abbrev pub printed_limbo : List ℕ → Span → List ℕ
+printed_limbo text span = laid false (inks text (scanned modes.Limbo text span))
 
 -- the first line of a book, and its limbo
 abbrev pub limbo_bytes : List ℕ → Span → List ℕ
-limbo_bytes text span = codes "\\input cwebmac\n" ++ limbo_text text span
+limbo_bytes text span = codes "\\input cwebmac\n" ++ printed_limbo text span

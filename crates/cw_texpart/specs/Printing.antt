@@ -2,7 +2,7 @@
 use Rattle.std.specs.Prelude.{ℕ, List}
 use Rattle.cw_names.specs.Names.{Entry}
 use Rattle.cw_phase1.specs.declared.book.Book.{Book}
-use Rattle.cw_print.specs.Sources.{source}
+use Rattle.cw_print.specs.Sources.{source_at}
 use Rattle.cw_print.specs.Walk.{tree_bytes}
 use Rattle.cw_trees.specs.Tree.{Tree}
 use Rattle.cw_texpart.specs.declared.texts.CText.{CText}
@@ -17,4 +17,4 @@ text_printed c book names = text_done (setting_of c book) c.mode c.inner c.span 
 
 -- what a tree prints as this C text of the book
 abbrev pub text_bytes : CText → Book → Tree → List ℕ
-text_bytes c book tree = tree_bytes c.inner (source c.text.now c.span c.mode book c.section c.flags.now) tree
+text_bytes c book tree = tree_bytes c.inner (source_at c.text.now c.span c.mode book c.section c.flags.now) tree

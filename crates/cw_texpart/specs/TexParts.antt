@@ -6,10 +6,10 @@ use Rattle.cw_lex.specs.Nested.{begins_section_in}
 use Rattle.cw_names.specs.Names.{Entry}
 use Rattle.cw_phase1.specs.declared.sections.Section.{Section}
 use Rattle.cw_texts.specs.Scans.{scanned}
-use Rattle.cw_texts.specs.TexPieces.{TexPiece, Copied, InnerText, Cited, pieces_of}
+use Rattle.cw_texts.specs.TexPieces.{TexPiece, Copied, InnerText, Cited, tex_pieces_of}
 use Rattle.cw_texpart.specs.Beside.{code_beside, is_nothing}
 use Rattle.cw_texpart.specs.declared.beside.Beside.{Beside}
-use Rattle.cw_texpart.specs.Done.{Done, behind, plain, reprinted, then}
+use Rattle.cw_texpart.specs.Done.{Done, done_behind, as_it_is, reprinted, then}
 use Rattle.cw_texpart.specs.Heads.{head}
 use Rattle.cw_texpart.specs.Inks.{Ink, laid, prints, token_inks}
 use Rattle.cw_texpart.specs.Texts.{Setting, name_done, text_done}
@@ -17,26 +17,26 @@ use Rattle.cw_texpart.specs.Texts.{Setting, name_done, text_done}
 -- ## What its pieces print
 
 abbrev pub piece_done : Setting → TexPiece → List Entry → Done Ink
-piece_done s (Copied token) names = plain (token_inks s.text token.kind token) names
+piece_done s (Copied token) names = as_it_is (token_inks s.text token.kind token) names
 piece_done s (InnerText part) names = reprinted prints (text_done s modes.Inner true part names)
 piece_done s (Cited part) names = reprinted prints (name_done s true part names)
 
 abbrev pub pieces_done : Setting → List TexPiece → List Entry → Done Ink
-pieces_done s [] names = plain [] names
+pieces_done s [] names = as_it_is [] names
 pieces_done s (piece ∷ pieces) names = then (piece_done s piece names) (pieces_done s pieces)
 
 -- the head, and the TeX part directly behind it, which prints nothing where code stands beside the number
-abbrev pub tex_by : Bool → List ℕ → Setting → Section → List Entry → Done ℕ
-tex_by true front s section names =
-    behind front (reprinted (laid true) (pieces_done s (pieces_of s.text section.tex) names))
-tex_by false front s section names = plain front names
+abbrev pub head_and_tex : Bool → List ℕ → Setting → Section → List Entry → Done ℕ
+head_and_tex true front s section names =
+    done_behind front (reprinted (laid true) (pieces_done s (tex_pieces_of s.text section.tex) names))
+head_and_tex false front s section names = as_it_is front names
 
 abbrev pub beside_in : Setting → Section → Beside
 beside_in s section = code_beside s.text s.flags s.book.name_uses section
 
 abbrev pub tex_done : Setting → Section → List Entry → Done ℕ
 tex_done s section names =
-    tex_by (is_nothing (beside_in s section)) (head s.flags.ranged s.text s.section section) s section names
+    head_and_tex (is_nothing (beside_in s section)) (head s.flags.ranged s.text s.section section) s section names
 
 -- ## C texts in it
 

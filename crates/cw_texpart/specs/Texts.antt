@@ -8,13 +8,13 @@ use Rattle.cw_rules.specs.declared.tokens.Mode.TheVariants.{Inner}
 use Rattle.cw_names.specs.Names.{Entry}
 use Rattle.cw_phase1.specs.Outline.{OutlineState}
 use Rattle.cw_phase1.specs.declared.book.Book.{Book}
-use Rattle.cw_print.specs.Sources.{source}
+use Rattle.cw_print.specs.Sources.{source_at}
 use Rattle.cw_print.specs.Walk.{tree_bytes}
 use Rattle.cw_translator.specs.NameParts.{name_texts}
 use Rattle.cw_translator.specs.Translating.{Ended, translated}
 use Rattle.cw_secnames.specs.Kept.{SecName}
 use Rattle.cw_secnames.specs.Uses.{NameUse, name_at}
-use Rattle.cw_texpart.specs.Done.{Done, plain}
+use Rattle.cw_texpart.specs.Done.{Done, as_it_is}
 
 -- What stays while a book is printed: its sections, its section names, and where these stand in the web.
 pub record Lasting : Type 0 where
@@ -44,7 +44,7 @@ setting text flags section book = record { text = text; flags = flags; book = la
 -- the translation of the C text of a span is printed, as inner C text or not
 abbrev pub ended_done : Setting → Mode → Bool → Span → Ended → Done ℕ
 ended_done s mode inner span t = record {
-  out = tree_bytes inner (source s.text span mode (book_with s.book t.known.names) s.section s.flags) t.tree;
+  out = tree_bytes inner (source_at s.text span mode (book_with s.book t.known.names) s.section s.flags) t.tree;
   names = t.known.names;
   marks = t.known.marks;
   ended = t.known.ended;
@@ -58,7 +58,7 @@ text_done s mode inner span names =
 
 -- The section name that stands at a span, as a C text of its own; one that is ignored is none.
 abbrev pub name_done_by : Setting → Bool → Span → Option ℕ → List Entry → Done ℕ
-name_done_by s inner span None names = plain [] names
+name_done_by s inner span None names = as_it_is [] names
 name_done_by s inner span (Some name) names = text_done s Inner inner span names
 
 abbrev pub name_done : Setting → Bool → Span → List Entry → Done ℕ

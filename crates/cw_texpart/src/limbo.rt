@@ -3,7 +3,7 @@ ghost use Rattle.std.specs.Prelude.{◌≡◌, false, IfOk};
 ghost use Rattle.cw_base.specs.Web.{text_of};
 ghost use Rattle.cw_lines.specs.Writes.{CanWrite, Puts};
 ghost use Rattle.cw_texpart.specs.Laying.{holds_bytes};
-ghost use Rattle.cw_texpart.specs.Limbo.{limbo_bytes, limbo_text};
+ghost use Rattle.cw_texpart.specs.Limbo.{limbo_bytes, printed_limbo};
 
 use crate::Counts;
 use crate::copying::{end_line_if, holds_bytes};
@@ -25,7 +25,7 @@ fn put_limbo<D: Desk>(
 ) -> Result<(), PutError>
     requires can { CanWrite (D.told desk.old) out.old }
     requires begins { holds_bytes out.old ≡ false }
-    ensures { Puts (limbo_text text.now span) out.old out.new (D.told desk.old) (D.told desk.new) result }
+    ensures { Puts (printed_limbo text.now span) out.old out.new (D.told desk.old) (D.told desk.new) result }
 {
     let mut lexer = scan(text, span, Mode::Limbo);
     'answers: loop {

@@ -12,7 +12,7 @@ ghost use Rattle.cw_texpart.specs.Laying.{holds_bytes, inked};
 ghost use Rattle.cw_texpart.specs.PartForms.{tex_setting};
 ghost use Rattle.cw_texts.specs.PieceForms.{piece_is};
 ghost use Rattle.cw_texpart.specs.TexParts.{IsWhole, IsWholePiece, piece_done, pieces_done, tex_done};
-ghost use Rattle.cw_texts.specs.TexPieces.{pieces_of};
+ghost use Rattle.cw_texts.specs.TexPieces.{tex_pieces_of};
 ghost use Rattle.cw_texpart.specs.Texts.{lasting, name_done, setting, text_done};
 ghost use Rattle.cw_texpart.specs.Weaving.{Weaves};
 
@@ -169,11 +169,11 @@ fn put_pieces<D: Desk, L: Ledger>(
 ) -> Result<Counts, PutError>
     requires can { CanWrite (D.told desk.old) out.old }
     requires short { length t.old.text ≤ 2 ^ 24 }
-    requires whole { All (IsWholePiece t.old.text) (pieces_of t.old.text part) }
+    requires whole { All (IsWholePiece t.old.text) (tex_pieces_of t.old.text part) }
     requires kept { AreNamesOf book.old.sec_names book.old.name_uses }
     ensures { Weaves (tex_setting t.old (lasting book.old))
         (reprinted (laid (holds_bytes out.old))
-        (pieces_done (tex_setting t.old (lasting book.old)) (pieces_of t.old.text part) book.old.names))
+        (pieces_done (tex_setting t.old (lasting book.old)) (tex_pieces_of t.old.text part) book.old.names))
         (record { book = book.old; line = out.old; told = D.told desk.old; steps = steps.old })
         (record { book = book.new; line = out.new; told = D.told desk.new; steps = steps.new }) result }
 {
@@ -206,7 +206,7 @@ fn put_section<D: Desk, L: Ledger>(
 ) -> Result<Counts, PutError>
     requires can { CanWrite (D.told desk.old) out.old }
     requires short { length t.old.text ≤ 2 ^ 24 }
-    requires whole { All (IsWholePiece t.old.text) (pieces_of t.old.text section.tex) }
+    requires whole { All (IsWholePiece t.old.text) (tex_pieces_of t.old.text section.tex) }
     requires kept { AreNamesOf book.old.sec_names book.old.name_uses }
     ensures { Weaves (tex_setting t.old (lasting book.old))
         (tex_done (tex_setting t.old (lasting book.old)) section book.old.names)
@@ -245,7 +245,7 @@ pub fn copy_tex<D: Desk, L: Ledger>(
     requires last { section ≤ length book.old.outline.sections }
     requires kept { AreNamesOf book.old.sec_names book.old.name_uses }
     requires whole { (s : Section) → slice_get book.old.outline.sections (section - 1) ≡ Some s
-        → All (IsWholePiece (text_of web.now.lines)) (pieces_of (text_of web.now.lines) s.tex) }
+        → All (IsWholePiece (text_of web.now.lines)) (tex_pieces_of (text_of web.now.lines) s.tex) }
     ensures { (s : Section) → slice_get book.old.outline.sections (section - 1) ≡ Some s
         → Weaves (setting (text_of web.now.lines) flags.now section book.old)
         (tex_done (setting (text_of web.now.lines) flags.now section book.old) s book.old.names)

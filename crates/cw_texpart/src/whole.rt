@@ -2,7 +2,7 @@
 ghost use Rattle.std.specs.Prelude.{◌≡◌, true, All, IfOk};
 ghost use Rattle.cw_texts.specs.PieceForms.{piece_is};
 ghost use Rattle.cw_texpart.specs.TexParts.{IsWhole, IsWholePiece};
-ghost use Rattle.cw_texts.specs.TexPieces.{pieces_of};
+ghost use Rattle.cw_texts.specs.TexPieces.{tex_pieces_of};
 
 use cw_base::{Memory, Span};
 use cw_lex::Mode;
@@ -11,7 +11,7 @@ use cw_texts::{Piece, Pieces};
 
 /// Whether each C text of the TeX part at a span is whole. It scans them; who knows it from elsewhere needs no look.
 pub fn is_whole(text: &[u8], part: Span) -> Result<bool, Memory>
-    ensures { IfOk result (λ whole. whole ≡ true → All (IsWholePiece text.now) (pieces_of text.now part)) }
+    ensures { IfOk result (λ whole. whole ≡ true → All (IsWholePiece text.now) (tex_pieces_of text.now part)) }
 {
     let mut pieces = Pieces::over(text, part);
     'all: loop {

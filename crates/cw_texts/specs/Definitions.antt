@@ -19,16 +19,16 @@ begun_by (kinds.Code at.SilentFormat) start = Some (record { start = start; sile
 begun_by kind start = None
 
 -- It goes up to the next one, or to the end of the part.
-abbrev pub beginning : ℕ → List Definition → ℕ
-beginning end [] = end
-beginning end (d ∷ ds) = d.span.start
+abbrev pub next_begin : ℕ → List Definition → ℕ
+next_begin end [] = end
+next_begin end (d ∷ ds) = d.span.start
 
 abbrev pub ended_at : ℕ → Begun → Definition
 ended_at end b = record { span = record { start = b.start; «end» = end }; silent = b.silent }
 
 abbrev pub with_begun : Option Begun → ℕ → List Definition → List Definition
 with_begun None end ds = ds
-with_begun (Some b) end ds = ended_at (beginning end ds) b ∷ ds
+with_begun (Some b) end ds = ended_at (next_begin end ds) b ∷ ds
 
 -- the definitions among the answers of the scanner for a part that ends at this place
 abbrev pub definitions_of : ℕ → List Answer → List Definition

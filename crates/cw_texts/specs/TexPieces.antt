@@ -38,5 +38,5 @@ tex_pieces (suc zero) start (Finish token ∷ answers) =
 tex_pieces (suc (suc depth)) start (Finish token ∷ answers) = tex_pieces (suc depth) start answers
 
 -- the pieces of the TeX part that stands at a span
-abbrev pub pieces_of : List ℕ → Span → List TexPiece
-pieces_of text part = tex_pieces zero zero (scanned modes.TexText text part)
+abbrev pub tex_pieces_of : List ℕ → Span → List TexPiece
+tex_pieces_of text part = tex_pieces zero zero (scanned modes.TexText text part)

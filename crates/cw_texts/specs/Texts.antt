@@ -11,7 +11,7 @@ use Rattle.cw_texts.specs.declared.definitions.Definition.{Definition}
 use Rattle.cw_texts.specs.declared.text_list.TextRef.{TextRef}
 use Rattle.cw_texts.specs.Definitions.{printed_definitions}
 use Rattle.cw_texts.specs.Printed.{is_kept, is_printed}
-use Rattle.cw_texts.specs.TexPieces.{TexPiece, Copied, InnerText, Cited, pieces_of}
+use Rattle.cw_texts.specs.TexPieces.{TexPiece, Copied, InnerText, Cited, tex_pieces_of}
 
 abbrev pub text_ref : ℕ → Mode → Span → TextRef
 text_ref number mode part = record { section = number; span = part; mode = mode }
@@ -41,7 +41,7 @@ part_refs printed number part = list_if printed (text_ref number modes.CPart par
 -- the texts of the section of this number, with its C part or without
 abbrev pub section_refs : Bool → List ℕ → List NameUse → ℕ → Section → List TextRef
 section_refs printed text uses number section =
-    tex_refs uses number (pieces_of text section.tex)
+    tex_refs uses number (tex_pieces_of text section.tex)
     ++ (definition_refs number (printed_definitions text section.definitions)
     ++ part_refs printed number section.c_part)
 

@@ -2,7 +2,7 @@
 ghost use Rattle.std.specs.Prelude.{◌≡◌, ◌==◌, ◌-◌, ◌+◌, IfOk, OnOk};
 ghost use Rattle.cw_rules.specs.Answers.{seen};
 ghost use Rattle.cw_texts.specs.PieceForms.{GivesPiece, piece_is};
-ghost use Rattle.cw_texts.specs.TexPieces.{outermost, pieces_of, tex_pieces, token_piece};
+ghost use Rattle.cw_texts.specs.TexPieces.{outermost, tex_pieces_of, tex_pieces, token_piece};
 
 use crate::scans::scan;
 use cw_base::{Memory, Span};
@@ -46,7 +46,7 @@ impl<'a> Model for Pieces<'a> {
 impl<'a> Pieces<'a> {
     /// The pieces of the TeX part that stands at a span of a text.
     pub fn over(text: &'a [u8], part: Span) -> Pieces<'a>
-        ensures { result ≡ pieces_of text.now part }
+        ensures { result ≡ tex_pieces_of text.now part }
     {
         Pieces {
             lexer: scan(text, part, Mode::TexText),

@@ -6,7 +6,7 @@ ghost use Rattle.cw_rules.specs.declared.tokens.Mode.TheVariants.{Inner};
 ghost use Rattle.cw_texts.specs.Definitions.{printed_definitions};
 ghost use Rattle.cw_texts.specs.PieceForms.{piece_is};
 ghost use Rattle.cw_texts.specs.Printed.{is_printed};
-ghost use Rattle.cw_texts.specs.TexPieces.{pieces_of};
+ghost use Rattle.cw_texts.specs.TexPieces.{tex_pieces_of};
 ghost use Rattle.cw_texts.specs.Texts.{definition_refs, piece_refs, section_refs, tex_refs, text_ref, texts_of};
 
 use crate::definitions::Definitions;
@@ -140,7 +140,7 @@ fn add_tex_texts(
     part: Span,
     list: &mut TextList,
 ) -> Result<(), Memory>
-    ensures { OnOk result (list.new ≡ list.old ++ tex_refs uses.now number (pieces_of text.now part)) }
+    ensures { OnOk result (list.new ≡ list.old ++ tex_refs uses.now number (tex_pieces_of text.now part)) }
 {
     let mut pieces = Pieces::over(text, part);
     'all: loop {

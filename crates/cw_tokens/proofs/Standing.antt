@@ -8,7 +8,7 @@ use Rattle.cw_trees.specs.declared.Control.{Control}
 use Rattle.cw_trees.specs.declared.Control.TheVariants as controls
 use Rattle.cw_trees.specs.Flat.{Item, SourceItem, IdentItem, ReservedItem, SignItem, Open, Close, is_break}
 use Rattle.cw_trees.specs.Flat.{is_break_sign, is_run_sign, is_wall_sign, is_gap, is_inserted, begins_after, ends_text}
-use Rattle.cw_trees.specs.Flat.{trim_back, trim_front, trimmed, without_inserted}
+use Rattle.cw_trees.specs.Flat.{trim_back, trim_front, trimmed_items, without_inserted}
 use Rattle.cw_tokens.specs.declared.flat.FlatItem.{FlatItem}
 use Rattle.cw_tokens.specs.declared.flat.FlatItem.TheVariants as FlatItems
 use Rattle.cw_tokens.specs.FlatItems.{item_is, items_are}
@@ -220,10 +220,10 @@ module _ (gap : ℕ) (items : List FlatItem) (begins : Bool) (item : FlatItem) (
 
   -- all items with one more, and whatever comes behind it
   one-more : (is_inserted came || (begins && is_break came)) ≡ false → (more : List Item)
-      → trimmed ((given ++ came ∷ []) ++ more) ≡ items_are (take gap items)
+      → trimmed_items ((given ++ came ∷ []) ++ more) ≡ items_are (take gap items)
       ++ trim_back (items_are (drop gap items) ++ came ∷ front more)
   one-more stays more =
-      ap trimmed (append_assoc given (came ∷ []) more)
+      ap trimmed_items (append_assoc given (came ∷ []) more)
       ∙ stands.stays (came ∷ more)
       ∙ ap (λ (l : List Item). items_are (take gap items) ++ trim_back (items_are (drop gap items) ++ l))
       (front_step begins came more false stays)
@@ -303,13 +303,13 @@ module _ (gap : ℕ) (items : List FlatItem) (begins : Bool) (item : FlatItem) (
 
 -- at the end
 pub stands-end : (trims : Trims) (given kept : List Item) → StandsFor trims given
-    → kept ≡ items_are trims.settled ++ unbroken (items_are trims.gap) → kept ≡ trimmed given
+    → kept ≡ items_are trims.settled ++ unbroken (items_are trims.gap) → kept ≡ trimmed_items given
 stands-end trims given kept stands is =
     is
     ∙ ap (λ (l : List Item). items_are trims.settled ++ l) (sym (append-nil (unbroken (items_are trims.gap))))
     ∙ ap (λ (l : List Item). items_are trims.settled ++ l) (sym (gaps-end (items_are trims.gap) [] stands.gaps refl))
     ∙ sym (stands.stays [])
-    ∙ ap trimmed (append-nil given)
+    ∙ ap trimmed_items (append-nil given)
 
 -- a gap stays as it is before an item that ends no text
 pub gap-untouched : (items : List FlatItem) (gap : ℕ) (next : FlatItem) → (next ≡ FlatItems.Close → ⊥) → items_are items

@@ -4,7 +4,7 @@ use Rattle.std.proofs.Common.{slice_index_or, take, drop, Some, Result, OnOk, ge
 use Rattle.std.proofs.Common.{subst, arith}
 use Rattle.std.specs.List.{slice_get}
 use Rattle.std.proofs.lemmas.List.{append_assoc, append-nil, reverse-append, take_all}
-use Rattle.cw_trees.specs.Flat.{Item, Open as open_item, Close as close_item, flat, trimmed}
+use Rattle.cw_trees.specs.Flat.{Item, Open as open_item, Close as close_item, flat, trimmed_items}
 use Rattle.cw_trees.specs.Tree.{Tree, Empty}
 use Rattle.cw_tokens.specs.declared.token.Token.{Token}
 use Rattle.cw_tokens.specs.declared.flat.Above.{Above}
@@ -321,9 +321,9 @@ ahead-popped ls old ups up trims new all w last push =
 -- all have ended
 pub ahead-end : (ls : List (List Token)) (above : List Above) (trims : Trims) (all kept : List Item)
     → TrimsAhead ls [] (reverse above) trims all → length above ≡ 0
-    → ((given : List Item) → StandsFor trims given → kept ≡ trimmed given) → kept ≡ trimmed all
+    → ((given : List Item) → StandsFor trims given → kept ≡ trimmed_items given) → kept ≡ trimmed_items all
 ahead-end ls [] trims all kept w none done =
-    done w.given w.stands ∙ ap trimmed (sym (append-nil w.given) ∙ w.is)
+    done w.given w.stands ∙ ap trimmed_items (sym (append-nil w.given) ∙ w.is)
 ahead-end ls (up ∷ ups) trims all kept w none done = absurd (omega (arith, none))
 
 -- a bracket closes

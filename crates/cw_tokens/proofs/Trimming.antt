@@ -4,7 +4,8 @@ use Rattle.std.proofs.Common.{set, take, drop, reverse, refl, sym, ap, ◌∙◌
 use Rattle.std.proofs.lemmas.List.{append_assoc, drop_more, drop-set-lt, map_push, reverse-append, reverse-reverse}
 use Rattle.std.proofs.lemmas.List.{take_more, take_more_set, take_all, drop_all, append-nil}
 use Rattle.cw_trees.specs.Flat.{Item, SourceItem, IdentItem, ReservedItem, SignItem, Open, Close, is_break, is_gap}
-use Rattle.cw_trees.specs.Flat.{is_inserted, begins_after, ends_text, trim_back, trim_front, trimmed, without_inserted}
+use Rattle.cw_trees.specs.Flat.{is_inserted, begins_after, ends_text, trim_back, trim_front, trimmed_items}
+use Rattle.cw_trees.specs.Flat.{without_inserted}
 use Rattle.cw_tokens.specs.declared.flat.FlatItem.{FlatItem}
 use Rattle.cw_tokens.specs.FlatItems.{item_is, items_are}
 use Rattle.cw_tokens.specs.Trimming.{ends_before}
@@ -188,6 +189,6 @@ items-reversed (item ∷ items) =
 
 -- both walks together
 pub trims : (old front turned back : List Item) → front ≡ trim_front true (without_inserted old)
-    → turned ≡ reverse front → reverse back ≡ trim_back (reverse turned) → reverse back ≡ trimmed old
+    → turned ≡ reverse front → reverse back ≡ trim_back (reverse turned) → reverse back ≡ trimmed_items old
 trims old front turned back begins turns ends =
     ends ∙ ap (λ l. trim_back (reverse l)) turns ∙ ap trim_back (reverse-reverse front ∙ begins)

@@ -1,6 +1,6 @@
 -- How far the trimming of a flat list has come.
 use Rattle.std.specs.Prelude.{◌≡◌, ℕ, Bool, true, false, ◌&&◌, List, [], ◌∷◌, ◌++◌, take, drop}
-use Rattle.cw_trees.specs.Flat.{Item, Close, is_break, is_gap, trim_back, trim_front, trimmed, without_inserted}
+use Rattle.cw_trees.specs.Flat.{Item, Close, is_break, is_gap, trim_back, trim_front, trimmed_items, without_inserted}
 use Rattle.cw_tokens.specs.declared.flat.FlatItem.{FlatItem}
 use Rattle.cw_tokens.specs.FlatItems.{items_are}
 
@@ -35,5 +35,5 @@ parted from items begins = record { settled = take from items; gap = drop from i
 -- the items that came are trimmed so far: with more, whatever it is, the same stays of both
 pub record StandsFor (trims : Trims) (given : List Item) : Type 0 where
   pub gaps : AllGaps (items_are trims.gap)
-  pub stays : (more : List Item) → trimmed (given ++ more)
+  pub stays : (more : List Item) → trimmed_items (given ++ more)
       ≡ items_are trims.settled ++ trim_back (items_are trims.gap ++ trim_front trims.begins (without_inserted more))

@@ -2,7 +2,7 @@
 ghost use Rattle.std.specs.Prelude.{◌≡◌, ◌+◌, ◌-◌, ◌<◌, ◌≤◌, List, ◌++◌, length, IfOk, IfSome, OnOk, Some, IsTrue};
 ghost use Rattle.std.specs.Prelude.{◌↔◌};
 ghost use Rattle.std.specs.Prelude.{[], reverse, slice_get};
-ghost use Rattle.cw_trees.specs.Flat.{Item, flat, trimmed};
+ghost use Rattle.cw_trees.specs.Flat.{Item, flat, trimmed_items};
 ghost use Rattle.cw_tokens.specs.Shapes.{shape, unfolded};
 ghost use Rattle.cw_tokens.specs.Stored.{cut, last_end, IsAscending, IsLinked};
 ghost use Rattle.cw_tokens.specs.FlatItems.{items_are, closing};
@@ -93,7 +93,7 @@ impl FlatTokens {
     /// Leaves out the marks that print nothing, and the breaks and blanks with which the text and its inner texts begin
     /// or end. It takes no memory.
     pub fn trim(&mut self)
-        ensures { items_are self.new ≡ trimmed (items_are self.old) }
+        ensures { items_are self.new ≡ trimmed_items (items_are self.old) }
     {
         trim_items(&mut self.items);
     }
@@ -181,7 +181,8 @@ pub fn flatten_trimmed(
     requires within { last_end 0 ends.now ≤ length tokens.now }
     requires tied { IsTied (cut 0 ends.now tokens.now) }
     requires root { root < length ends.now }
-    ensures { IfOk result (λ items. items_are items ≡ trimmed (flat (unfolded (cut 0 ends.now tokens.now) root))) }
+    ensures { IfOk result (λ items.
+        items_are items ≡ trimmed_items (flat (unfolded (cut 0 ends.now tokens.now) root))) }
 {
     let mut out = Trimmer::with_room(alloc, tokens.len())?;
     let mut above: Vec<Above> = Vec::new(alloc);

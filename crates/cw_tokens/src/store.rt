@@ -3,7 +3,7 @@ ghost use Rattle.std.specs.Prelude.{◌≡◌, ℕ, ◌+◌, ◌-◌, ◌<◌, �
 ghost use Rattle.std.specs.Prelude.{OnOk, OnErr, get_or, option_map, vec_capacity, vec_len};
 ghost use Rattle.std.specs.Option.{option_to_list};
 ghost use Rattle.cw_trees.specs.Tree.{first_ident, bare_name};
-ghost use Rattle.cw_trees.specs.Flat.{flat, trimmed};
+ghost use Rattle.cw_trees.specs.Flat.{flat, trimmed_items};
 ghost use Rattle.cw_tokens.specs.Shapes.{shape, ref_of, unfolded};
 ghost use Rattle.cw_tokens.specs.FlatItems.{items_are};
 ghost use Rattle.cw_tokens.specs.Walking.{found_name};
@@ -205,7 +205,8 @@ impl TokenStore {
     /// The items of a list's tree in order, trimmed: the same as `flat` and `trim` give, in one walk.
     pub fn flat_trimmed(&self, alloc: Global, id: ListId) -> Result<FlatTokens, Memory>
         requires list { id.index < length self.now.lists }
-        ensures items { IfOk result (λ items. items_are items ≡ trimmed (flat (unfolded self.now.lists id.index))) }
+        ensures items { IfOk result (λ items.
+            items_are items ≡ trimmed_items (flat (unfolded self.now.lists id.index))) }
     {
         flatten_trimmed(&self.tokens, &self.ends, id.index, alloc)
     }

@@ -1,6 +1,6 @@
 //! The trimming of a flat list in its own place.
 ghost use Rattle.std.specs.Prelude.{◌≡◌, ◌&&◌, ◌||◌, ◌≤◌, length, reverse, take, true};
-ghost use Rattle.cw_trees.specs.Flat.{begins_after, is_break, is_gap, is_inserted, trim_back, trim_front, trimmed};
+ghost use Rattle.cw_trees.specs.Flat.{begins_after, is_break, is_gap, is_inserted, trim_back, trim_front, trimmed_items};
 ghost use Rattle.cw_trees.specs.Flat.{without_inserted};
 ghost use Rattle.cw_tokens.specs.FlatItems.{item_is, items_are};
 ghost use Rattle.cw_tokens.specs.Trimming.{ends_before};
@@ -11,7 +11,7 @@ use cw_trees::Control;
 /// Leaves out the marks that print nothing, and the breaks and blanks with which the text and its inner texts begin
 /// or end.
 pub(crate) fn trim_items(items: &mut Vec<FlatItem>)
-    ensures { items_are items.new.items ≡ trimmed (items_are items.old.items) }
+    ensures { items_are items.new.items ≡ trimmed_items (items_are items.old.items) }
 {
     let begun = keep_from_front(items);
     items.truncate(begun);

@@ -1,6 +1,6 @@
 //! The trimming of items as they come: each is kept, left out, or waits in the gap at the end.
 ghost use Rattle.std.specs.Prelude.{◌≡◌, List, [], ◌∷◌, ◌++◌, ◌≤◌, length, take, drop, true, IfOk, OnOk};
-ghost use Rattle.cw_trees.specs.Flat.{Item, trimmed};
+ghost use Rattle.cw_trees.specs.Flat.{Item, trimmed_items};
 ghost use Rattle.cw_tokens.specs.FlatItems.{item_is, items_are};
 ghost use Rattle.cw_tokens.specs.Trimming.{StandsFor, gap_before, unbroken};
 
@@ -71,7 +71,7 @@ impl Trimmer {
 
     /// The items that stay where no more come.
     pub fn done(mut self) -> FlatTokens
-        ensures { (given : List Item) → StandsFor self given → items_are result ≡ trimmed given }
+        ensures { (given : List Item) → StandsFor self given → items_are result ≡ trimmed_items given }
     {
         take_breaks(&mut self.items, self.gap);
         FlatTokens::of(self.items)

@@ -84,8 +84,8 @@ beside first second = record {
   known = second.known;
 }
 
-abbrev pub before : Made → (Known → Made) → Made
-before first rest = beside first (rest first.known)
+abbrev pub made_before : Made → (Known → Made) → Made
+made_before first rest = beside first (rest first.known)
 
 -- ## The end of a text
 
@@ -145,9 +145,9 @@ group_made flags k token made = one_scrap (comment_scrap token.span.start made.i
 
 abbrev pub made : Flags → (ℕ → Known → Made) → Nest → Known → Made
 made flags name End known = nothing known
-made flags name (Leaf token rest) known = before (token_made name token.kind token known) (made flags name rest)
+made flags name (Leaf token rest) known = made_before (token_made name token.kind token known) (made flags name rest)
 made flags name (Group token inner rest) known =
-    before (group_made flags token.kind token (made flags name inner known)) (made flags name rest)
+    made_before (group_made flags token.kind token (made flags name inner known)) (made flags name rest)
 
 -- A text without a head, in which no section name stands for anything.
 abbrev pub no_name : ℕ → Known → Made
@@ -275,7 +275,7 @@ head_made flags named (Named number sign) known = texts_named flags (named numbe
 -- ## The translation
 
 abbrev pub headed_made : Flags → NameTexts → Headed → Known → Made
-headed_made flags named h known = before (head_made flags named h.head known)
+headed_made flags named h known = made_before (head_made flags named h.head known)
     (made flags (leaf_of_name flags named) h.rest)
 
 -- The translation of a text of which these are the scanner's answers.

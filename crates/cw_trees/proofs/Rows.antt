@@ -7,7 +7,7 @@ use Rattle.cw_trees.specs.declared.Control.TheVariants.{Outdent, ToText, Dollar,
 use Rattle.cw_trees.specs.Tree.{Source, Ident, Reserved, Sign, Tree, Empty, Then, Sub, Inner, Found, Stopped}
 use Rattle.cw_trees.specs.Tree.{first_ident, reserve_first}
 use Rattle.cw_trees.specs.Joining.{Whole, Mark, join, whole}
-use Rattle.cw_trees.specs.Flat.{Item, SourceItem, IdentItem, SignItem, Open, Close, trimmed, struck}
+use Rattle.cw_trees.specs.Flat.{Item, SourceItem, IdentItem, SignItem, Open, Close, trimmed_items, struck}
 use Rattle.cw_trees.specs.Printing.{Printable, printed, ident_bytes, sign_bytes}
 
 abbrev name : ℕ → ℕ → Tree
@@ -56,12 +56,12 @@ reserves_one : reserve_first (Sub (Then (Source 0 Maybe) (name 7 1)) (name 7 2))
 reserves_one = refl
 
 -- trimming: both ends of each text, and no gap between
-trims_both_ends : trimmed (SignItem Break ∷ SignItem Indent ∷ IdentItem 0 0 ∷ SignItem Break ∷ SourceItem 1
+trims_both_ends : trimmed_items (SignItem Break ∷ SignItem Indent ∷ IdentItem 0 0 ∷ SignItem Break ∷ SourceItem 1
     ∷ SignItem Wall ∷ SignItem Blank ∷ []) ≡ SignItem Indent ∷ IdentItem 0 0 ∷ SignItem Break ∷ SourceItem 1
     ∷ SignItem Wall ∷ []
 trims_both_ends = refl
 
-trims_inner_text : trimmed (SourceItem 0 ∷ Open ∷ SignItem Blank ∷ IdentItem 0 0 ∷ SignItem Break ∷ Close
+trims_inner_text : trimmed_items (SourceItem 0 ∷ Open ∷ SignItem Blank ∷ IdentItem 0 0 ∷ SignItem Break ∷ Close
     ∷ SignItem Blank ∷ SignItem CommentEnd ∷ []) ≡ SourceItem 0 ∷ Open ∷ IdentItem 0 0 ∷ Close ∷ SignItem Blank
     ∷ SignItem CommentEnd ∷ []
 trims_inner_text = refl

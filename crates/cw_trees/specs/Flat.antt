@@ -106,8 +106,8 @@ trim_back (item ∷ items) = elim (is_break item && ends_text items) [
 
 -- Marks that print nothing are left out, and then the breaks and blanks with which the text and each text
 -- between brackets begins or ends.
-abbrev pub trimmed : List Item → List Item
-trimmed items = trim_back (trim_front true (without_inserted items))
+abbrev pub trimmed_items : List Item → List Item
+trimmed_items items = trim_back (trim_front true (without_inserted items))
 
 -- the number of a leaf that has one
 abbrev pub leaf_numbers : Leaf → List ℕ

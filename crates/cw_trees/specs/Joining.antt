@@ -106,18 +106,18 @@ dollar_before Math tree = Then (Sign Dollar) tree
 dollar_before _ tree = tree
 
 -- a scrap in text, followed by a tree
-abbrev pub in_text : Scrap → Tree → Tree
-in_text scrap rest = dollar_before scrap.left (Sub scrap.tree (dollar_before scrap.right rest))
+abbrev pub scrap_in_text : Scrap → Tree → Tree
+scrap_in_text scrap rest = dollar_before scrap.left (Sub scrap.tree (dollar_before scrap.right rest))
 
 abbrev pub blank_and_whole : List Scrap → Tree
 blank_and_whole [] = Empty
-blank_and_whole (scrap ∷ scraps) = Then (Sign Blank) (in_text scrap (blank_and_whole scraps))
+blank_and_whole (scrap ∷ scraps) = Then (Sign Blank) (scrap_in_text scrap (blank_and_whole scraps))
 
 -- The tree of a list of scraps that no production joins: one after the other in text, with a blank between
 -- each two.
 abbrev pub whole : List Scrap → Tree
 whole [] = Empty
-whole (scrap ∷ scraps) = in_text scrap (blank_and_whole scraps)
+whole (scrap ∷ scraps) = scrap_in_text scrap (blank_and_whole scraps)
 
 -- where a mode that something needs leads from a mode: nowhere if the two differ
 abbrev pub stays : MathMode → MathMode → Option MathMode

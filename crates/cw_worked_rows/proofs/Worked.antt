@@ -8,7 +8,7 @@ use Rattle.cw_trees.specs.declared.Control.TheVariants.{Backup, Break, Cancel, C
 use Rattle.cw_trees.specs.declared.Control.TheVariants.{OptionalBreak, Wall}
 use Rattle.cw_trees.specs.Tree.{Tree, Source, Ident, Reserved, Sign, Empty, Then}
 use Rattle.cw_trees.specs.Joining.{Scrap, whole}
-use Rattle.cw_trees.specs.Flat.{Item, SourceItem, IdentItem, ReservedItem, SignItem, flat, trimmed}
+use Rattle.cw_trees.specs.Flat.{Item, SourceItem, IdentItem, ReservedItem, SignItem, flat, trimmed_items}
 use Rattle.cw_trees.specs.Printing.{Printable, printed, sign_bytes, ident_bytes, reserved_bytes}
 use Rattle.cw_table.specs.Rewriting.{State}
 use Rattle.cw_table.specs.Normal.{Production}
@@ -78,7 +78,7 @@ shown texts item = record { item = item; bytes = [] }
 
 -- what the scraps print, as a part or as inner C text
 abbrev pub bytes_of : List (List ℕ) → State → List ℕ
-bytes_of texts state = printed false (map (shown texts) (trimmed (flat (whole state.scraps))))
+bytes_of texts state = printed false (map (shown texts) (trimmed_items (flat (whole state.scraps))))
 
 abbrev pub inner_bytes_of : List (List ℕ) → State → List ℕ
-inner_bytes_of texts state = printed true (map (shown texts) (trimmed (flat (whole state.scraps))))
+inner_bytes_of texts state = printed true (map (shown texts) (trimmed_items (flat (whole state.scraps))))

@@ -2,7 +2,7 @@
 use Rattle.std.proofs.Common.{ℕ, ◌+◌, List, length, option_map, sym, ap, ◌∙◌, arith}
 use Rattle.std.specs.FinMap.{get}
 use Rattle.cw_input.specs.declared.found.Found.{Found}
-use Rattle.cw_input.specs.Merged.{found}
+use Rattle.cw_input.specs.Merged.{found_file}
 use Rattle.cw_input.proofs.AnswerLaws.{Finds-err}
 use Rattle.cw_input.proofs.ReadLaws.{reads_on-file, reads_on-more, reads_on-same}
 use Rattle.cw_input.proofs.reading.find_file.Goals as goal
@@ -11,7 +11,8 @@ pub returns-in-Err-clause-finds : goal.returns-in-Err-clause-finds
 returns-in-Err-clause-finds g c = λ files is.
     let made : List ℕ → Found = λ bytes. record { name = c.args.name; bytes = bytes } in
     let before = c.in-Err.ensures.same.narrows files is in
-    Finds-err (made ((g.D.Desk.told c.open.new.self).rest files c.in-File.id.index)) (found (get files) c.args.name)
+    Finds-err (made ((g.D.Desk.told c.open.new.self).rest files c.in-File.id.index))
+    (found_file (get files) c.args.name)
     c.args.room c.in-Err.error
     (ap (option_map made) (ap (get files) (sym c.as_slice.ensures) ∙ c.in-File.ensures.named files before))
     (c.in-Err.ensures.reads files is)

@@ -9,7 +9,7 @@ use Rattle.cw_part.specs.PresentForms.{part_setting}
 use Rattle.cw_part.specs.Sections.{ending, rest_by}
 use Rattle.cw_translator.specs.NameParts.{AreNamesOf}
 use Rattle.cw_texpart.specs.declared.counts.Counts.{Counts}
-use Rattle.cw_texpart.specs.Done.{Done, plain, then}
+use Rattle.cw_texpart.specs.Done.{Done, as_it_is, then}
 use Rattle.cw_texpart.specs.Texts.{Lasting, Setting, lasting}
 use Rattle.cw_part.proofs.SectionLaws.{moved, sums-are}
 use Rattle.cw_part.proofs.WovenLaws.{
@@ -47,7 +47,7 @@ returns-in_err-more g c =
     let s : Setting = part_setting c.args.p (lasting c.args.book.now) in
     let ds : List Definition = printed_definitions c.args.p.text.now c.args.section.definitions in
     let part : List Entry → Done ℕ = part_by c.args.p.beside s c.args.section in
-    let end : List Entry → Done ℕ = plain (ending s c.args.section) in
+    let end : List Entry → Done ℕ = as_it_is (ending s c.args.section) in
     weaving-stopped part end
     (weaving-next (definitions_done s (first_opening c.args.p.beside) ds) (λ names. then (part names) end)
     (weaving-begun s (rest_by c.args.p.beside s c.args.section) _ {counts = no_counts}
@@ -61,7 +61,7 @@ returns-in_err-counts-2 g c =
     let s : Setting = part_setting c.args.p (lasting c.args.book.now) in
     let ds : List Definition = printed_definitions c.args.p.text.now c.args.section.definitions in
     let part : List Entry → Done ℕ = part_by c.args.p.beside s c.args.section in
-    let end : List Entry → Done ℕ = plain (ending s c.args.section) in
+    let end : List Entry → Done ℕ = as_it_is (ending s c.args.section) in
     weaving-wanting
     (weaving-next part end
     (weaving-next (definitions_done s (first_opening c.args.p.beside) ds) (λ names. then (part names) end)
@@ -81,7 +81,7 @@ returns-in_err-put_ending g c =
     let s : Setting = part_setting c.args.p (lasting c.args.book.now) in
     let ds : List Definition = printed_definitions c.args.p.text.now c.args.section.definitions in
     let part : List Entry → Done ℕ = part_by c.args.p.beside s c.args.section in
-    let end : List Entry → Done ℕ = plain (ending s c.args.section) in
+    let end : List Entry → Done ℕ = as_it_is (ending s c.args.section) in
     weaving-last-stopped
     (weaving-next part end
     (weaving-next (definitions_done s (first_opening c.args.p.beside) ds) (λ names. then (part names) end)
@@ -100,7 +100,7 @@ returns g c =
     let s : Setting = part_setting c.args.p (lasting c.args.book.now) in
     let ds : List Definition = printed_definitions c.args.p.text.now c.args.section.definitions in
     let part : List Entry → Done ℕ = part_by c.args.p.beside s c.args.section in
-    let end : List Entry → Done ℕ = plain (ending s c.args.section) in
+    let end : List Entry → Done ℕ = as_it_is (ending s c.args.section) in
     weaving-last
     (weaving-next part end
     (weaving-next (definitions_done s (first_opening c.args.p.beside) ds) (λ names. then (part names) end)

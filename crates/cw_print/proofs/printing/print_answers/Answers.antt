@@ -1,7 +1,7 @@
 -- The brackets and the items, one behind another.
 use Rattle.std.proofs.Common.{ℕ, Bool, ◌&&◌, List, ◌++◌, ap, ◌∙◌, sym, subst, length, codes}
 use Rattle.std.proofs.lemmas.List.{append_assoc}
-use Rattle.cw_trees.specs.Flat.{Item, flat, trimmed}
+use Rattle.cw_trees.specs.Flat.{Item, flat, trimmed_items}
 use Rattle.cw_trees.specs.Printing.{ident_bytes, printed}
 use Rattle.cw_trees.specs.Tree.{Tree}
 use Rattle.cw_tokens.specs.FlatItems.{items_are}
@@ -49,7 +49,7 @@ pub returns-in_err-put_bracket : goal.returns-in_err-put_bracket
 returns-in_err-put_bracket g c =
     let s : Source = source_by c.args.c.answers.now c.args.c.book.now c.args.c.section c.args.c.flags.now in
     let tree : Tree = unfolded c.args.store.now.lists c.args.id.index in
-    let later : List ℕ = printed c.args.c.inner (shown s (trimmed (flat tree)))
+    let later : List ℕ = printed c.args.c.inner (shown s (trimmed_items (flat tree)))
     ++ bracket (c.args.c.inner && c.args.c.flags.now.wrap) (codes "}") in
     record {
       puts = puts-failing (ap (λ (b : Bool). bracket b (codes "\\PB{") ++ later) c.is_wrapped-wraps.ensures)
@@ -66,7 +66,7 @@ returns-in_err-print_items g c =
           ((λ i. (bracket (c.is_wrapped-wraps.ensures i) (codes "\\PB{")
           ++ printed c.args.c.inner (shown s ((ap items_are c.items-2.ensures ∙ c.in_ok-items.ensures.items) i)))
           ++ bracket wraps (codes "}"))
-          ∙ append_assoc (bracket wraps (codes "\\PB{")) (printed c.args.c.inner (shown s (trimmed (flat tree))))
+          ∙ append_assoc (bracket wraps (codes "\\PB{")) (printed c.args.c.inner (shown s (trimmed_items (flat tree))))
           (bracket wraps (codes "}")))
           (puts-longer (bracket wraps (codes "}")) (puts-then c.in_ok-put_bracket.ensures c.in_err-print_items.ensures))
           c.from_residual-in_err-print_items.ensures.1;

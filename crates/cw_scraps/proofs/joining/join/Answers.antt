@@ -2,7 +2,7 @@
 -- for all.
 use Rattle.std.proofs.Common.{◌≡◌, ◌+◌, ◌<◌, ◌≤◌, length, drop, arith}
 use Rattle.std.proofs.lemmas.List.{length-drop}
-use Rattle.cw_table.specs.Rows.{pieces_by}
+use Rattle.cw_table.specs.Rows.{pieces_for}
 use Rattle.cw_scraps.proofs.Buildings.{joins-start}
 use Rattle.cw_scraps.proofs.Insertions.{inserts, inserts-next, inserts-put, inserts-within}
 use Rattle.cw_scraps.proofs.joining.join.Goals as goal
@@ -13,7 +13,7 @@ loop-i-init c = joins-start _ _ _ _ _ c.begin.ensures.lists c.begin.ensures.buil
 
 pub put_piece-modes-requires-clause-within : goal.put_piece-modes-requires-clause-within
 put_piece-modes-requires-clause-within c =
-    let inside : c.loop-i.i < length (pieces_by c.args.other c.args.row.now) =
+    let inside : c.loop-i.i < length (pieces_for c.args.other c.args.row.now) =
     omega (arith, c.piece_count-i-end.ensures.count) in
     let long : length c.args.line.now ≡ c.args.place + length (drop c.args.place c.args.line.now) =
     omega (arith, length-drop c.args.place c.args.line.now) in
@@ -28,7 +28,7 @@ put_piece-modes-requires-clause-within c =
 
 pub put_piece-modes-requires-clause-reference : goal.put_piece-modes-requires-clause-reference
 put_piece-modes-requires-clause-reference c =
-    let inside : c.loop-i.i < length (pieces_by c.args.other c.args.row.now) =
+    let inside : c.loop-i.i < length (pieces_for c.args.other c.args.row.now) =
     omega (arith, c.piece_count-i-end.ensures.count) in
     let room : 2 ≤ c.loop-i.store.spare = omega (
       arith,
@@ -43,7 +43,7 @@ put_piece-modes-requires-clause-begun c = c.loop-i.invariant.begun
 
 pub loop-i-preserved : goal.loop-i-preserved
 loop-i-preserved c =
-    let inside : c.loop-i.i < length (pieces_by c.args.other c.args.row.now) =
+    let inside : c.loop-i.i < length (pieces_for c.args.other c.args.row.now) =
     omega (arith, c.piece_count-i-end.ensures.count) in
     rw (c.put_piece-modes.ensures.left, c.put_piece-modes.ensures.right)
     (inserts-next _ _ _ _ _ _ _ _ c.loop-i.invariant _ (inserts _ _ _ inside c.insertion.ensures) c.requires.roots _

@@ -1,9 +1,9 @@
 -- The pieces so far stand in the list that is being built, with the modes in which it begins and ends so far.
 use Rattle.std.proofs.Common.{drop}
-use Rattle.cw_table.specs.Rows.{pieces_by}
+use Rattle.cw_table.specs.Rows.{pieces_for}
 use Rattle.cw_scraps.specs.Building.{Joins}
 use Rattle.cw_scraps.proofs.joining.join.Given as goal
 
 abbrev pub invariant-loop-i : goal.invariant-loop-i
-invariant-loop-i l = Joins l.fn.store.lists (drop l.place l.line) (pieces_by l.other l.row) l.fn.store.spare l.i
+invariant-loop-i l = Joins l.fn.store.lists (drop l.place l.line) (pieces_for l.other l.row) l.fn.store.spare l.i
     l.modes.left l.modes.right l.store

@@ -13,7 +13,7 @@ use Rattle.cw_texpart.specs.Laying.{holds_bytes, inked}
 use Rattle.cw_texpart.specs.PartForms.{TexSetting, tex_setting}
 use Rattle.cw_texts.specs.PieceForms.{piece_is}
 use Rattle.cw_texpart.specs.TexParts.{IsWholePiece, piece_done}
-use Rattle.cw_texts.specs.TexPieces.{TexPiece, pieces_of}
+use Rattle.cw_texts.specs.TexPieces.{TexPiece, tex_pieces_of}
 use Rattle.cw_texpart.specs.Texts.{Lasting}
 use Rattle.cw_texpart.specs.Weaving.{Press, Weaves}
 use Rattle.cw_texts.proofs.PieceLaws.{ended, gave}
@@ -34,8 +34,8 @@ moved {t = t} holds piece names {l' = l'} {old = old} {new = new} {result = resu
 
 pub all-init : goal.all-init
 all-init g c =
-    let begun : c.over-pieces.result ≡ pieces_of c.args.t.now.text c.args.part =
-    c.over-pieces.ensures ∙ ap (λ (s : TexSetting). pieces_of s.text c.args.part) c.t.view_is in
+    let begun : c.over-pieces.result ≡ tex_pieces_of c.args.t.now.text c.args.part =
+    c.over-pieces.ensures ∙ ap (λ (s : TexSetting). tex_pieces_of s.text c.args.part) c.t.view_is in
     record {
       woven = weaving-counts c.none-counts.ensures.scraps c.none-counts.ensures.productions
           (weaving-as (sym begun) (weaving-begun _ _ _));

@@ -10,8 +10,8 @@ use Rattle.cw_texpart.specs.Heads.{head}
 use Rattle.cw_texpart.specs.Inks.{laid}
 use Rattle.cw_texpart.specs.Laying.{holds_bytes}
 use Rattle.cw_texpart.specs.PartForms.{TexSetting, tex_setting}
-use Rattle.cw_texpart.specs.TexParts.{beside_in, pieces_done, tex_by}
-use Rattle.cw_texts.specs.TexPieces.{pieces_of}
+use Rattle.cw_texpart.specs.TexParts.{beside_in, pieces_done, head_and_tex}
+use Rattle.cw_texts.specs.TexPieces.{tex_pieces_of}
 use Rattle.cw_texpart.specs.Texts.{lasting}
 use Rattle.cw_texpart.proofs.LayingLaws.{holds-put}
 use Rattle.cw_texpart.proofs.WeavingLaws.{head-holds, head-refused, weaves-as, weaves-behind, weaves-put}
@@ -43,11 +43,11 @@ returns-then-is_nothing g c =
     let none : true ≡ is_nothing (beside_in s c.args.section) =
     sym c.if-is_nothing.true ∙ c.is_nothing.ensures ∙ ap is_nothing (c.in_ok-code.ensures
     ∙ ap (λ (s : TexSetting). code_beside s.text s.flags c.args.book.now.name_uses c.args.section) c.t.view_is) in
-    weaves-as (ap (λ (goes : Bool). tex_by goes front s c.args.section c.args.book.now.names) none)
+    weaves-as (ap (λ (goes : Bool). head_and_tex goes front s c.args.section c.args.book.now.names) none)
     (weaves-behind put
     (weaves-as
     (ap (λ (holds : Bool). reprinted (laid holds)
-    (pieces_done s (pieces_of c.args.t.now.text c.args.section.tex) c.args.book.now.names))
+    (pieces_done s (tex_pieces_of c.args.t.now.text c.args.section.tex) c.args.book.now.names))
     (holds-put put ∙ head-holds
     (holds_bytes c.args.out.now) c.args.t.now.flags.ranged c.args.t.now.text c.args.t.now.section c.args.section))
     c.put_pieces.ensures))
@@ -61,6 +61,6 @@ returns g c =
     let none : false ≡ is_nothing (beside_in s c.args.section) =
     sym c.if-is_nothing.false ∙ c.is_nothing.ensures ∙ ap is_nothing (c.in_ok-code.ensures
     ∙ ap (λ (s : TexSetting). code_beside s.text s.flags c.args.book.now.name_uses c.args.section) c.t.view_is) in
-    weaves-as (ap (λ (goes : Bool). tex_by goes front s c.args.section c.args.book.now.names) none)
+    weaves-as (ap (λ (goes : Bool). head_and_tex goes front s c.args.section c.args.book.now.names) none)
     (weaves-put front (Ok c.none.result) (puts-bytes (append-nil front) (puts-then put (puts-none _ _ _)))
     c.none.ensures.scraps c.none.ensures.productions)

@@ -4,7 +4,7 @@ use Rattle.cw_rules.specs.Answers.{Answer, Seen, seen}
 use Rattle.cw_secnames.specs.declared.kinds.Entered.{Entered}
 use Rattle.cw_secnames.specs.declared.kinds.SecId.{SecId}
 use Rattle.cw_secnames.specs.Kept.{Entering, SecName}
-use Rattle.cw_phase1.specs.Entering.{answer_of, entering, kept_by, kept_id, name_of_entering, note_by, note_on}
+use Rattle.cw_phase1.specs.Entering.{answer_of, entering, kept_by, kept_id, name_of_entering, note_by, note_on_name}
 use Rattle.cw_phase1.specs.Holding.{HeldState, held_of}
 use Rattle.cw_phase1.specs.Roles.{behind_begin}
 use Rattle.cw_phase1.specs.Texts.{naming}
@@ -28,13 +28,13 @@ ignored-held (Some e) t h kept none same =
 
 named-held : (e : Option Entering) (t : Seen) (h : HeldState) (kept : List SecName) (entered : Entered) (id : SecId)
     (remark : Option Answer) → Some entered ≡ answer_of e → kept ≡ kept_by e h.kept → id ≡ kept_id entered
-    → remark ≡ note_on entered t.span.start → waits (Some id) kept remark t h ≡ entered_held e t h
+    → remark ≡ note_on_name entered t.span.start → waits (Some id) kept remark t h ≡ entered_held e t h
 named-held None t h kept entered id remark some same name note =
     absurd (let wrong : ◌≡◌ {A = Option Entered} (Some entered) None = some in cc)
 named-held (Some e) t h kept entered id remark some same name note =
     let is : entered ≡ e.answer = let both : Some entered ≡ Some e.answer = some in cc in
     let id_is = name ∙ ap kept_id is in
-    let note_is = note ∙ ap (λ (a : Entered). note_on a t.span.start) is in
+    let note_is = note ∙ ap (λ (a : Entered). note_on_name a t.span.start) is in
     (λ i. waits (Some (id_is i)) (same i) (note_is i) t h)
 
 pub returns-in-None-clause-held : goal.returns-in-None-clause-held

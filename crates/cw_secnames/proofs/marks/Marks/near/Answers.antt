@@ -1,7 +1,7 @@
 -- What is found, of one byte more at a time.
 use Rattle.cw_secnames.proofs.Marked.{found-first, found-next, found-end}
 use Rattle.std.proofs.Common.{◌≡◌, sym, subst, true}
-use Rattle.cw_secnames.specs.Marks.{is_in}
+use Rattle.cw_secnames.specs.Marks.{is_one_of}
 use Rattle.cw_secnames.proofs.marks.Marks.near.Goals as goal
 
 pub loop-count-init : goal.loop-count-init
@@ -14,5 +14,5 @@ loop-count-preserved c =
 
 pub returns : goal.returns
 returns c = λ other k marked near.
-    subst (λ all. is_in k all ≡ true) (sym c.in_ok-add_to.ensures)
+    subst (λ all. is_one_of k all ≡ true) (sym c.in_ok-add_to.ensures)
     (found-end _ _ _ other _ _ _ k _ c.loop-count.invariant c.loop-count-test.false marked near)
