@@ -14,7 +14,8 @@ use Rattle.cw_rules.specs.Bodies.{at_start, extent}
 use Rattle.cw_rules.specs.Codes.{code_of}
 use Rattle.cw_lex.specs.Lexing.{still_fresh, joined, answers, fresh_at, last_at, answers_at, tokens_of}
 use Rattle.cw_lex.specs.Nested.{begins_section_in}
-use Rattle.cw_rules.specs.Tokens.{one, effect_in, section_name, is_name, section, found, code_by, code_text}
+use Rattle.cw_rules.specs.Tokens.{one, effect_in, section_name, is_name, section, code_by}
+use Rattle.cw_rules.specs.Apart.{found_apart, code_text_apart}
 use Rattle.cw_rules.proofs.CodeTwins.{at-code}
 use Rattle.cw_lex.proofs.Covering.{drop-part}
 use Rattle.cw_rules.proofs.NameEnds.{name-take}
@@ -45,9 +46,9 @@ name-stands at.FileName place shown h = refl
 name-stands _ place shown h = absurd cc
 
 name-found : (d : ℕ) (bs : List ℕ) (fresh : Bool) (last place : ℕ) → is_name (code_of d) ≡ true
-    → found inner fresh last place 64 (d ∷ bs) ≡ named (code_of d) place (64 ∷ d ∷ bs)
+    → found_apart inner fresh last place 64 (d ∷ bs) ≡ named (code_of d) place (64 ∷ d ∷ bs)
 name-found d bs fresh last place n =
-    ap (λ t. if t then section inner place (d ∷ bs) else code_text inner fresh last place 64 (d ∷ bs))
+    ap (λ t. if t then section inner place (d ∷ bs) else code_text_apart inner fresh last place 64 (d ∷ bs))
     (name-plain (code_of d) n)
     ∙ at-code inner fresh last place (d ∷ bs)
     ∙ name-stands (code_of d) place (64 ∷ d ∷ bs) n

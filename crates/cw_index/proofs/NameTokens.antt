@@ -16,7 +16,8 @@ use Rattle.cw_lex.specs.Limbo.{is_name_kind}
 use Rattle.cw_lex.proofs.TexTexts.{name-plain}
 use Rattle.cw_lex.proofs.FirstTokens.{bare-code}
 use Rattle.cw_lex.proofs.Covering.{drop-on}
-use Rattle.cw_rules.specs.Tokens.{all_cut, found, in_text, is_name, section, section_code}
+use Rattle.cw_rules.specs.Tokens.{all_cut, is_name, section, section_code}
+use Rattle.cw_rules.specs.Apart.{found_apart, in_text_apart}
 use Rattle.cw_rules.proofs.Choices.{if-both}
 use Rattle.cw_rules.proofs.CodeStarts.{kind_code, code_in, is_opener, in-text-tells}
 use Rattle.cw_base.proofs.TestLaws.{not-both}
@@ -71,22 +72,22 @@ abbrev TellsCode : ℕ → List ℕ → Code → Type 0
 TellsCode byte bytes c = (byte ≡ 64) × (code_at bytes ≡ c)
 
 found-tells : (w : Where) (fresh : Bool) (last place byte : ℕ) (bytes : List ℕ) (c : Code)
-    → code_in (found w fresh last place byte bytes).answers ≡ c → is_name c ≡ true → TellsCode byte bytes c
+    → code_in (found_apart w fresh last place byte bytes).answers ≡ c → is_name c ≡ true → TellsCode byte bytes c
 found-tells w fresh last place byte bytes c is n = by (byte == at_sign && begins_section bytes) refl
   where
     coded : Found
     coded = section w place bytes
 
     other : Found
-    other = in_text w.part w.comments fresh last place byte bytes
+    other = in_text_apart w.part w.comments fresh last place byte bytes
 
     by : (t : Bool) → (byte == at_sign && begins_section bytes) ≡ t → TellsCode byte bytes c
     by true e =
-        let f : found w fresh last place byte bytes ≡ coded = ap (λ t. if t then coded else other) e in
+        let f : found_apart w fresh last place byte bytes ≡ coded = ap (λ t. if t then coded else other) e in
         not-both _ (ap (λ (f : Found). is_section (code_in f.answers)) f ∙ section-found w place bytes)
         (ap is_section is ∙ name-plain c n)
     by false e =
-        let f : found w fresh last place byte bytes ≡ other = ap (λ t. if t then coded else other) e in
+        let f : found_apart w fresh last place byte bytes ≡ other = ap (λ t. if t then coded else other) e in
         let same : code_in other.answers ≡ c = ap (λ (f : Found). code_in f.answers) (sym f) ∙ is in
         let opens : is_opener (code_in other.answers) ≡ true = ap is_opener same ∙ name-opens c n in
         let told = (in-text-tells w.part w.comments fresh last place byte bytes).code opens in
@@ -138,9 +139,9 @@ taken-names text place byte bytes more (Note kind about ∷ xs) ys here h told g
 
 found-names : (text : List ℕ) (w : Where) (fresh : Bool) (last place byte : ℕ) (bytes : List ℕ) (ys : List Answer)
     → drop place text ≡ byte ∷ bytes → HaveNames text ys
-    → HaveNames text ((found w fresh last place byte bytes).answers ++ ys)
+    → HaveNames text ((found_apart w fresh last place byte bytes).answers ++ ys)
 found-names text w fresh last place byte bytes ys here g =
-    let f = found w fresh last place byte bytes in
+    let f = found_apart w fresh last place byte bytes in
     let t = found-takes w fresh last place byte bytes in
     let code : code_in f.answers ≡ code_in t.rest = ap code_in t.split ∙ bare-code place t.first t.rest t.bare in
     subst (HaveNames text) (sym (ap (λ l. l ++ ys) t.split ∙ append_assoc t.first t.rest ys))
@@ -155,7 +156,7 @@ answers-names text [] w fresh last place taken here =
     subst (HaveNames text) (append-nil cut)
     (bare-names text place cut [] (bare-all-cut w.part w.comments place (place - 1)) tt)
 answers-names text (byte ∷ bytes) w fresh last place zero here =
-    let f = found w fresh last place byte bytes in
+    let f = found_apart w fresh last place byte bytes in
     let on = drop-on text place byte bytes here in
     found-names text w fresh last place byte bytes _ here
     (answers-names text bytes f.next (still_fresh fresh byte) byte (place + 1) f.more on)

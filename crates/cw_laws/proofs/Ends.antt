@@ -45,10 +45,12 @@ use Rattle.cw_rules.specs.Tokens.{is_quote, control_or_plain, line_end, sign_or_
 use Rattle.cw_rules.specs.Tokens.{comment_kind, all_cut, comment_cut, comment_end, inner_or_none, part_cut}
 use Rattle.cw_rules.specs.Tokens.{section, section_code, inner_cut}
 use Rattle.cw_rules.specs.Tokens.{first_depth, behind_word, comment_begin, comment_closed, inner_end, inner_begin}
-use Rattle.cw_rules.specs.Tokens.{effect_in, may_head, is_head, identifier, code_by, in_code, code_text}
-use Rattle.cw_rules.specs.Tokens.{code_token, comment_text, limbo_by, limbo_text, tex_by, tex_text}
+use Rattle.cw_rules.specs.Tokens.{effect_in, may_head, is_head, identifier, code_by, in_code}
+use Rattle.cw_rules.specs.Apart.{code_text_apart, comment_text_apart, behind_head_apart, part_text_apart, in_text_apart}
+use Rattle.cw_rules.specs.Apart.{found_apart}
+use Rattle.cw_rules.specs.Tokens.{code_token, limbo_by, limbo_text, tex_by, tex_text}
 use Rattle.cw_rules.specs.Tokens.{name_follows, macro_name, parameter_follows, parameter, behind_format, format_name}
-use Rattle.cw_rules.specs.Tokens.{behind_head, part_text, in_text, found, is_name, include_name, piece_start}
+use Rattle.cw_rules.specs.Tokens.{is_name, include_name, piece_start}
 use Rattle.cw_rules.proofs.Choices.{if-both}
 use Rattle.cw_lex.specs.Lexing.{still_fresh, answers, fresh_at, last_at, beginning}
 use Rattle.cw_laws.specs.Ends.{begins_section_code, IsNoted, is_comment, IsPieceIn, EndsAt}
@@ -466,7 +468,7 @@ module _ (text : List ℕ) where
 
   code-text-goes : (w : Where) (fresh : Bool) (last place byte : ℕ) (bytes : List ℕ) (opened : List TokKind)
       → drop place text ≡ byte ∷ bytes → Around w.comments opened
-      → Goes opened (code_text w fresh last place byte bytes)
+      → Goes opened (code_text_apart w fresh last place byte bytes)
   code-text-goes w fresh last place byte bytes opened here f =
       let all = byte ∷ bytes in
       if-both (Goes opened) (byte == newline) _ _
@@ -515,7 +517,7 @@ module _ (text : List ℕ) where
 
   comment-text-goes : (part : Part) (c : Opened) (cs : List Opened) (last place byte : ℕ) (bytes : List ℕ)
       (opened : List TokKind) → drop place text ≡ byte ∷ bytes → InComment c false (Around cs) opened
-      → Goes opened (comment_text part c cs last place byte bytes)
+      → Goes opened (comment_text_apart part c cs last place byte bytes)
   comment-text-goes part c cs last place byte bytes opened here f =
       let all = byte ∷ bytes in
       let deep = is_deep part (c ∷ cs) in
@@ -676,7 +678,7 @@ module _ (text : List ℕ) where
 
   behind-head-goes : (limbo : Bool) (p : Part) (fresh : Bool) (last place byte : ℕ) (bytes : List ℕ)
       (opened : List TokKind) → drop place text ≡ byte ∷ bytes → AreInner opened
-      → Goes opened (behind_head limbo (bare p) fresh last place byte bytes)
+      → Goes opened (behind_head_apart limbo (bare p) fresh last place byte bytes)
   behind-head-goes true p fresh last place byte bytes opened here f =
       limbo-text-goes parts.Limbo place byte bytes opened here f
   behind-head-goes false p fresh last place byte bytes opened here f =
@@ -686,7 +688,7 @@ module _ (text : List ℕ) where
 
   part-text-goes : (part p : Part) (fresh : Bool) (last place byte : ℕ) (bytes : List ℕ) (opened : List TokKind)
       → drop place text ≡ byte ∷ bytes → AreInner opened
-      → Goes opened (part_text part (bare p) fresh last place byte bytes)
+      → Goes opened (part_text_apart part (bare p) fresh last place byte bytes)
   part-text-goes parts.Limbo p fresh last place byte bytes opened here f =
       limbo-text-goes p place byte bytes opened here f
   part-text-goes parts.Tex p fresh last place byte bytes opened here f =
@@ -723,7 +725,7 @@ module _ (text : List ℕ) where
 
   in-text-goes : (part : Part) (comments : List Opened) (fresh : Bool) (last place byte : ℕ) (bytes : List ℕ)
       (opened : List TokKind) → drop place text ≡ byte ∷ bytes → Fits comments opened
-      → Goes opened (in_text part comments fresh last place byte bytes)
+      → Goes opened (in_text_apart part comments fresh last place byte bytes)
   in-text-goes part [] fresh last place byte bytes opened here f =
       part-text-goes part part fresh last place byte bytes opened here f
   in-text-goes part (c ∷ cs) fresh last place byte bytes opened here f =
@@ -747,9 +749,9 @@ module _ (text : List ℕ) where
       subst (AllEnd text opened) (append-nil (all_cut w.part w.comments place (place - 1)))
       (all-cut w.part w.comments place (place - 1) opened [] (inl here) f (λ next inner. tt))
   all-go (byte ∷ bytes) w fresh last place zero opened here f =
-      let g = found w fresh last place byte bytes in
+      let g = found_apart w fresh last place byte bytes in
       if-both (Goes opened) (byte == at_sign && begins_section bytes) (section w place bytes)
-      (in_text w.part w.comments fresh last place byte bytes)
+      (in_text_apart w.part w.comments fresh last place byte bytes)
       (λ h. section-goes w place bytes opened
       (inr (ap (λ l. begins at_sign l && begins_section (drop 1 l)) here ∙ h)) f)
       (λ h. in-text-goes w.part w.comments fresh last place byte bytes opened here f)

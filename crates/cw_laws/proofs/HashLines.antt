@@ -27,10 +27,12 @@ use Rattle.cw_rules.specs.Signs.{all_signs, longest}
 use Rattle.cw_rules.specs.Tokens.{in_hash_line, behind_include, takes_hash_line, is_space, is_deep, ends_at_bar}
 use Rattle.cw_rules.specs.Tokens.{closes_on_line, moved, passed, one, section_name, string, control_text, alone_size}
 use Rattle.cw_rules.specs.Tokens.{is_quote, control_or_plain, line_end, sign_or_other, start_of, is_include}
-use Rattle.cw_rules.specs.Tokens.{behind_inner, effect_in, may_head, is_head, identifier, code_by, in_code, code_text}
-use Rattle.cw_rules.specs.Tokens.{code_token, comment_text, limbo_by, limbo_text, tex_by, tex_text, head_text}
+use Rattle.cw_rules.specs.Tokens.{behind_inner, effect_in, may_head, is_head, identifier, code_by, in_code}
+use Rattle.cw_rules.specs.Apart.{code_text_apart, comment_text_apart, behind_head_apart, part_text_apart, in_text_apart}
+use Rattle.cw_rules.specs.Apart.{found_apart}
+use Rattle.cw_rules.specs.Tokens.{code_token, limbo_by, limbo_text, tex_by, tex_text, head_text}
 use Rattle.cw_rules.specs.Tokens.{name_follows, macro_name, parameter_follows, parameter, behind_format, format_name}
-use Rattle.cw_rules.specs.Tokens.{behind_head, part_text, in_text, found, is_name}
+use Rattle.cw_rules.specs.Tokens.{is_name}
 use Rattle.cw_rules.proofs.Choices.{if-both}
 use Rattle.cw_laws.specs.WhiteSpace.{hash_line_by}
 
@@ -133,7 +135,7 @@ in-code-lined (start.Sign sign) w place bytes = λ e. passed-line w.part e
 in-code-lined start.OtherByte w place bytes = λ e. passed-line w.part e
 
 code-text-lined : (w : Where) (fresh : Bool) (last place byte : ℕ) (bytes : List ℕ)
-    → Lined (in_hash_line w.part) (code_text w fresh last place byte bytes)
+    → Lined (in_hash_line w.part) (code_text_apart w fresh last place byte bytes)
 code-text-lined w fresh last place byte bytes =
     let P : Found → Type 0 = Lined (in_hash_line w.part) in
     if-both P (byte == newline) _ _ (λ h. line-end-lined w.part w.comments last place)
@@ -144,7 +146,7 @@ code-text-lined w fresh last place byte bytes =
     (λ h. in-code-lined (start_of (ends_at_bar w.part w.comments) byte bytes) w place (byte ∷ bytes)))))
 
 comment-text-lined : (part : Part) (c : Opened) (comments : List Opened) (last place byte : ℕ) (bytes : List ℕ)
-    → Lined (in_hash_line part) (comment_text part c comments last place byte bytes)
+    → Lined (in_hash_line part) (comment_text_apart part c comments last place byte bytes)
 comment-text-lined part c comments last place byte bytes =
     let P : Found → Type 0 = Lined (in_hash_line part) in
     let missing = one_note (note_unless (c.braces == 0) NoteKind.MissingBrace place) in
@@ -232,7 +234,7 @@ format-name-lined code second limbo place byte bytes =
     behind false e = e
 
 behind-head-lined : (limbo fresh : Bool) (part : Part) (last place byte : ℕ) (bytes : List ℕ)
-    → Lined false (behind_head limbo (within part) fresh last place byte bytes)
+    → Lined false (behind_head_apart limbo (within part) fresh last place byte bytes)
 behind-head-lined true fresh part last place byte bytes = limbo-text-lined place byte bytes
 behind-head-lined false fresh part last place byte bytes =
     code-text-lined (within parts.Definition) fresh last place byte bytes
@@ -240,7 +242,7 @@ behind-head-lined false fresh part last place byte bytes =
 -- ## Any text
 
 part-text-lined : (part : Part) (fresh : Bool) (last place byte : ℕ) (bytes : List ℕ)
-    → Lined (in_hash_line part) (part_text part (within part) fresh last place byte bytes)
+    → Lined (in_hash_line part) (part_text_apart part (within part) fresh last place byte bytes)
 part-text-lined parts.Limbo fresh last place byte bytes = limbo-text-lined place byte bytes
 part-text-lined parts.Tex fresh last place byte bytes = tex-text-lined place byte bytes
 part-text-lined parts.Head fresh last place byte bytes = head-text-lined place byte bytes
@@ -267,7 +269,7 @@ part-text-lined parts.Inner fresh last place byte bytes =
     code-text-lined (within parts.Inner) fresh last place byte bytes
 
 pub in-text-lined : (part : Part) (comments : List Opened) (fresh : Bool) (last place byte : ℕ) (bytes : List ℕ)
-    → Lined (in_hash_line part) (in_text part comments fresh last place byte bytes)
+    → Lined (in_hash_line part) (in_text_apart part comments fresh last place byte bytes)
 in-text-lined part [] fresh last place byte bytes = part-text-lined part fresh last place byte bytes
 in-text-lined part (c ∷ comments) fresh last place byte bytes =
     if-both (Lined (in_hash_line part)) c.inner _ _
@@ -297,7 +299,7 @@ code-by-starts effects.Formats code w place bytes = refl
 code-by-starts effects.BeginsC code w place bytes = refl
 
 code-text-starts : (w : Where) (fresh : Bool) (last place : ℕ) (bytes : List ℕ)
-    → Starts (in_hash_line w.part) (code_text w fresh last place 92 bytes)
+    → Starts (in_hash_line w.part) (code_text_apart w fresh last place 92 bytes)
 code-text-starts w fresh last place bytes =
     let P : Start → Type 0 = λ s. Starts (in_hash_line w.part) (in_code s w place (92 ∷ bytes)) in
     if-both (Starts (in_hash_line w.part)) (is_space w.part 92 bytes) _ _
@@ -311,7 +313,7 @@ code-text-starts w fresh last place bytes =
     by (Some sign) = inl refl
 
 comment-text-starts : (part : Part) (c : Opened) (comments : List Opened) (last place : ℕ) (bytes : List ℕ)
-    → Starts (in_hash_line part) (comment_text part c comments last place 92 bytes)
+    → Starts (in_hash_line part) (comment_text_apart part c comments last place 92 bytes)
 comment-text-starts part c comments last place bytes =
     let P : Found → Type 0 = Starts (in_hash_line part) in
     if-both P (c.long && false) _ _ (λ h. absurd (wrong (both-right c.long false h)))
@@ -321,7 +323,7 @@ comment-text-starts part c comments last place bytes =
     wrong h = cc
 
 part-text-starts : (part : Part) (fresh : Bool) (last place : ℕ) (bytes : List ℕ)
-    → Starts (in_hash_line part) (part_text part (within part) fresh last place 92 bytes)
+    → Starts (in_hash_line part) (part_text_apart part (within part) fresh last place 92 bytes)
 part-text-starts parts.Limbo fresh last place bytes = inl refl
 part-text-starts parts.Tex fresh last place bytes = inl refl
 part-text-starts parts.Head fresh last place bytes = inl refl
@@ -343,11 +345,11 @@ part-text-starts parts.Definition fresh last place bytes =
 part-text-starts parts.Inner fresh last place bytes = code-text-starts (within parts.Inner) fresh last place bytes
 
 pub found-starts : (w : Where) (fresh : Bool) (last place : ℕ) (bytes : List ℕ)
-    → Starts (in_hash_line w.part) (found w fresh last place 92 bytes)
+    → Starts (in_hash_line w.part) (found_apart w fresh last place 92 bytes)
 found-starts w fresh last place bytes = by w.part w.comments
   where
     by : (part : Part) (comments : List Opened)
-        → Starts (in_hash_line part) (in_text part comments fresh last place 92 bytes)
+        → Starts (in_hash_line part) (in_text_apart part comments fresh last place 92 bytes)
     by part [] = part-text-starts part fresh last place bytes
     by part (c ∷ comments) =
         if-both (Starts (in_hash_line part)) c.inner _ _

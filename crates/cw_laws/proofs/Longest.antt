@@ -30,9 +30,11 @@ use Rattle.cw_rules.specs.Tokens.{in_hash_line, behind_include, takes_hash_line,
 use Rattle.cw_rules.specs.Tokens.{closes_on_line, moved, passed, one, comment_end, inner_cut, all_cut, section}
 use Rattle.cw_rules.specs.Tokens.{is_quote, section_code, section_name, string, control_text, alone_size}
 use Rattle.cw_rules.specs.Tokens.{control_or_plain, line_end, sign_or_other, start_of, effect_in, code_by, in_code}
-use Rattle.cw_rules.specs.Tokens.{code_text, code_token, comment_text, limbo_by, limbo_text, tex_by, tex_text}
-use Rattle.cw_rules.specs.Tokens.{name_follows, macro_name, parameter_follows, parameter, format_name, behind_head}
-use Rattle.cw_rules.specs.Tokens.{part_text, in_text, found, is_name, include_name, piece_start}
+use Rattle.cw_rules.specs.Tokens.{code_token, limbo_by, limbo_text, tex_by, tex_text}
+use Rattle.cw_rules.specs.Apart.{code_text_apart, comment_text_apart, behind_head_apart, part_text_apart, in_text_apart}
+use Rattle.cw_rules.specs.Apart.{found_apart}
+use Rattle.cw_rules.specs.Tokens.{name_follows, macro_name, parameter_follows, parameter, format_name}
+use Rattle.cw_rules.specs.Tokens.{is_name, include_name, piece_start}
 use Rattle.cw_rules.specs.Bodies.{one_note, note_unless, noted}
 use Rattle.cw_base.specs.declared.notes.NoteKind.{NoteKind}
 use Rattle.cw_rules.proofs.Choices.{if-both}
@@ -243,7 +245,7 @@ module _ (text : List ℕ) where
           (sign-longest (byte ∷ bytes) sign (longest-of (byte ∷ bytes) sign e)))
 
   code-text-longest : (w : Where) (fresh : Bool) (last place byte : ℕ) (bytes : List ℕ)
-      → drop place text ≡ byte ∷ bytes → Longest (code_text w fresh last place byte bytes)
+      → drop place text ≡ byte ∷ bytes → Longest (code_text_apart w fresh last place byte bytes)
   code-text-longest w fresh last place byte bytes here =
       if-both Longest (byte == newline) _ _ (λ h. line-end-longest w.part w.comments last place)
       (λ h. if-both Longest (is_space w.part byte bytes) _ _ (λ h. tt)
@@ -253,7 +255,7 @@ module _ (text : List ℕ) where
       (λ h. in-code-longest (ends_at_bar w.part w.comments) w place byte bytes here))))
 
   comment-text-longest : (part : Part) (c : Opened) (comments : List Opened) (last place byte : ℕ) (bytes : List ℕ)
-      → Longest (comment_text part c comments last place byte bytes)
+      → Longest (comment_text_apart part c comments last place byte bytes)
   comment-text-longest part c comments last place byte bytes =
       if-both Longest (c.long && (byte == star && begins slash bytes)) _ _ (λ h. noted-longest text (missing c place))
       (λ h. if-both Longest (not c.long && byte == newline) _ _
@@ -332,7 +334,7 @@ module _ (text : List ℕ) where
       (refl, short-signs all_signs (drop place text) refl)))))
 
   behind-head-longest : (limbo : Bool) (w : Where) (fresh : Bool) (last place byte : ℕ) (bytes : List ℕ)
-      → drop place text ≡ byte ∷ bytes → Longest (behind_head limbo w fresh last place byte bytes)
+      → drop place text ≡ byte ∷ bytes → Longest (behind_head_apart limbo w fresh last place byte bytes)
   behind-head-longest true w fresh last place byte bytes here =
       limbo-text-longest (moved w parts.Limbo) place byte bytes
   behind-head-longest false w fresh last place byte bytes here =
@@ -341,7 +343,7 @@ module _ (text : List ℕ) where
   -- ## Any text
 
   part-text-longest : (part : Part) (w : Where) (fresh : Bool) (last place byte : ℕ) (bytes : List ℕ)
-      → drop place text ≡ byte ∷ bytes → Longest (part_text part w fresh last place byte bytes)
+      → drop place text ≡ byte ∷ bytes → Longest (part_text_apart part w fresh last place byte bytes)
   part-text-longest parts.Limbo w fresh last place byte bytes here = limbo-text-longest w place byte bytes
   part-text-longest parts.Tex w fresh last place byte bytes here = tex-text-longest w place byte bytes
   part-text-longest parts.Head w fresh last place byte bytes here =
@@ -371,7 +373,7 @@ module _ (text : List ℕ) where
       code-text-longest w fresh last place byte bytes here
 
   in-text-longest : (part : Part) (comments : List Opened) (fresh : Bool) (last place byte : ℕ) (bytes : List ℕ)
-      → drop place text ≡ byte ∷ bytes → Longest (in_text part comments fresh last place byte bytes)
+      → drop place text ≡ byte ∷ bytes → Longest (in_text_apart part comments fresh last place byte bytes)
   in-text-longest part [] fresh last place byte bytes here =
       part-text-longest part (record { part = part; comments = [] }) fresh last place byte bytes here
   in-text-longest part (c ∷ comments) fresh last place byte bytes here =
@@ -392,7 +394,7 @@ module _ (text : List ℕ) where
   all-longest [] w fresh last place taken here = bare-longest text place (all_cut w.part w.comments place (place - 1))
       (bare-all-cut w.part w.comments place (place - 1))
   all-longest (byte ∷ bytes) w fresh last place zero here =
-      let f = found w fresh last place byte bytes in
+      let f = found_apart w fresh last place byte bytes in
       append-longest text f.answers (answers bytes f.next (still_fresh fresh byte) byte (place + 1) f.more)
       (if-both Longest (byte == at_sign && begins_section bytes) _ _ (λ h. section-longest w place bytes)
       (λ h. in-text-longest w.part w.comments fresh last place byte bytes here))

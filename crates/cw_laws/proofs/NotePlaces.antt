@@ -33,10 +33,12 @@ use Rattle.cw_rules.specs.Tokens.{in_hash_line, behind_include, takes_hash_line,
 use Rattle.cw_rules.specs.Tokens.{closes_on_line, moved, passed, one, skipped_byte, missing_brace, comment_end}
 use Rattle.cw_rules.specs.Tokens.{inner_cut, comment_cut, part_cut, inner_or_none, all_cut, section, section_code}
 use Rattle.cw_rules.specs.Tokens.{line_end, sign_or_other, start_of, is_include, behind_word, behind_inner, effect_in}
-use Rattle.cw_rules.specs.Tokens.{may_head, is_head, code_by, in_code, code_text, identifier, string, code_token}
-use Rattle.cw_rules.specs.Tokens.{dropped_code, include_name, piece_start, comment_text, limbo_by, limbo_text, tex_by}
+use Rattle.cw_rules.specs.Tokens.{may_head, is_head, code_by, in_code, identifier, string, code_token}
+use Rattle.cw_rules.specs.Apart.{code_text_apart, comment_text_apart, behind_head_apart, part_text_apart, in_text_apart}
+use Rattle.cw_rules.specs.Apart.{found_apart}
+use Rattle.cw_rules.specs.Tokens.{dropped_code, include_name, piece_start, limbo_by, limbo_text, tex_by}
 use Rattle.cw_rules.specs.Tokens.{tex_text, head_text, name_follows, macro_name, parameter_follows, parameter}
-use Rattle.cw_rules.specs.Tokens.{behind_format, format_name, behind_head, part_text, in_text, found, is_name}
+use Rattle.cw_rules.specs.Tokens.{behind_format, format_name, is_name}
 use Rattle.cw_rules.proofs.Choices.{if-both}
 use Rattle.cw_lex.specs.Lexing.{still_fresh, answers, fresh_at, last_at, beginning, tokens_of}
 use Rattle.cw_lex.specs.Starts.{CodeIs}
@@ -294,7 +296,7 @@ in-code-lies low place start.OtherByte w byte bytes l o e =
     (plain kinds.OtherByte 1) tt (passed-on low (place + 1) w o)
 
 code-text-lies : (low place : ℕ) (w : Where) (fresh : Bool) (last byte : ℕ) (bytes : List ℕ) → low ≤ place
-    → Open low (place + 1) w → Lies low place (length (byte ∷ bytes)) (code_text w fresh last place byte bytes)
+    → Open low (place + 1) w → Lies low place (length (byte ∷ bytes)) (code_text_apart w fresh last place byte bytes)
 code-text-lies low place w fresh last byte bytes l o =
     let left = length (byte ∷ bytes) in
     let P : Found → Type 0 = Lies low place left in
@@ -314,7 +316,7 @@ code-text-lies low place w fresh last byte bytes l o =
 
 comment-text-lies : (low place : ℕ) (part : Part) (c : Opened) (comments : List Opened) (last byte : ℕ)
     (bytes : List ℕ) → low ≤ place → PartOpen low (place + 1) part → CommentsOpen low (place + 1) (c ∷ comments)
-    → Lies low place (length (byte ∷ bytes)) (comment_text part c comments last place byte bytes)
+    → Lies low place (length (byte ∷ bytes)) (comment_text_apart part c comments last place byte bytes)
 comment-text-lies low place part c comments last byte bytes l p o =
     let left = length (byte ∷ bytes) in
     let P : Found → Type 0 = Lies low place left in
@@ -434,13 +436,13 @@ format-name-lies low place code second limbo w byte bytes c o =
 improper-lies : (low place : ℕ) (note : NoteKind) (code : ℕ) (limbo : Bool) (w : Where) (fresh : Bool) (last byte : ℕ)
     (bytes : List ℕ) → low ≤ place → (low ≤ code) × (code < place + 1) → Open low (place + 1) w
     → Lies low place (length (byte ∷ bytes)) (before (Note note code ∷ [])
-    (behind_head limbo w fresh last place byte bytes))
+    (behind_head_apart limbo w fresh last place byte bytes))
 improper-lies low place note code limbo w fresh last byte bytes l c o =
-    before-lies low place (length (byte ∷ bytes)) (Note note code ∷ []) (behind_head limbo w fresh last place byte
+    before-lies low place (length (byte ∷ bytes)) (Note note code ∷ []) (behind_head_apart limbo w fresh last place byte
     bytes) (c.0, omega (arith, c.1), tt) (behind limbo)
   where
     behind : (limbo : Bool) → Lies low place (length (byte ∷ bytes))
-        (behind_head limbo w fresh last place byte bytes)
+        (behind_head_apart limbo w fresh last place byte bytes)
     behind true = limbo-text-lies low place (moved w parts.Limbo) byte bytes l (tt, o.1)
     behind false = code-text-lies low place (moved w parts.Definition) fresh last byte bytes l (tt, o.1)
 
@@ -448,7 +450,8 @@ improper-lies low place note code limbo w fresh last byte bytes l c o =
 
 part-text-lies : (low place : ℕ) (part : Part) (fresh : Bool) (last byte : ℕ) (bytes : List ℕ) → low ≤ place
     → PartOpen low (place + 1) part
-    → Lies low place (length (byte ∷ bytes)) (part_text part (record { part = part; comments = [] }) fresh last place
+    → Lies low place (length (byte ∷ bytes)) (part_text_apart part (record { part = part; comments = [] }) fresh last
+    place
     byte bytes)
 part-text-lies low place parts.Limbo fresh last byte bytes l p = limbo-text-lies low place _ byte bytes l (tt, tt)
 part-text-lies low place parts.Tex fresh last byte bytes l p = tex-text-lies low place _ byte bytes l (tt, tt)
@@ -483,7 +486,7 @@ part-text-lies low place parts.Inner fresh last byte bytes l p =
 
 in-text-lies : (low place : ℕ) (part : Part) (comments : List Opened) (fresh : Bool) (last byte : ℕ) (bytes : List ℕ)
     → low ≤ place → PartOpen low (place + 1) part → CommentsOpen low (place + 1) comments
-    → Lies low place (length (byte ∷ bytes)) (in_text part comments fresh last place byte bytes)
+    → Lies low place (length (byte ∷ bytes)) (in_text_apart part comments fresh last place byte bytes)
 in-text-lies low place part [] fresh last byte bytes l p o = part-text-lies low place part fresh last byte bytes l p
 in-text-lies low place part (c ∷ comments) fresh last byte bytes l p o =
     if-both (Lies low place (length (byte ∷ bytes))) c.inner _ _
@@ -492,7 +495,7 @@ in-text-lies low place part (c ∷ comments) fresh last byte bytes l p o =
 
 found-lies : (low place : ℕ) (w : Where) (fresh : Bool) (last byte : ℕ) (bytes : List ℕ) → low ≤ place
     → Open low (place + 1) w
-    → Lies low place (length (byte ∷ bytes)) (found w fresh last place byte bytes)
+    → Lies low place (length (byte ∷ bytes)) (found_apart w fresh last place byte bytes)
 found-lies low place w fresh last byte bytes l o =
     if-both (Lies low place (length (byte ∷ bytes))) (byte == at_sign && begins_section bytes) _ _
     (λ h. section-lies low place (length (byte ∷ bytes)) w bytes l (omega arith) o)
@@ -504,7 +507,7 @@ all-lie low [] w fresh last place taken l o =
     all-cut-lie low (place + 0) place w.part w.comments place (place - 1) o.0 o.1 (omega arith)
     (λ h. (omega (arith, h), omega (arith, h)))
 all-lie low (byte ∷ bytes) w fresh last place zero l o =
-    let f = found w fresh last place byte bytes in
+    let f = found_apart w fresh last place byte bytes in
     let lies = found-lies low place w fresh last byte bytes l (later low place w o) in
     append-lie low (place + length (byte ∷ bytes)) f.answers
     (answers bytes f.next (still_fresh fresh byte) byte (place + 1) f.more) lies.notes

@@ -11,7 +11,8 @@ use Rattle.cw_rules.specs.declared.tokens.TokKind.TheVariants as kinds
 use Rattle.cw_rules.specs.Answers.{Answer, Token, Begin, Finish, Note, Seen, Where, Cut, Found, note_answers}
 use Rattle.cw_rules.specs.Bytes.{at_sign, star, begins}
 use Rattle.cw_rules.specs.Codes.{code_at, begins_section}
-use Rattle.cw_rules.specs.Tokens.{all_cut, section, section_code, in_text, found}
+use Rattle.cw_rules.specs.Tokens.{all_cut, section, section_code}
+use Rattle.cw_rules.specs.Apart.{in_text_apart, found_apart}
 use Rattle.cw_rules.proofs.Choices.{if-both}
 use Rattle.cw_rules.proofs.CodeStarts.{kind_code, code_in, is_opener, in-text-tells}
 use Rattle.cw_rules.proofs.Taking.{AreBare, AreNotes, TakesAll, Takes, bare-all-cut, found-takes}
@@ -108,10 +109,10 @@ taking-openers text place byte bytes more (Note kind about ∷ xs) here told t =
 
 plain-openers : (text : List ℕ) (w : Where) (fresh : Bool) (last place byte : ℕ) (bytes : List ℕ)
     → drop place text ≡ byte ∷ bytes → (byte == at_sign && begins_section bytes) ≡ false
-    → AreOpeners text (in_text w.part w.comments fresh last place byte bytes).answers
+    → AreOpeners text (in_text_apart w.part w.comments fresh last place byte bytes).answers
 plain-openers text w fresh last place byte bytes here h =
-    let g = in_text w.part w.comments fresh last place byte bytes in
-    let plain : found w fresh last place byte bytes ≡ g = ap (λ t. if t then section w place bytes else g) h in
+    let g = in_text_apart w.part w.comments fresh last place byte bytes in
+    let plain : found_apart w fresh last place byte bytes ≡ g = ap (λ t. if t then section w place bytes else g) h in
     let t : Takes place (byte ∷ bytes) g = subst (Takes place (byte ∷ bytes)) plain
     (found-takes w fresh last place byte bytes) in
     let code : code_in g.answers ≡ code_in t.rest = ap code_in t.split ∙ bare-code place t.first t.rest t.bare in
@@ -126,10 +127,10 @@ pub openers : (text bytes : List ℕ) (w : Where) (fresh : Bool) (last place tak
 openers text [] w fresh last place taken here = bare-openers text place (all_cut w.part w.comments place (place - 1))
     (bare-all-cut w.part w.comments place (place - 1))
 openers text (byte ∷ bytes) w fresh last place zero here =
-    let f = found w fresh last place byte bytes in
+    let f = found_apart w fresh last place byte bytes in
     append-openers text f.answers (answers bytes f.next (still_fresh fresh byte) byte (place + 1) f.more)
     (if-both (λ (f : Found). AreOpeners text f.answers) (byte == at_sign && begins_section bytes)
-    (section w place bytes) (in_text w.part w.comments fresh last place byte bytes)
+    (section w place bytes) (in_text_apart w.part w.comments fresh last place byte bytes)
     (λ h. section-openers text w place bytes) (plain-openers text w fresh last place byte bytes here))
     (openers text bytes f.next (still_fresh fresh byte) byte (place + 1) f.more (drop-on text place byte bytes here))
 openers text (byte ∷ bytes) w fresh last place (suc taken) here =

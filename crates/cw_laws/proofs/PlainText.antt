@@ -16,7 +16,8 @@ use Rattle.cw_rules.specs.Answers.{Answer, Token, Where, Found, plain as cut_pla
 use Rattle.cw_rules.specs.Bytes.{newline, at_sign, is_in, run}
 use Rattle.cw_base.specs.Text.{bar}
 use Rattle.cw_rules.specs.Codes.{begins_section, code_at, effect_in_limbo, effect_in_tex}
-use Rattle.cw_rules.specs.Tokens.{all_cut, found, inner_begin, limbo_by, moved, one, section, tex_by}
+use Rattle.cw_rules.specs.Tokens.{all_cut, inner_begin, limbo_by, moved, one, section, tex_by}
+use Rattle.cw_rules.specs.Apart.{found_apart}
 use Rattle.cw_lex.specs.Lexing.{answers, beginning, fresh_at, joined, last_after, last_at, still_fresh}
 use Rattle.cw_names.specs.Names.{Entry}
 use Rattle.cw_phase1.specs.declared.sections.Section.{Section}
@@ -79,7 +80,7 @@ text_answers place (byte ∷ bytes) =
 
 one-token : (class : Class) (w : Where) → ((place about : ℕ) → all_cut w.part w.comments place about ≡ [])
     → (fresh : Bool) (last place byte : ℕ) (bytes : List ℕ) → All (λ b. is_in class b ≡ true) (byte ∷ bytes)
-    → found w fresh last place byte bytes
+    → found_apart w fresh last place byte bytes
     ≡ one false w place (byte ∷ bytes) (cut_plain kinds.Text (run class (byte ∷ bytes)))
     → answers (byte ∷ bytes) w fresh last place zero ≡ text_answers place (byte ∷ bytes)
 one-token class w cut fresh last place byte bytes all is =

@@ -10,7 +10,8 @@ use Rattle.cw_rules.specs.declared.tokens.TokKind.TheVariants as kinds
 use Rattle.cw_rules.specs.Answers.{Answer, Token, Begin, Finish, Note, Seen, Where, Found, note_answers, token_of}
 use Rattle.cw_rules.specs.Bytes.{at_sign, begins}
 use Rattle.cw_rules.specs.Codes.{is_section, begins_section}
-use Rattle.cw_rules.specs.Tokens.{all_cut, section, section_code, in_text, found}
+use Rattle.cw_rules.specs.Tokens.{all_cut, section, section_code}
+use Rattle.cw_rules.specs.Apart.{in_text_apart, found_apart}
 use Rattle.cw_rules.proofs.Choices.{if-both}
 use Rattle.cw_rules.proofs.CodeStarts.{code_in, in-text-tells}
 use Rattle.cw_rules.proofs.Taking.{AreBare, AreNotes, TakesAll, Takes, bare-all-cut, found-takes}
@@ -95,15 +96,15 @@ taking-coded text place bytes more (Note kind about ∷ xs) h t = absurd t
 
 pub no-section : (w : Where) (fresh : Bool) (last place byte : ℕ) (bytes : List ℕ)
     → (byte == at_sign && begins_section bytes) ≡ false
-    → is_section (code_in (in_text w.part w.comments fresh last place byte bytes).answers) ≡ false
+    → is_section (code_in (in_text_apart w.part w.comments fresh last place byte bytes).answers) ≡ false
 no-section w fresh last place byte bytes h =
-    by (is_section (code_in (in_text w.part w.comments fresh last place byte bytes).answers)) refl
+    by (is_section (code_in (in_text_apart w.part w.comments fresh last place byte bytes).answers)) refl
   where
-    by : (b : Bool) → is_section (code_in (in_text w.part w.comments fresh last place byte bytes).answers) ≡ b
-        → is_section (code_in (in_text w.part w.comments fresh last place byte bytes).answers) ≡ false
+    by : (b : Bool) → is_section (code_in (in_text_apart w.part w.comments fresh last place byte bytes).answers) ≡ b
+        → is_section (code_in (in_text_apart w.part w.comments fresh last place byte bytes).answers) ≡ false
     by false e = e
     by true e =
-        let g = in_text w.part w.comments fresh last place byte bytes in
+        let g = in_text_apart w.part w.comments fresh last place byte bytes in
         let told = (in-text-tells w.part w.comments fresh last place byte bytes).code
         (section-opens (code_in g.answers) e) in
         not-both (byte == at_sign && begins_section bytes)
@@ -111,10 +112,10 @@ no-section w fresh last place byte bytes h =
 
 plain-coded : (text : List ℕ) (w : Where) (fresh : Bool) (last place byte : ℕ) (bytes : List ℕ)
     → (byte == at_sign && begins_section bytes) ≡ false
-    → AreCoded text (in_text w.part w.comments fresh last place byte bytes).answers
+    → AreCoded text (in_text_apart w.part w.comments fresh last place byte bytes).answers
 plain-coded text w fresh last place byte bytes h =
-    let g = in_text w.part w.comments fresh last place byte bytes in
-    let plain : found w fresh last place byte bytes ≡ g = ap (λ t. if t then section w place bytes else g) h in
+    let g = in_text_apart w.part w.comments fresh last place byte bytes in
+    let plain : found_apart w fresh last place byte bytes ≡ g = ap (λ t. if t then section w place bytes else g) h in
     let t : Takes place (byte ∷ bytes) g = subst (Takes place (byte ∷ bytes)) plain
     (found-takes w fresh last place byte bytes) in
     let code : code_in g.answers ≡ code_in t.rest = ap code_in t.split ∙ bare-code place t.first t.rest t.bare in
@@ -130,10 +131,10 @@ pub coded : (text bytes : List ℕ) (w : Where) (fresh : Bool) (last place taken
 coded text [] w fresh last place taken here = bare-coded text place (all_cut w.part w.comments place (place - 1))
     (bare-all-cut w.part w.comments place (place - 1))
 coded text (byte ∷ bytes) w fresh last place zero here =
-    let f = found w fresh last place byte bytes in
+    let f = found_apart w fresh last place byte bytes in
     append-coded text f.answers (answers bytes f.next (still_fresh fresh byte) byte (place + 1) f.more)
     (if-both (λ (f : Found). AreCoded text f.answers) (byte == at_sign && begins_section bytes)
-    (section w place bytes) (in_text w.part w.comments fresh last place byte bytes)
+    (section w place bytes) (in_text_apart w.part w.comments fresh last place byte bytes)
     (section-coded text w place byte bytes here) (plain-coded text w fresh last place byte bytes))
     (coded text bytes f.next (still_fresh fresh byte) byte (place + 1) f.more (drop-on text place byte bytes here))
 coded text (byte ∷ bytes) w fresh last place (suc taken) here =

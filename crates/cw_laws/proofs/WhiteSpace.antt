@@ -14,7 +14,8 @@ use Rattle.cw_rules.specs.Answers.{Answer, Token, Begin, Finish, Note, Where, Fo
 use Rattle.cw_rules.specs.Bytes.{newline, backslash, at_sign, begins, is_in}
 use Rattle.cw_rules.specs.Codes.{is_section, begins_section}
 use Rattle.cw_rules.specs.Order.{begins_space, AreWithin}
-use Rattle.cw_rules.specs.Tokens.{all_cut, in_hash_line, section, in_text, found}
+use Rattle.cw_rules.specs.Tokens.{all_cut, in_hash_line, section}
+use Rattle.cw_rules.specs.Apart.{in_text_apart, found_apart}
 use Rattle.cw_rules.proofs.Choices.{if-both}
 use Rattle.cw_rules.proofs.CodeStarts.{code_in}
 use Rattle.cw_rules.proofs.Taking.{AreBare, AreNotes, TakesAll, Takes, bare-all-cut, found-takes}
@@ -60,10 +61,10 @@ after-grows a line (Some kind) h s e =
 
 found-line : (w : Where) (fresh : Bool) (last place byte : ℕ) (bytes : List ℕ) (line : Bool)
     → (in_hash_line w.part ≡ true → line ≡ true)
-    → in_hash_line (found w fresh last place byte bytes).next.part ≡ true
-    → line_after line (kind_in (found w fresh last place byte bytes).answers) ≡ true
+    → in_hash_line (found_apart w fresh last place byte bytes).next.part ≡ true
+    → line_after line (kind_in (found_apart w fresh last place byte bytes).answers) ≡ true
 found-line w fresh last place byte bytes line h =
-    let g = in_text w.part w.comments fresh last place byte bytes in
+    let g = in_text_apart w.part w.comments fresh last place byte bytes in
     if-both (λ (f : Found). in_hash_line f.next.part ≡ true → line_after line (kind_in f.answers) ≡ true)
     (byte == at_sign && begins_section bytes) (section w place bytes) g (λ k e. absurd cc)
     (λ k e. after-grows (in_hash_line w.part) line (kind_in g.answers) h
@@ -77,14 +78,14 @@ space-by false true next line h k = both line next (k refl) h
 space-by false false next line h k = absurd cc
 
 found-space : (w : Where) (fresh : Bool) (last place byte : ℕ) (bytes : List ℕ) (line : Bool)
-    → (in_hash_line w.part ≡ true → line ≡ true) → has_start (found w fresh last place byte bytes).answers ≡ false
+    → (in_hash_line w.part ≡ true → line ≡ true) → has_start (found_apart w fresh last place byte bytes).answers ≡ false
     → begins_space (byte ∷ bytes) ≡ true → begins_space_in line (byte ∷ bytes) ≡ true
 found-space w fresh last place byte bytes line h none space =
     space-by (is_in classes.White byte) (byte == backslash) (begins newline bytes) line space
-    (λ k. by (subst (λ b. Starts (in_hash_line w.part) (found w fresh last place b bytes))
+    (λ k. by (subst (λ b. Starts (in_hash_line w.part) (found_apart w fresh last place b bytes))
     (sym (eqb-true byte backslash k)) (found-starts w fresh last place bytes)))
   where
-    by : Starts (in_hash_line w.part) (found w fresh last place byte bytes) → line ≡ true
+    by : Starts (in_hash_line w.part) (found_apart w fresh last place byte bytes) → line ≡ true
     by (inl k) = not-both _ k none
     by (inr k) = h k
 
@@ -218,7 +219,7 @@ answers-leave text [] w fresh last place taken from line here size t low space h
     (omega (arith, low, t)) (more-space text line from (place + taken) place e space)
     (λ low least space. more-space text line low place (length text) (omega (arith, size)) space))
 answers-leave text (byte ∷ bytes) w fresh last place zero from line here size t low space h =
-    let f = found w fresh last place byte bytes in
+    let f = found_apart w fresh last place byte bytes in
     let fits = found-fits w fresh last place byte bytes in
     let e : place + 0 ≡ place = omega arith in
     found-leaves text line from place (length text) (byte ∷ bytes) f _ (found-takes w fresh last place byte bytes)

@@ -10,7 +10,8 @@ use Rattle.cw_rules.specs.Bytes.{newline, backslash, begins, is_in}
 use Rattle.cw_rules.specs.declared.classes.Class.TheVariants as classes
 use Rattle.cw_rules.specs.Answers.{Answer, Token, Begin, Finish, Note, Seen, Where, Found}
 use Rattle.cw_lex.specs.Lexing.{still_fresh, answers, fresh_at, last_at, beginning, tokens_of}
-use Rattle.cw_rules.specs.Tokens.{all_cut, found}
+use Rattle.cw_rules.specs.Tokens.{all_cut}
+use Rattle.cw_rules.specs.Apart.{found_apart}
 use Rattle.cw_rules.specs.Order.{begins_space, IsSpace, Stands, Covers}
 use Rattle.cw_rules.proofs.Taking.{AreBare, AreNotes, IsWhole, TakesAll, Takes, bare-all-cut, found-takes}
 use Rattle.cw_rules.proofs.Within.{found-fits}
@@ -129,7 +130,7 @@ answers-cover text [] w fresh last place taken from here size t low space =
     (more-space text from (place + taken) place e space)
     (λ low least space. (omega arith, more-space text low place (length text) (omega arith) space)))
 answers-cover text (byte ∷ bytes) w fresh last place zero from here size t low space =
-    let f = found w fresh last place byte bytes in
+    let f = found_apart w fresh last place byte bytes in
     let fits = found-fits w fresh last place byte bytes in
     let e : place + 0 ≡ place = omega arith in
     found-covers text from place (length text) (byte ∷ bytes) f _ (found-takes w fresh last place byte bytes) here

@@ -12,8 +12,9 @@ use Rattle.cw_rules.specs.Answers.{Where, Note, before, plain, note_answers}
 use Rattle.cw_rules.specs.Bytes.{is_in, is_letter, run, begins, begins_by}
 use Rattle.cw_rules.specs.Codes.{begins_section}
 use Rattle.cw_lex.specs.Lexing.{fresh_at, last_at, answers_at}
-use Rattle.cw_rules.specs.Tokens.{section, in_text, macro_name, format_name, parameter, is_parameter, behind_white}
-use Rattle.cw_rules.specs.Tokens.{behind_head, behind_format, identifier, skipped_byte, one, moved, is_head_part}
+use Rattle.cw_rules.specs.Tokens.{section, macro_name, format_name, parameter, is_parameter, behind_white}
+use Rattle.cw_rules.specs.Apart.{in_text_apart, behind_head_apart}
+use Rattle.cw_rules.specs.Tokens.{behind_format, identifier, skipped_byte, one, moved, is_head_part}
 use Rattle.cw_rules.specs.Tokens.{is_code}
 use Rattle.cw_rules.specs.declared.signs.Sign.TheVariants as signs
 use Rattle.cw_rules.specs.declared.tokens.TokKind.TheVariants as kinds
@@ -85,11 +86,12 @@ skip-run text w place (suc n) h =
 
 -- what isn't a section code
 pub not-section : (text : List ℕ) (w : Where) (p : ℕ) → (slice_index text p == 64) ≡ false
-    → found_at text w p ≡ in_text w.part w.comments (fresh_at text p) (last_at text p) p (slice_index text p)
+    → found_at text w p ≡ in_text_apart w.part w.comments (fresh_at text p) (last_at text p) p (slice_index text p)
     (drop (p + 1) text)
 not-section text w p h =
     ap (λ t. if t && begins_section (drop (p + 1) text) then section w p (drop (p + 1) text)
-    else in_text w.part w.comments (fresh_at text p) (last_at text p) p (slice_index text p) (drop (p + 1) text)) h
+    else in_text_apart w.part w.comments (fresh_at text p) (last_at text p) p (slice_index text p) (drop (p + 1) text))
+    h
 
 -- the blanks before the sign of a head
 pub head-blank : (text : List ℕ) (p : ℕ) → is_in classes.Blank (slice_index text p) ≡ true
@@ -140,7 +142,7 @@ macro-found text place size code p run-is follows low high within =
     let w : Where = record { part = parts.MacroName code; comments = [] } in
     not-section text w p (not-at text place size (begins_by is_letter) run-is follows p low high within (λ bs. refl))
     ∙ ap (λ t. if t then macro_name code w p (slice_index text p) (drop (p + 1) text) else before
-    (Note notes.ImproperMacro code ∷ []) (behind_head false w (fresh_at text p) (last_at text p) p
+    (Note notes.ImproperMacro code ∷ []) (behind_head_apart false w (fresh_at text p) (last_at text p) p
     (slice_index text p) (drop (p + 1) text))) (follows-at text place size (begins_by is_letter) run-is follows p
     low high within)
 
@@ -170,7 +172,7 @@ parameter-found text place size code p run-is follows low high within =
     let w : Where = record { part = parts.Parameters code; comments = [] } in
     not-section text w p (not-at text place size (is_parameter) run-is follows p low high within (λ bs. refl))
     ∙ ap (λ t. if t then parameter w p (slice_index text p) (drop (p + 1) text) else before
-    (Note notes.ImproperMacro code ∷ []) (behind_head false w (fresh_at text p) (last_at text p) p
+    (Note notes.ImproperMacro code ∷ []) (behind_head_apart false w (fresh_at text p) (last_at text p) p
     (slice_index text p) (drop (p + 1) text))) (follows-at text place size (is_parameter) run-is follows p low high
     within)
 
@@ -204,7 +206,7 @@ format-found text place size code second limbo p run-is follows low high within 
     let w : Where = record { part = parts.FormatName code second limbo; comments = [] } in
     not-section text w p (not-at text place size (begins_by is_letter) run-is follows p low high within (λ bs. refl))
     ∙ ap (λ t. if t then format_name code second limbo w p (slice_index text p) (drop (p + 1) text) else before
-    (Note notes.ImproperFormat code ∷ []) (behind_head limbo w (fresh_at text p) (last_at text p) p
+    (Note notes.ImproperFormat code ∷ []) (behind_head_apart limbo w (fresh_at text p) (last_at text p) p
     (slice_index text p) (drop (p + 1) text))) (follows-at text place size (begins_by is_letter) run-is follows p
     low high within)
 

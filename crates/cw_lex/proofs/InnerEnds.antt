@@ -20,7 +20,8 @@ use Rattle.cw_rules.specs.Prefixes.{prefix_size}
 use Rattle.cw_lex.specs.Lexing.{still_fresh, joined, answers}
 use Rattle.cw_lex.specs.Nested.{begins_section_in}
 use Rattle.cw_rules.specs.Tokens.{is_tex_inner, sign_or_other, inner_cut, comment_cut, inner_or_none, all_cut, line_end}
-use Rattle.cw_rules.specs.Tokens.{code_by, in_code, start_of, code_text, comment_text, in_text, section, found, is_deep}
+use Rattle.cw_rules.specs.Tokens.{code_by, in_code, start_of, section, is_deep}
+use Rattle.cw_rules.specs.Apart.{code_text_apart, comment_text_apart, in_text_apart, found_apart}
 use Rattle.cw_lex.specs.Parts.{closing_bar}
 use Rattle.cw_rules.specs.Signs.{all_signs, longest}
 use Rattle.cw_rules.proofs.InnerTwins.{tex_inner}
@@ -95,7 +96,7 @@ text-inside cs fresh last place byte bytes ends n = start-inside (start_of ends 
     (no-bar ends byte bytes n)
 
 code-text-inside : (cs : List Opened) (fresh : Bool) (last place byte : ℕ) (bytes : List ℕ) → (byte == bar) ≡ false
-    → Inside (code_text (tex_inner cs) fresh last place byte bytes)
+    → Inside (code_text_apart (tex_inner cs) fresh last place byte bytes)
 code-text-inside cs fresh last place byte bytes n =
     if-both Inside (byte == newline) _ _ (λ h. line-inside cs last place)
     (λ h. if-both Inside (is_in classes.Blank byte || false) _ _ (λ h. record { is = refl })
@@ -104,7 +105,7 @@ code-text-inside cs fresh last place byte bytes n =
     (λ h. text-inside cs fresh last place byte bytes true n))))
 
 comment-inside : (c : Opened) (cs : List Opened) (last place byte : ℕ) (bytes : List ℕ)
-    → Inside (comment_text parts.TexInner c cs last place byte bytes)
+    → Inside (comment_text_apart parts.TexInner c cs last place byte bytes)
 comment-inside c cs last place byte bytes =
     if-both Inside (c.long && (byte == star && begins slash bytes)) _ _ (λ h. record { is = refl })
     (λ h. if-both Inside (not c.long && byte == newline) _ _ (λ h. record { is = (line-inside cs last place).is })
@@ -112,7 +113,7 @@ comment-inside c cs last place byte bytes =
     (λ h. record { is = refl })))
 
 in-text-inside : (cs : List Opened) (fresh : Bool) (last place byte : ℕ) (bytes : List ℕ) → (byte == bar) ≡ false
-    → Inside (in_text parts.TexInner cs fresh last place byte bytes)
+    → Inside (in_text_apart parts.TexInner cs fresh last place byte bytes)
 in-text-inside [] fresh last place byte bytes n = code-text-inside [] fresh last place byte bytes n
 in-text-inside (c ∷ cs) fresh last place byte bytes n =
     if-both Inside c.inner _ _ (λ h. code-text-inside (c ∷ cs) fresh last place byte bytes n)
@@ -140,11 +141,11 @@ to-end end [] cs fresh last place taken e n u =
     cut-inner cs place (place - 1) ∙ ap (λ p. all_cut parts.Inner cs place (place - 1) ++ inner_cut false p (p - 1))
     here
 to-end end (byte ∷ bytes) cs fresh last place zero e n u =
-    by (is_tex_inner (found (tex_inner cs) fresh last place byte bytes).next.part) refl
+    by (is_tex_inner (found_apart (tex_inner cs) fresh last place byte bytes).next.part) refl
     (λ ds more k v. to-end end bytes ds (still_fresh fresh byte) byte (place + 1) more (omega (arith, e)) k v)
   where
     f : Found
-    f = found (tex_inner cs) fresh last place byte bytes
+    f = found_apart (tex_inner cs) fresh last place byte bytes
 
     none-is : (p : ℕ) → ◌≡◌ {A = Option ℕ} (Some p) None → ⊥
     none-is p e = cc
@@ -155,14 +156,14 @@ to-end end (byte ∷ bytes) cs fresh last place zero e n u =
         case : (b : Bool) → (byte == at_sign && begins_section bytes) ≡ b → (byte == at_sign && begins_section bytes)
             ≡ false
         case true h =
-            let g = found (tex_inner cs) fresh last place byte bytes in
+            let g = found_apart (tex_inner cs) fresh last place byte bytes in
             let rest = answers bytes g.next (still_fresh fresh byte) byte (place + 1) g.more in
             not-both _ (section-cuts (tex_inner cs) place bytes rest)
-            (ap (λ b. begins_section_in ((if b then section (tex_inner cs) place bytes else in_text parts.TexInner
+            (ap (λ b. begins_section_in ((if b then section (tex_inner cs) place bytes else in_text_apart parts.TexInner
             cs fresh last place byte bytes).answers ++ rest)) (sym h) ∙ u)
         case false h = h
 
-    by : (b : Bool) → is_tex_inner (found (tex_inner cs) fresh last place byte bytes).next.part ≡ b
+    by : (b : Bool) → is_tex_inner (found_apart (tex_inner cs) fresh last place byte bytes).next.part ≡ b
         → ((ds : List Opened) (more : ℕ) → closing_bar bytes (tex_inner ds) (still_fresh fresh byte) byte (place + 1)
         more ≡ None → begins_section_in (answers bytes (tex_inner ds) (still_fresh fresh byte) byte (place + 1)
         more) ≡ false
@@ -171,13 +172,13 @@ to-end end (byte ∷ bytes) cs fresh last place zero e n u =
         → answers (byte ∷ bytes) (tex_inner cs) fresh last place 0
         ≡ answers (byte ∷ bytes) (alone cs) fresh last place 0 ++ inner_cut false end (end - 1)
     by true h rec =
-        let f = found (tex_inner cs) fresh last place byte bytes in
-        let g = found (alone cs) fresh last place byte bytes in
-        let of-f : f ≡ in_text parts.TexInner cs fresh last place byte bytes =
-        ap (λ t. if t then section (tex_inner cs) place bytes else in_text parts.TexInner cs fresh last place byte
+        let f = found_apart (tex_inner cs) fresh last place byte bytes in
+        let g = found_apart (alone cs) fresh last place byte bytes in
+        let of-f : f ≡ in_text_apart parts.TexInner cs fresh last place byte bytes =
+        ap (λ t. if t then section (tex_inner cs) place bytes else in_text_apart parts.TexInner cs fresh last place byte
         bytes) plain in
-        let of-g : g ≡ in_text parts.Inner cs fresh last place byte bytes =
-        ap (λ t. if t then section (alone cs) place bytes else in_text parts.Inner cs fresh last place byte bytes)
+        let of-g : g ≡ in_text_apart parts.Inner cs fresh last place byte bytes =
+        ap (λ t. if t then section (alone cs) place bytes else in_text_apart parts.Inner cs fresh last place byte bytes)
         plain in
         let twin = (in_text-twin cs fresh last place byte bytes).same
         (ap (λ (f : Found). is_tex_inner f.next.part) (sym of-f) ∙ h) in
@@ -203,12 +204,13 @@ to-end end (byte ∷ bytes) cs fresh last place zero e n u =
         leaves : (b : Bool) → (byte == bar) ≡ b → answers (byte ∷ bytes) (tex_inner cs) fresh last place 0
             ≡ answers (byte ∷ bytes) (alone cs) fresh last place 0 ++ inner_cut false end (end - 1)
         leaves true k =
-            let g = found (tex_inner cs) fresh last place byte bytes in
+            let g = found_apart (tex_inner cs) fresh last place byte bytes in
             absurd (none-is place (sym (λ i. if h i then closing_bar bytes g.next (still_fresh fresh byte) byte
             (place + 1) g.more else (if k i then Some place else None)) ∙ n))
         leaves false k =
-            let stays : is_tex_inner (found (tex_inner cs) fresh last place byte bytes).next.part ≡ true =
-            ap (λ t. is_tex_inner (if t then section (tex_inner cs) place bytes else in_text parts.TexInner cs fresh
+            let stays : is_tex_inner (found_apart (tex_inner cs) fresh last place byte bytes).next.part ≡ true =
+            ap (λ t. is_tex_inner (if t then section (tex_inner cs) place bytes else in_text_apart parts.TexInner cs
+            fresh
             last place byte bytes).next.part) plain ∙ (in-text-inside cs fresh last place byte bytes k).is in
             not-both _ stays h
 to-end end (byte ∷ bytes) cs fresh last place (suc taken) e n u =

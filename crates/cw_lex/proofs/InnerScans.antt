@@ -17,7 +17,8 @@ use Rattle.cw_rules.specs.Signs.{all_signs, longest}
 use Rattle.cw_rules.specs.Answers.{Answer, Begin, Finish, Where, Found, token_of}
 use Rattle.cw_lex.specs.Lexing.{still_fresh, joined, answers, fresh_after, last_after, fresh_at, last_at, answers_at}
 use Rattle.cw_lex.specs.Lexing.{beginning, tokens_of}
-use Rattle.cw_rules.specs.Tokens.{found, in_code, sign_or_other, is_deep, is_tex_inner}
+use Rattle.cw_rules.specs.Tokens.{in_code, sign_or_other, is_deep, is_tex_inner}
+use Rattle.cw_rules.specs.Apart.{found_apart}
 use Rattle.cw_lex.specs.Parts.{closing_bar, closing_bar_from}
 use Rattle.cw_rules.proofs.Choices.{if-both, and-none}
 use Rattle.cw_rules.proofs.Ahead.{drop-same, take-same}
@@ -51,27 +52,28 @@ closed : (bytes : List ℕ) (w : Where) (fresh : Bool) (last place taken end : �
     → closing_bar bytes w fresh last place taken ≡ Some end → Closed bytes place taken end
 closed [] w fresh last place taken end h = absurd cc
 closed (byte ∷ bytes) w fresh last place zero end h =
-    let f = found w fresh last place byte bytes in
+    let f = found_apart w fresh last place byte bytes in
     by (is_tex_inner f.next.part) (byte == bar) refl refl (λ g. closed bytes f.next (still_fresh fresh byte) byte
     (place + 1) f.more end g)
   where
     some-is : (a b : ℕ) → ◌≡◌ {A = Option ℕ} (Some a) (Some b) → a ≡ b
     some-is a b e = cc
 
-    by : (inner is_bar : Bool) → is_tex_inner (found w fresh last place byte bytes).next.part ≡ inner → (byte == bar)
+    by : (inner is_bar : Bool) → is_tex_inner (found_apart w fresh last place byte bytes).next.part ≡ inner
+        → (byte == bar)
         ≡ is_bar
-        → (closing_bar bytes (found w fresh last place byte bytes).next (still_fresh fresh byte) byte (place + 1)
-        (found w fresh last place byte bytes).more ≡ Some end
-        → Closed bytes (place + 1) (found w fresh last place byte bytes).more end)
+        → (closing_bar bytes (found_apart w fresh last place byte bytes).next (still_fresh fresh byte) byte (place + 1)
+        (found_apart w fresh last place byte bytes).more ≡ Some end
+        → Closed bytes (place + 1) (found_apart w fresh last place byte bytes).more end)
         → Closed (byte ∷ bytes) place zero end
     by true is_bar e b rec =
-        let f = found w fresh last place byte bytes in
+        let f = found_apart w fresh last place byte bytes in
         let on = sym (ap (λ t. if t then closing_bar bytes f.next (still_fresh fresh byte) byte (place + 1) f.more else
         (if byte == bar then Some place else None)) e) ∙ h in
         let c = closed-further byte bytes place f.more end (rec on) in
         record { inside = c.inside; behind = c.behind; split = c.split; place-is = c.place-is; short = omega arith }
     by false true e b rec =
-        let f = found w fresh last place byte bytes in
+        let f = found_apart w fresh last place byte bytes in
         let here = sym (λ i. if e i then closing_bar bytes f.next (still_fresh fresh byte) byte (place + 1) f.more else
         (if b i then Some place else None)) ∙ h in
         let same : place ≡ end = some-is place end here in
@@ -83,7 +85,7 @@ closed (byte ∷ bytes) w fresh last place zero end h =
           short = omega arith;
         }
     by false false e b rec =
-        let f = found w fresh last place byte bytes in
+        let f = found_apart w fresh last place byte bytes in
         let none : ◌≡◌ {A = Option ℕ} None (Some end) =
         sym (λ i. if e i then closing_bar bytes f.next (still_fresh fresh byte) byte (place + 1) f.more else
         (if b i then Some place else None)) ∙ h in
@@ -108,7 +110,7 @@ record Stays (f : Found) : Type 0 where
   is : is_tex_inner f.next.part ≡ true
 
 bar-closes : (fresh : Bool) (last place : ℕ) (more : List ℕ)
-    → Closes place more (found (tex_inner []) fresh last place 124 more)
+    → Closes place more (found_apart (tex_inner []) fresh last place 124 more)
 bar-closes fresh last place more = by (not (begins bar more)) (longest all_signs (124 ∷ more))
   where
     by : (t : Bool) (o : Option Sign) → Closes place more (in_code (if t then start.EndOfInner else sign_or_other o)
@@ -119,7 +121,7 @@ bar-closes fresh last place more = by (not (begins bar more)) (longest all_signs
 
 -- in a comment a bar ends no inner C text of TeX text
 bar-stays : (c : Opened) (cs : List Opened) (fresh : Bool) (last place : ℕ) (more : List ℕ)
-    → Stays (found (tex_inner (c ∷ cs)) fresh last place 124 more)
+    → Stays (found_apart (tex_inner (c ∷ cs)) fresh last place 124 more)
 bar-stays c cs fresh last place more =
     if-both Stays c.inner _ _ (λ h. by (not (begins bar more)) (longest all_signs (124 ∷ more)))
     (λ h. if-both Stays (c.long && false) _ _ (λ h. record { is = refl })
@@ -144,7 +146,7 @@ from_bar more fresh place =
 
 -- the scan goes on in inner C text of TeX text, or its bar stands here
 goes-on : (byte : ℕ) (bytes : List ℕ) (cs : List Opened) (fresh : Bool) (last place end : ℕ) (f : Found)
-    → found (tex_inner cs) fresh last place byte bytes ≡ f
+    → found_apart (tex_inner cs) fresh last place byte bytes ≡ f
     → closing_bar (byte ∷ bytes) (tex_inner cs) fresh last place 0 ≡ Some end
     → ((is_tex_inner f.next.part ≡ true) × (closing_bar bytes f.next (still_fresh fresh byte) byte (place + 1) f.more
     ≡ Some end)) ⊎ ((is_tex_inner f.next.part ≡ false) × (place ≡ end))
@@ -190,13 +192,14 @@ scans : (more bs : List ℕ) (cs : List Opened) (fresh : Bool) (last place taken
     → answers (bs ++ 124 ∷ more) (tex_inner cs) fresh last place taken ≡ answers bs (alone cs) fresh last place taken
     ++ from_bar more (fresh_after fresh bs) (place + length bs)
 scans more [] [] fresh last place zero h =
-    let f = found (tex_inner []) fresh last place 124 more in
+    let f = found_apart (tex_inner []) fresh last place 124 more in
     by (goes-on 124 more [] fresh last place (place + 0) f refl h)
   where
-    by : ((is_tex_inner (found (tex_inner []) fresh last place 124 more).next.part ≡ true)
-        × (closing_bar more (found (tex_inner []) fresh last place 124 more).next (still_fresh fresh 124) 124
-        (place + 1) (found (tex_inner []) fresh last place 124 more).more ≡ Some (place + 0)))
-        ⊎ ((is_tex_inner (found (tex_inner []) fresh last place 124 more).next.part ≡ false) × (place ≡ place + 0))
+    by : ((is_tex_inner (found_apart (tex_inner []) fresh last place 124 more).next.part ≡ true)
+        × (closing_bar more (found_apart (tex_inner []) fresh last place 124 more).next (still_fresh fresh 124) 124
+        (place + 1) (found_apart (tex_inner []) fresh last place 124 more).more ≡ Some (place + 0)))
+        ⊎ ((is_tex_inner (found_apart (tex_inner []) fresh last place 124 more).next.part ≡ false)
+        × (place ≡ place + 0))
         → answers (124 ∷ more) (tex_inner []) fresh last place 0 ≡ from_bar more fresh (place + 0)
     by (inl on) = absurd (not-before more _ _ _ place _ (place + 0) on.1 (omega arith))
     by (inr e) =
@@ -204,18 +207,18 @@ scans more [] [] fresh last place zero h =
         ((bar-closes fresh last place more).is e.0)
         ∙ ap (from_bar more fresh) e.1
 scans more [] (c ∷ cs) fresh last place zero h =
-    let f = found (tex_inner (c ∷ cs)) fresh last place 124 more in
+    let f = found_apart (tex_inner (c ∷ cs)) fresh last place 124 more in
     absurd (not-before more f.next (still_fresh fresh 124) 124 place f.more (place + 0)
     (sym (ap (λ t. if t then closing_bar more f.next (still_fresh fresh 124) 124 (place + 1) f.more else Some place)
     (bar-stays c cs fresh last place more).is) ∙ h) (omega arith))
 scans more [] cs fresh last place (suc taken) h = absurd (not-before more (tex_inner cs) (still_fresh fresh 124) 124
     place taken (place + 0) h (omega arith))
 scans more (byte ∷ bs) cs fresh last place zero h =
-    let f = found (tex_inner cs) fresh last place byte (bs ++ 124 ∷ more) in
+    let f = found_apart (tex_inner cs) fresh last place byte (bs ++ 124 ∷ more) in
     by f refl (goes-on byte (bs ++ 124 ∷ more) cs fresh last place (place + suc (length bs)) f refl h)
     (λ cs taken g. scans more bs cs (still_fresh fresh byte) byte (place + 1) taken g)
   where
-    by : (f : Found) → found (tex_inner cs) fresh last place byte (bs ++ 124 ∷ more) ≡ f
+    by : (f : Found) → found_apart (tex_inner cs) fresh last place byte (bs ++ 124 ∷ more) ≡ f
         → ((is_tex_inner f.next.part ≡ true) × (closing_bar (bs ++ 124 ∷ more) f.next (still_fresh fresh byte) byte
         (place + 1) f.more ≡ Some (place + suc (length bs))))
         ⊎ ((is_tex_inner f.next.part ≡ false) × (place ≡ place + suc (length bs)))
@@ -224,13 +227,14 @@ scans more (byte ∷ bs) cs fresh last place zero h =
         → answers (bs ++ 124 ∷ more) (tex_inner cs) (still_fresh fresh byte) byte (place + 1) taken
         ≡ answers bs (alone cs) (still_fresh fresh byte) byte (place + 1) taken
         ++ from_bar more (fresh_after (still_fresh fresh byte) bs) ((place + 1) + length bs))
-        → joined (found (tex_inner cs) fresh last place byte (bs ++ 124 ∷ more))
+        → joined (found_apart (tex_inner cs) fresh last place byte (bs ++ 124 ∷ more))
         (λ next size. answers (bs ++ 124 ∷ more) next (still_fresh fresh byte) byte (place + 1) size)
-        ≡ joined (found (alone cs) fresh last place byte bs) (λ next size. answers bs next (still_fresh fresh byte) byte
+        ≡ joined (found_apart (alone cs) fresh last place byte bs)
+        (λ next size. answers bs next (still_fresh fresh byte) byte
         (place + 1) size) ++ from_bar more (fresh_after (still_fresh fresh byte) bs) (place + suc (length bs))
     by f is (inr e) rec = absurd (omega (arith, e.1))
     by f is (inl on) rec =
-        let g = found (alone cs) fresh last place byte bs in
+        let g = found_apart (alone cs) fresh last place byte bs in
         let c = closed (bs ++ 124 ∷ more) f.next (still_fresh fresh byte) byte (place + 1) f.more
         (place + suc (length bs)) on.1 in
         let fits : f.more ≤ length bs = omega (arith, c.place-is, c.short) in

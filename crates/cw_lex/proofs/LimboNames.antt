@@ -14,8 +14,9 @@ use Rattle.cw_rules.specs.Codes.{code_at, begins_section, effect_in_limbo}
 use Rattle.cw_lex.specs.Lexing.{answers, joined, still_fresh, fresh_at, last_at}
 use Rattle.cw_lex.specs.Limbo.{HasNoNames, LimboHasNoNames}
 use Rattle.cw_lex.specs.Nested.{is_section_kind}
-use Rattle.cw_rules.specs.Tokens.{found, section, section_code, code_token, limbo_by, limbo_text, format_name}
-use Rattle.cw_rules.specs.Tokens.{name_follows, part_text}
+use Rattle.cw_rules.specs.Tokens.{section, section_code, code_token, limbo_by, limbo_text, format_name}
+use Rattle.cw_rules.specs.Apart.{found_apart, part_text_apart}
+use Rattle.cw_rules.specs.Tokens.{name_follows}
 
 -- limbo, and a format definition in it
 abbrev is_limbo : Part → Bool
@@ -83,7 +84,7 @@ free-word code false place byte bytes =
     (λ rest k e. (refl, k (parts.FormatName code true true) refl _))
 
 free-part : (part : Part) → is_limbo part ≡ true → (fresh : Bool) (last place byte : ℕ) (bytes : List ℕ)
-    → IsFree (part_text part (within part) fresh last place byte bytes)
+    → IsFree (part_text_apart part (within part) fresh last place byte bytes)
 free-part parts.Limbo h fresh last place byte bytes = free-limbo place byte bytes
 free-part (parts.FormatName code second true) h fresh last place byte bytes =
     free-if (name_follows (byte ∷ bytes)) _ _ (free-word code second place byte bytes)
@@ -93,7 +94,7 @@ free-part (parts.FormatName code second false) h fresh last place byte bytes =
 free-part part h fresh last place byte bytes = absurd (let wrong : false ≡ true = h in cc)
 
 free-found : (part : Part) → is_limbo part ≡ true → (fresh : Bool) (last place byte : ℕ) (bytes : List ℕ)
-    → IsFree (found (within part) fresh last place byte bytes)
+    → IsFree (found_apart (within part) fresh last place byte bytes)
 free-found part h fresh last place byte bytes =
     free-if (byte == at_sign && begins_section bytes) _ _ (free-section part h place bytes)
     (free-part part h fresh last place byte bytes)

@@ -4,7 +4,8 @@ use Rattle.std.proofs.Common.{ap, ◌∙◌, if◌then◌else◌}
 use Rattle.cw_rules.specs.declared.parts.Part.{Part}
 use Rattle.cw_rules.specs.declared.parts.Part.TheVariants as parts
 use Rattle.cw_rules.specs.declared.parts.Opened.{Opened}
-use Rattle.cw_rules.specs.Tokens.{found, part_text, in_text, code_text, comment_text, comment_end, in_hash_line, passed}
+use Rattle.cw_rules.specs.Tokens.{comment_end, in_hash_line, passed}
+use Rattle.cw_rules.specs.Apart.{found_apart, part_text_apart, in_text_apart, code_text_apart, comment_text_apart}
 use Rattle.cw_rules.specs.Tokens.{line_end, is_code, is_code_part}
 use Rattle.cw_rules.specs.Answers.{before}
 use Rattle.cw_lex.specs.Lexing.{fresh_at, last_at}
@@ -12,8 +13,8 @@ use Rattle.cw_lex.specs.Coming.{found_at}
 
 -- where C text goes on, the rules of C text hold
 pub part_text-code : (part : Part) (fresh : Bool) (last place byte : ℕ) (bytes : List ℕ) → is_code_part part ≡ true
-    → part_text part (record { part = part; comments = [] }) fresh last place byte bytes
-    ≡ code_text (record { part = part; comments = [] }) fresh last place byte bytes
+    → part_text_apart part (record { part = part; comments = [] }) fresh last place byte bytes
+    ≡ code_text_apart (record { part = part; comments = [] }) fresh last place byte bytes
 part_text-code parts.Limbo fresh last place byte bytes h = absurd (true≢false (sym h))
 part_text-code parts.Tex fresh last place byte bytes h = absurd (true≢false (sym h))
 part_text-code parts.Head fresh last place byte bytes h = absurd (true≢false (sym h))
@@ -29,12 +30,14 @@ part_text-code parts.Inner fresh last place byte bytes h = refl
 
 pub in_text-code : (part : Part) (comments : List Opened) (fresh : Bool) (last place byte : ℕ) (bytes : List ℕ)
     → is_code part comments ≡ true
-    → in_text part comments fresh last place byte bytes ≡ code_text (record { part = part; comments = comments }) fresh
+    → in_text_apart part comments fresh last place byte bytes
+    ≡ code_text_apart (record { part = part; comments = comments }) fresh
     last place byte bytes
 in_text-code part [] fresh last place byte bytes h = part_text-code part fresh last place byte bytes h
 in_text-code part (c ∷ comments) fresh last place byte bytes h =
-    ap (λ t. if t then code_text (record { part = part; comments = c ∷ comments }) fresh last place byte bytes else
-    comment_text part c comments last place byte bytes) h
+    ap (λ t. if t then code_text_apart (record { part = part; comments = c ∷ comments }) fresh last place byte bytes
+    else
+    comment_text_apart part c comments last place byte bytes) h
 
 pub found-newline : (text : List ℕ) (part : Part) (comments : List Opened) (place : ℕ) → slice_index text place ≡ 10
     → is_code part comments ≡ true
@@ -42,7 +45,8 @@ pub found-newline : (text : List ℕ) (part : Part) (comments : List Opened) (pl
     ≡ line_end part comments (last_at text place) place
 found-newline text part comments place h code =
     let bytes = drop (place + 1) text in
-    ap (λ b. found (record { part = part; comments = comments }) (fresh_at text place) (last_at text place) place b
+    ap (λ b. found_apart (record { part = part; comments = comments }) (fresh_at text place) (last_at text place) place
+    b
     bytes) h
     ∙ in_text-code part comments (fresh_at text place) (last_at text place) place 10 bytes code
 
@@ -62,7 +66,7 @@ pub found-comment-line : (text : List ℕ) (part : Part) (start braces place : �
     place 0 []) (line_end part rest (last_at text place) place)
 found-comment-line text part start braces place long rest line short =
     let bytes = drop (place + 1) text in
-    (λ i. found (record {
+    (λ i. found_apart (record {
       part = part;
       comments = record {
         start = start;

@@ -35,11 +35,13 @@ use Rattle.cw_rules.specs.Codes.{has_control_text, is_section, begins_section, e
 use Rattle.cw_rules.specs.Tokens.{one, skipped_byte, dropped_code, identifier, string, include_name, sign_or_other}
 use Rattle.cw_rules.specs.Tokens.{piece_start, passed, moved, in_hash_line, ends_at_bar, line_end, comment_begin}
 use Rattle.cw_rules.specs.Tokens.{comment_end, inner_cut, comment_cut, part_cut, inner_or_none, all_cut, inner_end}
-use Rattle.cw_rules.specs.Tokens.{effect_in, code_by, code_token, control_or_plain, in_code, start_of, code_text}
-use Rattle.cw_rules.specs.Tokens.{comment_text, head_text, part_text, in_text, section, section_code, found, is_name}
+use Rattle.cw_rules.specs.Tokens.{effect_in, code_by, code_token, control_or_plain, in_code, start_of}
+use Rattle.cw_rules.specs.Apart.{code_text_apart, comment_text_apart, part_text_apart, in_text_apart, found_apart}
+use Rattle.cw_rules.specs.Apart.{behind_head_apart}
+use Rattle.cw_rules.specs.Tokens.{head_text, section, section_code, is_name}
 use Rattle.cw_rules.specs.Tokens.{is_quote, behind_word, is_include, may_head, is_head, is_space, takes_hash_line}
 use Rattle.cw_rules.specs.Tokens.{behind_include, closes_on_line, is_deep, name_follows, macro_name, parameter_follows}
-use Rattle.cw_rules.specs.Tokens.{parameter, format_name, behind_head}
+use Rattle.cw_rules.specs.Tokens.{parameter, format_name}
 use Rattle.cw_lex.specs.Lexing.{answers, joined, tokens_of, still_fresh, fresh_at, last_at}
 use Rattle.cw_lex.specs.Nested.{Level, InCode, InComment, after_token, levels_after, all_levels_after, IsNested}
 use Rattle.cw_lex.specs.Nested.{is_section_kind, is_section_answer, begins_section_in, until_section, is_c_mode}
@@ -417,7 +419,7 @@ pub before-code : (P : Found → Type 0) (part : Part) (cs : List Opened) (fresh
     → ((f : Found) → Goes (in_tex part) (levels_in cs) f → P f)
     → P (in_code (start_of (ends_at_bar part cs) byte bytes) (record { part = part; comments = cs }) place
     (byte ∷ bytes))
-    → P (code_text (record { part = part; comments = cs }) fresh last place byte bytes)
+    → P (code_text_apart (record { part = part; comments = cs }) fresh last place byte bytes)
 before-code P part cs fresh last place byte bytes p inner goes code =
     let w : Where = record { part = part; comments = cs } in
     if-both P (byte == newline) _ _ (λ e. goes (line_end part cs last place) (line-goes part cs last place p inner))
@@ -436,7 +438,8 @@ before-code P part cs fresh last place byte bytes p inner goes code =
 text-goes : (part : Part) (cs : List Opened) (fresh : Bool) (last place byte : ℕ) (bytes : List ℕ)
     → (byte == at_sign && begins_section bytes) ≡ false → is_c part ≡ true → all_inner cs ≡ true
     → (ends_at_bar part cs ≡ true → is_open cs ≡ true)
-    → Goes (in_tex part) (levels_in cs) (code_text (record { part = part; comments = cs }) fresh last place byte bytes)
+    → Goes (in_tex part) (levels_in cs) (code_text_apart (record { part = part; comments = cs }) fresh last place byte
+    bytes)
 text-goes part cs fresh last place byte bytes section p inner opens =
     let s = start_of (ends_at_bar part cs) byte bytes in
     let b = (begins-so (ends_at_bar part cs) byte bytes section).is in
@@ -446,7 +449,7 @@ text-goes part cs fresh last place byte bytes section p inner opens =
 -- the text of a comment
 comment-text-goes : (part : Part) (c : Opened) (cs : List Opened) (last place byte : ℕ) (bytes : List ℕ) → is_c part
     ≡ true → all_inner cs ≡ true → c.inner ≡ false
-    → Goes (in_tex part) (InComment ∷ levels_in cs) (comment_text part c cs last place byte bytes)
+    → Goes (in_tex part) (InComment ∷ levels_in cs) (comment_text_apart part c cs last place byte bytes)
 comment-text-goes part c cs last place byte bytes p inner f =
     let P : Found → Type 0 = Goes (in_tex part) (InComment ∷ levels_in cs) in
     if-both P (c.long && (byte == star && begins slash bytes)) _ _
@@ -483,18 +486,20 @@ head-goes place byte bytes =
     (plain kind.HeadSign (if begins equals bytes then 2 else 1)) refl refl refl refl)
 
 definition-goes : (fresh : Bool) (last place byte : ℕ) (bytes : List ℕ) → (byte == at_sign && begins_section bytes)
-    ≡ false → Goes false (InCode ∷ []) (code_text (record { part = parts.Definition; comments = [] }) fresh last place
+    ≡ false → Goes false (InCode ∷ []) (code_text_apart (record { part = parts.Definition; comments = [] }) fresh last
+    place
     byte bytes)
 definition-goes fresh last place byte bytes section = text-goes parts.Definition [] fresh last place byte bytes section
     refl refl (λ e. absurd cc)
 
 improper-goes : (note : NoteKind) (at : ℕ) (part : Part) (fresh : Bool) (last place byte : ℕ) (bytes : List ℕ)
     → (byte == at_sign && begins_section bytes) ≡ false
-    → Goes false (InCode ∷ []) (before (Note note at ∷ []) (behind_head false (record { part = part; comments = [] })
+    → Goes false (InCode ∷ []) (before (Note note at ∷ [])
+    (behind_head_apart false (record { part = part; comments = [] })
     fresh last place byte bytes))
 improper-goes note at part fresh last place byte bytes section =
     before-goes false (Note note at ∷ []) (InCode ∷ []) (InCode ∷ [])
-    (code_text (record { part = parts.Definition; comments = [] }) fresh last place byte bytes) refl refl
+    (code_text_apart (record { part = parts.Definition; comments = [] }) fresh last place byte bytes) refl refl
     (definition-goes fresh last place byte bytes section)
 
 macro-goes : (at place byte : ℕ) (bytes : List ℕ) → Goes false (InCode ∷ [])
@@ -541,7 +546,8 @@ format-goes at second place byte bytes =
 
 part-goes : (part : Part) (fresh : Bool) (last place byte : ℕ) (bytes : List ℕ)
     → (byte == at_sign && begins_section bytes) ≡ false → is_c part ≡ true → in_tex part ≡ false
-    → Goes false (InCode ∷ []) (part_text part (record { part = part; comments = [] }) fresh last place byte bytes)
+    → Goes false (InCode ∷ []) (part_text_apart part (record { part = part; comments = [] }) fresh last place byte
+    bytes)
 part-goes parts.Begin fresh last place byte bytes section p t =
     text-goes parts.Begin [] fresh last place byte bytes section refl refl (λ e. absurd cc)
 part-goes (parts.Plain a b) fresh last place byte bytes section p t =
@@ -567,20 +573,20 @@ part-goes _ fresh last place byte bytes section p t = absurd cc
 
 pub open-goes : (part : Part) (c : Opened) (cs : List Opened) (fresh : Bool) (last place byte : ℕ) (bytes : List ℕ)
     → (byte == at_sign && begins_section bytes) ≡ false → is_c part ≡ true → all_inner cs ≡ true
-    → Goes (in_tex part) (levels_in (c ∷ cs)) (in_text part (c ∷ cs) fresh last place byte bytes)
+    → Goes (in_tex part) (levels_in (c ∷ cs)) (in_text_apart part (c ∷ cs) fresh last place byte bytes)
 open-goes part c cs fresh last place byte bytes section p n =
     if-both (Goes (in_tex part) (levels_in (c ∷ cs))) c.inner _ _
     (λ e. text-goes part (c ∷ cs) fresh last place byte bytes section p (ap (λ b. b && all_inner cs) e ∙ n) (λ e. refl))
     (λ e. subst (λ b. Goes (in_tex part) (with_code b (InComment ∷ levels_in cs))
-    (comment_text part c cs last place byte bytes)) (sym e) (comment-text-goes part c cs last place byte bytes p n
+    (comment_text_apart part c cs last place byte bytes)) (sym e) (comment-text-goes part c cs last place byte bytes p n
     e))
 
 in-text-goes : (part : Part) (cs : List Opened) (fresh : Bool) (last place byte : ℕ) (bytes : List ℕ)
     → (byte == at_sign && begins_section bytes) ≡ false → is_c part ≡ true → in_tex part ≡ false → nested_in cs ≡ true
-    → Goes false (levels_in cs) (in_text part cs fresh last place byte bytes)
+    → Goes false (levels_in cs) (in_text_apart part cs fresh last place byte bytes)
 in-text-goes part [] fresh last place byte bytes section p t n = part-goes part fresh last place byte bytes section p t
 in-text-goes part (c ∷ cs) fresh last place byte bytes section p t n =
-    same-goes (in_tex part) false (levels_in (c ∷ cs)) (in_text part (c ∷ cs) fresh last place byte bytes) t
+    same-goes (in_tex part) false (levels_in (c ∷ cs)) (in_text_apart part (c ∷ cs) fresh last place byte bytes) t
     (open-goes part c cs fresh last place byte bytes section p n)
 
 -- ## What is open ends
@@ -680,12 +686,13 @@ answers-nest (byte ∷ bytes) w fresh last place zero p t n =
         → ((f : Found) → Goes false (levels_in w.comments) f
         → all_levels_after (until_section (answers bytes f.next (still_fresh fresh byte) byte (place + 1) f.more))
         (levels_in f.next.comments) ≡ Some (InCode ∷ []))
-        → all_levels_after (until_section (joined (found w fresh last place byte bytes)
+        → all_levels_after (until_section (joined (found_apart w fresh last place byte bytes)
         (λ next more. answers bytes next (still_fresh fresh byte) byte (place + 1) more))) (levels_in w.comments)
         ≡ Some (InCode ∷ [])
     by true e rec =
         ap (λ s. all_levels_after
-        (until_section (joined (if s then section w place bytes else in_text w.part w.comments fresh last place byte
+        (until_section (joined (if s then section w place bytes else in_text_apart w.part w.comments fresh last place
+        byte
         bytes) (λ next more. answers bytes next (still_fresh fresh byte) byte (place + 1) more)))
         (levels_in w.comments)) e
         ∙ ap (λ l. all_levels_after l (levels_in w.comments))
@@ -693,7 +700,7 @@ answers-nest (byte ∷ bytes) w fresh last place zero p t n =
         (place + 1) (section w place bytes).more))
         ∙ cut-levels w.part w.comments place place t n
     by false e rec =
-        let f = in_text w.part w.comments fresh last place byte bytes in
+        let f = in_text_apart w.part w.comments fresh last place byte bytes in
         let g = in-text-goes w.part w.comments fresh last place byte bytes e p t n in
         let behind = answers bytes f.next (still_fresh fresh byte) byte (place + 1) f.more in
         ap (λ s. all_levels_after (until_section (joined (if s then section w place bytes else f)

@@ -22,7 +22,8 @@ use Rattle.cw_lex.specs.Lexing.{still_fresh, joined, answers, fresh_after, last_
 use Rattle.cw_lex.specs.Lexing.{beginning, tokens_of}
 use Rattle.cw_lex.specs.Nested.{is_section_kind, is_section_answer, begins_section_in}
 use Rattle.cw_lex.specs.Openings.{tokens_in, named, opened_by, is_limbo_mode, EndsBefore}
-use Rattle.cw_rules.specs.Tokens.{all_cut, section, section_code, in_text, found}
+use Rattle.cw_rules.specs.Tokens.{all_cut, section, section_code}
+use Rattle.cw_rules.specs.Apart.{in_text_apart, found_apart}
 use Rattle.cw_rules.proofs.Ahead.{drop-same, take-same}
 use Rattle.cw_rules.proofs.Choices.{if-both}
 use Rattle.cw_rules.proofs.CodeStarts.{kind_code, code_in, is_opener, is_limbo, is_head_where, in-text-tells}
@@ -72,17 +73,17 @@ section-found w place bytes =
     ∙ (section-code-is (at_sign ∷ bytes)).code
 
 opening : (w : Where) (fresh : Bool) (last place byte : ℕ) (bytes : List ℕ)
-    → is_opener (code_in (found w fresh last place byte bytes).answers) ≡ true
-    → Opening w place byte bytes (found w fresh last place byte bytes)
+    → is_opener (code_in (found_apart w fresh last place byte bytes).answers) ≡ true
+    → Opening w place byte bytes (found_apart w fresh last place byte bytes)
 opening w fresh last place byte bytes o = by (byte == at_sign && begins_section bytes) refl
   where
     f : Found
-    f = found w fresh last place byte bytes
+    f = found_apart w fresh last place byte bytes
 
     by : (t : Bool) → (byte == at_sign && begins_section bytes) ≡ t → Opening w place byte bytes f
     by true e =
         let is-section : f ≡ section w place bytes =
-        ap (λ t. if t then section w place bytes else in_text w.part w.comments fresh last place byte bytes) e in
+        ap (λ t. if t then section w place bytes else in_text_apart w.part w.comments fresh last place byte bytes) e in
         record {
           byte-is = eqb-true byte at_sign (both-left (byte == at_sign) (begins_section bytes) e);
           opener = section-opens (code_at bytes) (both-right (byte == at_sign) (begins_section bytes) e);
@@ -91,7 +92,7 @@ opening w fresh last place byte bytes o = by (byte == at_sign && begins_section 
           behind = λ h. is-section;
         }
     by false e =
-        let g = in_text w.part w.comments fresh last place byte bytes in
+        let g = in_text_apart w.part w.comments fresh last place byte bytes in
         let plain : f ≡ g = ap (λ t. if t then section w place bytes else g) e in
         let told = (in-text-tells w.part w.comments fresh last place byte bytes).code
         (ap (λ (f : Found). is_opener (code_in f.answers)) (sym plain) ∙ o) in
@@ -105,10 +106,10 @@ opening w fresh last place byte bytes o = by (byte == at_sign && begins_section 
         }
 
 limbo-stays : (w : Where) (fresh : Bool) (last place byte : ℕ) (bytes : List ℕ) → is_limbo w.part ≡ false
-    → is_limbo (found w fresh last place byte bytes).next.part ≡ false
+    → is_limbo (found_apart w fresh last place byte bytes).next.part ≡ false
 limbo-stays w fresh last place byte bytes h =
     if-both (λ (f : Found). is_limbo f.next.part ≡ false) (byte == at_sign && begins_section bytes)
-    (section w place bytes) (in_text w.part w.comments fresh last place byte bytes) (λ e. refl)
+    (section w place bytes) (in_text_apart w.part w.comments fresh last place byte bytes) (λ e. refl)
     (λ e. (in-text-tells w.part w.comments fresh last place byte bytes).limbo h)
 
 opener-code : (more : List ℕ) → is_opener (code_at more) ≡ true → begins greater more ≡ false
@@ -147,26 +148,26 @@ signless [] w fresh last place taken h =
     append-none [] = refl
     append-none (x ∷ xs) = ap (λ l. x ∷ l) (append-none xs)
 signless (byte ∷ bytes) w fresh last place zero h =
-    let f = found w fresh last place byte bytes in
+    let f = found_apart w fresh last place byte bytes in
     let rest = answers bytes f.next (still_fresh fresh byte) byte (place + 1) f.more in
     by (byte == at_sign && begins_section bytes) refl (λ k. signless bytes f.next (still_fresh fresh byte) byte
     (place + 1) f.more k)
   where
     by : (t : Bool) → (byte == at_sign && begins_section bytes) ≡ t
-        → (is_head_where (found w fresh last place byte bytes).next ≡ false
-        → has_sign (answers bytes (found w fresh last place byte bytes).next (still_fresh fresh byte) byte
-        (place + 1) (found w fresh last place byte bytes).more) ≡ false)
-        → has_sign ((found w fresh last place byte bytes).answers
-        ++ answers bytes (found w fresh last place byte bytes).next (still_fresh fresh byte) byte (place + 1)
-        (found w fresh last place byte bytes).more) ≡ false
+        → (is_head_where (found_apart w fresh last place byte bytes).next ≡ false
+        → has_sign (answers bytes (found_apart w fresh last place byte bytes).next (still_fresh fresh byte) byte
+        (place + 1) (found_apart w fresh last place byte bytes).more) ≡ false)
+        → has_sign ((found_apart w fresh last place byte bytes).answers
+        ++ answers bytes (found_apart w fresh last place byte bytes).next (still_fresh fresh byte) byte (place + 1)
+        (found_apart w fresh last place byte bytes).more) ≡ false
     by true e rec =
-        let f = found w fresh last place byte bytes in
+        let f = found_apart w fresh last place byte bytes in
         let rest = answers bytes f.next (still_fresh fresh byte) byte (place + 1) f.more in
-        ap (λ t. has_sign ((if t then section w place bytes else in_text w.part w.comments fresh last place byte
+        ap (λ t. has_sign ((if t then section w place bytes else in_text_apart w.part w.comments fresh last place byte
         bytes).answers ++ rest)) e ∙ section-sign w place bytes rest
     by false e rec =
-        let f = found w fresh last place byte bytes in
-        let g = in_text w.part w.comments fresh last place byte bytes in
+        let f = found_apart w fresh last place byte bytes in
+        let g = in_text_apart w.part w.comments fresh last place byte bytes in
         let rest = answers bytes f.next (still_fresh fresh byte) byte (place + 1) f.more in
         let plain : f ≡ g = ap (λ t. if t then section w place bytes else g) e in
         ap (λ (f : Found). has_sign (f.answers ++ rest)) plain
@@ -244,14 +245,15 @@ record Stop (bytes : List ℕ) (w : Where) (fresh : Bool) (last place taken : �
   cut-tokens : tokens_in cut ≡ []
   bare : AreBare end front
   limbo : is_limbo w.part ≡ false → is_limbo next.part ≡ false
-  found-is : (found next (fresh_after fresh inside) (last_after last inside) end byte behind).answers
+  found-is : (found_apart next (fresh_after fresh inside) (last_after last inside) end byte behind).answers
       ≡ front ++ Token t ∷ notes
-  ends : t.span.end ≡ (end + 1) + (found next (fresh_after fresh inside) (last_after last inside) end byte behind).more
+  ends : t.span.end ≡ (end + 1) + (found_apart next (fresh_after fresh inside) (last_after last inside) end byte
+      behind).more
   only : AreNotes notes
-  rest : ys ≡ notes ++ answers behind (found next (fresh_after fresh inside) (last_after last inside) end byte
+  rest : ys ≡ notes ++ answers behind (found_apart next (fresh_after fresh inside) (last_after last inside) end byte
       behind).next (still_fresh (fresh_after fresh inside) byte) byte (end + 1)
-      (found next (fresh_after fresh inside) (last_after last inside) end byte behind).more
-  opening : Opening next end byte behind (found next (fresh_after fresh inside) (last_after last inside) end byte
+      (found_apart next (fresh_after fresh inside) (last_after last inside) end byte behind).more
+  opening : Opening next end byte behind (found_apart next (fresh_after fresh inside) (last_after last inside) end byte
       behind)
 
 further : (bytes : List ℕ) (w : Where) (fresh : Bool) (last place taken byte : ℕ) (xs : List Answer) (t : Seen)
@@ -285,16 +287,16 @@ further bytes w fresh last place taken byte xs t ys s = record {
 
 -- behind what begins at a byte
 past : (bytes : List ℕ) (w : Where) (fresh : Bool) (last place byte : ℕ) (xs zs : List Answer) (t : Seen)
-    (ys : List Answer) → xs ≡ (found w fresh last place byte bytes).answers ++ zs
-    → Stop bytes (found w fresh last place byte bytes).next (still_fresh fresh byte) byte (place + 1)
-    (found w fresh last place byte bytes).more zs t ys → Stop (byte ∷ bytes) w fresh last place 0 xs t ys
+    (ys : List Answer) → xs ≡ (found_apart w fresh last place byte bytes).answers ++ zs
+    → Stop bytes (found_apart w fresh last place byte bytes).next (still_fresh fresh byte) byte (place + 1)
+    (found_apart w fresh last place byte bytes).more zs t ys → Stop (byte ∷ bytes) w fresh last place 0 xs t ys
 past bytes w fresh last place byte xs zs t ys e s =
-    let f = found w fresh last place byte bytes in
-    let g = found w fresh last place byte s.inside in
+    let f = found_apart w fresh last place byte bytes in
+    let g = found_apart w fresh last place byte s.inside in
     let cut : bytes ≡ s.inside ++ 64 ∷ s.behind = s.split ∙ ap (λ b. s.inside ++ b ∷ s.behind) s.opening.byte-is in
-    let fits : (found w fresh last place byte (s.inside ++ 64 ∷ s.behind)).more ≤ length s.inside =
-    omega (arith, s.reach, ap (λ l. (found w fresh last place byte l).more) cut) in
-    let same : f ≡ g = ap (found w fresh last place byte) cut
+    let fits : (found_apart w fresh last place byte (s.inside ++ 64 ∷ s.behind)).more ≤ length s.inside =
+    omega (arith, s.reach, ap (λ l. (found_apart w fresh last place byte l).more) cut) in
+    let same : f ≡ g = ap (found_apart w fresh last place byte) cut
     ∙ (found-local s.behind (opener-code s.behind s.opening.opener) w fresh last place byte s.inside).same fits in
     record {
       inside = byte ∷ s.inside;
@@ -329,12 +331,13 @@ past bytes w fresh last place byte xs zs t ys e s =
 -- the token begins here
 here : (bytes : List ℕ) (w : Where) (fresh : Bool) (last place byte : ℕ) (xs : List Answer) (t : Seen)
     (ys zs : List Answer) → is_opener (kind_code t.kind) ≡ true
-    → (found w fresh last place byte bytes).answers ≡ xs ++ Token t ∷ zs
-    → ys ≡ zs ++ answers bytes (found w fresh last place byte bytes).next (still_fresh fresh byte) byte (place + 1)
-    (found w fresh last place byte bytes).more
+    → (found_apart w fresh last place byte bytes).answers ≡ xs ++ Token t ∷ zs
+    → ys ≡ zs ++ answers bytes (found_apart w fresh last place byte bytes).next (still_fresh fresh byte) byte
+    (place + 1)
+    (found_apart w fresh last place byte bytes).more
     → Stop (byte ∷ bytes) w fresh last place 0 xs t ys
 here bytes w fresh last place byte xs t ys zs o e r =
-    let f = found w fresh last place byte bytes in
+    let f = found_apart w fresh last place byte bytes in
     let takes = found-takes w fresh last place byte bytes in
     let b = begun place (byte ∷ bytes) f.more takes.first takes.rest xs t zs takes.bare takes.whole (sym takes.split
     ∙ e) in
@@ -373,16 +376,18 @@ walk : (bytes : List ℕ) (w : Where) (fresh : Bool) (last place taken : ℕ) (x
 walk [] w fresh last place taken xs t ys o e = absurd (no-token-bare place (all_cut w.part w.comments place (place - 1))
     xs t ys (bare-all-cut w.part w.comments place (place - 1)) e)
 walk (byte ∷ bytes) w fresh last place zero xs t ys o e =
-    let f = found w fresh last place byte bytes in
+    let f = found_apart w fresh last place byte bytes in
     by (split f.answers (answers bytes f.next (still_fresh fresh byte) byte (place + 1) f.more) xs t ys e)
     (λ zs g. walk bytes f.next (still_fresh fresh byte) byte (place + 1) f.more zs t ys o g)
   where
-    by : Split (found w fresh last place byte bytes).answers (answers bytes (found w fresh last place byte bytes).next
-        (still_fresh fresh byte) byte (place + 1) (found w fresh last place byte bytes).more) xs t ys
-        → ((zs : List Answer) → answers bytes (found w fresh last place byte bytes).next (still_fresh fresh byte) byte
-        (place + 1) (found w fresh last place byte bytes).more ≡ zs ++ Token t ∷ ys
-        → Stop bytes (found w fresh last place byte bytes).next (still_fresh fresh byte) byte (place + 1)
-        (found w fresh last place byte bytes).more zs t ys)
+    by : Split (found_apart w fresh last place byte bytes).answers
+        (answers bytes (found_apart w fresh last place byte bytes).next
+        (still_fresh fresh byte) byte (place + 1) (found_apart w fresh last place byte bytes).more) xs t ys
+        → ((zs : List Answer) → answers bytes (found_apart w fresh last place byte bytes).next (still_fresh fresh byte)
+        byte
+        (place + 1) (found_apart w fresh last place byte bytes).more ≡ zs ++ Token t ∷ ys
+        → Stop bytes (found_apart w fresh last place byte bytes).next (still_fresh fresh byte) byte (place + 1)
+        (found_apart w fresh last place byte bytes).more zs t ys)
         → Stop (byte ∷ bytes) w fresh last place 0 xs t ys
     by (inl s) rec = past bytes w fresh last place byte xs s.0 t ys s.1 (rec s.0 s.2)
     by (inr s) rec = here bytes w fresh last place byte xs t ys s.0 o s.1 s.2
@@ -501,12 +506,14 @@ module _ (text : List ℕ) (start : ℕ) (mode : Mode) (xs : List Answer) (t : S
 
   -- what begins at the end, where the scan of the whole stands there
   abbrev stopped : Found
-  stopped = found s.next (fresh_after (fresh_at text start) s.inside) (last_after (last_at text start) s.inside) s.end
+  stopped = found_apart s.next (fresh_after (fresh_at text start) s.inside) (last_after (last_at text start) s.inside)
+      s.end
       s.byte s.behind
 
   -- the answers at the end, where the scan stands otherwise
   answers-end : (w : Where) → answers_at text w s.end
-      ≡ joined (found w (fresh_after (fresh_at text start) s.inside) (last_after (last_at text start) s.inside) s.end
+      ≡ joined (found_apart w (fresh_after (fresh_at text start) s.inside) (last_after (last_at text start) s.inside)
+      s.end
       s.byte s.behind)
       (λ next size. answers s.behind next (still_fresh (fresh_after (fresh_at text start) s.inside) s.byte) s.byte
       (s.end + 1) size)
@@ -524,7 +531,7 @@ module _ (text : List ℕ) (start : ℕ) (mode : Mode) (xs : List Answer) (t : S
       (sym (drop-here text s.end within) ∙ at-end)
 
   found-here : found_at text s.next s.end ≡ stopped
-  found-here = λ i. found s.next (sym fresh-end i) (sym last-end i) s.end (byte-here i) (behind-here i)
+  found-here = λ i. found_apart s.next (sym fresh-end i) (sym last-end i) s.end (byte-here i) (behind-here i)
 
   -- what follows the token, where the text is scanned from its end on
   rest-end : answers s.behind stopped.next (still_fresh (fresh_after (fresh_at text start) s.inside) s.byte) s.byte
@@ -678,14 +685,15 @@ ends-at-openings text start mode opened xs t ys l e k =
     let there : code_at s.behind ≡ code_in f.answers = s.opening.same (ap is_section code ∙ so.plain) in
     let head = λ (h : has_sign ys ≡ true). wanted-sign s.behind f.next (still_fresh fresh s.byte) s.byte (s.end + 1)
     f.more s.notes s.only (ap has_sign (sym s.rest) ∙ h) in
-    let twin : Twin f (found (beginning_of so.by) fresh last s.end s.byte s.behind) =
-    subst (λ b. OpensBy so.by (found s.next fresh last s.end b s.behind)
-    → Twin (found s.next fresh last s.end b s.behind) (found (beginning_of so.by) fresh last s.end b s.behind))
+    let twin : Twin f (found_apart (beginning_of so.by) fresh last s.end s.byte s.behind) =
+    subst (λ b. OpensBy so.by (found_apart s.next fresh last s.end b s.behind)
+    → Twin (found_apart s.next fresh last s.end b s.behind) (found_apart (beginning_of so.by) fresh last s.end b
+    s.behind))
     (sym s.opening.byte-is)
     (found-twin so.by s.next fresh last s.end s.behind (s.limbo (limbo-mode mode l)) (ap is_section (there ∙ code)
     ∙ so.plain) (subst (OpensAt so.by) (sym (there ∙ code)) so.code))
     (opens-by so.by f (has_sign ys) (subst (OpensAt so.by) (sym code) so.code) so.sign head) in
-    let g = found (beginning_of so.by) fresh last s.end s.byte s.behind in
+    let g = found_apart (beginning_of so.by) fresh last s.end s.byte s.behind in
     let same = same-token s.end s.end twin.notes s.front twin.token t twin.behind s.notes
     (notes-bare s.end twin.notes twin.only) s.bare
     (ap (λ l. twin.notes ++ l) (sym twin.first) ∙ ap (λ (f : Found). f.answers) (sym twin.same) ∙ s.found-is) in

@@ -14,7 +14,8 @@ use Rattle.cw_rules.specs.Codes.{code_of, is_section, begins_section}
 use Rattle.cw_rules.specs.Answers.{Answer, Where}
 use Rattle.cw_lex.specs.Lexing.{still_fresh, joined, answers, fresh_after, last_after, fresh_at, last_at, answers_at}
 use Rattle.cw_lex.specs.Lexing.{beginning, tokens_of}
-use Rattle.cw_rules.specs.Tokens.{all_cut, section, in_text, found}
+use Rattle.cw_rules.specs.Tokens.{all_cut, section}
+use Rattle.cw_rules.specs.Apart.{in_text_apart, found_apart}
 use Rattle.cw_lex.specs.Parts.{stand, stands_at, answers_to, part_answers, is_section_at, IsCodeAt}
 use Rattle.cw_lex.proofs.Walk.{fresh-more, last-more}
 use Rattle.cw_lex.proofs.Covering.{drop-part}
@@ -50,7 +51,7 @@ scans about more code ys [] w fresh last place zero next h b =
     some-where a b e = cc
 scans about more code ys [] w fresh last place (suc taken) next h b = absurd cc
 scans about more code ys (byte ∷ bs) w fresh last place zero next h b =
-    let f = found w fresh last place byte (bs ++ 64 ∷ more) in
+    let f = found_apart w fresh last place byte (bs ++ 64 ∷ more) in
     let fits : f.more ≤ length bs = stand-taken (length bs) (bs ++ 64 ∷ more) f.next (still_fresh fresh byte) byte
     (place + 1) f.more next h in
     let e = (found-local more code w fresh last place byte bs).same fits in
@@ -98,10 +99,11 @@ section-behind more w fresh last place h =
     let alone = section tex place more in
     let behind = rest tex alone.more in
     let cut = all_cut w.part w.comments place place in
-    ap (λ t. joined (if t then section w place more else in_text w.part w.comments fresh last place 64 more) rest) h
+    ap (λ t. joined (if t then section w place more else in_text_apart w.part w.comments fresh last place 64 more) rest)
+    h
     ∙ append_assoc cut alone.answers behind
     ∙ ap (λ l. cut ++ l)
-    (sym (ap (λ t. joined (if t then section tex place more else in_text parts.Tex [] fresh last place 64 more)
+    (sym (ap (λ t. joined (if t then section tex place more else in_text_apart parts.Tex [] fresh last place 64 more)
     rest) h))
 
 -- ## Parts of a text
@@ -179,7 +181,7 @@ to-end : (about : ℕ) (bytes : List ℕ) (w : Where) (fresh : Bool) (last place
     ≡ answers_to about bytes w fresh last place taken
 to-end about [] w fresh last place taken h = ap (all_cut w.part w.comments place) (omega (arith, h))
 to-end about (byte ∷ bytes) w fresh last place zero h =
-    let f = found w fresh last place byte bytes in
+    let f = found_apart w fresh last place byte bytes in
     ap (λ l. f.answers ++ l) (to-end about bytes f.next (still_fresh fresh byte) byte (place + 1) f.more
     (omega (arith, h)))
 to-end about (byte ∷ bytes) w fresh last place (suc taken) h =

@@ -18,7 +18,8 @@ use Rattle.cw_rules.specs.Constants.{decimal, number, constant}
 use Rattle.cw_rules.specs.Prefixes.{prefix_size}
 use Rattle.cw_rules.specs.Signs.{all_signs, longest, spelling}
 use Rattle.cw_lex.specs.Lexing.{fresh_at, last_at}
-use Rattle.cw_rules.specs.Tokens.{section, in_text, code_text, in_code, start_of, sign_or_other, is_space, is_include}
+use Rattle.cw_rules.specs.Tokens.{section, in_code, start_of, sign_or_other, is_space, is_include}
+use Rattle.cw_rules.specs.Apart.{in_text_apart, code_text_apart}
 use Rattle.cw_rules.specs.Tokens.{behind_word, ends_at_bar, in_hash_line, behind_include, closes_on_line, passed, one}
 use Rattle.cw_rules.specs.Tokens.{moved}
 use Rattle.cw_lex.specs.Coming.{found_at}
@@ -50,7 +51,7 @@ no-include : (part : Part) (b : ℕ) (bs : List ℕ) → behind_include part ≡
 no-include part b bs h = ap (λ t. b == 60 && (t && closes_on_line bs)) h ∙ and-false (b == 60)
 
 code-start : (w : Where) (fresh : Bool) (last place b : ℕ) (bs : List ℕ) → behind_include w.part ≡ false → IsStart b
-    → code_text w fresh last place b bs ≡ in_code (start_of (ends_at_bar w.part w.comments) b bs) w place (b ∷ bs)
+    → code_text_apart w fresh last place b bs ≡ in_code (start_of (ends_at_bar w.part w.comments) b bs) w place (b ∷ bs)
 code-start w fresh last place b bs h s = rw (s.newline, no-space w.part b bs s, s.hash, no-include w.part b bs h) refl
 
 -- what begins there is found by the rule of its start
@@ -64,7 +65,7 @@ start-found text part comments place kind calm s e =
     let b = slice_index text place in
     let bs = drop (place + 1) text in
     let w : Where = record { part = part; comments = comments } in
-    ap (λ t. if t && begins_section bs then section w place bs else in_text part comments (fresh_at text place)
+    ap (λ t. if t && begins_section bs then section w place bs else in_text_apart part comments (fresh_at text place)
     (last_at text place) place b bs) s.at_sign
     ∙ in_text-code part comments (fresh_at text place) (last_at text place) place b bs (calm-code part comments calm)
     ∙ code-start w (fresh_at text place) (last_at text place) place b bs (calm-part part comments calm).include s

@@ -22,8 +22,9 @@ use Rattle.cw_rules.specs.Codes.{code_at, begins_section, effect_in_tex}
 use Rattle.cw_rules.specs.Answers.{Answer, Token, Begin, Finish, Note, Where, Cut, Found, note_answers, plain}
 use Rattle.cw_lex.specs.Lexing.{answers, tokens_of, still_fresh, fresh_at, last_at}
 use Rattle.cw_rules.specs.Tokens.{one, dropped_code, moved, is_name, is_head, code_token, comment_cut, inner_or_none}
-use Rattle.cw_rules.specs.Tokens.{all_cut, start_of, in_code, tex_by, tex_text, head_text, in_text, section}
-use Rattle.cw_rules.specs.Tokens.{section_code, found}
+use Rattle.cw_rules.specs.Tokens.{all_cut, start_of, in_code, tex_by, tex_text, head_text, section}
+use Rattle.cw_rules.specs.Apart.{in_text_apart, found_apart}
+use Rattle.cw_rules.specs.Tokens.{section_code}
 use Rattle.cw_lex.specs.Nested.{Level, InCode, InComment, after_token, after_begin, levels_after, all_levels_after}
 use Rattle.cw_lex.specs.Nested.{tex_levels_after, all_tex_levels_after, IsTexNested, is_section_kind, is_part_kind}
 use Rattle.cw_lex.specs.Nested.{begins_part_in, is_part_answer}
@@ -232,13 +233,13 @@ start-goes start.OtherByte place bytes b = inner-goes (InCode ∷ [])
 
 text-goes : (part : Part) (cs : List Opened) (fresh : Bool) (last place byte : ℕ) (bytes : List ℕ)
     → (byte == at_sign && begins_section bytes) ≡ false → stands part cs ≡ true
-    → Unless (tex_levels part cs) (in_text part cs fresh last place byte bytes)
+    → Unless (tex_levels part cs) (in_text_apart part cs fresh last place byte bytes)
 text-goes parts.TexInner [] fresh last place byte bytes section s =
     before-code (Unless (InCode ∷ [])) parts.TexInner [] fresh last place byte bytes refl refl
     (λ f g. inner-goes (InCode ∷ []) f g)
     (start-goes (start_of true byte bytes) place (byte ∷ bytes) (begins-so true byte bytes section).is)
 text-goes parts.TexInner (c ∷ cs) fresh last place byte bytes section s =
-    inner-goes (levels_in (c ∷ cs)) (in_text parts.TexInner (c ∷ cs) fresh last place byte bytes)
+    inner-goes (levels_in (c ∷ cs)) (in_text_apart parts.TexInner (c ∷ cs) fresh last place byte bytes)
     (open-goes parts.TexInner c cs fresh last place byte bytes section refl s)
 text-goes parts.Tex [] fresh last place byte bytes section s = tex-goes place byte bytes
 text-goes parts.Head [] fresh last place byte bytes section s = head-goes place byte bytes
@@ -270,7 +271,7 @@ section-begins w place bytes ls = record {
 }
 
 found-goes : (w : Where) (fresh : Bool) (last place byte : ℕ) (bytes : List ℕ) → stands w.part w.comments ≡ true
-    → Unless (tex_levels w.part w.comments) (found w fresh last place byte bytes)
+    → Unless (tex_levels w.part w.comments) (found_apart w fresh last place byte bytes)
 found-goes w fresh last place byte bytes s =
     if-both (Unless (tex_levels w.part w.comments)) (byte == at_sign && begins_section bytes) _ _
     (λ e. section-begins w place bytes (tex_levels w.part w.comments))
@@ -302,7 +303,7 @@ answers-nest : (bytes : List ℕ) (w : Where) (fresh : Bool) (last place taken :
     → all_tex_levels_after (answers bytes w fresh last place taken) (tex_levels w.part w.comments) ≡ Some []
 answers-nest [] w fresh last place taken s h = all-cut w.part w.comments place (place - 1) s
 answers-nest (byte ∷ bytes) w fresh last place zero s h =
-    let f = found w fresh last place byte bytes in
+    let f = found_apart w fresh last place byte bytes in
     let behind = answers bytes f.next (still_fresh fresh byte) byte (place + 1) f.more in
     let split = any-split f.answers behind h in
     let g = (found-goes w fresh last place byte bytes s).goes split.0 in

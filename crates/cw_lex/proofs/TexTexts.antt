@@ -33,8 +33,9 @@ use Rattle.cw_rules.specs.Order.{Covers}
 use Rattle.cw_lex.specs.Parts.{closing_bar_from}
 use Rattle.cw_lex.specs.TexTexts.{tex_at, are_notes, GoesOn, HoldsInner}
 use Rattle.cw_rules.specs.Tokens.{one, moved, dropped_code, effect_in, section_name, code_token, is_name, is_head}
-use Rattle.cw_rules.specs.Tokens.{is_signed, head_sign_size, tex_by, tex_text, in_text, section, found, code_by}
-use Rattle.cw_rules.specs.Tokens.{code_text, inner_begin, inner_cut, all_cut}
+use Rattle.cw_rules.specs.Tokens.{is_signed, head_sign_size, tex_by, tex_text, section, code_by}
+use Rattle.cw_rules.specs.Apart.{in_text_apart, found_apart, code_text_apart}
+use Rattle.cw_rules.specs.Tokens.{inner_begin, inner_cut, all_cut}
 use Rattle.cw_rules.proofs.CodeStarts.{code-kind}
 use Rattle.cw_rules.proofs.CodeTwins.{at-code}
 use Rattle.cw_lex.proofs.Covering.{drop-part, covers-le, tokens-cover}
@@ -178,8 +179,9 @@ name-uncut c d bs fresh last place n h =
     let cut = section_name c place shown in
     let rest : Where → ℕ → List Answer = λ next more. answers (d ∷ ls) next (still_fresh fresh 64) 64 (place + 1)
     more in
-    let is : found inner fresh last place 64 (d ∷ ls) ≡ one false inner place shown cut =
-    ap (λ t. if t then section inner place (d ∷ ls) else code_text inner fresh last place 64 (d ∷ ls)) (ap is_section h
+    let is : found_apart inner fresh last place 64 (d ∷ ls) ≡ one false inner place shown cut =
+    ap (λ t. if t then section inner place (d ∷ ls) else code_text_apart inner fresh last place 64 (d ∷ ls))
+    (ap is_section h
     ∙ name-plain c n)
     ∙ at-code inner fresh last place (d ∷ ls)
     ∙ ap (λ c. code_by (effect_in parts.Inner [] c) c inner place shown) h
@@ -319,7 +321,8 @@ module _ (text : List ℕ) (place : ℕ) (within : place < length text) (quiet :
           ≡ false
       by true e =
           let uncut = opens-uncut [] (tex_at text place) quiet in
-          let is : here ≡ section tex place behind = ap (λ t. if t then section tex place behind else in_text parts.Tex
+          let is : here ≡ section tex place behind =
+          ap (λ t. if t then section tex place behind else in_text_apart parts.Tex
           [] (fresh_at text place) (last_at text place) place byte behind) e in
           not-both _ (section-cuts tex place behind (answers_at text here.next next))
           (ap (λ (f : Found). begins_section_in (f.answers ++ answers_at text here.next next)) (sym is)

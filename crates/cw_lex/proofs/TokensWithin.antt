@@ -4,7 +4,8 @@ use Rattle.std.proofs.lemmas.List.{length-take}
 use Rattle.cw_rules.specs.declared.tokens.Mode.{Mode}
 use Rattle.cw_rules.specs.Answers.{Where}
 use Rattle.cw_rules.specs.Order.{AreWithin}
-use Rattle.cw_rules.specs.Tokens.{all_cut, found}
+use Rattle.cw_rules.specs.Tokens.{all_cut}
+use Rattle.cw_rules.specs.Apart.{found_apart}
 use Rattle.cw_rules.proofs.Within.{append-within, wider, all_cut-within, found-fits}
 use Rattle.cw_lex.specs.Lexing.{still_fresh, answers, fresh_at, last_at, beginning, tokens_of}
 
@@ -15,7 +16,7 @@ all-within [] w fresh last place taken low l t =
     wider place (place + 0) low (place + 0) (all_cut w.part w.comments place (place - 1)) l (omega arith)
     (all_cut-within w.part w.comments place (place - 1) 0)
 all-within (b ∷ bs) w fresh last place zero low l t =
-    let f = found w fresh last place b bs in
+    let f = found_apart w fresh last place b bs in
     let h = found-fits w fresh last place b bs in
     let rest = answers bs f.next (still_fresh fresh b) b (place + 1) f.more in
     append-within low (place + suc (length bs)) f.answers rest

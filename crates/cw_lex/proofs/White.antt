@@ -12,7 +12,8 @@ use Rattle.cw_rules.specs.Answers.{Where, before, plain}
 use Rattle.cw_rules.specs.Bytes.{is_in}
 use Rattle.cw_rules.specs.Codes.{begins_section}
 use Rattle.cw_lex.specs.Lexing.{fresh_at, last_at}
-use Rattle.cw_rules.specs.Tokens.{section, in_text, code_text, passed, line_end, is_space, in_hash_line, skipped_byte}
+use Rattle.cw_rules.specs.Tokens.{section, passed, line_end, is_space, in_hash_line, skipped_byte}
+use Rattle.cw_rules.specs.Apart.{in_text_apart, code_text_apart}
 use Rattle.cw_rules.specs.Tokens.{comment_end, inner_cut, one, is_code}
 use Rattle.cw_lex.specs.Coming.{ends_line, is_white_here, found_at}
 use Rattle.cw_lex.proofs.Lines.{in_text-code, found-newline}
@@ -45,7 +46,7 @@ line_end-white part (c ∷ comments) last place h =
 
 code_text-space : (w : Where) (fresh : Bool) (last place b : ℕ) (bs : List ℕ) → (b == 10) ≡ false → is_space w.part b bs
     ≡ true
-    → code_text w fresh last place b bs ≡ skipped_byte w
+    → code_text_apart w fresh last place b bs ≡ skipped_byte w
 code_text-space w fresh last place b bs e h = rw (e, h) refl
 
 -- white space gives no answer
@@ -71,7 +72,7 @@ white-found text part comments place code h = by (slice_index text place == 10) 
         (slice_index text place) (drop (place + 1) text)) (sym e) ∙ h in
         ap (λ t. if t && begins_section (drop (place + 1) text) then section
         (record { part = part; comments = comments }) place (drop (place + 1) text)
-        else in_text part comments (fresh_at text place) (last_at text place) place (slice_index text place)
+        else in_text_apart part comments (fresh_at text place) (last_at text place) place (slice_index text place)
         (drop (place + 1) text))
         (space-not-at part (slice_index text place) (drop (place + 1) text) space)
         ∙ in_text-code part comments (fresh_at text place) (last_at text place) place (slice_index text place)

@@ -16,7 +16,7 @@ use Rattle.cw_rules.specs.Bytes.{newline, backslash, is_in, run}
 use Rattle.cw_rules.specs.Answers.{Answer, Finish, Note, seen, Where, Found, note_answers}
 use Rattle.cw_rules.specs.Pending.{pending_notes, no_notes, IsInside}
 use Rattle.cw_rules.specs.Tokens.{in_hash_line, is_space, found, is_code, is_head_part}
-use Rattle.cw_lex.specs.Lexing.{answers_at, fresh_at, last_at}
+use Rattle.cw_lex.specs.Lexing.{answers_at, last_at, spot_at}
 
 abbrev pub where_of : State → Where
 where_of s = record { part = s.part; comments = s.comments }
@@ -26,8 +26,7 @@ coming text s = note_answers (pending_notes text s.pending) ++ answers_at text (
 
 -- what begins at a place of a text
 abbrev pub found_at : List ℕ → Where → ℕ → Found
-found_at text w place = found w (fresh_at text place) (last_at text place) place (slice_index text place)
-    (drop (place + 1) text)
+found_at text w place = found (spot_at text w place) (slice_index text place) (drop (place + 1) text)
 
 -- the open braces of the comments are not more than the bytes before a place
 abbrev pub AllWithin : ℕ → List Opened → Type 0

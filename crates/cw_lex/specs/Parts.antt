@@ -22,7 +22,7 @@ stand zero bytes w fresh last place zero = Some w
 stand zero bytes w fresh last place (suc taken) = None
 stand (suc n) [] w fresh last place taken = None
 stand (suc n) (byte ∷ bytes) w fresh last place zero =
-    followed (found w fresh last place byte bytes)
+    followed (found (record { stands = w; fresh = fresh; last = last; place = place }) byte bytes)
     (λ next more. stand n bytes next (still_fresh fresh byte) byte (place + 1) more)
 stand (suc n) (byte ∷ bytes) w fresh last place (suc taken) =
     stand n bytes w (still_fresh fresh byte) byte (place + 1) taken
@@ -35,7 +35,7 @@ stands_at text w start end = stand (end - start) (drop start text) w (fresh_at t
 abbrev pub answers_to : ℕ → List ℕ → Where → Bool → ℕ → ℕ → ℕ → List Answer
 answers_to about [] w fresh last place taken = all_cut w.part w.comments place about
 answers_to about (byte ∷ bytes) w fresh last place zero =
-    joined (found w fresh last place byte bytes)
+    joined (found (record { stands = w; fresh = fresh; last = last; place = place }) byte bytes)
     (λ next more. answers_to about bytes next (still_fresh fresh byte) byte (place + 1) more)
 answers_to about (byte ∷ bytes) w fresh last place (suc taken) =
     answers_to about bytes w (still_fresh fresh byte) byte (place + 1) taken
@@ -88,7 +88,7 @@ PartsAreAnswered = (text : List ℕ) (start end : ℕ) (mode : Mode) → start �
 abbrev pub closing_bar : List ℕ → Where → Bool → ℕ → ℕ → ℕ → Option ℕ
 closing_bar [] w fresh last place taken = None
 closing_bar (byte ∷ bytes) w fresh last place zero =
-    let f = found w fresh last place byte bytes in
+    let f = found (record { stands = w; fresh = fresh; last = last; place = place }) byte bytes in
     if is_tex_inner f.next.part then closing_bar bytes f.next (still_fresh fresh byte) byte (place + 1) f.more
     else (if byte == bar then Some place else None)
 closing_bar (byte ∷ bytes) w fresh last place (suc taken) =

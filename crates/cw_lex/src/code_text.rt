@@ -4,7 +4,7 @@ ghost use Rattle.std.specs.Prelude.{length, drop, slice_index, MatchOption};
 ghost use Rattle.cw_rules.specs.Answers.{Gives, before};
 ghost use Rattle.cw_rules.specs.Bytes.{run, is_letter};
 ghost use Rattle.cw_rules.specs.Codes.{code_at};
-ghost use Rattle.cw_lex.specs.Lexing.{fresh_at, last_at, answers_at};
+ghost use Rattle.cw_lex.specs.Lexing.{fresh_at, last_at, spot_at, answers_at};
 ghost use Rattle.cw_rules.specs.Tokens.{code_text, in_code, start_of, code_by, effect_in, line_end, part_line_end};
 ghost use Rattle.cw_rules.specs.Tokens.{comment_end, inner_cut, takes_hash_line, behind_include};
 ghost use Rattle.cw_rules.specs.Tokens.{in_hash_line};
@@ -113,8 +113,8 @@ pub(crate) fn code_text<'a>(text: &'a [u8], state: &mut State) -> Lexed<'a>
     requires white { is_white_here state.old.part state.old.comments (last_at text.now state.old.at)
         (slice_index text.now state.old.at) (drop (state.old.at + 1) text.now) ≡ false }
     requires found { found_at text.now (where_of state.old) state.old.at ≡
-        code_text (where_of state.old) (fresh_at text.now state.old.at) (last_at text.now state.old.at) state.old.at
-        (slice_index text.now state.old.at) (drop (state.old.at + 1) text.now) }
+        code_text (spot_at text.now (where_of state.old) state.old.at) (slice_index text.now state.old.at)
+        (drop (state.old.at + 1) text.now) }
     ensures gives { Gives (coming text.now state.old) result (coming text.now state.new) }
     ensures ready { IsReady text.now state.new }
 {

@@ -4,7 +4,7 @@ ghost use Rattle.std.specs.Prelude.{slice_index};
 ghost use Rattle.cw_rules.specs.Answers.{Gives, before};
 ghost use Rattle.cw_rules.specs.Bytes.{begins};
 ghost use Rattle.cw_rules.specs.Bodies.{stops, note_unless};
-ghost use Rattle.cw_lex.specs.Lexing.{last_at};
+ghost use Rattle.cw_lex.specs.Lexing.{last_at, spot_at};
 ghost use Rattle.cw_rules.specs.Pending.{no_notes};
 ghost use Rattle.cw_rules.specs.Codes.{begins_section};
 ghost use Rattle.cw_rules.specs.Tokens.{comment_text, comment_closed, comment_end, piece, is_deep, line_end};
@@ -125,7 +125,7 @@ pub(crate) fn comment_text<'a>(text: &'a [u8], state: &mut State, comment: Opene
     requires section { (slice_index text.now state.old.at == 64 && begins_section (drop (state.old.at + 1) text.now)) ≡
         false }
     requires found { found_at text.now (where_of state.old) state.old.at ≡
-        comment_text state.old.part comment (drop 1 state.old.comments) (last_at text.now state.old.at) state.old.at
+        comment_text comment (drop 1 state.old.comments) (spot_at text.now (where_of state.old) state.old.at)
         (slice_index text.now state.old.at) (drop (state.old.at + 1) text.now) }
     ensures gives { Gives (coming text.now state.old) result (coming text.now state.new) }
     ensures ready { IsReady text.now state.new }

@@ -5,7 +5,7 @@ ghost use Rattle.cw_rules.specs.Answers.{Gives};
 ghost use Rattle.cw_rules.specs.Codes.{begins_section};
 ghost use Rattle.cw_rules.specs.Order.{Covers, AreWithin};
 ghost use Rattle.cw_rules.specs.Pending.{no_notes};
-ghost use Rattle.cw_lex.specs.Lexing.{tokens_of, fresh_at, last_at};
+ghost use Rattle.cw_lex.specs.Lexing.{spot_at, tokens_of};
 ghost use Rattle.cw_rules.specs.Tokens.{part_text, is_parameter};
 ghost use Rattle.cw_rules.specs.Bytes.{run, is_letter, begins_by};
 ghost use Rattle.cw_lex.specs.Short.{IsQuick, BeginsString, EndsInner};
@@ -347,8 +347,8 @@ fn part_text<'a>(text: &'a [u8], state: &mut State) -> Lexed<'a>
     requires text { is_code_part state.old.part ≡ false }
     requires section { (slice_index text.now state.old.at == 64 && begins_section (drop (state.old.at + 1) text.now)) ≡
         false }
-    requires found { found_at text.now (where_of state.old) state.old.at ≡ part_text state.old.part (where_of state.old)
-        (fresh_at text.now state.old.at) (last_at text.now state.old.at) state.old.at
+    requires found { found_at text.now (where_of state.old) state.old.at ≡
+        part_text state.old.part (spot_at text.now (where_of state.old) state.old.at)
         (slice_index text.now state.old.at) (drop (state.old.at + 1) text.now) }
     ensures gives { Gives (coming text.now state.old) result (coming text.now state.new) }
     ensures ready { IsReady text.now state.new }

@@ -4,7 +4,8 @@ use Rattle.std.proofs.Common.{take, refl, sym, ap, ◌∙◌, arith, append_asso
 use Rattle.std.proofs.lemmas.List.{length-take}
 use Rattle.cw_rules.specs.declared.tokens.Mode.{Mode}
 use Rattle.cw_rules.specs.Answers.{Answer, Token, Begin, Finish, Note, Seen, Where, Found}
-use Rattle.cw_rules.specs.Tokens.{all_cut, found}
+use Rattle.cw_rules.specs.Tokens.{all_cut}
+use Rattle.cw_rules.specs.Apart.{found_apart}
 use Rattle.cw_rules.proofs.Taking.{AreBare, AreNotes, TakesAll, Takes, bare-all-cut, found-takes}
 use Rattle.cw_lex.specs.Lexing.{still_fresh, answers, fresh_at, last_at, beginning, tokens_of}
 use Rattle.cw_lex.specs.Nest.{Nest, End, Leaf, Group, group, leaf, nests, first_nest, nest}
@@ -57,7 +58,7 @@ all-count [] w fresh last place taken =
     ap tokens_in (sym (append-nil cut)) ∙ bare-count place cut [] (bare-all-cut w.part w.comments place (place - 1)) in
     omega (arith, none)
 all-count (byte ∷ bytes) w fresh last place zero =
-    let f = found w fresh last place byte bytes in
+    let f = found_apart w fresh last place byte bytes in
     omega (
       arith,
       found-count place (byte ∷ bytes) f (answers bytes f.next (still_fresh fresh byte) byte (place + 1) f.more)

@@ -28,9 +28,11 @@ use Rattle.cw_rules.specs.Signs.{all_signs, longest}
 use Rattle.cw_rules.specs.Tokens.{in_hash_line, behind_include, takes_hash_line, is_space, is_deep, ends_at_bar}
 use Rattle.cw_rules.specs.Tokens.{closes_on_line, moved, passed, comment_end, inner_cut, all_cut, section, is_quote}
 use Rattle.cw_rules.specs.Tokens.{section_code, section_name, string, control_text, alone_size, control_or_plain}
-use Rattle.cw_rules.specs.Tokens.{line_end, sign_or_other, start_of, effect_in, code_by, in_code, code_text, code_token}
-use Rattle.cw_rules.specs.Tokens.{comment_text, limbo_by, limbo_text, tex_by, tex_text, name_follows, macro_name}
-use Rattle.cw_rules.specs.Tokens.{parameter_follows, parameter, format_name, behind_head, part_text, in_text, found}
+use Rattle.cw_rules.specs.Tokens.{line_end, sign_or_other, start_of, effect_in, code_by, in_code, code_token}
+use Rattle.cw_rules.specs.Apart.{code_text_apart, comment_text_apart, behind_head_apart, part_text_apart, in_text_apart}
+use Rattle.cw_rules.specs.Apart.{found_apart}
+use Rattle.cw_rules.specs.Tokens.{limbo_by, limbo_text, tex_by, tex_text, name_follows, macro_name}
+use Rattle.cw_rules.specs.Tokens.{parameter_follows, parameter, format_name}
 use Rattle.cw_rules.specs.Tokens.{is_name, include_name, piece_start, behind_white}
 use Rattle.cw_rules.specs.Bodies.{one_note, note_unless, noted}
 use Rattle.cw_base.specs.declared.notes.NoteKind.{NoteKind}
@@ -174,7 +176,7 @@ in-code-spelt bar_ends w place byte bytes =
     (λ h. sign-spelt (longest all_signs all) w place all))))))))
 
 code-text-spelt : (w : Where) (fresh : Bool) (last place byte : ℕ) (bytes : List ℕ)
-    → Spelt (code_text w fresh last place byte bytes)
+    → Spelt (code_text_apart w fresh last place byte bytes)
 code-text-spelt w fresh last place byte bytes =
     if-both Spelt (byte == newline) _ _ (λ h. line-end-spelt w.part w.comments last place)
     (λ h. if-both Spelt (is_space w.part byte bytes) _ _ (λ h. tt)
@@ -184,7 +186,7 @@ code-text-spelt w fresh last place byte bytes =
     (λ h. in-code-spelt (ends_at_bar w.part w.comments) w place byte bytes))))
 
 comment-text-spelt : (part : Part) (c : Opened) (comments : List Opened) (last place byte : ℕ) (bytes : List ℕ)
-    → Spelt (comment_text part c comments last place byte bytes)
+    → Spelt (comment_text_apart part c comments last place byte bytes)
 comment-text-spelt part c comments last place byte bytes =
     if-both Spelt (c.long && (byte == star && begins slash bytes)) _ _ (λ h. noted-spelt (missing c place))
     (λ h. if-both Spelt (not c.long && byte == newline) _ _
@@ -255,7 +257,7 @@ parameter-spelt w place byte bytes =
     (λ h. if-both Spelt (byte == right_paren) _ _ (λ h. (tt, tt)) (λ h. (tt, tt)))))
 
 behind-head-spelt : (limbo : Bool) (w : Where) (fresh : Bool) (last place byte : ℕ) (bytes : List ℕ)
-    → Spelt (behind_head limbo w fresh last place byte bytes)
+    → Spelt (behind_head_apart limbo w fresh last place byte bytes)
 behind-head-spelt true w fresh last place byte bytes = limbo-text-spelt (moved w parts.Limbo) place byte bytes
 behind-head-spelt false w fresh last place byte bytes =
     code-text-spelt (moved w parts.Definition) fresh last place byte bytes
@@ -263,7 +265,7 @@ behind-head-spelt false w fresh last place byte bytes =
 -- ## Any text
 
 part-text-spelt : (part : Part) (w : Where) (fresh : Bool) (last place byte : ℕ) (bytes : List ℕ)
-    → Spelt (part_text part w fresh last place byte bytes)
+    → Spelt (part_text_apart part w fresh last place byte bytes)
 part-text-spelt parts.Limbo w fresh last place byte bytes = limbo-text-spelt w place byte bytes
 part-text-spelt parts.Tex w fresh last place byte bytes = tex-text-spelt w place byte bytes
 part-text-spelt parts.Head w fresh last place byte bytes =
@@ -287,7 +289,7 @@ part-text-spelt parts.Definition w fresh last place byte bytes = code-text-spelt
 part-text-spelt parts.Inner w fresh last place byte bytes = code-text-spelt w fresh last place byte bytes
 
 in-text-spelt : (part : Part) (comments : List Opened) (fresh : Bool) (last place byte : ℕ) (bytes : List ℕ)
-    → Spelt (in_text part comments fresh last place byte bytes)
+    → Spelt (in_text_apart part comments fresh last place byte bytes)
 in-text-spelt part [] fresh last place byte bytes =
     part-text-spelt part (record { part = part; comments = [] }) fresh last place byte bytes
 in-text-spelt part (c ∷ comments) fresh last place byte bytes =
@@ -302,7 +304,7 @@ section-spelt w place bytes =
     (section-other (at_sign ∷ bytes) _, noted-spelt (section_code (at_sign ∷ bytes)).notes)
 
 found-spelt : (w : Where) (fresh : Bool) (last place byte : ℕ) (bytes : List ℕ)
-    → Spelt (found w fresh last place byte bytes)
+    → Spelt (found_apart w fresh last place byte bytes)
 found-spelt w fresh last place byte bytes =
     if-both Spelt (byte == at_sign && begins_section bytes) _ _ (λ h. section-spelt w place bytes)
     (λ h. in-text-spelt w.part w.comments fresh last place byte bytes)
@@ -312,7 +314,7 @@ all-spelt : (bytes : List ℕ) (w : Where) (fresh : Bool) (last place taken : �
 all-spelt [] w fresh last place taken = bare-spelt place (all_cut w.part w.comments place (place - 1))
     (bare-all-cut w.part w.comments place (place - 1))
 all-spelt (byte ∷ bytes) w fresh last place zero =
-    let f = found w fresh last place byte bytes in
+    let f = found_apart w fresh last place byte bytes in
     append-spelt f.answers (answers bytes f.next (still_fresh fresh byte) byte (place + 1) f.more)
     (found-spelt w fresh last place byte bytes)
     (all-spelt bytes f.next (still_fresh fresh byte) byte (place + 1) f.more)

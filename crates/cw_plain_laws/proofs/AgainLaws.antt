@@ -17,7 +17,8 @@ use Rattle.cw_rules.specs.Answers.{Answer, Cut, Token, Where, Found, token_of, p
 use Rattle.cw_rules.specs.Bodies.{at_start}
 use Rattle.cw_rules.specs.Bytes.{is_in, is_letter, is_mark, run, hash, newline, at_sign, begins_by, begins_with}
 use Rattle.cw_rules.specs.Prefixes.{is_prefix_letter, prefix_size}
-use Rattle.cw_rules.specs.Tokens.{found, skipped_byte, one, in_code, start_of, string, string_of}
+use Rattle.cw_rules.specs.Tokens.{skipped_byte, one, in_code, start_of, string, string_of}
+use Rattle.cw_rules.specs.Apart.{found_apart}
 use Rattle.cw_rules.proofs.Choices.{and-none, at-byte, or-false, or-first, or-second}
 use Rattle.cw_rules.specs.Constants.{constant, digits, more_digits}
 use Rattle.cw_rules.specs.declared.bodies.Body.TheVariants as bodies
@@ -98,7 +99,7 @@ record IsCode (byte : ℕ) : Type 0 where
   hash : (byte == hash) ≡ false
 
 code-found : (first fresh : Bool) (last place byte : ℕ) (bytes : List ℕ) → IsCode byte
-    → found (in_part first) fresh last place byte bytes
+    → found_apart (in_part first) fresh last place byte bytes
     ≡ in_code (start_of false byte bytes) (in_part first) place (byte ∷ bytes)
 code-found true fresh last place byte bytes is = rw (is.at, is.newline, is.blank, is.hash, and-none) refl
 code-found false fresh last place byte bytes is = rw (is.at, is.newline, is.blank, is.hash, and-none) refl
@@ -150,7 +151,7 @@ taken k place b bs rest = record {
 
 abbrev IsTaken : TokKind → ℕ → List ℕ → Type 0
 IsTaken k b bs = (first fresh : Bool) (last place : ℕ) (rest : List ℕ) → IsApart (last_of b bs) rest
-    → found (in_part first) fresh last place b (bs ++ rest) ≡ taken k place b bs rest
+    → found_apart (in_part first) fresh last place b (bs ++ rest) ≡ taken k place b bs rest
 
 one-size : (next : Where) (k : TokKind) (place n : ℕ) (bytes : List ℕ) (size : ℕ) → size ≡ suc n
     → one false next place bytes (plain k size)
@@ -226,7 +227,7 @@ identifier-taken b bs alone false fresh last place rest apart =
 
 sign-found : (s : Sign) (b : ℕ) (bs rest : List ℕ) → IsCode b → start_of false b (bs ++ rest) ≡ start.Sign s
     → length (spelling s) ≡ suc (length bs) → (first fresh : Bool) (last place : ℕ)
-    → found (in_part first) fresh last place b (bs ++ rest) ≡ taken (kinds.Sign s) place b bs rest
+    → found_apart (in_part first) fresh last place b (bs ++ rest) ≡ taken (kinds.Sign s) place b bs rest
 sign-found s b bs rest is begins size true fresh last place =
     code-found true fresh last place b (bs ++ rest) is
     ∙ ap (λ s. in_code s (in_part true) place (b ∷ (bs ++ rest))) begins
@@ -513,7 +514,7 @@ constant-start b bytes n letter size =
 constant-found : (b : ℕ) (bs rest : List ℕ) → IsAlone kinds.Constant b bs → constant (b ∷ (bs ++ rest))
     ≡ suc (length bs)
     → (first fresh : Bool) (last place : ℕ)
-    → found (in_part first) fresh last place b (bs ++ rest) ≡ taken kinds.Constant place b bs rest
+    → found_apart (in_part first) fresh last place b (bs ++ rest) ≡ taken kinds.Constant place b bs rest
 constant-found b bs rest alone size true fresh last place =
     code-found true fresh last place b (bs ++ rest) (code-by begins_number b number-passes
     (number-begins b bs alone.0 alone.1))
@@ -670,14 +671,14 @@ token-gives k first b bs rest want is apart gives fresh last place =
 
 -- white space is passed
 white-found : (first fresh : Bool) (last place b : ℕ) (bs : List ℕ) → is_in classes.White b ≡ true
-    → found (in_part first) fresh last place b bs ≡ skipped_byte (in_part first)
+    → found_apart (in_part first) fresh last place b bs ≡ skipped_byte (in_part first)
 white-found first fresh last place b bs white = by (b == newline) refl first
   where
     no-at : (b == at_sign) ≡ false
     no-at = unless (is_in classes.White) b 64 white refl
 
     by : (t : Bool) → (b == newline) ≡ t → (first : Bool)
-        → found (in_part first) fresh last place b bs ≡ skipped_byte (in_part first)
+        → found_apart (in_part first) fresh last place b bs ≡ skipped_byte (in_part first)
     by true e true = rw (no-at, e) refl
     by true e false = rw (no-at, e) refl
     by false e true = let blank = sym (λ i. e i || is_in classes.Blank b) ∙ white in rw (no-at, e, blank) refl

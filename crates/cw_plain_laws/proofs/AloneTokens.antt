@@ -29,7 +29,8 @@ use Rattle.cw_rules.specs.Prefixes.{is_prefix_letter, prefix_size}
 use Rattle.cw_rules.specs.Codes.{begins_section, code_at, code_of}
 use Rattle.cw_rules.specs.Constants.{constant}
 use Rattle.cw_rules.specs.Signs.{all_signs, longest, spelling}
-use Rattle.cw_rules.specs.Tokens.{code_by, code_text, code_token, effect_in, found, in_code, in_hash_line}
+use Rattle.cw_rules.specs.Tokens.{code_by, code_token, effect_in, in_code, in_hash_line}
+use Rattle.cw_rules.specs.Apart.{code_text_apart, found_apart}
 use Rattle.cw_rules.specs.Tokens.{is_space, moved, one, passed, section, section_code, sign_or_other, skipped_byte}
 use Rattle.cw_rules.specs.Tokens.{identifier, string}
 use Rattle.cw_rules.specs.Tokens.{start_of}
@@ -397,7 +398,7 @@ tells-section true place bytes = other (section-other (at_sign ∷ bytes))
 tells-section false place bytes = other (section-other (at_sign ∷ bytes))
 
 tells-text : (first fresh : Bool) (last place b : ℕ) (bytes : List ℕ)
-    → Tells first (code_text (in_part first) fresh last place b bytes)
+    → Tells first (code_text_apart (in_part first) fresh last place b bytes)
 tells-text true fresh last place b bytes =
     if-both (Tells true) (b == newline) _ _ (λ h. blank refl) (λ n.
     if-both (Tells true) (is_space (in_part true).part b bytes) _ _ (λ h. blank refl) (λ n.
@@ -412,7 +413,7 @@ tells-text false fresh last place b bytes =
     tells-start false (start_of false b bytes) place b bytes (start-says b bytes)))))
 
 tells-found : (first fresh : Bool) (last place b : ℕ) (bytes : List ℕ)
-    → Tells first (found (in_part first) fresh last place b bytes)
+    → Tells first (found_apart (in_part first) fresh last place b bytes)
 tells-found true fresh last place b bytes =
     if-both (Tells true) (b == at_sign && begins_section bytes) _ _ (λ h. tells-section true place bytes)
     (λ h. tells-text true fresh last place b bytes)
@@ -455,7 +456,7 @@ alone-on [] fresh last place taken are = tt
 alone-on (b ∷ bytes) fresh last place (suc taken) are =
     alone-on bytes (still_fresh fresh b) b (place + 1) taken are
 alone-on (b ∷ bytes) fresh last place zero are =
-    by (found (in_part false) fresh last place b bytes) (tells-found false fresh last place b bytes) are
+    by (found_apart (in_part false) fresh last place b bytes) (tells-found false fresh last place b bytes) are
     (λ more are. alone-on bytes (still_fresh fresh b) b (place + 1) more are)
   where
     on : Where → ℕ → List Answer
@@ -479,7 +480,7 @@ alone-behind : (bytes : List ℕ) (fresh : Bool) (last place : ℕ) (rest : List
     → BeginsBefore rest (answers bytes (in_part true) fresh last place 0) → AreSimpleTokens rest → AreAlone rest
 alone-behind [] fresh last place rest begun are = absurd begun
 alone-behind (b ∷ bytes) fresh last place rest begun are =
-    by (found (in_part true) fresh last place b bytes) (tells-found true fresh last place b bytes) begun
+    by (found_apart (in_part true) fresh last place b bytes) (tells-found true fresh last place b bytes) begun
     (λ begun. alone-behind bytes (still_fresh fresh b) b (place + 1) rest begun are)
   where
     on : Where → ℕ → List Answer

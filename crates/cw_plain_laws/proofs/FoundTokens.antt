@@ -7,7 +7,7 @@ use Rattle.cw_lex.specs.Nest.{Nest, End, Leaf, Group, first_nest, group, leaf, n
 use Rattle.cw_print.specs.Found.{numbered}
 use Rattle.cw_rules.proofs.Taking.{AreBare, AreNotes, TakesAll, bare-all-cut, found-takes}
 use Rattle.cw_rules.specs.Answers.{Answer, Token, Begin, Finish, Note, Seen, Where}
-use Rattle.cw_rules.specs.Tokens.{found}
+use Rattle.cw_rules.specs.Apart.{found_apart}
 use Rattle.cw_rules.specs.declared.tokens.Mode.{Mode}
 
 -- ## Tokens begin one behind another
@@ -56,7 +56,7 @@ answers-rise [] w fresh last place taken from low =
     subst (RisesFrom from) (append-nil (answers [] w fresh last place taken))
     (bare-rises place from (answers [] w fresh last place taken) [] (bare-all-cut w.part w.comments place _) tt)
 answers-rise (byte ∷ bytes) w fresh last place zero from low =
-    let f = found w fresh last place byte bytes in
+    let f = found_apart w fresh last place byte bytes in
     let t = found-takes w fresh last place byte bytes in
     let more = answers bytes f.next (still_fresh fresh byte) byte (place + 1) f.more in
     subst (RisesFrom from) (sym (ap (λ l. l ++ more) t.split ∙ append_assoc t.first t.rest more))

@@ -40,9 +40,10 @@ use Rattle.cw_rules.specs.Answers.{dropped}
 use Rattle.cw_rules.specs.Tokens.{comment_kind, missing_brace, sign_or_other, identifier, string, string_of}
 use Rattle.cw_rules.specs.Tokens.{closes_on_line, include_name, section_name, is_name, is_quote, control_or_plain}
 use Rattle.cw_rules.specs.Tokens.{code_token, dropped_code, is_signed, is_head, in_hash_line, behind_include, passed}
-use Rattle.cw_rules.specs.Tokens.{moved, one, comment_begin, comment_closed, is_deep, piece_start, piece, comment_text}
+use Rattle.cw_rules.specs.Tokens.{moved, one, comment_begin, comment_closed, is_deep, piece_start, piece}
+use Rattle.cw_rules.specs.Apart.{comment_text_apart, code_text_apart, in_text_apart}
 use Rattle.cw_rules.specs.Tokens.{effect_in, may_head, code_by, in_code, start_of, is_space, takes_hash_line}
-use Rattle.cw_rules.specs.Tokens.{ends_at_bar, code_text, in_text}
+use Rattle.cw_rules.specs.Tokens.{ends_at_bar}
 use Rattle.cw_rules.proofs.Choices.{if-both}
 use Rattle.cw_rules.proofs.Sizes.{run-le}
 use Rattle.cw_rules.proofs.Ahead.{Stop, At, Bar, byte_of, of-both, IsApart, apart-on, drop-same, take-same, begins-same}
@@ -584,9 +585,9 @@ module _ (s : Stop) (more : List ℕ) (free : IsFree s more) where
           (λ h. absurd (let k : true ≡ false = sym h ∙ (no-code e).is in cc)))
 
   pub code_text-local : (part : Part) (cs : List Opened) (fresh : Bool) (last place byte : ℕ) (bs : List ℕ)
-      → Local (length bs) (code_text (record { part = part; comments = cs }) fresh last place byte
+      → Local (length bs) (code_text_apart (record { part = part; comments = cs }) fresh last place byte
       (bs ++ byte_of s ∷ more))
-      (code_text (record { part = part; comments = cs }) fresh last place byte bs)
+      (code_text_apart (record { part = part; comments = cs }) fresh last place byte bs)
   code_text-local part cs fresh last place byte bs =
       let n = length bs in
       let w : Where = record { part = part; comments = cs } in
@@ -642,8 +643,8 @@ module _ (s : Stop) (more : List ℕ) (free : IsFree s more) where
   }
 
   comment_text-local : (part : Part) (c : Opened) (cs : List Opened) (last place byte : ℕ) (bs : List ℕ)
-      → Local (length bs) (comment_text part c cs last place byte (bs ++ byte_of s ∷ more))
-      (comment_text part c cs last place byte bs)
+      → Local (length bs) (comment_text_apart part c cs last place byte (bs ++ byte_of s ∷ more))
+      (comment_text_apart part c cs last place byte bs)
   comment_text-local part c cs last place byte bs =
       let n = length bs in
       if-local n (c.long && (byte == star && begins slash (bs ++ byte_of s ∷ more)))
@@ -657,8 +658,8 @@ module _ (s : Stop) (more : List ℕ) (free : IsFree s more) where
       (λ h. piece-local part cs c place byte bs)))
 
   pub within-local : (part : Part) (c : Opened) (cs : List Opened) (fresh : Bool) (last place byte : ℕ) (bs : List ℕ)
-      → Local (length bs) (in_text part (c ∷ cs) fresh last place byte (bs ++ byte_of s ∷ more))
-      (in_text part (c ∷ cs) fresh last place byte bs)
+      → Local (length bs) (in_text_apart part (c ∷ cs) fresh last place byte (bs ++ byte_of s ∷ more))
+      (in_text_apart part (c ∷ cs) fresh last place byte bs)
   within-local part c cs fresh last place byte bs =
       if-local (length bs) c.inner c.inner _ _ _ _ refl (λ h. code_text-local part (c ∷ cs) fresh last place byte bs)
       (λ h. comment_text-local part c cs last place byte bs)
@@ -666,8 +667,8 @@ module _ (s : Stop) (more : List ℕ) (free : IsFree s more) where
 -- inner C text of TeX text
 pub inner-local : (s : Stop) (more : List ℕ) (free : IsFree s more) (cs : List Opened) (fresh : Bool)
     (last place byte : ℕ) (bs : List ℕ)
-    → Local (length bs) (in_text parts.TexInner cs fresh last place byte (bs ++ byte_of s ∷ more))
-    (in_text parts.TexInner cs fresh last place byte bs)
+    → Local (length bs) (in_text_apart parts.TexInner cs fresh last place byte (bs ++ byte_of s ∷ more))
+    (in_text_apart parts.TexInner cs fresh last place byte bs)
 inner-local s more free [] fresh last place byte bs =
     code_text-local s more free parts.TexInner [] fresh last place byte bs
 inner-local s more free (c ∷ cs) fresh last place byte bs =

@@ -28,12 +28,12 @@ use Rattle.cw_rules.specs.Bytes.{right_paren, left_paren, run, begins, is_letter
 use Rattle.cw_rules.specs.Codes.{code_at, has_control_text, effect_in_limbo, effect_in_tex}
 use Rattle.cw_rules.specs.Tokens.{is_head_part, one, skipped_byte, dropped_code, identifier, string, include_name}
 use Rattle.cw_rules.specs.Tokens.{sign_or_other, passed, moved, in_hash_line, ends_at_bar, line_end, comment_end}
-use Rattle.cw_rules.specs.Tokens.{inner_cut, behind_inner, effect_in, code_by, code_token, in_code, start_of, code_text}
-use Rattle.cw_rules.specs.Tokens.{comment_closed, comment_text, limbo_by, limbo_text, tex_by, tex_text, head_text}
-use Rattle.cw_rules.specs.Tokens.{part_text, in_text, is_name, is_quote, alone_size, behind_word, is_include, may_head}
+use Rattle.cw_rules.specs.Tokens.{inner_cut, behind_inner, effect_in, code_by, code_token, in_code, start_of}
+use Rattle.cw_rules.specs.Apart.{code_text_apart, comment_text_apart, part_text_apart, in_text_apart, behind_head_apart}
+use Rattle.cw_rules.specs.Tokens.{comment_closed, limbo_by, limbo_text, tex_by, tex_text, head_text}
+use Rattle.cw_rules.specs.Tokens.{is_name, is_quote, alone_size, behind_word, is_include, may_head}
 use Rattle.cw_rules.specs.Tokens.{is_head, is_space, takes_hash_line, behind_include, closes_on_line, is_deep}
 use Rattle.cw_rules.specs.Tokens.{name_follows, macro_name, parameter_follows, parameter, format_name, behind_format}
-use Rattle.cw_rules.specs.Tokens.{behind_head}
 use Rattle.cw_rules.specs.Constants.{constant}
 use Rattle.cw_rules.specs.Prefixes.{prefix_size}
 use Rattle.cw_rules.specs.Signs.{all_signs, longest, spelling}
@@ -271,7 +271,7 @@ in-code-tells start.OtherByte w place byte bytes shown h = other-tells w byte by
     (moved w (passed w.part)) place shown (plain kinds.OtherByte 1) refl refl (passed-limbo w.part)
 
 text-tells : (w : Where) (fresh : Bool) (last place byte : ℕ) (bytes : List ℕ)
-    → Tells w byte bytes (code_text w fresh last place byte bytes)
+    → Tells w byte bytes (code_text_apart w fresh last place byte bytes)
 text-tells w fresh last place byte bytes =
     if-both (Tells w byte bytes) (byte == newline) _ _ (λ e. line-tells w.part w.comments last place byte bytes)
     (λ e. if-both (Tells w byte bytes) (is_space w.part byte bytes) _ _ (λ e. same-tells w byte bytes)
@@ -285,7 +285,7 @@ text-tells w fresh last place byte bytes =
     (starts (ends_at_bar w.part w.comments) byte bytes).is))))
 
 comment-tells : (part : Part) (c : Opened) (cs : List Opened) (last place byte : ℕ) (bytes : List ℕ)
-    → Tells (record { part = part; comments = c ∷ cs }) byte bytes (comment_text part c cs last place byte bytes)
+    → Tells (record { part = part; comments = c ∷ cs }) byte bytes (comment_text_apart part c cs last place byte bytes)
 comment-tells part c cs last place byte bytes =
     let w : Where = record { part = part; comments = c ∷ cs } in
     let v : Where = record { part = part; comments = cs } in
@@ -409,18 +409,19 @@ format-tells code second limbo w place byte bytes l =
 -- what stands behind a head that ended too early
 behind-tells : (limbo : Bool) (w : Where) (fresh : Bool) (last place byte : ℕ) (bytes : List ℕ) (n : Noted)
     → is_limbo w.part ≡ limbo → Tells w byte bytes
-    (before (Note n.kind n.place ∷ []) (behind_head limbo w fresh last place byte bytes))
+    (before (Note n.kind n.place ∷ []) (behind_head_apart limbo w fresh last place byte bytes))
 behind-tells true w fresh last place byte bytes n l =
     let v : Where = moved w parts.Limbo in
     note-tells w v byte bytes n (limbo_text v place byte bytes) (λ h. absurd (let k : true ≡ false = sym l ∙ h in cc))
     (λ h. refl) (limbo-tells v place byte bytes refl)
 behind-tells false w fresh last place byte bytes n l =
     let v : Where = moved w parts.Definition in
-    note-tells w v byte bytes n (code_text v fresh last place byte bytes) (λ h. refl) (λ h. refl)
+    note-tells w v byte bytes n (code_text_apart v fresh last place byte bytes) (λ h. refl) (λ h. refl)
     (text-tells v fresh last place byte bytes)
 
 part-tells : (part : Part) (fresh : Bool) (last place byte : ℕ) (bytes : List ℕ)
-    → Tells (record { part = part; comments = [] }) byte bytes (part_text part (record { part = part; comments = [] })
+    → Tells (record { part = part; comments = [] }) byte bytes
+    (part_text_apart part (record { part = part; comments = [] })
     fresh last place byte bytes)
 part-tells parts.Limbo fresh last place byte bytes = limbo-tells (record { part = parts.Limbo; comments = [] }) place
     byte bytes refl
@@ -456,7 +457,7 @@ part-tells parts.Inner fresh last place byte bytes = text-tells (record { part =
     last place byte bytes
 
 pub in-text-tells : (part : Part) (cs : List Opened) (fresh : Bool) (last place byte : ℕ) (bytes : List ℕ)
-    → Tells (record { part = part; comments = cs }) byte bytes (in_text part cs fresh last place byte bytes)
+    → Tells (record { part = part; comments = cs }) byte bytes (in_text_apart part cs fresh last place byte bytes)
 in-text-tells part [] fresh last place byte bytes = part-tells part fresh last place byte bytes
 in-text-tells part (c ∷ cs) fresh last place byte bytes =
     if-both (Tells (record { part = part; comments = c ∷ cs }) byte bytes) c.inner _ _

@@ -13,8 +13,9 @@ use Rattle.cw_rules.specs.Answers.{Answer, Token, Note, Seen, Where, Cut, Found,
 use Rattle.cw_rules.specs.Bytes.{newline, star, slash, begins}
 use Rattle.cw_rules.specs.Codes.{code_at, is_section, effect_in_tex, effect_in_c, effect_in_definition, effect_at_begin}
 use Rattle.cw_rules.specs.Tokens.{one, moved, passed, in_hash_line, effect_in, is_head, is_name, is_space, code_by}
-use Rattle.cw_rules.specs.Tokens.{code_token, code_text, comment_text, comment_end, comment_closed, line_end, piece}
-use Rattle.cw_rules.specs.Tokens.{tex_by, part_text, in_text, section, found}
+use Rattle.cw_rules.specs.Tokens.{code_token, comment_end, comment_closed, line_end, piece}
+use Rattle.cw_rules.specs.Apart.{code_text_apart, comment_text_apart, part_text_apart, in_text_apart, found_apart}
+use Rattle.cw_rules.specs.Tokens.{tex_by, section}
 use Rattle.cw_rules.proofs.Choices.{if-both, and-none}
 use Rattle.cw_rules.proofs.CodeStarts.{is_definition_code, code_in, is_limbo, is_head_where}
 use Rattle.cw_rules.proofs.Taking.{AreNotes}
@@ -57,7 +58,7 @@ note-twin n f g t = record {
 no-space : (part : Part) (bytes : List ℕ) → is_space part 64 bytes ≡ false
 no-space part bytes = and-none (in_hash_line part)
 
-pub at-code : (w : Where) (fresh : Bool) (last place : ℕ) (bytes : List ℕ) → code_text w fresh last place 64 bytes
+pub at-code : (w : Where) (fresh : Bool) (last place : ℕ) (bytes : List ℕ) → code_text_apart w fresh last place 64 bytes
     ≡ code_by (effect_in w.part w.comments (code_at bytes)) (code_at bytes) w place (64 ∷ bytes)
 at-code w fresh last place bytes =
     ap (λ t. if t then record { answers = []; more = 0; next = w } else code_by
@@ -272,7 +273,7 @@ code-twins Named part cs c place bytes n d = record { twin = λ h. code-name c p
 
 text-twins : (o : Opens) (w : Where) (fresh : Bool) (last place : ℕ) (bytes : List ℕ) → is_head_where w ≡ false
     → OpensAt o (code_at bytes)
-    → Twins o (opened o (code_at bytes) place (64 ∷ bytes)) (code_text w fresh last place 64 bytes)
+    → Twins o (opened o (code_at bytes) place (64 ∷ bytes)) (code_text_apart w fresh last place 64 bytes)
 text-twins o w fresh last place bytes n d =
     subst (Twins o (opened o (code_at bytes) place (64 ∷ bytes))) (sym (at-code w fresh last place bytes))
     (code-twins o w.part w.comments (code_at bytes) place (64 ∷ bytes) n d)
@@ -295,7 +296,7 @@ none-twins Program g f e = record { twin = λ h. wrong _ h (ap is_program_code e
 none-twins Named g f e = record { twin = λ h. wrong _ h.0 (ap is_name e) }
 
 comment-twins : (o : Opens) (g : Found) (part : Part) (c : Opened) (cs : List Opened) (last place : ℕ) (bytes : List ℕ)
-    → Twins o g (comment_text part c cs last place 64 bytes)
+    → Twins o g (comment_text_apart part c cs last place 64 bytes)
 comment-twins o g part c cs last place bytes =
     if-both (Twins o g) (c.long && (64 == star && begins slash bytes)) (comment_closed part c cs place (64 ∷ bytes)) _
     (λ e. wrong _ e (and-none c.long))
@@ -305,22 +306,23 @@ comment-twins o g part c cs last place bytes =
 
 part-twins : (o : Opens) (part : Part) (fresh : Bool) (last place : ℕ) (bytes : List ℕ) → is_limbo part ≡ false
     → OpensAt o (code_at bytes)
-    → Twins o (opened o (code_at bytes) place (64 ∷ bytes)) (part_text part (record { part = part; comments = [] })
+    → Twins o (opened o (code_at bytes) place (64 ∷ bytes))
+    (part_text_apart part (record { part = part; comments = [] })
     fresh last place 64 bytes)
 part-twins o parts.Limbo fresh last place bytes l d = absurd cc
 part-twins o parts.Tex fresh last place bytes l d = tex-twins o (code_at bytes) place (64 ∷ bytes) d
 part-twins o parts.Head fresh last place bytes l d = none-twins o _ _ refl
 part-twins o (parts.MacroName code) fresh last place bytes l d =
     note-twins o (record { kind = notes.ImproperMacro; place = code }) _
-    (code_text definition fresh last place 64 bytes) (text-twins o definition fresh last place bytes refl d)
+    (code_text_apart definition fresh last place 64 bytes) (text-twins o definition fresh last place bytes refl d)
 part-twins o (parts.MacroParen code) fresh last place bytes l d = none-twins o _ _ refl
 part-twins o (parts.Parameters code) fresh last place bytes l d =
     note-twins o (record { kind = notes.ImproperMacro; place = code }) _
-    (code_text definition fresh last place 64 bytes) (text-twins o definition fresh last place bytes refl d)
+    (code_text_apart definition fresh last place 64 bytes) (text-twins o definition fresh last place bytes refl d)
 part-twins o (parts.FormatName code second true) fresh last place bytes l d = absurd cc
 part-twins o (parts.FormatName code second false) fresh last place bytes l d =
     note-twins o (record { kind = notes.ImproperFormat; place = code }) _
-    (code_text definition fresh last place 64 bytes) (text-twins o definition fresh last place bytes refl d)
+    (code_text_apart definition fresh last place 64 bytes) (text-twins o definition fresh last place bytes refl d)
 part-twins o parts.TexInner fresh last place bytes l d = text-twins o (record { part = parts.TexInner; comments = [] })
     fresh last place bytes refl d
 part-twins o parts.Begin fresh last place bytes l d = text-twins o (record { part = parts.Begin; comments = [] }) fresh
@@ -338,34 +340,39 @@ open-no-head _ c cs = refl
 
 in-text-twins : (o : Opens) (part : Part) (cs : List Opened) (fresh : Bool) (last place : ℕ) (bytes : List ℕ)
     → is_limbo part ≡ false → OpensAt o (code_at bytes)
-    → Twins o (opened o (code_at bytes) place (64 ∷ bytes)) (in_text part cs fresh last place 64 bytes)
+    → Twins o (opened o (code_at bytes) place (64 ∷ bytes)) (in_text_apart part cs fresh last place 64 bytes)
 in-text-twins o part [] fresh last place bytes l d = part-twins o part fresh last place bytes l d
 in-text-twins o part (c ∷ cs) fresh last place bytes l d =
     let w : Where = record { part = part; comments = c ∷ cs } in
     let g = opened o (code_at bytes) place (64 ∷ bytes) in
-    if-both (Twins o g) c.inner (code_text w fresh last place 64 bytes) (comment_text part c cs last place 64 bytes)
+    if-both (Twins o g) c.inner (code_text_apart w fresh last place 64 bytes)
+    (comment_text_apart part c cs last place 64 bytes)
     (λ e. text-twins o w fresh last place bytes (open-no-head part c cs) d)
     (λ e. comment-twins o g part c cs last place bytes)
 
 found-part : (o : Opens) (fresh : Bool) (last place : ℕ) (bytes : List ℕ) → is_section (code_at bytes) ≡ false
-    → found (beginning_of o) fresh last place 64 bytes ≡ opened o (code_at bytes) place (64 ∷ bytes)
+    → found_apart (beginning_of o) fresh last place 64 bytes ≡ opened o (code_at bytes) place (64 ∷ bytes)
 found-part Definitions fresh last place bytes h =
-    ap (λ t. if t then section definition place bytes else code_text definition fresh last place 64 bytes) h
+    ap (λ t. if t then section definition place bytes else code_text_apart definition fresh last place 64 bytes) h
     ∙ at-code definition fresh last place bytes
 found-part Program fresh last place bytes h =
-    ap (λ t. if t then section program place bytes else code_text program fresh last place 64 bytes) h
+    ap (λ t. if t then section program place bytes else code_text_apart program fresh last place 64 bytes) h
     ∙ at-code program fresh last place bytes
 found-part Named fresh last place bytes h =
-    ap (λ t. if t then section program place bytes else code_text program fresh last place 64 bytes) h
+    ap (λ t. if t then section program place bytes else code_text_apart program fresh last place 64 bytes) h
     ∙ at-code program fresh last place bytes
 
 -- Where a part begins outside of limbo, what begins is what begins there where the scan of the part begins.
 pub found-twin : (o : Opens) (w : Where) (fresh : Bool) (last place : ℕ) (bytes : List ℕ) → is_limbo w.part ≡ false
-    → is_section (code_at bytes) ≡ false → OpensAt o (code_at bytes) → OpensBy o (found w fresh last place 64 bytes)
-    → Twin (found w fresh last place 64 bytes) (found (beginning_of o) fresh last place 64 bytes)
+    → is_section (code_at bytes) ≡ false → OpensAt o (code_at bytes)
+    → OpensBy o (found_apart w fresh last place 64 bytes)
+    → Twin (found_apart w fresh last place 64 bytes) (found_apart (beginning_of o) fresh last place 64 bytes)
 found-twin o w fresh last place bytes l s d h =
-    let plain = ap (λ t. if t then section w place bytes else in_text w.part w.comments fresh last place 64 bytes) s in
-    let t : Twin (in_text w.part w.comments fresh last place 64 bytes) (opened o (code_at bytes) place (64 ∷ bytes)) =
+    let plain = ap (λ t. if t then section w place bytes else in_text_apart w.part w.comments fresh last place 64 bytes)
+    s in
+    let t : Twin (in_text_apart w.part w.comments fresh last place 64 bytes)
+    (opened o (code_at bytes) place (64 ∷ bytes)) =
     (in-text-twins o w.part w.comments fresh last place bytes l d).twin (subst (OpensBy o) plain h) in
-    subst (λ f. Twin f (found (beginning_of o) fresh last place 64 bytes)) (sym plain)
-    (subst (Twin (in_text w.part w.comments fresh last place 64 bytes)) (sym (found-part o fresh last place bytes s)) t)
+    subst (λ f. Twin f (found_apart (beginning_of o) fresh last place 64 bytes)) (sym plain)
+    (subst (Twin (in_text_apart w.part w.comments fresh last place 64 bytes))
+    (sym (found-part o fresh last place bytes s)) t)

@@ -19,8 +19,9 @@ use Rattle.cw_rules.specs.Signs.{all_signs, longest}
 use Rattle.cw_rules.specs.Codes.{begins_section, effect_in_c}
 use Rattle.cw_rules.specs.Answers.{Answer, Where, Found, before}
 use Rattle.cw_rules.specs.Tokens.{sign_or_other, is_name, code_token, moved, one, section, line_end, inner_cut}
-use Rattle.cw_rules.specs.Tokens.{comment_end, is_deep, comment_text, code_by, in_code, start_of, code_text, in_text}
-use Rattle.cw_rules.specs.Tokens.{found, skipped_byte, is_tex_inner}
+use Rattle.cw_rules.specs.Tokens.{comment_end, is_deep, code_by, in_code, start_of}
+use Rattle.cw_rules.specs.Apart.{comment_text_apart, code_text_apart, in_text_apart, found_apart}
+use Rattle.cw_rules.specs.Tokens.{skipped_byte, is_tex_inner}
 use Rattle.cw_rules.proofs.Choices.{and-none}
 use Rattle.cw_rules.proofs.Ahead.{Bar, section-same}
 use Rattle.cw_rules.proofs.CodeAhead.{inner-local}
@@ -131,7 +132,8 @@ begun-twin cs place byte bs false s (inl e) = by s.is
         (in_code s (alone cs) place (byte ∷ bs))) same (in_code-twin (start_of true byte bs) cs place (byte ∷ bs))
 
 code_text-twin : (cs : List Opened) (fresh : Bool) (last place byte : ℕ) (bs : List ℕ)
-    → Twin (code_text (tex_inner cs) fresh last place byte bs) (code_text (alone cs) fresh last place byte bs)
+    → Twin (code_text_apart (tex_inner cs) fresh last place byte bs) (code_text_apart (alone cs) fresh last place byte
+    bs)
 code_text-twin cs fresh last place byte bs =
     if-twin (byte == newline) _ _ _ _ (λ h. line_end-twin cs last place)
     (λ h. if-twin (is_in classes.Blank byte || false) _ _ _ _ (λ h. record { same = λ h. (refl, refl) })
@@ -145,7 +147,8 @@ code_text-twin cs fresh last place byte bs =
     begun (c ∷ cs) = begun-twin (c ∷ cs) place byte bs true (record { is = inr refl }) (inr refl)
 
 comment_text-twin : (c : Opened) (cs : List Opened) (last place byte : ℕ) (bs : List ℕ)
-    → Twin (comment_text parts.TexInner c cs last place byte bs) (comment_text parts.Inner c cs last place byte bs)
+    → Twin (comment_text_apart parts.TexInner c cs last place byte bs) (comment_text_apart parts.Inner c cs last place
+    byte bs)
 comment_text-twin c cs last place byte bs =
     if-twin (c.long && (byte == star && begins slash bs)) _ _ _ _ (λ h. record { same = λ h. (refl, refl) })
     (λ h. if-twin (not c.long && byte == newline) _ _ _ _ (λ h. before-twin (comment_end false c place 0 [])
@@ -155,7 +158,8 @@ comment_text-twin c cs last place byte bs =
     (λ h. record { same = λ h. (refl, refl) })))
 
 pub in_text-twin : (cs : List Opened) (fresh : Bool) (last place byte : ℕ) (bs : List ℕ)
-    → Twin (in_text parts.TexInner cs fresh last place byte bs) (in_text parts.Inner cs fresh last place byte bs)
+    → Twin (in_text_apart parts.TexInner cs fresh last place byte bs) (in_text_apart parts.Inner cs fresh last place
+    byte bs)
 in_text-twin [] fresh last place byte bs = code_text-twin [] fresh last place byte bs
 in_text-twin (c ∷ cs) fresh last place byte bs =
     if-twin c.inner _ _ _ _ (λ h. code_text-twin (c ∷ cs) fresh last place byte bs)
@@ -164,30 +168,32 @@ in_text-twin (c ∷ cs) fresh last place byte bs =
 -- What begins at a place of inner C text of TeX text, and ends before a bar, is what begins there in the text up to the
 -- bar.
 pub found-twin : (more : List ℕ) (cs : List Opened) (fresh : Bool) (last place byte : ℕ) (bs : List ℕ) (f : Found)
-    → found (tex_inner cs) fresh last place byte (bs ++ 124 ∷ more) ≡ f
-    → f.more ≤ length bs → is_tex_inner f.next.part ≡ true → (f ≡ in_tex (found (alone cs) fresh last place byte bs))
-    × ((found (alone cs) fresh last place byte bs).next.part ≡ parts.Inner)
+    → found_apart (tex_inner cs) fresh last place byte (bs ++ 124 ∷ more) ≡ f
+    → f.more ≤ length bs → is_tex_inner f.next.part ≡ true
+    → (f ≡ in_tex (found_apart (alone cs) fresh last place byte bs))
+    × ((found_apart (alone cs) fresh last place byte bs).next.part ≡ parts.Inner)
 found-twin more cs fresh last place byte bs f is fits inner = by (byte == at_sign && begins_section bs) refl
   where
     by : (t : Bool) → (byte == at_sign && begins_section bs) ≡ t
-        → (f ≡ in_tex (found (alone cs) fresh last place byte bs))
-        × ((found (alone cs) fresh last place byte bs).next.part ≡ parts.Inner)
+        → (f ≡ in_tex (found_apart (alone cs) fresh last place byte bs))
+        × ((found_apart (alone cs) fresh last place byte bs).next.part ≡ parts.Inner)
     by true e =
         let all : (byte == at_sign && begins_section (bs ++ 124 ∷ more)) ≡ true =
         ap (λ t. byte == at_sign && t) (section-same Bar more bs) ∙ e in
         absurd (let k : true ≡ false = sym inner ∙ ap (λ (f : Found). is_tex_inner f.next.part) (sym is
-        ∙ ap (λ t. if t then section (tex_inner cs) place (bs ++ 124 ∷ more) else in_text parts.TexInner cs fresh
+        ∙ ap (λ t. if t then section (tex_inner cs) place (bs ++ 124 ∷ more) else in_text_apart parts.TexInner cs fresh
         last place byte (bs ++ 124 ∷ more)) all) in cc)
     by false e =
         let all : (byte == at_sign && begins_section (bs ++ 124 ∷ more)) ≡ false =
         ap (λ t. byte == at_sign && t) (section-same Bar more bs) ∙ e in
-        let full : f ≡ in_text parts.TexInner cs fresh last place byte (bs ++ 124 ∷ more) = sym is
-        ∙ ap (λ t. if t then section (tex_inner cs) place (bs ++ 124 ∷ more) else in_text parts.TexInner cs fresh
+        let full : f ≡ in_text_apart parts.TexInner cs fresh last place byte (bs ++ 124 ∷ more) = sym is
+        ∙ ap (λ t. if t then section (tex_inner cs) place (bs ++ 124 ∷ more) else in_text_apart parts.TexInner cs fresh
         last place byte (bs ++ 124 ∷ more)) all in
-        let cut : in_text parts.Inner cs fresh last place byte bs ≡ found (alone cs) fresh last place byte bs =
-        sym (ap (λ t. if t then section (alone cs) place bs else in_text parts.Inner cs fresh last place byte bs)
+        let cut : in_text_apart parts.Inner cs fresh last place byte bs
+        ≡ found_apart (alone cs) fresh last place byte bs =
+        sym (ap (λ t. if t then section (alone cs) place bs else in_text_apart parts.Inner cs fresh last place byte bs)
         e) in
-        let local : f ≡ in_text parts.TexInner cs fresh last place byte bs = full
+        let local : f ≡ in_text_apart parts.TexInner cs fresh last place byte bs = full
         ∙ (inner-local Bar more tt cs fresh last place byte bs).same (subst (λ (f : Found). f.more ≤ length bs) full
         fits) in
         let twin = (in_text-twin cs fresh last place byte bs).same

@@ -21,7 +21,8 @@ use Rattle.cw_rules.specs.Codes.{code_at, begins_section, effect_in_limbo, effec
 use Rattle.cw_rules.specs.Answers.{Note, Where, before, plain, dropped}
 use Rattle.cw_rules.specs.Tokens.{identifier, depth_size, section_code, moved, all_cut, section, limbo_by, limbo_text}
 use Rattle.cw_rules.specs.Tokens.{tex_by, tex_text, head_text, name_follows, macro_name, parameter_follows, parameter}
-use Rattle.cw_rules.specs.Tokens.{format_name, behind_head, part_text, in_text, found}
+use Rattle.cw_rules.specs.Tokens.{format_name}
+use Rattle.cw_rules.specs.Apart.{behind_head_apart, part_text_apart, in_text_apart, found_apart}
 use Rattle.cw_rules.proofs.Sizes.{depth-le}
 use Rattle.cw_rules.proofs.Ahead.{At, drop-same, run-before, begins-same, run-same, section-same, name-same}
 use Rattle.cw_rules.proofs.Ahead.{parameter-same, paren-same, depth-same}
@@ -140,9 +141,10 @@ module _ (more : List ℕ) (code : begins greater more ≡ false) where
 
   improper-local : (note : NoteKind) (at : ℕ) (limbo : Bool) (part : Part) (fresh : Bool) (last place byte : ℕ)
       (bs : List ℕ)
-      → Local (length bs) (before (Note note at ∷ []) (behind_head limbo (record { part = part; comments = [] }) fresh
+      → Local (length bs) (before (Note note at ∷ []) (behind_head_apart limbo (record { part = part; comments = [] })
+      fresh
       last place byte (bs ++ 64 ∷ more))) (before (Note note at ∷ [])
-      (behind_head limbo (record { part = part; comments = [] }) fresh last place byte bs))
+      (behind_head_apart limbo (record { part = part; comments = [] }) fresh last place byte bs))
   improper-local note at true part fresh last place byte bs = before-local (length bs) (Note note at ∷ []) _ _
       (limbo_text-local (record { part = parts.Limbo; comments = [] }) place byte bs)
   improper-local note at false part fresh last place byte bs =
@@ -150,8 +152,8 @@ module _ (more : List ℕ) (code : begins greater more ≡ false) where
       place byte bs)
 
   part_text-local : (part : Part) (fresh : Bool) (last place byte : ℕ) (bs : List ℕ)
-      → Local (length bs) (part_text part (record { part = part; comments = [] }) fresh last place byte
-      (bs ++ 64 ∷ more)) (part_text part (record { part = part; comments = [] }) fresh last place byte bs)
+      → Local (length bs) (part_text_apart part (record { part = part; comments = [] }) fresh last place byte
+      (bs ++ 64 ∷ more)) (part_text_apart part (record { part = part; comments = [] }) fresh last place byte bs)
   part_text-local parts.Limbo fresh last place byte bs = limbo_text-local (record { part = parts.Limbo; comments = [] })
       place byte bs
   part_text-local parts.Tex fresh last place byte bs = tex_text-local (record { part = parts.Tex; comments = [] }) place
@@ -189,8 +191,8 @@ module _ (more : List ℕ) (code : begins greater more ≡ false) where
       byte bs
 
   in_text-local : (part : Part) (cs : List Opened) (fresh : Bool) (last place byte : ℕ) (bs : List ℕ)
-      → Local (length bs) (in_text part cs fresh last place byte (bs ++ 64 ∷ more))
-      (in_text part cs fresh last place byte bs)
+      → Local (length bs) (in_text_apart part cs fresh last place byte (bs ++ 64 ∷ more))
+      (in_text_apart part cs fresh last place byte bs)
   in_text-local part [] fresh last place byte bs = part_text-local part fresh last place byte bs
   in_text-local part (c ∷ cs) fresh last place byte bs = within-local At more code part c cs fresh last place byte bs
 
@@ -220,7 +222,8 @@ module _ (more : List ℕ) (code : begins greater more ≡ false) where
       (section_code (64 ∷ (bs ++ 64 ∷ more))) (section_code (64 ∷ bs)) (section_code-same bs h))
 
   pub found-local : (w : Where) (fresh : Bool) (last place byte : ℕ) (bs : List ℕ)
-      → Local (length bs) (found w fresh last place byte (bs ++ 64 ∷ more)) (found w fresh last place byte bs)
+      → Local (length bs) (found_apart w fresh last place byte (bs ++ 64 ∷ more))
+      (found_apart w fresh last place byte bs)
   found-local w fresh last place byte bs =
       if-local (length bs) (byte == at_sign && begins_section (bs ++ 64 ∷ more)) (byte == at_sign && begins_section bs)
       _ _ _ _ (ap (λ t. byte == at_sign && t) (section-same At more bs))

@@ -38,10 +38,11 @@ use Rattle.cw_rules.specs.Tokens.{closes_on_line, moved, passed, one, skipped_by
 use Rattle.cw_rules.specs.Tokens.{part_cut, inner_or_none, all_cut, section, section_code, line_end, sign_or_other}
 use Rattle.cw_rules.specs.Tokens.{start_of, identifier, is_name, is_quote, alone_size, control_or_plain, effect_in}
 use Rattle.cw_rules.specs.Tokens.{code_by, in_code, string, code_token, dropped_code, include_name, comment_begin}
-use Rattle.cw_rules.specs.Tokens.{inner_begin, inner_end, code_text, piece_start, piece, comment_closed, comment_text}
+use Rattle.cw_rules.specs.Tokens.{inner_begin, inner_end, piece_start, piece, comment_closed}
+use Rattle.cw_rules.specs.Apart.{code_text_apart, comment_text_apart, behind_head_apart, part_text_apart, in_text_apart}
+use Rattle.cw_rules.specs.Apart.{found_apart}
 use Rattle.cw_rules.specs.Tokens.{limbo_by, limbo_text, tex_by, tex_text, head_text, behind_white, name_follows}
-use Rattle.cw_rules.specs.Tokens.{macro_name, parameter_follows, parameter, format_name, behind_head, part_text}
-use Rattle.cw_rules.specs.Tokens.{in_text, found}
+use Rattle.cw_rules.specs.Tokens.{macro_name, parameter_follows, parameter, format_name}
 use Rattle.cw_rules.proofs.Inside.{ended-some}
 use Rattle.cw_rules.proofs.Choices.{if-both, or-false, at-byte}
 
@@ -349,7 +350,7 @@ space-space part byte bytes h = by (is_in classes.Blank byte) (in_hash_line part
     by false false line cut h = absurd cc
 
 code_text-takes : (w : Where) (fresh : Bool) (last place byte : ℕ) (bytes : List ℕ)
-    → Takes place (byte ∷ bytes) (code_text w fresh last place byte bytes)
+    → Takes place (byte ∷ bytes) (code_text_apart w fresh last place byte bytes)
 code_text-takes w fresh last place byte bytes =
     let P : Found → Type 0 = Takes place (byte ∷ bytes) in
     if-both P (byte == newline) _ _ (λ h. at-byte (λ b. Takes place (b ∷ bytes) (line_end w.part w.comments last place))
@@ -403,7 +404,7 @@ closed-takes part c comments place bytes = record {
 
 comment_text-takes : (part : Part) (c : Opened) (comments : List Opened) (last place byte : ℕ) (bytes : List ℕ)
     → (byte == at_sign && begins_section bytes) ≡ false
-    → Takes place (byte ∷ bytes) (comment_text part c comments last place byte bytes)
+    → Takes place (byte ∷ bytes) (comment_text_apart part c comments last place byte bytes)
 comment_text-takes part c comments last place byte bytes section =
     let P : Found → Type 0 = Takes place (byte ∷ bytes) in
     if-both P (c.long && (byte == star && begins slash bytes)) _ _
@@ -522,18 +523,19 @@ format_name-takes code second limbo w place byte bytes follows =
 
 improper-takes : (note : NoteKind) (code : ℕ) (limbo : Bool) (w : Where) (fresh : Bool) (last place byte : ℕ)
     (bytes : List ℕ)
-    → Takes place (byte ∷ bytes) (before (Note note code ∷ []) (behind_head limbo w fresh last place byte bytes))
+    → Takes place (byte ∷ bytes) (before (Note note code ∷ []) (behind_head_apart limbo w fresh last place byte bytes))
 improper-takes note code true w fresh last place byte bytes =
     before-takes place (byte ∷ bytes) (Note note code ∷ []) (limbo_text (moved w parts.Limbo) place byte bytes) tt
     (limbo_text-takes (moved w parts.Limbo) place byte bytes)
 improper-takes note code false w fresh last place byte bytes =
-    before-takes place (byte ∷ bytes) (Note note code ∷ []) (code_text (moved w parts.Definition) fresh last place byte
+    before-takes place (byte ∷ bytes) (Note note code ∷ []) (code_text_apart (moved w parts.Definition) fresh last place
+    byte
     bytes) tt (code_text-takes (moved w parts.Definition) fresh last place byte bytes)
 
 -- ## Any text
 
 part_text-takes : (part : Part) (w : Where) (fresh : Bool) (last place byte : ℕ) (bytes : List ℕ)
-    → Takes place (byte ∷ bytes) (part_text part w fresh last place byte bytes)
+    → Takes place (byte ∷ bytes) (part_text_apart part w fresh last place byte bytes)
 part_text-takes parts.Limbo w fresh last place byte bytes = limbo_text-takes w place byte bytes
 part_text-takes parts.Tex w fresh last place byte bytes = tex_text-takes w place byte bytes
 part_text-takes parts.Head w fresh last place byte bytes = head_text-takes w place byte bytes
@@ -560,7 +562,7 @@ part_text-takes parts.Inner w fresh last place byte bytes = code_text-takes w fr
 
 in_text-takes : (part : Part) (comments : List Opened) (fresh : Bool) (last place byte : ℕ) (bytes : List ℕ)
     → (byte == at_sign && begins_section bytes) ≡ false
-    → Takes place (byte ∷ bytes) (in_text part comments fresh last place byte bytes)
+    → Takes place (byte ∷ bytes) (in_text_apart part comments fresh last place byte bytes)
 in_text-takes part [] fresh last place byte bytes h = part_text-takes part (record { part = part; comments = [] }) fresh
     last place byte bytes
 in_text-takes part (c ∷ comments) fresh last place byte bytes h =
@@ -569,7 +571,7 @@ in_text-takes part (c ∷ comments) fresh last place byte bytes h =
     (λ e. comment_text-takes part c comments last place byte bytes h)
 
 pub found-takes : (w : Where) (fresh : Bool) (last place byte : ℕ) (bytes : List ℕ)
-    → Takes place (byte ∷ bytes) (found w fresh last place byte bytes)
+    → Takes place (byte ∷ bytes) (found_apart w fresh last place byte bytes)
 found-takes w fresh last place byte bytes =
     if-both (Takes place (byte ∷ bytes)) (byte == at_sign && begins_section bytes) _ _
     (λ h. section-takes w place byte bytes (and-first (byte == at_sign) (begins_section bytes) h))

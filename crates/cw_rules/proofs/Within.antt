@@ -33,9 +33,11 @@ use Rattle.cw_rules.specs.Tokens.{in_hash_line, behind_include, takes_hash_line,
 use Rattle.cw_rules.specs.Tokens.{closes_on_line, moved, one, skipped_byte, comment_end, inner_cut, comment_cut}
 use Rattle.cw_rules.specs.Tokens.{part_cut, inner_or_none, all_cut, section, passed, line_end, sign_or_other, start_of}
 use Rattle.cw_rules.specs.Tokens.{effect_in, code_by, in_code, string, code_token, dropped_code, include_name}
-use Rattle.cw_rules.specs.Tokens.{code_text, piece_start, piece, comment_closed, comment_text, limbo_by, limbo_text}
+use Rattle.cw_rules.specs.Tokens.{piece_start, piece, comment_closed, limbo_by, limbo_text}
+use Rattle.cw_rules.specs.Apart.{code_text_apart, comment_text_apart, behind_head_apart, part_text_apart, in_text_apart}
+use Rattle.cw_rules.specs.Apart.{found_apart}
 use Rattle.cw_rules.specs.Tokens.{tex_by, tex_text, head_text, behind_white, name_follows, macro_name, is_parameter}
-use Rattle.cw_rules.specs.Tokens.{parameter_follows, parameter, format_name, behind_head, part_text, in_text, found}
+use Rattle.cw_rules.specs.Tokens.{parameter_follows, parameter, format_name}
 use Rattle.cw_rules.proofs.Sizes.{begins-some, begins_with-le, run-le, constant-le, AllFit, longest-fits, extent-le}
 use Rattle.cw_rules.proofs.Sizes.{identifier-le, string-le, include_name-le, control_or_plain-le, code_token-le}
 use Rattle.cw_rules.proofs.Sizes.{section_code-le}
@@ -260,7 +262,7 @@ in_code-fits (start.Sign sign) w place byte bytes h = search (one-fits, arith, h
 in_code-fits start.OtherByte w place byte bytes h = search (one-fits, arith)
 
 code_text-fits : (w : Where) (fresh : Bool) (last place byte : ℕ) (bytes : List ℕ)
-    → Fits place (suc (length bytes)) (code_text w fresh last place byte bytes)
+    → Fits place (suc (length bytes)) (code_text_apart w fresh last place byte bytes)
 code_text-fits w fresh last place byte bytes =
     let left = suc (length bytes) in
     either place left (byte == newline) _ _ (λ h. line_end-fits w.part w.comments last place left (omega arith))
@@ -287,7 +289,7 @@ piece-fits part comments c place byte bytes =
     }) (suc (length bytes)) (extent-le i (byte ∷ bytes)) (omega arith)
 
 comment_text-fits : (part : Part) (c : Opened) (comments : List Opened) (last place byte : ℕ) (bytes : List ℕ)
-    → Fits place (suc (length bytes)) (comment_text part c comments last place byte bytes)
+    → Fits place (suc (length bytes)) (comment_text_apart part c comments last place byte bytes)
 comment_text-fits part c comments last place byte bytes =
     let left = suc (length bytes) in
     let hash_line = in_hash_line part in
@@ -408,22 +410,24 @@ parameter-fits w place byte bytes follows =
     )))))
 
 behind_head-fits : (limbo : Bool) (w : Where) (fresh : Bool) (last place byte : ℕ) (bytes : List ℕ)
-    → Fits place (suc (length bytes)) (behind_head limbo w fresh last place byte bytes)
+    → Fits place (suc (length bytes)) (behind_head_apart limbo w fresh last place byte bytes)
 behind_head-fits true w fresh last place byte bytes = limbo_text-fits (moved w parts.Limbo) place byte bytes
 behind_head-fits false w fresh last place byte bytes = code_text-fits (moved w parts.Definition) fresh last place byte
     bytes
 
 improper-fits : (note : NoteKind) (code : ℕ) (limbo : Bool) (w : Where) (fresh : Bool) (last place byte : ℕ)
     (bytes : List ℕ)
-    → Fits place (suc (length bytes)) (before (Note note code ∷ []) (behind_head limbo w fresh last place byte bytes))
+    → Fits place (suc (length bytes)) (before (Note note code ∷ []) (behind_head_apart limbo w fresh last place byte
+    bytes))
 improper-fits note code limbo w fresh last place byte bytes =
-    before-fits place (suc (length bytes)) (Note note code ∷ []) (behind_head limbo w fresh last place byte bytes) tt
+    before-fits place (suc (length bytes)) (Note note code ∷ []) (behind_head_apart limbo w fresh last place byte bytes)
+    tt
     (behind_head-fits limbo w fresh last place byte bytes)
 
 -- ## Any text
 
 part_text-fits : (part : Part) (w : Where) (fresh : Bool) (last place byte : ℕ) (bytes : List ℕ)
-    → Fits place (suc (length bytes)) (part_text part w fresh last place byte bytes)
+    → Fits place (suc (length bytes)) (part_text_apart part w fresh last place byte bytes)
 part_text-fits parts.Limbo w fresh last place byte bytes = limbo_text-fits w place byte bytes
 part_text-fits parts.Tex w fresh last place byte bytes = tex_text-fits w place byte bytes
 part_text-fits parts.Head w fresh last place byte bytes = head_text-fits w place byte bytes
@@ -445,7 +449,7 @@ part_text-fits parts.Definition w fresh last place byte bytes = code_text-fits w
 part_text-fits parts.Inner w fresh last place byte bytes = code_text-fits w fresh last place byte bytes
 
 in_text-fits : (part : Part) (comments : List Opened) (fresh : Bool) (last place byte : ℕ) (bytes : List ℕ)
-    → Fits place (suc (length bytes)) (in_text part comments fresh last place byte bytes)
+    → Fits place (suc (length bytes)) (in_text_apart part comments fresh last place byte bytes)
 in_text-fits part [] fresh last place byte bytes = part_text-fits part (record { part = part; comments = [] }) fresh
     last place byte bytes
 in_text-fits part (c ∷ comments) fresh last place byte bytes =
@@ -454,7 +458,7 @@ in_text-fits part (c ∷ comments) fresh last place byte bytes =
     (λ h. comment_text-fits part c comments last place byte bytes)
 
 pub found-fits : (w : Where) (fresh : Bool) (last place byte : ℕ) (bytes : List ℕ)
-    → Fits place (suc (length bytes)) (found w fresh last place byte bytes)
+    → Fits place (suc (length bytes)) (found_apart w fresh last place byte bytes)
 found-fits w fresh last place byte bytes =
     either place (suc (length bytes)) (byte == at_sign && begins_section bytes) _ _ (λ h. section-fits w place bytes)
     (λ h. in_text-fits w.part w.comments fresh last place byte bytes)

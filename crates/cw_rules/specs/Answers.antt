@@ -40,6 +40,14 @@ pub record Where : Type 0 where
   pub part : Part
   pub comments : List Opened
 
+-- A place of a text, and what the rules know of it: where the scanner stands there, the byte before it, and whether
+-- only blanks stand before it on its line.
+pub record Spot : Type 0 where
+  pub stands : Where
+  pub fresh : Bool
+  pub last : ℕ
+  pub place : ℕ
+
 -- A token with its size and its notes.
 pub record Cut : Type 0 where
   pub kind : TokKind

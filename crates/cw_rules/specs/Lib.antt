@@ -8,6 +8,7 @@ pub mod Bodies
 pub mod Names
 pub mod Answers
 pub mod Tokens
+pub mod Apart
 pub mod Pending
 pub mod Cuttings
 pub mod Effects

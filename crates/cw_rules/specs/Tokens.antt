@@ -2,7 +2,8 @@
 --
 -- Each rule says what begins at a place: which answers it gives, how many bytes belong to it, and where the text goes
 -- on.
--- `place` is the number of the byte, `byte` the byte itself, and `bytes` are the bytes behind it.
+-- `place` is the number of the byte, `byte` the byte itself, and `bytes` are the bytes behind it. `here` is the place
+-- with what is known of it.
 use Rattle.std.specs.Prelude.{ℕ, ◌+◌, ◌-◌, Bool, true, false, ◌&&◌, ◌||◌, not, ◌==◌, nat_lt, List, [], ◌∷◌, ◌++◌}
 use Rattle.std.specs.Prelude.{Option, Some, None, codes, drop, take, length, slice_index, if◌then◌else◌}
 use Rattle.cw_base.specs.declared.notes.NoteKind.{NoteKind}
@@ -36,7 +37,8 @@ use Rattle.cw_rules.specs.Codes.{code_at, begins_section, has_control_text, effe
 use Rattle.cw_rules.specs.Codes.{effect_in_definition, effect_at_begin}
 use Rattle.cw_rules.specs.Bodies.{at_start, extent, noted, ended, one_note, note_unless, all_notes}
 use Rattle.cw_rules.specs.Names.{is_void}
-use Rattle.cw_rules.specs.Answers.{Answer, Token, Begin, Finish, Note, Where, Cut, Found, before, note_answers}
+use Rattle.cw_rules.specs.Answers.{Answer, Token, Begin, Finish, Note, Where, Spot, Cut, Found, before}
+use Rattle.cw_rules.specs.Answers.{note_answers}
 use Rattle.cw_rules.specs.Answers.{token_of, plain, dropped}
 
 -- ## Tokens, by their classes
@@ -398,15 +400,17 @@ abbrev pub is_space : Part → ℕ → List ℕ → Bool
 is_space part byte bytes = is_in classes.Blank byte
     || (in_hash_line part && (byte == backslash && begins newline bytes))
 
-abbrev pub code_text : Where → Bool → ℕ → ℕ → ℕ → List ℕ → Found
-code_text w fresh last place byte bytes =
-    if byte == newline then line_end w.part w.comments last place
+abbrev pub code_text : Spot → ℕ → List ℕ → Found
+code_text here byte bytes =
+    let w = here.stands in
+    if byte == newline then line_end w.part w.comments here.last here.place
     else (if is_space w.part byte bytes then skipped_byte w
-    else (if byte == hash && (takes_hash_line w.part w.comments && fresh)
-    then one true (moved w (parts.Plain true false)) place (byte ∷ bytes) (plain kinds.HashLine 1)
+    else (if byte == hash && (takes_hash_line w.part w.comments && here.fresh)
+    then one true (moved w (parts.Plain true false)) here.place (byte ∷ bytes) (plain kinds.HashLine 1)
     else (if byte == less && (behind_include w.part && closes_on_line bytes)
-    then one (in_hash_line w.part) (moved w (passed w.part)) place (byte ∷ bytes) (include_name place (byte ∷ bytes))
-    else in_code (start_of (ends_at_bar w.part w.comments) byte bytes) w place (byte ∷ bytes))))
+    then one (in_hash_line w.part) (moved w (passed w.part)) here.place (byte ∷ bytes)
+    (include_name here.place (byte ∷ bytes))
+    else in_code (start_of (ends_at_bar w.part w.comments) byte bytes) w here.place (byte ∷ bytes))))
 
 -- ## The text of a comment
 
@@ -434,15 +438,17 @@ comment_closed part c comments place bytes = record {
   next = record { part = part; comments = comments };
 }
 
-abbrev pub comment_text : Part → Opened → List Opened → ℕ → ℕ → ℕ → List ℕ → Found
-comment_text part c comments last place byte bytes =
-    if c.long && (byte == star && begins slash bytes) then comment_closed part c comments place (byte ∷ bytes)
+-- The innermost comment that is open, and those around it.
+abbrev pub comment_text : Opened → List Opened → Spot → ℕ → List ℕ → Found
+comment_text c comments here byte bytes =
+    let part = here.stands.part in
+    if c.long && (byte == star && begins slash bytes) then comment_closed part c comments here.place (byte ∷ bytes)
     else (if not c.long && byte == newline
-    then before (comment_end (in_hash_line part) c place 0 []) (line_end part comments last place)
+    then before (comment_end (in_hash_line part) c here.place 0 []) (line_end part comments here.last here.place)
     else (if byte == bar && not (is_deep part (c ∷ comments))
-    then inner_begin (in_hash_line part) (record { part = part; comments = with_inner c true ∷ comments }) place
+    then inner_begin (in_hash_line part) (record { part = part; comments = with_inner c true ∷ comments }) here.place
     (byte ∷ bytes)
-    else piece part comments c place (byte ∷ bytes)))
+    else piece part comments c here.place (byte ∷ bytes)))
 
 -- ## Limbo, TeX text, and the heads of definitions and C parts
 
@@ -529,39 +535,39 @@ format_name code second limbo w place byte bytes =
     else one false (if second then behind_format limbo w else moved w (parts.FormatName code true limbo)) place
     (byte ∷ bytes) (identifier (byte ∷ bytes))
 
-abbrev pub behind_head : Bool → Where → Bool → ℕ → ℕ → ℕ → List ℕ → Found
-behind_head true w fresh last place byte bytes = limbo_text (moved w parts.Limbo) place byte bytes
-behind_head false w fresh last place byte bytes = code_text (moved w parts.Definition) fresh last place byte bytes
+-- An improper head ends before this place, in limbo or in a section.
+abbrev pub behind_head : Bool → Spot → ℕ → List ℕ → Found
+behind_head true here byte bytes = limbo_text (moved here.stands parts.Limbo) here.place byte bytes
+behind_head false here byte bytes = code_text (record here { stands = moved here.stands parts.Definition }) byte bytes
 
-abbrev pub part_text : Part → Where → Bool → ℕ → ℕ → ℕ → List ℕ → Found
-part_text parts.Limbo w fresh last place byte bytes = limbo_text w place byte bytes
-part_text parts.Tex w fresh last place byte bytes = tex_text w place byte bytes
-part_text parts.Head w fresh last place byte bytes = head_text w place byte bytes
-part_text (parts.MacroName code) w fresh last place byte bytes =
-    if name_follows (byte ∷ bytes) then macro_name code w place byte bytes
-    else before (Note notes.ImproperMacro code ∷ []) (behind_head false w fresh last place byte bytes)
-part_text (parts.MacroParen code) w fresh last place byte bytes =
-    one false (moved w (parts.Parameters code)) place (byte ∷ bytes) (plain (kinds.Sign signs.LeftParen) 1)
-part_text (parts.Parameters code) w fresh last place byte bytes =
-    if parameter_follows (byte ∷ bytes) then parameter w place byte bytes
-    else before (Note notes.ImproperMacro code ∷ []) (behind_head false w fresh last place byte bytes)
-part_text (parts.FormatName code second limbo) w fresh last place byte bytes =
-    if name_follows (byte ∷ bytes) then format_name code second limbo w place byte bytes
-    else before (Note notes.ImproperFormat code ∷ []) (behind_head limbo w fresh last place byte bytes)
-part_text part w fresh last place byte bytes = code_text w fresh last place byte bytes
+abbrev pub part_text : Part → Spot → ℕ → List ℕ → Found
+part_text parts.Limbo here byte bytes = limbo_text here.stands here.place byte bytes
+part_text parts.Tex here byte bytes = tex_text here.stands here.place byte bytes
+part_text parts.Head here byte bytes = head_text here.stands here.place byte bytes
+part_text (parts.MacroName code) here byte bytes =
+    if name_follows (byte ∷ bytes) then macro_name code here.stands here.place byte bytes
+    else before (Note notes.ImproperMacro code ∷ []) (behind_head false here byte bytes)
+part_text (parts.MacroParen code) here byte bytes =
+    one false (moved here.stands (parts.Parameters code)) here.place (byte ∷ bytes)
+    (plain (kinds.Sign signs.LeftParen) 1)
+part_text (parts.Parameters code) here byte bytes =
+    if parameter_follows (byte ∷ bytes) then parameter here.stands here.place byte bytes
+    else before (Note notes.ImproperMacro code ∷ []) (behind_head false here byte bytes)
+part_text (parts.FormatName code second limbo) here byte bytes =
+    if name_follows (byte ∷ bytes) then format_name code second limbo here.stands here.place byte bytes
+    else before (Note notes.ImproperFormat code ∷ []) (behind_head limbo here byte bytes)
+part_text part here byte bytes = code_text here byte bytes
 
 -- ## Any text
 
-abbrev pub in_text : Part → List Opened → Bool → ℕ → ℕ → ℕ → List ℕ → Found
-in_text part [] fresh last place byte bytes = part_text part (record { part = part; comments = [] }) fresh last place
-    byte bytes
-in_text part (c ∷ comments) fresh last place byte bytes =
-    if c.inner then code_text (record { part = part; comments = c ∷ comments }) fresh last place byte bytes
-    else comment_text part c comments last place byte bytes
+-- These comments are open, the innermost first.
+abbrev pub in_text : List Opened → Spot → ℕ → List ℕ → Found
+in_text [] here byte bytes = part_text here.stands.part here byte bytes
+in_text (c ∷ comments) here byte bytes =
+    if c.inner then code_text here byte bytes else comment_text c comments here byte bytes
 
--- What begins at a place. A section code ends all that is open. `last` is the byte before the place, and `fresh` says
--- that only blanks stand before it on its line.
-abbrev pub found : Where → Bool → ℕ → ℕ → ℕ → List ℕ → Found
-found w fresh last place byte bytes =
-    if byte == at_sign && begins_section bytes then section w place bytes
-    else in_text w.part w.comments fresh last place byte bytes
+-- What begins at a place. A section code ends all that is open.
+abbrev pub found : Spot → ℕ → List ℕ → Found
+found here byte bytes =
+    if byte == at_sign && begins_section bytes then section here.stands here.place bytes
+    else in_text here.stands.comments here byte bytes

@@ -6,7 +6,8 @@ use Rattle.std.proofs.lemmas.Bool.{eq-eqb, ne_eqb}
 use Rattle.cw_base.proofs.TestLaws.{not-false}
 use Rattle.cw_rules.specs.Answers.{Where}
 use Rattle.cw_rules.specs.Bytes.{newline, hash, less}
-use Rattle.cw_rules.specs.Tokens.{behind_include, closes_on_line, code_text, ends_at_bar, in_code, is_space, start_of}
+use Rattle.cw_rules.specs.Tokens.{behind_include, closes_on_line, ends_at_bar, in_code, is_space, start_of}
+use Rattle.cw_rules.specs.Apart.{code_text_apart}
 use Rattle.cw_rules.specs.Tokens.{takes_hash_line}
 use Rattle.cw_lex.specs.Coming.{ends_line, where_of}
 use Rattle.cw_lex.specs.Lexing.{fresh_at, last_at}
@@ -15,7 +16,7 @@ use Rattle.cw_lex.proofs.code_text.code_text.Goals as goal
 code-begins : (w : Where) (fresh : Bool) (last place byte : ℕ) (bytes : List ℕ) → (byte == newline) ≡ false
     → is_space w.part byte bytes ≡ false → (byte == hash && (takes_hash_line w.part w.comments && fresh)) ≡ false
     → (byte == less && (behind_include w.part && closes_on_line bytes)) ≡ false
-    → code_text w fresh last place byte bytes
+    → code_text_apart w fresh last place byte bytes
     ≡ in_code (start_of (ends_at_bar w.part w.comments) byte bytes) w place (byte ∷ bytes)
 code-begins w fresh last place byte bytes line space hash_line name = rw (line, space, hash_line, name) refl
 
