@@ -1,8 +1,8 @@
 -- Sections leave what their texts leave, one after another.
-use Rattle.std.proofs.Common.{◌≡◌, ℕ, suc, Bool, true, false, not, ◌&&◌, ◌||◌, List, [], ◌∷◌, ◌++◌, Option, Some, None}
+use Rattle.std.proofs.Common.{◌≡◌, ℕ, suc, Bool, true, false, ◌||◌, List, [], ◌∷◌, ◌++◌, Option, Some, None}
 use Rattle.std.proofs.Common.{All, map, refl, sym, ap, ◌∙◌, append_assoc}
-use Rattle.std.specs.Prelude.{is_some, if◌then◌else◌}
-use Rattle.std.specs.List.{filter, flat_map, list_any}
+use Rattle.std.specs.Prelude.{is_some}
+use Rattle.std.specs.List.{filter, flat_map}
 use Rattle.std.proofs.lemmas.List.{append-nil}
 use Rattle.std.proofs.lemmas.List.Elements.{All-head, All-tail, filter-append}
 use Rattle.cw_base.specs.Conditions.{list_if}
@@ -19,12 +19,9 @@ use Rattle.cw_phase1.specs.declared.sections.Section.{Section}
 use Rattle.cw_phase1.specs.Book.{book}
 use Rattle.cw_phase1.specs.Whole.{IsWholeSection, SectionsAreWhole}
 use Rattle.cw_rules.specs.declared.tokens.Mode.TheVariants as modes
-use Rattle.cw_secnames.specs.Uses.{NameUse, name_at}
+use Rattle.cw_secnames.specs.Uses.{name_at}
 use Rattle.cw_table.specs.Rewriting.{State}
-use Rattle.cw_phase1.proofs.MissingLaws.{right-false}
-use Rattle.cw_texpart.specs.Beside.{first_code, has_definition, has_prose, is_nothing, is_prose}
-use Rattle.cw_texpart.specs.declared.beside.Beside.{Beside}
-use Rattle.cw_texpart.specs.declared.beside.Beside.TheVariants as besides
+use Rattle.cw_texpart.specs.Beside.{first_code, has_definition, has_prose, is_nothing}
 use Rattle.cw_texpart.specs.Done.{Done, as_it_is, reprinted, then}
 use Rattle.cw_texpart.specs.Heads.{head}
 use Rattle.cw_texpart.specs.Inks.{prints}
@@ -40,6 +37,7 @@ use Rattle.cw_texts.specs.Texts.{definition_refs, part_refs, piece_refs, refs_fr
 use Rattle.cw_translator.specs.Translating.{Ended}
 use Rattle.cw_laws.specs.BookTexts.{EveryTextIsWoven, LeaveTheSame, TextsAreWoven, is_any, is_inner, ref_done}
 use Rattle.cw_laws.specs.BookTexts.{refs_done, with_scraps}
+use Rattle.cw_laws.proofs.ProseLaws.{no-prose, no-refs}
 use Rattle.cw_laws.proofs.QuietParts.{quiet-text}
 
 -- a piece that leaves nothing that is looked at
@@ -172,31 +170,6 @@ module _ (looked_at : List State → List State)
       (nothing-left s d out names (none refl))
 
   -- ## TeX parts
-
-  -- a TeX part without prose has no C text
-  no-refs : (text : List ℕ) (uses : List NameUse) (n : ℕ) (ps : List TexPiece) → list_any (is_prose text) ps ≡ false
-      → tex_refs uses n ps ≡ []
-  no-refs text uses n [] e = refl
-  no-refs text uses n (Copied token ∷ ps) e =
-      no-refs text uses n ps (right-false (is_prose text (Copied token)) (list_any (is_prose text) ps) e)
-  no-refs text uses n (InnerText part ∷ ps) e = absurd (never e)
-    where
-      never : true ≡ false → ⊥
-      never e = cc
-  no-refs text uses n (Cited part ∷ ps) e = absurd (never e)
-    where
-      never : true ≡ false → ⊥
-      never e = cc
-
-  -- code stands beside a number only where there is no prose
-  no-prose : (ranged prose : Bool) (code : Beside)
-      → is_nothing (if ranged && not prose then code else besides.Nothing) ≡ false → prose ≡ false
-  no-prose true false code e = refl
-  no-prose true true code e = e
-  no-prose false prose code e = absurd (never e)
-    where
-      never : true ≡ false → ⊥
-      never e = cc
 
   tex-by-left : (s : Setting) (n : ℕ) (section : Section) (alone : Bool) (front : List ℕ) (names : List Entry)
       → (alone ≡ false → tex_refs s.book.name_uses n (tex_pieces_of s.text section.tex) ≡ [])

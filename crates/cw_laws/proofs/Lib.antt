@@ -16,4 +16,5 @@ pub mod PlainText
 mod Endings
 mod FileLaws
 mod QuietParts
+pub mod ProseLaws
 pub mod BookTexts

@@ -108,7 +108,7 @@ tex-answers (byte ∷ bytes) fresh last place h g =
     let w : Where = beginning modes.TexText in
     one-token classes.TexText w (λ p a. refl) fresh last place byte bytes (all-tex (byte ∷ bytes) h g)
     (ap (λ t. if t && begins_section bytes then section w place bytes
-    else (if t then head_and_tex (effect_in_tex (code_at bytes)) (code_at bytes) w place (byte ∷ bytes)
+    else (if t then tex_by (effect_in_tex (code_at bytes)) (code_at bytes) w place (byte ∷ bytes)
     else (if byte == bar then inner_begin false (moved w parts.TexInner) place (byte ∷ bytes)
     else one false w place (byte ∷ bytes) (cut_plain kinds.Text (run classes.TexText (byte ∷ bytes))))))
     (is-not at_sign byte bytes h)
