@@ -1,5 +1,6 @@
 -- The definitions that all crates share: categories, conditions, exits, flags, notes, words on texts, and the merged
 -- web.
+pub mod Bytes
 pub mod Category
 pub mod Conditions
 pub mod Exit

@@ -1,15 +1,17 @@
 -- Words over byte texts that several crates speak of.
 use Rattle.std.specs.Prelude.{ℕ, ◌+◌, ◌==◌, ◌||◌, Bool, true, false, List, [], ◌∷◌, Option, Some, None, map}
+use Rattle.cw_base.specs.Bytes.{byte_of, tab, newline, vertical_tab, form_feed, carriage_return, space}
 
 -- the sign that stands around C text in TeX text
 abbrev pub bar : ℕ
-bar = 124
+bar = byte_of "|"
 
--- a blank: byte 32, 9, 11, 12 or 13
+-- a blank: a space, a tab, or another byte of white space that ends no line
 abbrev pub is_blank : ℕ → Bool
-is_blank byte = byte == 32 || byte == 9 || byte == 11 || byte == 12 || byte == 13
+is_blank byte =
+    byte == space || byte == tab || byte == vertical_tab || byte == form_feed || byte == carriage_return
 
--- The bytes cut at each byte 10. A last piece that isn't empty and has no byte 10 is a piece too.
+-- The bytes cut at each line's end. A last piece that isn't empty and has no end is a piece too.
 abbrev pub pieces_by : Bool → ℕ → List (List ℕ) → List (List ℕ)
 pieces_by true byte pieces = [] ∷ pieces
 pieces_by false byte [] = (byte ∷ []) ∷ []
@@ -17,7 +19,7 @@ pieces_by false byte (piece ∷ pieces) = (byte ∷ piece) ∷ pieces
 
 abbrev pub pieces_of : List ℕ → List (List ℕ)
 pieces_of [] = []
-pieces_of (byte ∷ bytes) = pieces_by (byte == 10) byte (pieces_of bytes)
+pieces_of (byte ∷ bytes) = pieces_by (byte == newline) byte (pieces_of bytes)
 
 -- A text without its trailing blanks.
 abbrev pub trim_by : Bool → ℕ → List ℕ → List ℕ

@@ -1,5 +1,6 @@
 -- What contracts see of a web: its lines, the names of its files, and the notes of reading.
 use Rattle.std.specs.Prelude.{ℕ, ◌+◌, Bool, List, [], ◌∷◌, ◌++◌, length}
+use Rattle.cw_base.specs.Bytes.{newline}
 use Rattle.cw_base.specs.declared.notes.Note.{Note}
 use Rattle.cw_base.specs.declared.notes.Place.{Place}
 use Rattle.cw_base.specs.declared.web.LineInfo.{LineInfo}
@@ -18,10 +19,10 @@ pub record WebState : Type 0 where
 abbrev pub empty_web : WebState
 empty_web = record { lines = []; files = []; notes = [] }
 
--- the text: the lines in order, each ended by byte 10
+-- the text: the lines in order, each ended
 abbrev pub text_of : List MergedLine → List ℕ
 text_of [] = []
-text_of (line ∷ lines) = line.text ++ 10 ∷ text_of lines
+text_of (line ∷ lines) = line.text ++ newline ∷ text_of lines
 
 -- where a line lies in the text, when it starts at this place there
 abbrev pub info_from : ℕ → MergedLine → LineInfo

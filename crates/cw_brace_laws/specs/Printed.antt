@@ -1,6 +1,7 @@
 -- Braces in flat lists and in what they print.
 use Rattle.std.specs.Prelude.{◌≡◌, ℕ, zero, suc, Bool, eqb, Option, Some, None, List, [], ◌∷◌, map}
 use Rattle.std.specs.Prelude.{if◌then◌else◌}
+use Rattle.cw_base.specs.Bytes.{byte_of}
 use Rattle.cw_trees.specs.Flat.{Item, SignItem, Open, Close, flat, trimmed_items}
 use Rattle.cw_trees.specs.Printing.{Printable, printed, sign_bytes}
 use Rattle.cw_trees.specs.Tree.{Tree}
@@ -33,8 +34,9 @@ closed (suc depth) = Some depth
 
 -- how many braces of TeX are open behind a byte: `{` opens one and `}` closes one, and `$` stands outside
 abbrev pub byte_depth : ℕ → ℕ → Option ℕ
-byte_depth byte depth = if eqb byte 123 then Some (suc depth) else if eqb byte 125 then closed depth
-    else if eqb byte 36 then outside depth else Some depth
+byte_depth byte depth =
+    if eqb byte (byte_of "{") then Some (suc depth) else if eqb byte (byte_of "}") then closed depth
+    else if eqb byte (byte_of "$") then outside depth else Some depth
 
 abbrev pub bytes_depth : List ℕ → ℕ → Option ℕ
 bytes_depth [] depth = Some depth

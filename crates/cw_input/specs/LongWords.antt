@@ -2,7 +2,7 @@
 use Rattle.std.specs.Prelude.{ℕ, ◌==◌, ◌&&◌, ◌||◌, Bool, false, not, List, [], ◌∷◌, Option, find, codes, bytes_eq}
 use Rattle.std.specs.Prelude.{if◌then◌else◌}
 use Rattle.std.specs.Char.{is_ascii_alphabetic}
-use Rattle.cw_input.specs.Bytes.{byte_of}
+use Rattle.cw_base.specs.Bytes.{byte_of}
 
 -- a long word begins with two hyphens and an ASCII letter
 abbrev pub is_long : List ℕ → Bool

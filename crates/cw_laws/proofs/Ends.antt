@@ -32,7 +32,8 @@ use Rattle.cw_rules.specs.Answers.{Answer, Where, Cut, Found, before, note_answe
 use Rattle.cw_rules.specs.Answers.{plain}
 use Rattle.cw_rules.specs.Bodies.{note_unless, one_note, noted, ended, extent}
 use Rattle.cw_base.specs.Text.{bar}
-use Rattle.cw_rules.specs.Bytes.{newline, apostrophe, slash, star, at_sign, hash, less, backslash, comma}
+use Rattle.cw_base.specs.Bytes.{newline, backslash}
+use Rattle.cw_rules.specs.Bytes.{apostrophe, slash, star, at_sign, hash, less, comma}
 use Rattle.cw_rules.specs.Bytes.{equals, right_paren, left_paren, run, begins, is_letter, is_mark, is_in}
 use Rattle.cw_rules.specs.Codes.{code_at, begins_section, effect_in_limbo, effect_in_tex, effect_in_c}
 use Rattle.cw_rules.specs.Codes.{effect_in_definition, effect_at_begin, has_control_text}

@@ -18,7 +18,8 @@ use Rattle.cw_rules.specs.declared.tokens.TokKind.{TokKind}
 use Rattle.cw_rules.specs.declared.tokens.TokKind.TheVariants as kinds
 use Rattle.cw_rules.specs.Answers.{Answer, Token, Begin, Finish, Note, Where, Cut, Found, note_answers, plain}
 use Rattle.cw_rules.specs.Bodies.{note_unless, one_note}
-use Rattle.cw_rules.specs.Bytes.{newline, quote, apostrophe, slash, star, at_sign, hash, less, backslash, comma}
+use Rattle.cw_base.specs.Bytes.{newline, backslash}
+use Rattle.cw_rules.specs.Bytes.{quote, apostrophe, slash, star, at_sign, hash, less, comma}
 use Rattle.cw_base.specs.Text.{bar}
 use Rattle.cw_rules.specs.Bytes.{right_paren, left_paren, run, begins, is_letter, is_in}
 use Rattle.cw_rules.specs.Codes.{code_at, effect_in_limbo, effect_in_tex, has_control_text}

@@ -21,7 +21,8 @@ use Rattle.cw_rules.specs.declared.tokens.Mode.TheVariants as modes
 use Rattle.cw_rules.specs.declared.tokens.TokKind.TheVariants as kinds
 use Rattle.cw_rules.specs.Answers.{Answer, Token, Begin, Finish, Note, Where, Cut, Found, before, plain}
 use Rattle.cw_rules.specs.Bodies.{note_unless, one_note, noted, extent}
-use Rattle.cw_rules.specs.Bytes.{newline, slash, star, at_sign, hash, less, backslash, comma}
+use Rattle.cw_base.specs.Bytes.{newline, backslash}
+use Rattle.cw_rules.specs.Bytes.{slash, star, at_sign, hash, less, comma}
 use Rattle.cw_base.specs.Text.{bar}
 use Rattle.cw_rules.specs.Bytes.{right_paren, left_paren, run, begins, is_letter, is_mark, is_in}
 use Rattle.cw_rules.specs.Codes.{code_at, begins_section, effect_in_limbo, effect_in_tex}

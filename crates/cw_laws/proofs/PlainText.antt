@@ -13,7 +13,8 @@ use Rattle.cw_rules.specs.declared.tokens.Mode.TheVariants as modes
 use Rattle.cw_rules.specs.declared.tokens.TokKind.TheVariants as kinds
 use Rattle.cw_rules.specs.declared.parts.Part.TheVariants as parts
 use Rattle.cw_rules.specs.Answers.{Answer, Token, Where, Found, plain as cut_plain, token_of}
-use Rattle.cw_rules.specs.Bytes.{newline, at_sign, is_in, run}
+use Rattle.cw_base.specs.Bytes.{newline}
+use Rattle.cw_rules.specs.Bytes.{at_sign, is_in, run}
 use Rattle.cw_base.specs.Text.{bar}
 use Rattle.cw_rules.specs.Codes.{begins_section, code_at, effect_in_limbo, effect_in_tex}
 use Rattle.cw_rules.specs.Tokens.{all_cut, inner_begin, limbo_by, moved, one, section, tex_by}

@@ -8,7 +8,8 @@ use Rattle.cw_base.proofs.TestLaws.{both-left, both-right}
 use Rattle.std.proofs.Math.Seq.{drop-append_seam, drop-append-add}
 use Rattle.cw_rules.specs.declared.bodies.Body.TheVariants as bodies
 use Rattle.cw_rules.specs.declared.bodies.Inside.{Inside}
-use Rattle.cw_rules.specs.Bytes.{newline, backslash, at_sign, quote, apostrophe, begins, begins_by, begins_with}
+use Rattle.cw_base.specs.Bytes.{newline, backslash}
+use Rattle.cw_rules.specs.Bytes.{at_sign, quote, apostrophe, begins, begins_by, begins_with}
 use Rattle.cw_rules.specs.Bytes.{is_mark}
 use Rattle.cw_rules.specs.Prefixes.{is_prefix_letter, prefix_size}
 use Rattle.cw_rules.specs.Bodies.{stops, takes_next, stepped, goes_on, ended, at_start, extent}

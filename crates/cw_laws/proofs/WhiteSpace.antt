@@ -11,7 +11,8 @@ use Rattle.cw_rules.specs.declared.tokens.Mode.TheVariants as modes
 use Rattle.cw_rules.specs.declared.tokens.TokKind.{TokKind}
 use Rattle.cw_rules.specs.declared.tokens.TokKind.TheVariants as kinds
 use Rattle.cw_rules.specs.Answers.{Answer, Token, Begin, Finish, Note, Where, Found}
-use Rattle.cw_rules.specs.Bytes.{newline, backslash, at_sign, begins, is_in}
+use Rattle.cw_base.specs.Bytes.{newline, backslash}
+use Rattle.cw_rules.specs.Bytes.{at_sign, begins, is_in}
 use Rattle.cw_rules.specs.Codes.{is_section, begins_section}
 use Rattle.cw_rules.specs.Order.{begins_space, AreWithin}
 use Rattle.cw_rules.specs.Tokens.{all_cut, in_hash_line, section}

@@ -9,7 +9,8 @@ use Rattle.cw_rules.specs.declared.tokens.TokKind.{TokKind}
 use Rattle.cw_rules.specs.declared.tokens.TokKind.TheVariants as kinds
 use Rattle.cw_rules.specs.Answers.{Answer, Token, Begin, Finish, Note}
 use Rattle.cw_base.specs.Text.{bar}
-use Rattle.cw_rules.specs.Bytes.{newline, star, slash, greater, at_sign, backslash, begins}
+use Rattle.cw_base.specs.Bytes.{newline, backslash}
+use Rattle.cw_rules.specs.Bytes.{star, slash, greater, at_sign, begins}
 use Rattle.cw_rules.specs.Codes.{begins_section, has_control_text}
 use Rattle.cw_lex.specs.Lexing.{tokens_of}
 

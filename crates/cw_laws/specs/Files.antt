@@ -1,6 +1,7 @@
 -- What holds of the files that a run over a web writes: its TeX file, its index and its list of section names.
 use Rattle.std.specs.Prelude.{◌≡◌, ◌⊎◌, ℕ, true, List, [], ◌∷◌, ◌++◌, Some}
 use Rattle.std.specs.List.{AllByRecursion}
+use Rattle.cw_base.specs.Bytes.{newline}
 use Rattle.cw_base.specs.declared.event.Event.TheVariants.{Drafted, Kept}
 use Rattle.cw_desk.specs.Meaning.{NamedFiles}
 use Rattle.cw_input.specs.declared.words.CommandLine.{CommandLine}
@@ -11,9 +12,9 @@ use Rattle.cw_run.specs.Files.{OutFile, file_events}
 use Rattle.cw_weave.specs.TexFile.{left_by, tex_file}
 use Rattle.cw_weave.specs.Woven.{index_files, tex_out}
 
--- There are no bytes, or byte 10 is the last.
+-- There are no bytes, or a newline is the last.
 abbrev pub EndInLine : List ℕ → Type 0
-EndInLine bytes = (bytes ≡ []) ⊎ ((front : List ℕ) × (bytes ≡ front ++ 10 ∷ []))
+EndInLine bytes = (bytes ≡ []) ⊎ ((front : List ℕ) × (bytes ≡ front ++ newline ∷ []))
 
 -- All bytes of a file are written: none waits behind its last line. What is written ends with a line.
 pub record IsWritten (f : OutFile) : Type 0 where

@@ -7,7 +7,7 @@ use Rattle.cw_rules.specs.declared.tokens.Mode.{Mode}
 use Rattle.cw_rules.specs.declared.tokens.TokKind.{TokKind}
 use Rattle.cw_rules.specs.declared.tokens.TokKind.TheVariants as kinds
 use Rattle.cw_rules.specs.Answers.{Answer, Token, Begin, Finish, Note}
-use Rattle.cw_rules.specs.Bytes.{run, begins_with}
+use Rattle.cw_rules.specs.Bytes.{run, begins_with, left_paren}
 use Rattle.cw_rules.specs.Constants.{constant}
 use Rattle.cw_rules.specs.Signs.{spelling, all_signs}
 use Rattle.cw_lex.specs.Lexing.{tokens_of}
@@ -42,4 +42,4 @@ AreLongest text (Note kind place ∷ answers) = AreLongest text answers
 pub record TokensAreLongest : Type 0 where
   pub tokens : (text : List ℕ) (start end : ℕ) (mode : Mode)
       → AreLongest (take end text) (tokens_of text start end mode)
-  pub parenthesis : (bytes : List ℕ) → NoneIsLonger all_signs (40 ∷ bytes) 1
+  pub parenthesis : (bytes : List ℕ) → NoneIsLonger all_signs (left_paren ∷ bytes) 1

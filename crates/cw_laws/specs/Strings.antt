@@ -2,7 +2,8 @@
 use Rattle.std.specs.Prelude.{◌≡◌, ℕ, ◌+◌, Bool, true, false, not, ◌||◌, ◌==◌, List, [], ◌∷◌, ◌++◌, ◌⊎◌, codes}
 use Rattle.std.specs.Prelude.{length}
 use Rattle.std.specs.List.{AllByRecursion, concat}
-use Rattle.cw_rules.specs.Bytes.{newline, backslash, begins_with, is_mark}
+use Rattle.cw_base.specs.Bytes.{newline, backslash}
+use Rattle.cw_rules.specs.Bytes.{begins_with, is_mark}
 use Rattle.cw_rules.specs.Prefixes.{is_prefix_letter}
 use Rattle.cw_lex.specs.Lexing.{last_after}
 

@@ -4,7 +4,8 @@
 -- end with which limbo begins is dropped where other bytes stand before it on its line.
 use Rattle.std.specs.Prelude.{◌≡◌, ◌≢◌, ℕ, ◌==◌, Bool, true, false, not, All, List, [], ◌∷◌, ◌++◌, if◌then◌else◌}
 use Rattle.cw_base.specs.declared.span.Span.{Span}
-use Rattle.cw_rules.specs.Bytes.{newline, at_sign}
+use Rattle.cw_base.specs.Bytes.{newline}
+use Rattle.cw_rules.specs.Bytes.{at_sign}
 use Rattle.cw_base.specs.Text.{bar}
 use Rattle.cw_lex.specs.Lexing.{last_after}
 use Rattle.cw_names.specs.Names.{Entry}

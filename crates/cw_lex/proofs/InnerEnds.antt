@@ -11,7 +11,8 @@ use Rattle.cw_rules.specs.declared.parts.Start.{Start}
 use Rattle.cw_rules.specs.declared.parts.Start.TheVariants as start
 use Rattle.cw_rules.specs.declared.signs.Sign.{Sign}
 use Rattle.cw_rules.specs.Answers.{Answer, Where, Found}
-use Rattle.cw_rules.specs.Bytes.{newline, hash, star, slash, less, at_sign, begins, is_letter, is_mark}
+use Rattle.cw_base.specs.Bytes.{newline}
+use Rattle.cw_rules.specs.Bytes.{hash, star, slash, less, at_sign, begins, is_letter, is_mark}
 use Rattle.cw_base.specs.Text.{bar}
 use Rattle.cw_rules.specs.Bytes.{is_in}
 use Rattle.cw_rules.specs.Codes.{begins_section, effect_in_c}

@@ -20,7 +20,8 @@ use Rattle.cw_rules.specs.declared.tokens.TokKind.TheVariants as kind
 use Rattle.cw_rules.specs.Answers.{Answer, Token, Note, Finish, Where, Cut, Found, before, note_answers, token_of}
 use Rattle.cw_rules.specs.Answers.{plain}
 use Rattle.cw_rules.specs.declared.classes.Class.TheVariants as classes
-use Rattle.cw_rules.specs.Bytes.{newline, backslash, at_sign, equals, comma, left_paren, right_paren, run, begins}
+use Rattle.cw_base.specs.Bytes.{newline, backslash}
+use Rattle.cw_rules.specs.Bytes.{at_sign, equals, comma, left_paren, right_paren, run, begins}
 use Rattle.cw_base.specs.Text.{bar}
 use Rattle.cw_rules.specs.Bytes.{is_letter, is_mark, is_in, slash, star, hash, less}
 use Rattle.cw_rules.specs.Bodies.{one_note, note_unless, noted}

@@ -12,7 +12,8 @@ use Rattle.cw_rules.specs.declared.tokens.Lexed.{Lexed}
 use Rattle.cw_rules.specs.declared.tokens.Lexed.TheVariants as lexed
 use Rattle.cw_lex.specs.declared.state.Clear.{Clear}
 use Rattle.cw_lex.specs.declared.state.State.{State}
-use Rattle.cw_rules.specs.Bytes.{newline, backslash, is_in, run}
+use Rattle.cw_base.specs.Bytes.{newline, backslash}
+use Rattle.cw_rules.specs.Bytes.{is_in, run}
 use Rattle.cw_rules.specs.Answers.{Answer, Finish, Note, seen, Where, Found, note_answers}
 use Rattle.cw_rules.specs.Pending.{pending_notes, no_notes, IsInside}
 use Rattle.cw_rules.specs.Tokens.{in_hash_line, is_space, found, is_code, is_head_part}

@@ -2,6 +2,7 @@
 use Rattle.std.specs.Prelude.{◌≡◌, ◌≢◌, ℕ, ◌<◌, ◌≤◌, Bool, true, not, eqb, List, [], ◌∷◌, ◌++◌, length, All}
 use Rattle.std.specs.List.{flat_map, list_all}
 use Rattle.std.specs.Fmt.{decimal}
+use Rattle.cw_base.specs.Bytes.{space}
 use Rattle.cw_base.specs.Text.{pieces_of}
 use Rattle.cw_logtext.specs.LogText.{blank_and, is_identifier}
 
@@ -12,25 +13,25 @@ lacks unwanted bytes = list_all (λ byte. not (eqb byte unwanted)) bytes
 -- nothing, or something behind a blank
 pub data IsBlanked : List ℕ → Type 0 where
   nothing : IsBlanked []
-  something : (bytes : List ℕ) → IsBlanked (32 ∷ bytes)
+  something : (bytes : List ℕ) → IsBlanked (space ∷ bytes)
 
 -- The word ends before the first blank.
 pub record IsCut (text word rest : List ℕ) : Type 0 where
   pub is : text ≡ word ++ rest
-  pub plain : lacks 32 word ≡ true
+  pub plain : lacks space word ≡ true
   pub blanked : IsBlanked rest
 
 -- ## Names
 
 -- The text begins with a blank and this identifier, and with no other that ends before a blank or the end.
 pub record HasName (text name rest : List ℕ) : Type 0 where
-  pub is : text ≡ 32 ∷ name ++ rest
+  pub is : text ≡ space ∷ name ++ rest
   pub fine : is_identifier name ≡ true
-  pub alone : (other tail : List ℕ) → is_identifier other ≡ true → IsBlanked tail → text ≡ 32 ∷ other ++ tail
+  pub alone : (other tail : List ℕ) → is_identifier other ≡ true → IsBlanked tail → text ≡ space ∷ other ++ tail
       → tail ≡ rest
 
 abbrev pub NoName : List ℕ → Type 0
-NoName text = (name rest : List ℕ) → is_identifier name ≡ true → IsBlanked rest → text ≢ 32 ∷ name ++ rest
+NoName text = (name rest : List ℕ) → is_identifier name ≡ true → IsBlanked rest → text ≢ space ∷ name ++ rest
 
 abbrev pub AreIdentifiers : List (List ℕ) → Type 0
 AreIdentifiers names = All (λ name. is_identifier name ≡ true) names

@@ -4,6 +4,7 @@ use Rattle.std.specs.Prelude.{◌∷◌, ◌++◌}
 use Rattle.std.specs.Prelude.{length, map, All, codes}
 use Rattle.std.specs.List.{flat_map, list_all}
 use Rattle.std.specs.Fmt.{decimal}
+use Rattle.cw_base.specs.Bytes.{byte_of, space, newline}
 use Rattle.cw_base.specs.declared.category.Cat.{Cat}
 use Rattle.cw_base.specs.declared.category.Cat.TheVariants as cat
 use Rattle.cw_table.specs.declared.productions.TheConstants.{ROW_COUNT}
@@ -23,10 +24,10 @@ pub record Block : Type 0 where
   pub items : List Production
 
 abbrev pub letter : LeafKind → ℕ
-letter leaf.B = 98
-letter leaf.C = 99
-letter leaf.I = 105
-letter leaf.S = 115
+letter leaf.B = byte_of "b"
+letter leaf.C = byte_of "c"
+letter leaf.I = byte_of "i"
+letter leaf.S = byte_of "s"
 
 -- the category's name
 abbrev pub cat_text : Cat → List ℕ
@@ -85,7 +86,7 @@ cat_text cat.AlignasLike = codes "alignas_like"
 cat_text cat.End = codes "end"
 
 abbrev pub blank_and : List ℕ → List ℕ
-blank_and text = 32 ∷ text
+blank_and text = space ∷ text
 
 -- the letter, the category, and the names, with a blank between each two
 abbrev pub line_text : Line → List ℕ
@@ -95,7 +96,7 @@ abbrev pub head_text : ℕ → List ℕ
 head_text count = codes "text " ++ decimal count
 
 abbrev pub item_text : Production → List ℕ
-item_text p = 80 ∷ decimal p.number ++ blank_and (decimal p.place)
+item_text p = byte_of "P" ∷ decimal p.number ++ blank_and (decimal p.place)
 
 abbrev pub end_text : List ℕ
 end_text = codes "end"
@@ -109,7 +110,7 @@ log_lines blocks = flat_map block_lines blocks
 -- ## Its bytes
 
 abbrev pub ended : List ℕ → List ℕ
-ended line = line ++ 10 ∷ []
+ended line = line ++ newline ∷ []
 
 abbrev pub log_text : List Block → List ℕ
 log_text blocks = flat_map ended (log_lines blocks)

@@ -2,6 +2,7 @@
 use Rattle.std.specs.Prelude.{ℕ, ◌+◌, ◌-◌, ◌==◌, ◌&&◌, ◌||◌, Bool, true, false, List, [], ◌∷◌, Option, Some, None, map}
 use Rattle.std.specs.Prelude.{filter, length, reverse, slice_get, slice_range, if◌then◌else◌}
 use Rattle.std.specs.List.{flat_map}
+use Rattle.cw_base.specs.Bytes.{newline}
 use Rattle.cw_base.specs.Text.{is_blank}
 use Rattle.cw_base.specs.Web.{MergedLine, text_of}
 use Rattle.cw_base.specs.declared.notes.Note.{Note}
@@ -21,7 +22,7 @@ use Rattle.cw_phase1.specs.declared.sections.Section.{Section}
 -- Nothing but blanks stands up to the end of the line, or of these bytes.
 abbrev pub begins_blank : List ℕ → Bool
 begins_blank [] = true
-begins_blank (byte ∷ bytes) = byte == 10 || (is_blank byte && begins_blank bytes)
+begins_blank (byte ∷ bytes) = byte == newline || (is_blank byte && begins_blank bytes)
 
 -- Within a TeX part, nothing but blanks stands on its line before a name and behind it.
 abbrev pub stands_alone : List ℕ → Span → Span → Bool

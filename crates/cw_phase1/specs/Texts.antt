@@ -3,11 +3,12 @@ use Rattle.std.specs.Prelude.{ℕ, ◌-◌, Bool, true, false, ◌==◌, ◌||�
 use Rattle.std.specs.Prelude.{take, codes, nat_eq, if◌then◌else◌}
 use Rattle.std.specs.List.{ends_with}
 use Rattle.std.specs.Cmp.Lexicographic.{pointwise}
+use Rattle.cw_base.specs.Bytes.{space}
 use Rattle.cw_rules.specs.declared.codes.Code.TheVariants as at
 use Rattle.cw_rules.specs.declared.tokens.TokKind.{TokKind}
 use Rattle.cw_rules.specs.declared.tokens.TokKind.TheVariants as kinds
 use Rattle.cw_rules.specs.Names.{is_void, uncoded}
-use Rattle.cw_rules.specs.Bytes.{is_in}
+use Rattle.cw_rules.specs.Bytes.{is_in, greater, at_sign}
 use Rattle.cw_rules.specs.declared.classes.Class.TheVariants.{White}
 use Rattle.cw_secnames.specs.declared.kinds.SecKind.{SecKind}
 use Rattle.cw_secnames.specs.declared.kinds.SecKind.TheVariants.{Named, File}
@@ -17,10 +18,13 @@ abbrev pub indexed_text : List ℕ → List ℕ
 indexed_text [] = []
 indexed_text (byte ∷ []) = byte ∷ []
 indexed_text (byte ∷ next ∷ bytes) =
-    elim (byte == 64) [
-      | true ↦ elim (next == 62) [
+    elim (byte == at_sign) [
+      | true ↦ elim (next == greater) [
         | true ↦ []
-        | false ↦ elim (next == 64) [ true ↦ 64 ∷ indexed_text bytes | false ↦ 64 ∷ indexed_text (next ∷ bytes) ]
+        | false ↦ elim (next == at_sign) [
+          | true ↦ at_sign ∷ indexed_text bytes
+          | false ↦ at_sign ∷ indexed_text (next ∷ bytes)
+        ]
       ]
       | false ↦ byte ∷ indexed_text (next ∷ bytes)
     ]
@@ -31,7 +35,7 @@ entry_text token = indexed_text (drop 2 token)
 -- White space is reduced to single blanks and dropped at both ends.
 abbrev pub blank_before : List ℕ → List ℕ
 blank_before [] = []
-blank_before (byte ∷ bytes) = elim (byte == 32) [ true ↦ byte ∷ bytes | false ↦ 32 ∷ byte ∷ bytes ]
+blank_before (byte ∷ bytes) = elim (byte == space) [ true ↦ byte ∷ bytes | false ↦ space ∷ byte ∷ bytes ]
 
 abbrev pub single_blanks : List ℕ → List ℕ
 single_blanks [] = []
@@ -40,7 +44,7 @@ single_blanks (byte ∷ bytes) =
 
 abbrev pub without_first_blank : List ℕ → List ℕ
 without_first_blank [] = []
-without_first_blank (byte ∷ bytes) = elim (byte == 32) [ true ↦ bytes | false ↦ byte ∷ bytes ]
+without_first_blank (byte ∷ bytes) = elim (byte == space) [ true ↦ bytes | false ↦ byte ∷ bytes ]
 
 abbrev pub reduced : List ℕ → List ℕ
 reduced bytes = without_first_blank (single_blanks bytes)

@@ -15,7 +15,8 @@ use Rattle.cw_rules.specs.declared.signs.Sign.TheVariants as signs
 use Rattle.cw_rules.specs.Signs.{spelling}
 use Rattle.cw_rules.specs.Answers.{Answer, Cut, Token, Where, Found, token_of, plain}
 use Rattle.cw_rules.specs.Bodies.{at_start}
-use Rattle.cw_rules.specs.Bytes.{is_in, is_letter, is_mark, run, hash, newline, at_sign, begins_by, begins_with}
+use Rattle.cw_base.specs.Bytes.{newline}
+use Rattle.cw_rules.specs.Bytes.{is_in, is_letter, is_mark, run, hash, at_sign, begins_by, begins_with}
 use Rattle.cw_rules.specs.Prefixes.{is_prefix_letter, prefix_size}
 use Rattle.cw_rules.specs.Tokens.{skipped_byte, one, in_code, start_of, string, string_of}
 use Rattle.cw_rules.specs.Apart.{found_apart}

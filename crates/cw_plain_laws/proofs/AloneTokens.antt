@@ -24,7 +24,8 @@ use Rattle.cw_rules.specs.Answers.{token_of}
 use Rattle.cw_base.specs.declared.notes.NoteKind.TheVariants as notes
 use Rattle.cw_rules.specs.Bodies.{all_notes, at_start, extent}
 use Rattle.cw_rules.specs.Bytes.{at_sign, begins, begins_by, begins_with, hash, is_between, is_in, is_letter}
-use Rattle.cw_rules.specs.Bytes.{is_letter_of, is_mark, less, newline, run, slash, star}
+use Rattle.cw_base.specs.Bytes.{newline}
+use Rattle.cw_rules.specs.Bytes.{is_letter_of, is_mark, less, run, slash, star}
 use Rattle.cw_rules.specs.Prefixes.{is_prefix_letter, prefix_size}
 use Rattle.cw_rules.specs.Codes.{begins_section, code_at, code_of}
 use Rattle.cw_rules.specs.Constants.{constant}

@@ -10,7 +10,8 @@ use Rattle.cw_rules.specs.declared.tokens.TokKind.TheVariants as kinds
 use Rattle.cw_rules.specs.Answers.{plain}
 use Rattle.cw_rules.specs.Bodies.{at_start, ended, extent, extent_of, goes_on, note_here, noted, stepped}
 use Rattle.cw_rules.specs.Bodies.{takes_next, with_note, and_last, note_unless, stop_at}
-use Rattle.cw_rules.specs.Bytes.{apostrophe, at_sign, backslash, begins_with, newline}
+use Rattle.cw_base.specs.Bytes.{backslash, newline}
+use Rattle.cw_rules.specs.Bytes.{apostrophe, at_sign, begins_with}
 use Rattle.cw_rules.specs.Tokens.{string, string_of}
 use Rattle.cw_rules.specs.declared.codes.Code.TheVariants as codes
 use Rattle.cw_rules.specs.declared.tokens.TokKind.{TokKind}

@@ -1,5 +1,7 @@
 -- The text of a comment, which is printed in pieces, between its inner texts.
 use Rattle.std.specs.Prelude.{◌≡◌, ℕ, zero, suc, ◌&&◌, ◌||◌, ◌==◌, Bool, true, false, not, List, [], ◌∷◌, ◌++◌}
+use Rattle.cw_base.specs.Bytes.{newline, space, backslash}
+use Rattle.cw_rules.specs.Bytes.{at_sign, left_brace, right_brace}
 use Rattle.cw_print.specs.Texts.{is_at_pair}
 
 -- What bytes of a comment print, and how many of its braces are open behind them.
@@ -18,32 +20,32 @@ piece_then first rest = joined_pieces first (rest first.braces)
 
 -- a line's end is a blank
 abbrev pub blank_for : ℕ → ℕ
-blank_for byte = elim (byte == 10) [ true ↦ 32 | false ↦ byte ]
+blank_for byte = elim (byte == newline) [ true ↦ space | false ↦ byte ]
 
 -- One byte. An `@` and a `}` without its `{` are dropped.
 abbrev pub closed : ℕ → CommentPiece
 closed zero = piece_of [] 0
-closed (suc braces) = piece_of (125 ∷ []) braces
+closed (suc braces) = piece_of (right_brace ∷ []) braces
 
 abbrev pub byte_piece : ℕ → ℕ → CommentPiece
-byte_piece byte braces = elim (byte == 64) [
+byte_piece byte braces = elim (byte == at_sign) [
   | true ↦ piece_of [] braces
-  | false ↦ elim (byte == 123) [
+  | false ↦ elim (byte == left_brace) [
     | true ↦ piece_of (byte ∷ []) (suc braces)
-    | false ↦ elim (byte == 125) [ true ↦ closed braces | false ↦ piece_of (blank_for byte ∷ []) braces ]
+    | false ↦ elim (byte == right_brace) [ true ↦ closed braces | false ↦ piece_of (blank_for byte ∷ []) braces ]
   ]
 ]
 
 -- A backslash that is the last byte takes nothing along: a blank keeps it from the brace that closes the comment.
 abbrev pub last_byte_piece : ℕ → ℕ → CommentPiece
-last_byte_piece byte braces = elim (byte == 92) [
-  | true ↦ piece_of (byte ∷ 32 ∷ []) braces
+last_byte_piece byte braces = elim (byte == backslash) [
+  | true ↦ piece_of (byte ∷ space ∷ []) braces
   | false ↦ byte_piece byte braces
 ]
 
 -- A backslash takes the next byte along, unless it is `@`; and `@@` is one `@`.
 abbrev pub takes_along : ℕ → ℕ → Bool
-takes_along byte next = byte == 92 && not (next == 64)
+takes_along byte next = byte == backslash && not (next == at_sign)
 
 abbrev pub comment_piece : List ℕ → ℕ → CommentPiece
 comment_piece [] braces = piece_of [] braces
@@ -58,12 +60,13 @@ comment_piece (byte ∷ next ∷ bytes) braces = elim (takes_along byte next) [
 
 -- At a comment's end the `}` that are missing are printed, and then its own.
 abbrev pub closing_braces : ℕ → List ℕ
-closing_braces zero = 125 ∷ []
-closing_braces (suc braces) = 125 ∷ closing_braces braces
+closing_braces zero = right_brace ∷ []
+closing_braces (suc braces) = right_brace ∷ closing_braces braces
 
 -- a byte that does not print itself, or not whatever stands beside it
 abbrev pub is_special : ℕ → Bool
-is_special byte = byte == 10 || (byte == 64 || (byte == 92 || (byte == 123 || byte == 125)))
+is_special byte =
+    byte == newline || (byte == at_sign || (byte == backslash || (byte == left_brace || byte == right_brace)))
 
 -- The bytes so far and what is to come are those of the whole, and so are the open braces.
 pub record Prints (begun text : List ℕ) (open_first : ℕ) (out rest : List ℕ) (open_now : ℕ) : Type 0 where

@@ -1,22 +1,23 @@
 -- What a constant prints.
 use Rattle.std.specs.Prelude.{ℕ, ◌-◌, ◌||◌, ◌==◌, nat_le, Bool, true, false, List, [], ◌∷◌, ◌++◌}
-use Rattle.cw_rules.specs.Bytes.{is_digit, is_hex_digit}
+use Rattle.cw_base.specs.Bytes.{byte_of, backslash, space}
+use Rattle.cw_rules.specs.Bytes.{is_digit, is_hex_digit, apostrophe, plus, minus, dot, digit_0}
 
 -- `\$` and its upper case letter for each letter behind the number
 abbrev pub upper : ℕ → ℕ
-upper byte = elim (nat_le 97 byte) [ true ↦ byte - 32 | false ↦ byte ]
+upper byte = elim (nat_le (byte_of "a") byte) [ true ↦ byte - (byte_of "a" - byte_of "A") | false ↦ byte ]
 
 abbrev pub suffix : List ℕ → List ℕ
 suffix [] = []
-suffix (byte ∷ bytes) = 92 ∷ 36 ∷ upper byte ∷ suffix bytes
+suffix (byte ∷ bytes) = backslash ∷ byte_of "$" ∷ upper byte ∷ suffix bytes
 
 -- `\ ` for a `'` between two digits
 abbrev pub number_byte : ℕ → List ℕ
-number_byte byte = elim (byte == 39) [ true ↦ 92 ∷ 32 ∷ [] | false ↦ byte ∷ [] ]
+number_byte byte = elim (byte == apostrophe) [ true ↦ backslash ∷ space ∷ [] | false ↦ byte ∷ [] ]
 
 -- digits and a sign up to the suffix
 abbrev pub is_exponent_byte : ℕ → Bool
-is_exponent_byte byte = is_digit byte || byte == 43 || byte == 45 || byte == 39
+is_exponent_byte byte = is_digit byte || byte == plus || byte == minus || byte == apostrophe
 
 abbrev pub exponent_bytes : List ℕ → List ℕ
 exponent_bytes [] = []
@@ -28,10 +29,13 @@ exponent_bytes (byte ∷ bytes) = elim (is_exponent_byte byte) [
 -- `\_` for the letter of an exponent
 abbrev pub behind_mantissa : ℕ → List ℕ → List ℕ
 behind_mantissa byte bytes =
-    elim (byte == 69 || byte == 101) [ true ↦ 92 ∷ 95 ∷ exponent_bytes bytes | false ↦ suffix (byte ∷ bytes) ]
+    elim (byte == byte_of "E" || byte == byte_of "e") [
+      | true ↦ backslash ∷ byte_of "_" ∷ exponent_bytes bytes
+      | false ↦ suffix (byte ∷ bytes)
+    ]
 
 abbrev pub is_mantissa_byte : ℕ → Bool
-is_mantissa_byte byte = is_digit byte || byte == 46 || byte == 39
+is_mantissa_byte byte = is_digit byte || byte == dot || byte == apostrophe
 
 abbrev pub mantissa_bytes : List ℕ → List ℕ
 mantissa_bytes [] = []
@@ -43,10 +47,13 @@ mantissa_bytes (byte ∷ bytes) = elim (is_mantissa_byte byte) [
 -- The letter of a hexadecimal exponent prints itself.
 abbrev pub behind_hex_digits : ℕ → List ℕ → List ℕ
 behind_hex_digits byte bytes =
-    elim (byte == 80 || byte == 112) [ true ↦ byte ∷ exponent_bytes bytes | false ↦ suffix (byte ∷ bytes) ]
+    elim (byte == byte_of "P" || byte == byte_of "p") [
+      | true ↦ byte ∷ exponent_bytes bytes
+      | false ↦ suffix (byte ∷ bytes)
+    ]
 
 abbrev pub is_hex_byte : ℕ → Bool
-is_hex_byte byte = is_hex_digit byte || byte == 46 || byte == 39
+is_hex_byte byte = is_hex_digit byte || byte == dot || byte == apostrophe
 
 abbrev pub hex_digits : List ℕ → List ℕ
 hex_digits [] = []
@@ -57,13 +64,13 @@ hex_digits (byte ∷ bytes) = elim (is_hex_byte byte) [
 
 -- `\^` for `0x`, `\\` for `0b`, and `\~` for a `0` before a digit
 abbrev pub behind_zero : ℕ → List ℕ → List ℕ
-behind_zero byte bytes = elim (byte == 88 || byte == 120) [
-  | true ↦ 92 ∷ 94 ∷ hex_digits bytes
-  | false ↦ elim (byte == 66 || byte == 98) [
-    | true ↦ 92 ∷ 92 ∷ mantissa_bytes bytes
+behind_zero byte bytes = elim (byte == byte_of "X" || byte == byte_of "x") [
+  | true ↦ backslash ∷ byte_of "^" ∷ hex_digits bytes
+  | false ↦ elim (byte == byte_of "B" || byte == byte_of "b") [
+    | true ↦ backslash ∷ backslash ∷ mantissa_bytes bytes
     | false ↦ elim (is_digit byte) [
-      | true ↦ 92 ∷ 126 ∷ mantissa_bytes (byte ∷ bytes)
-      | false ↦ 48 ∷ mantissa_bytes (byte ∷ bytes)
+      | true ↦ backslash ∷ byte_of "~" ∷ mantissa_bytes (byte ∷ bytes)
+      | false ↦ digit_0 ∷ mantissa_bytes (byte ∷ bytes)
     ]
   ]
 ]
@@ -71,7 +78,7 @@ behind_zero byte bytes = elim (byte == 88 || byte == 120) [
 abbrev pub constant_bytes : List ℕ → List ℕ
 constant_bytes [] = []
 constant_bytes (byte ∷ []) = mantissa_bytes (byte ∷ [])
-constant_bytes (byte ∷ next ∷ bytes) = elim (byte == 48) [
+constant_bytes (byte ∷ next ∷ bytes) = elim (byte == digit_0) [
   | true ↦ behind_zero next bytes
   | false ↦ mantissa_bytes (byte ∷ next ∷ bytes)
 ]

@@ -1,5 +1,7 @@
 -- A text that is printed byte by byte, and divided on the way.
 use Rattle.std.specs.Prelude.{ℕ, ◌-◌, ◌&&◌, ◌||◌, ◌==◌, nat_lt, Bool, true, false, not, List, [], ◌∷◌, ◌++◌}
+use Rattle.cw_base.specs.Bytes.{backslash}
+use Rattle.cw_rules.specs.Bytes.{at_sign}
 use Rattle.cw_print.specs.declared.dividing.Portion.{Portion}
 use Rattle.cw_print.specs.Escaping.{escaped_byte, is_escaped}
 use Rattle.cw_print.specs.Texts.{division, portion_size}
@@ -22,7 +24,7 @@ portion_for_next portion = elim (is_full portion) [ true ↦ portion_behind 0 | 
 abbrev pub with_byte : Portion → ℕ → Portion
 with_byte portion byte = record {
   room = portion.room - 1;
-  takes_next = not portion.takes_next && byte == 92;
+  takes_next = not portion.takes_next && byte == backslash;
 }
 
 -- what the next byte prints
@@ -37,4 +39,4 @@ rest_bytes portion (byte ∷ bytes) =
 
 -- a byte of a string that does not print itself, or not whatever stands beside it
 abbrev pub is_special : ℕ → Bool
-is_special byte = is_escaped byte || byte == 64
+is_special byte = is_escaped byte || byte == at_sign

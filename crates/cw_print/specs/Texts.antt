@@ -1,19 +1,21 @@
 -- The bytes that strings, include names and control texts say, and how long ones are divided.
 use Rattle.std.specs.Prelude.{ℕ, ◌+◌, ◌&&◌, ◌==◌, nat_le, Bool, true, false, List, [], ◌∷◌, ◌++◌, codes, drop, length}
-use Rattle.cw_rules.specs.Bytes.{begins}
+use Rattle.cw_base.specs.Bytes.{backslash, newline}
+use Rattle.cw_rules.specs.Bytes.{begins, greater, at_sign}
 use Rattle.cw_print.specs.Escaping.{braced, escaped}
 
 -- In a string `@@` is one `@`, and a backslash and a line's end print nothing. Any other byte behind a backslash is
 -- taken
 -- along with it.
 abbrev pub is_continued : ℕ → ℕ → Bool
-is_continued byte next = byte == 92 && next == 10
+is_continued byte next = byte == backslash && next == newline
 
 abbrev pub is_pair : ℕ → ℕ → List ℕ → Bool
-is_pair byte next bytes = byte == 92 && elim (next == 92 && begins 10 bytes) [ true ↦ false | false ↦ true ]
+is_pair byte next bytes =
+    byte == backslash && elim (next == backslash && begins newline bytes) [ true ↦ false | false ↦ true ]
 
 abbrev pub is_at_pair : ℕ → ℕ → Bool
-is_at_pair byte next = byte == 64 && next == 64
+is_at_pair byte next = byte == at_sign && next == at_sign
 
 abbrev pub string_bytes : List ℕ → List ℕ
 string_bytes [] = []
@@ -42,7 +44,7 @@ include_bytes (byte ∷ next ∷ bytes) =
 abbrev pub units : List ℕ → List (List ℕ)
 units [] = []
 units (byte ∷ []) = (byte ∷ []) ∷ []
-units (byte ∷ next ∷ bytes) = elim (byte == 92) [
+units (byte ∷ next ∷ bytes) = elim (byte == backslash) [
   | true ↦ (byte ∷ next ∷ []) ∷ units bytes
   | false ↦ (byte ∷ []) ∷ units (next ∷ bytes)
 ]
@@ -73,7 +75,7 @@ divided_typewriter text = braced (codes "\\.") (divided text)
 
 -- A control text goes to the first `@>`. In it `@@` is one `@`, and another `@` is kept.
 abbrev pub is_text_end : ℕ → ℕ → Bool
-is_text_end byte next = byte == 64 && next == 62
+is_text_end byte next = byte == at_sign && next == greater
 
 abbrev pub text_to_end : List ℕ → List ℕ
 text_to_end [] = []

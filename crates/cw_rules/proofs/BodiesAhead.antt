@@ -10,7 +10,8 @@ use Rattle.cw_rules.specs.declared.bodies.Body.{Body}
 use Rattle.cw_rules.specs.declared.bodies.Body.TheVariants as bodies
 use Rattle.cw_rules.specs.declared.bodies.Inside.{Inside}
 use Rattle.cw_rules.specs.declared.bodies.Noted.{Noted}
-use Rattle.cw_rules.specs.Bytes.{newline, star, slash, greater, at_sign, backslash, begins, begins_with}
+use Rattle.cw_base.specs.Bytes.{newline, backslash}
+use Rattle.cw_rules.specs.Bytes.{star, slash, greater, at_sign, begins, begins_with}
 use Rattle.cw_base.specs.Text.{bar}
 use Rattle.cw_rules.specs.Bodies.{stops, takes_next, note_on, braces_after, stepped, goes_on, ended, note_here}
 use Rattle.cw_rules.specs.Bodies.{with_note, noted, closing_bytes, stop_at, extent, all_notes, and_last, note_unless}

@@ -24,7 +24,8 @@ use Rattle.cw_rules.specs.declared.parts.Start.TheVariants as start
 use Rattle.cw_rules.specs.declared.signs.Sign.TheVariants as signs
 use Rattle.cw_rules.specs.declared.tokens.TokKind.{TokKind}
 use Rattle.cw_rules.specs.declared.tokens.TokKind.TheVariants as kinds
-use Rattle.cw_rules.specs.Bytes.{newline, quote, apostrophe, hash, star, slash, less, greater, at_sign, backslash}
+use Rattle.cw_base.specs.Bytes.{newline, backslash}
+use Rattle.cw_rules.specs.Bytes.{quote, apostrophe, hash, star, slash, less, greater, at_sign}
 use Rattle.cw_base.specs.Text.{bar}
 use Rattle.cw_rules.specs.Bytes.{run, is_in, is_letter, is_mark, begins}
 use Rattle.cw_rules.specs.Constants.{constant}

@@ -22,7 +22,8 @@ use Rattle.cw_rules.specs.declared.tokens.TokKind.TheVariants as kinds
 use Rattle.cw_rules.specs.Answers.{Answer, Token, Begin, Finish, Note, Where, Cut, Found, before, note_answers, plain}
 use Rattle.cw_rules.specs.Answers.{dropped, has_sign, is_head_sign}
 use Rattle.cw_rules.specs.Bodies.{one_note, note_unless}
-use Rattle.cw_rules.specs.Bytes.{newline, hash, star, slash, less, at_sign, backslash, comma}
+use Rattle.cw_base.specs.Bytes.{newline, backslash}
+use Rattle.cw_rules.specs.Bytes.{hash, star, slash, less, at_sign, comma}
 use Rattle.cw_base.specs.Text.{bar}
 use Rattle.cw_rules.specs.Bytes.{right_paren, left_paren, run, begins, is_letter, is_mark, is_in}
 use Rattle.cw_rules.specs.Codes.{code_at, has_control_text, effect_in_limbo, effect_in_tex}

@@ -10,7 +10,8 @@ use Rattle.cw_rules.specs.declared.parts.Part.TheVariants as parts
 use Rattle.cw_rules.specs.declared.parts.Opened.{Opened}
 use Rattle.cw_rules.specs.declared.parts.Start.{Start}
 use Rattle.cw_rules.specs.declared.parts.Start.TheVariants as start
-use Rattle.cw_rules.specs.Bytes.{newline, hash, star, slash, less, at_sign, is_in, is_letter}
+use Rattle.cw_base.specs.Bytes.{newline}
+use Rattle.cw_rules.specs.Bytes.{hash, star, slash, less, at_sign, is_in, is_letter}
 use Rattle.cw_base.specs.Text.{bar}
 use Rattle.cw_rules.specs.Bytes.{begins, is_mark}
 use Rattle.cw_rules.specs.Constants.{constant}

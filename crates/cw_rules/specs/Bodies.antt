@@ -10,7 +10,8 @@ use Rattle.cw_rules.specs.declared.bodies.Body.TheVariants.{Quoted, IncludeName,
 use Rattle.cw_rules.specs.declared.bodies.Inside.{Inside}
 use Rattle.cw_rules.specs.declared.bodies.Noted.{Noted}
 use Rattle.cw_rules.specs.declared.bodies.Extent.{Extent}
-use Rattle.cw_rules.specs.Bytes.{newline, star, slash, greater, at_sign, backslash, left_brace, right_brace}
+use Rattle.cw_base.specs.Bytes.{newline, backslash}
+use Rattle.cw_rules.specs.Bytes.{star, slash, greater, at_sign, left_brace, right_brace}
 use Rattle.cw_base.specs.Text.{bar}
 use Rattle.cw_rules.specs.Bytes.{begins, begins_with}
 use Rattle.cw_rules.specs.Codes.{begins_section}

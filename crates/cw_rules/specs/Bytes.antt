@@ -1,12 +1,10 @@
 -- The bytes and sets of bytes that the rules of the scanner name.
 use Rattle.std.specs.Prelude.{ℕ, ◌+◌, Bool, true, false, ◌&&◌, ◌||◌, not, ◌==◌, nat_le, List, [], ◌∷◌}
+use Rattle.cw_base.specs.Bytes.{byte_of, newline}
 use Rattle.cw_base.specs.Text.{is_blank, bar}
 use Rattle.cw_rules.specs.declared.classes.Class.{Class}
 use Rattle.cw_rules.specs.declared.classes.Class.TheVariants.{Blank, White, Word, Digit, HexDigit, BinaryDigit, Suffix}
 use Rattle.cw_rules.specs.declared.classes.Class.TheVariants.{LimboText, TexText, IncludeName}
-
-abbrev pub newline : ℕ
-newline = 10
 
 abbrev pub quote : ℕ
 quote = 34
@@ -56,9 +54,6 @@ greater = 62
 abbrev pub at_sign : ℕ
 at_sign = 64
 
-abbrev pub backslash : ℕ
-backslash = 92
-
 abbrev pub left_brace : ℕ
 left_brace = 123
 
@@ -70,7 +65,7 @@ is_between low high byte = nat_le low byte && nat_le byte high
 
 -- an ASCII digit
 abbrev pub is_digit : ℕ → Bool
-is_digit byte = is_between 48 57 byte
+is_digit byte = is_between (byte_of "0") (byte_of "9") byte
 
 -- an ASCII letter in either case, by its small form
 abbrev pub is_letter_of : ℕ → ℕ → Bool
@@ -78,18 +73,21 @@ is_letter_of small byte = byte == small || byte + 32 == small
 
 -- A letter is an ASCII letter, `_`, `$` or a byte of 128 and above.
 abbrev pub is_letter : ℕ → Bool
-is_letter byte = is_between 97 122 byte || is_between 65 90 byte || byte == 95 || byte == 36 || nat_le 128 byte
+is_letter byte =
+    is_between (byte_of "a") (byte_of "z") byte || is_between (byte_of "A") (byte_of "Z") byte ||
+    byte == byte_of "_" || byte == byte_of "$" || nat_le 128 byte
 
 -- `u`, `l` and `f` may stand behind a constant
 abbrev pub is_suffix : ℕ → Bool
-is_suffix byte = is_letter_of 117 byte || is_letter_of 108 byte || is_letter_of 102 byte
+is_suffix byte = is_letter_of (byte_of "u") byte || is_letter_of (byte_of "l") byte || is_letter_of (byte_of "f") byte
 
 -- A string goes from a mark to the same one.
 abbrev pub is_mark : ℕ → Bool
 is_mark byte = byte == quote || byte == apostrophe
 
 abbrev pub is_hex_digit : ℕ → Bool
-is_hex_digit byte = is_digit byte || is_between 97 102 byte || is_between 65 70 byte
+is_hex_digit byte =
+    is_digit byte || is_between (byte_of "a") (byte_of "f") byte || is_between (byte_of "A") (byte_of "F") byte
 
 abbrev pub is_in : Class → ℕ → Bool
 is_in Blank byte = is_blank byte
@@ -97,7 +95,7 @@ is_in White byte = byte == newline || is_blank byte
 is_in Word byte = is_letter byte || is_digit byte
 is_in Digit byte = is_digit byte
 is_in HexDigit byte = is_hex_digit byte
-is_in BinaryDigit byte = is_between 48 49 byte
+is_in BinaryDigit byte = is_between (byte_of "0") (byte_of "1") byte
 is_in Suffix byte = is_suffix byte
 is_in LimboText byte = not (byte == at_sign)
 is_in TexText byte = not (byte == at_sign || byte == bar)

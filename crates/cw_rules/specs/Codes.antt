@@ -11,40 +11,41 @@ use Rattle.cw_rules.specs.declared.codes.Code.TheVariants.{BeginArgument, EndArg
 use Rattle.cw_rules.specs.declared.codes.Code.TheVariants.{Letters, Unknown}
 use Rattle.cw_rules.specs.declared.codes.Effect.{Effect}
 use Rattle.cw_rules.specs.declared.codes.Effect.TheVariants.{Stands, Drops, Defines, Formats, BeginsC}
-use Rattle.cw_rules.specs.Bytes.{is_between, is_letter_of, newline}
+use Rattle.cw_base.specs.Bytes.{newline, byte_of}
+use Rattle.cw_rules.specs.Bytes.{is_between, is_letter_of}
 
 -- the code of the byte behind an `@`
 abbrev pub code_of : ℕ → Code
 code_of byte =
-    if byte == 64 then At
+    if byte == byte_of "@" then At
     else (if byte == newline || is_blank byte then Section
-    else (if byte == 42 then StarredSection
-    else (if is_letter_of 100 byte then Define
-    else (if is_letter_of 102 byte then Format
-    else (if is_letter_of 115 byte then SilentFormat
-    else (if is_letter_of 99 byte || is_letter_of 112 byte then Program
-    else (if byte == 60 then SectionName
-    else (if byte == 40 then FileName
-    else (if byte == 94 then Roman
-    else (if byte == 46 then Typewriter
-    else (if byte == 58 then UserEntry
-    else (if byte == 33 then Underline
-    else (if is_letter_of 113 byte then Ignored
-    else (if is_letter_of 116 byte then TexBox
-    else (if byte == 61 then Verbatim
-    else (if byte == 44 then ThinSpace
-    else (if byte == 47 then LineBreak
-    else (if byte == 124 then OptionalBreak
-    else (if byte == 35 then BigBreak
-    else (if byte == 43 then NoBreak
-    else (if byte == 59 then InvisibleSemicolon
-    else (if byte == 91 then BeginArgument
-    else (if byte == 93 then EndArgument
-    else (if is_letter_of 104 byte then HeaderFile
-    else (if byte == 38 then Join
-    else (if byte == 39 then Quote
-    else (if is_between 48 50 byte then Trace
-    else (if is_letter_of 108 byte then Letters
+    else (if byte == byte_of "*" then StarredSection
+    else (if is_letter_of (byte_of "d") byte then Define
+    else (if is_letter_of (byte_of "f") byte then Format
+    else (if is_letter_of (byte_of "s") byte then SilentFormat
+    else (if is_letter_of (byte_of "c") byte || is_letter_of (byte_of "p") byte then Program
+    else (if byte == byte_of "<" then SectionName
+    else (if byte == byte_of "(" then FileName
+    else (if byte == byte_of "^" then Roman
+    else (if byte == byte_of "." then Typewriter
+    else (if byte == byte_of ":" then UserEntry
+    else (if byte == byte_of "!" then Underline
+    else (if is_letter_of (byte_of "q") byte then Ignored
+    else (if is_letter_of (byte_of "t") byte then TexBox
+    else (if byte == byte_of "=" then Verbatim
+    else (if byte == byte_of "," then ThinSpace
+    else (if byte == byte_of "/" then LineBreak
+    else (if byte == byte_of "|" then OptionalBreak
+    else (if byte == byte_of "#" then BigBreak
+    else (if byte == byte_of "+" then NoBreak
+    else (if byte == byte_of ";" then InvisibleSemicolon
+    else (if byte == byte_of "[" then BeginArgument
+    else (if byte == byte_of "]" then EndArgument
+    else (if is_letter_of (byte_of "h") byte then HeaderFile
+    else (if byte == byte_of "&" then Join
+    else (if byte == byte_of "'" then Quote
+    else (if is_between (byte_of "0") (byte_of "2") byte then Trace
+    else (if is_letter_of (byte_of "l") byte then Letters
     else Unknown))))))))))))))))))))))))))))
 
 -- the code of the bytes behind an `@`

@@ -1,6 +1,7 @@
 -- How many bytes a constant takes at the beginning of these bytes, or 0 where none begins.
 use Rattle.std.specs.Prelude.{ℕ, ◌+◌, Bool, true, false, ◌&&◌, ◌||◌, not, ◌==◌, nat_lt, List, [], ◌∷◌, drop}
 use Rattle.std.specs.Prelude.{if◌then◌else◌}
+use Rattle.cw_base.specs.Bytes.{byte_of}
 use Rattle.cw_rules.specs.declared.classes.Class.{Class}
 use Rattle.cw_rules.specs.declared.classes.Class.TheVariants.{Digit, HexDigit, BinaryDigit, Suffix}
 use Rattle.cw_rules.specs.Bytes.{begins, begins_by, is_in, is_letter_of, run, apostrophe, plus, minus, dot, digit_0}
@@ -57,15 +58,16 @@ is_prefixed letter class bytes =
 
 -- `0x` and a hexadecimal number, whose exponent has a `p`
 abbrev pub hexadecimal : List ℕ → ℕ
-hexadecimal bytes = if is_prefixed 120 HexDigit bytes then 2 + scaled HexDigit 112 (drop 2 bytes) else 0
+hexadecimal bytes =
+    if is_prefixed (byte_of "x") HexDigit bytes then 2 + scaled HexDigit (byte_of "p") (drop 2 bytes) else 0
 
 -- `0b` and binary digits
 abbrev pub binary : List ℕ → ℕ
-binary bytes = if is_prefixed 98 BinaryDigit bytes then 2 + digits BinaryDigit (drop 2 bytes) else 0
+binary bytes = if is_prefixed (byte_of "b") BinaryDigit bytes then 2 + digits BinaryDigit (drop 2 bytes) else 0
 
 -- a decimal number, which begins with `0` where it is octal
 abbrev pub decimal : List ℕ → ℕ
-decimal bytes = scaled Digit 101 bytes
+decimal bytes = scaled Digit (byte_of "e") bytes
 
 abbrev pub number : List ℕ → ℕ
 number bytes =

@@ -4,7 +4,8 @@ use Rattle.std.specs.Prelude.{◌≡◌, ℕ, ◌<◌, ◌≤◌, Bool, true, fa
 use Rattle.cw_base.specs.declared.span.Span.{Span}
 use Rattle.cw_rules.specs.declared.classes.Class.TheVariants.{White}
 use Rattle.cw_rules.specs.Answers.{Answer, Token, Begin, Finish, Note, Seen}
-use Rattle.cw_rules.specs.Bytes.{newline, backslash, begins, is_in}
+use Rattle.cw_base.specs.Bytes.{newline, backslash}
+use Rattle.cw_rules.specs.Bytes.{begins, is_in}
 
 -- The bytes begin with white space: a blank, a line's end, or a backslash before a line's end.
 abbrev pub begins_space : List ℕ → Bool

@@ -25,8 +25,9 @@ use Rattle.cw_rules.specs.declared.signs.Sign.{Sign}
 use Rattle.cw_rules.specs.declared.signs.Sign.TheVariants as signs
 use Rattle.cw_rules.specs.declared.tokens.TokKind.{TokKind}
 use Rattle.cw_rules.specs.declared.tokens.TokKind.TheVariants as kinds
-use Rattle.cw_rules.specs.Bytes.{newline, hash, apostrophe, left_paren, right_paren, star, comma, slash, less}
-use Rattle.cw_rules.specs.Bytes.{greater, equals, at_sign, backslash, run, begins, begins_by, begins_with}
+use Rattle.cw_base.specs.Bytes.{newline, backslash}
+use Rattle.cw_rules.specs.Bytes.{hash, apostrophe, left_paren, right_paren, star, comma, slash, less}
+use Rattle.cw_rules.specs.Bytes.{greater, equals, at_sign, run, begins, begins_by, begins_with}
 use Rattle.cw_base.specs.Conditions.{list_if}
 use Rattle.cw_base.specs.Text.{bar}
 use Rattle.cw_rules.specs.Bytes.{is_letter, is_mark, is_in}

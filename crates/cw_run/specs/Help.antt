@@ -1,6 +1,7 @@
 -- What `--help` prints: the words, the letters with what each turns, and the statuses.
 use Rattle.std.specs.Prelude.{ℕ, List, [], ◌∷◌, codes}
 use Rattle.std.specs.List.{join_with_byte}
+use Rattle.cw_base.specs.Bytes.{newline}
 
 abbrev pub help_lines : List (List ℕ)
 help_lines =
@@ -27,6 +28,6 @@ help_lines =
     codes "Status: 0 no errors, 1 errors in the web or in these words," ∷
     codes "2 a device failed, 3 memory ran out." ∷ []
 
--- its lines, with byte 10 between them
+-- its lines, with a newline between them
 abbrev pub help_text : List ℕ
-help_text = join_with_byte 10 help_lines
+help_text = join_with_byte newline help_lines

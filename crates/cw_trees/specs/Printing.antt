@@ -3,6 +3,7 @@
 use Rattle.std.specs.Prelude.{ℕ, zero, suc, pred, max, Bool, true, false, ◌&&◌, ◌||◌, eqb, ltb, leb, Option, Some, None}
 use Rattle.std.specs.Prelude.{List, [], ◌∷◌, ◌++◌, length, codes}
 use Rattle.std.specs.List.{list_any}
+use Rattle.cw_base.specs.Bytes.{byte_of, backslash}
 use Rattle.cw_trees.specs.declared.Control.{Control}
 use Rattle.cw_trees.specs.declared.Control.TheVariants.{Blank, OptionalBreak, Break, BigBreak, Cancel, Backup, Indent}
 use Rattle.cw_trees.specs.declared.Control.TheVariants.{Outdent, OptionalLineBreak0, OptionalLineBreak9, ThinSpace}
@@ -31,7 +32,10 @@ sign_bytes _ = []
 
 -- Names. In a name `_` and `$` have a backslash.
 abbrev pub name_byte : ℕ → List ℕ
-name_byte byte = elim (eqb byte 95 || eqb byte 36) [ true ↦ 92 ∷ byte ∷ [] | false ↦ byte ∷ [] ]
+name_byte byte = elim (eqb byte (byte_of "_") || eqb byte (byte_of "$")) [
+  | true ↦ backslash ∷ byte ∷ []
+  | false ↦ byte ∷ []
+]
 
 abbrev pub name_bytes : List ℕ → List ℕ
 name_bytes [] = []
@@ -39,7 +43,7 @@ name_bytes (byte ∷ bytes) = name_byte byte ++ name_bytes bytes
 
 -- a lower case letter of ASCII, or a byte of 128 and above
 abbrev pub is_lower : ℕ → Bool
-is_lower byte = (leb 97 byte && leb byte 122) || leb 128 byte
+is_lower byte = (leb (byte_of "a") byte && leb byte (byte_of "z")) || leb 128 byte
 
 abbrev pub long_ident_bytes : List ℕ → List ℕ
 long_ident_bytes name = elim (list_any is_lower name) [

@@ -5,7 +5,8 @@ use Rattle.std.specs.Prelude.{if◌then◌else◌}
 use Rattle.std.proofs.lemmas.Bool.{eq-eqb, ne_eqb}
 use Rattle.cw_base.proofs.TestLaws.{not-false}
 use Rattle.cw_rules.specs.Answers.{Where}
-use Rattle.cw_rules.specs.Bytes.{newline, hash, less}
+use Rattle.cw_base.specs.Bytes.{newline}
+use Rattle.cw_rules.specs.Bytes.{hash, less}
 use Rattle.cw_rules.specs.Tokens.{behind_include, closes_on_line, ends_at_bar, in_code, is_space, start_of}
 use Rattle.cw_rules.specs.Apart.{code_text_apart}
 use Rattle.cw_rules.specs.Tokens.{takes_hash_line}
