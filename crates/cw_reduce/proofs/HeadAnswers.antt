@@ -1,100 +1,85 @@
 -- The words of a head are read from answers one after another.
-use Rattle.cw_reduce.proofs.Terms.{◌≡◌, ℕ, ◌+◌, ◌<◌, ◌≤◌, ◌^◌, length, arith, Bool, true, Option, Some, None, List, []}
-use Rattle.cw_reduce.proofs.Terms.{◌∷◌, ◌++◌, option_map, refl, sym, ap, ◌∙◌, subst, list_all, append-nil, both}
-use Rattle.cw_reduce.proofs.Terms.{both-left, both-right, NoteKind, Span, Answer, Token, Begin, Finish, Note, Seen}
-use Rattle.cw_reduce.proofs.Terms.{seen, Gives, Wanted, Lexed, Tok, TokKind, Words, no_word, word_before, head_behind}
-use Rattle.cw_reduce.proofs.Terms.{head_words, without_words, Nest, End, Leaf, Group, group, nests, first_nest, nest}
+use Rattle.cw_reduce.proofs.Terms.{◌≡◌, ℕ, ◌<◌, ◌≤◌, ◌^◌, length, arith, Bool, true, Option, Some, None, List, [], ◌∷◌}
+use Rattle.cw_reduce.proofs.Terms.{◌++◌, option_map, refl, sym, ap, ◌∙◌, subst, list_all, append-nil, both, both-left}
+use Rattle.cw_reduce.proofs.Terms.{both-right, Span, Answer, Token, Begin, Finish, Note, Seen, seen, Gives, Wanted}
+use Rattle.cw_reduce.proofs.Terms.{Lexed, Tok, TokKind, Nest, End, Leaf, Group, group, nests, first_nest, nest}
 use Rattle.cw_reduce.proofs.Terms.{IsNested, nested-behind, nest-token, Entry, StoredToken, LeafForm, token_form}
 use Rattle.cw_reduce.proofs.Terms.{names_with, is_word, NamesWithin, without_notes, answer_words, StartsBelow}
-use Rattle.cw_reduce.proofs.Terms.{answers_in, first_word, form_tokens, later_words, spelled, spelled_behind}
-use Rattle.cw_reduce.proofs.Terms.{word_tokens, append_assoc}
+use Rattle.cw_reduce.proofs.Terms.{answers_in, append_assoc, first_word, form_tokens, later_words, spelled, word_tokens}
 use Rattle.cw_rules.specs.declared.tokens.Lexed.TheVariants as lexed
 use Rattle.cw_rules.specs.declared.tokens.TokKind.TheVariants as kind
 use Rattle.cw_reduce.proofs.ReadSteps.{gives-is}
+use Rattle.cw_lex.specs.Heads.{Words, no_word, word_before, head_behind, head_words, without_words}
 
 -- ## Notes
 
--- what holds of answers and themselves, and with a note more of the first, holds without the notes at the beginning
-by-notes : (P : List Answer → List Answer → Type 0) → ((answers : List Answer) → P answers answers)
-    → ((note : NoteKind) (place : ℕ) (answers bare : List Answer) → P answers bare → P (Note note place ∷ answers) bare)
-    → (answers : List Answer) → P answers (without_notes answers)
-by-notes P same more [] = same []
-by-notes P same more (Note note place ∷ answers) = more note place answers _ (by-notes P same more answers)
-by-notes P same more (Token t ∷ answers) = same (Token t ∷ answers)
-by-notes P same more (Begin t ∷ answers) = same (Begin t ∷ answers)
-by-notes P same more (Finish t ∷ answers) = same (Finish t ∷ answers)
+-- What is the same without the notes at the beginning.
+pub record Bare (answers bare : List Answer) : Type 0 where
+  pub words : (wanted : Wanted) → answer_words wanted answers ≡ answer_words wanted bare
+  pub left : (wanted : Wanted) → without_words wanted answers ≡ without_words wanted bare
+  pub starts : (limit : ℕ) → StartsBelow limit answers → StartsBelow limit bare
+  pub same : nest bare ≡ nest answers
+  pub nested : IsNested answers → IsNested bare
+  pub short : length bare ≤ length answers
 
-pub words-notes : (wanted : Wanted) (answers : List Answer) → answer_words wanted (without_notes answers)
-    ≡ answer_words wanted answers
-words-notes wanted = by-notes (λ answers bare. answer_words wanted bare ≡ answer_words wanted answers)
-    (λ answers. refl) (λ note place answers bare h. h)
-
-pub left-notes : (wanted : Wanted) (answers : List Answer) → without_words wanted (without_notes answers)
-    ≡ without_words wanted answers
-left-notes wanted = by-notes (λ answers bare. without_words wanted bare ≡ without_words wanted answers)
-    (λ answers. refl) (λ note place answers bare h. h)
-
-pub starts-notes : (limit : ℕ) (answers : List Answer) → StartsBelow limit answers
-    → StartsBelow limit (without_notes answers)
-starts-notes limit = by-notes (λ answers bare. StartsBelow limit answers → StartsBelow limit bare)
-    (λ answers h. h) (λ note place answers bare h. h)
-
-pub nests-notes : (answers : List Answer) → nest (without_notes answers) ≡ nest answers
-nests-notes = by-notes (λ answers bare. nest bare ≡ nest answers) (λ answers. refl) (λ note place answers bare h. h)
-
-pub nested-notes : (answers : List Answer) → IsNested answers → IsNested (without_notes answers)
-nested-notes = by-notes (λ answers bare. IsNested answers → IsNested bare) (λ answers h. h)
-    (λ note place answers bare h. h)
-
-notes-short : (answers : List Answer) → length (without_notes answers) ≤ length answers
-notes-short = by-notes (λ answers bare. length bare ≤ length answers) (λ answers. omega arith)
-    (λ note place answers bare h. omega (arith, h))
+pub bare : (answers : List Answer) → Bare answers (without_notes answers)
+bare (Note note place ∷ answers) =
+    let b = bare answers in
+    record {
+      words = b.words;
+      left = b.left;
+      starts = b.starts;
+      same = b.same;
+      nested = b.nested;
+      short = omega (arith, b.short);
+    }
+bare answers = record {
+  words = λ wanted. refl;
+  left = λ wanted. refl;
+  starts = λ limit h. h;
+  same = refl;
+  nested = λ h. h;
+  short = omega arith;
+}
 
 pub token-shorter : (answers new : List Answer) (t : Tok) → Gives (without_notes answers) (lexed.Token t) new
     → length new < length answers
 token-shorter answers new t g =
-    omega (arith, ap length g, notes-short answers)
+    omega (arith, ap length g, (bare answers).short)
 
 -- answers that begin with a token give no other
 pub only-token : (t : Seen) (rest new : List Answer) (answer : Lexed) → Gives (Token t ∷ rest) answer new
     → ((u : Tok) → answer ≡ lexed.Token u → ⊥) → ⊥
 only-token t rest new (lexed.Token u) g n = n u refl
-only-token t rest new (lexed.Begin u) g n = cc
-only-token t rest new (lexed.Finish u) g n = cc
-only-token t rest new (lexed.Note note place) g n = cc
 only-token t rest new lexed.End g n = let h = g.0 in cc
+only-token t rest new _ g n = cc
 
 -- ## Words
 
 pub takes-word : (wanted : Wanted) (k : TokKind) (span : Span) (next : Wanted) → head_behind wanted k span ≡ Some next
     → is_word k ≡ true
 takes-word wanted kind.Identifier span next h = refl
-takes-word wanted (kind.Sign s) span next h = refl
-takes-word wanted k span next h = absurd cc
+takes-word wanted k span next h = cc
 
 pub spelled-behind : (first : List Seen) (word : Seen) (names : List Entry) → spelled (first ++ word ∷ []) names
     ≡ record {
       tokens = (spelled first names).tokens ++ word_tokens word (spelled first names).names;
       names = names_with word.kind word.text (spelled first names).names;
     }
-spelled-behind [] word names = ap (λ ts. record { tokens = ts; names = names_with word.kind word.text names })
-    (append-nil (word_tokens word names))
+spelled-behind [] word names = rw (append-nil (word_tokens word names))
 spelled-behind (w ∷ first) word names =
     let n = names_with w.kind w.text names in
-    ap (spelled_behind (word_tokens w names)) (spelled-behind first word n)
-    ∙ ap (λ ts. record { tokens = ts; names = names_with word.kind word.text (spelled first n).names })
-    (sym (append_assoc (word_tokens w names) (spelled first n).tokens (word_tokens word (spelled first n).names)))
+    rw (
+      spelled-behind first word n,
+      append_assoc (word_tokens w names) (spelled first n).tokens
+          (word_tokens word (spelled first n).names),
+    )
 
 form-is : (o : Option LeafForm) (token : StoredToken) → option_map (λ form. form.tokens) o ≡ Some (token ∷ [])
     → form_tokens o ≡ token ∷ []
-form-is None token h = absurd (none h)
-  where
-    none : ◌≡◌ {A = Option (List StoredToken)} None (Some (token ∷ [])) → ⊥
-    none k = cc
-form-is (Some form) token h = some h
-  where
-    some : ◌≡◌ {A = Option (List StoredToken)} (Some form.tokens) (Some (token ∷ [])) → form.tokens ≡ token ∷ []
-    some k = cc
+form-is None token h = let k : ◌≡◌ {A = Option (List StoredToken)} None (Some (token ∷ [])) = h in cc
+form-is (Some form) token h =
+    let k : ◌≡◌ {A = Option (List StoredToken)} (Some form.tokens) (Some (token ∷ [])) = h in cc
 
 -- how far the words have been read
 pub record ReadsWords (wanted₀ : Wanted) (all : List Answer) (names₀ : List Entry) (tokens₀ : List StoredToken)
@@ -106,17 +91,6 @@ pub record ReadsWords (wanted₀ : Wanted) (all : List Answer) (names₀ : List 
   pub left : without_words wanted rest ≡ without_words wanted₀ all
   pub starts : StartsBelow (2 ^ 32) rest
 
-pub reads-start : (wanted : Wanted) (all : List Answer) (names : List Entry) (tokens : List StoredToken)
-    → StartsBelow (2 ^ 32) all → ReadsWords wanted all names tokens wanted all names tokens
-reads-start wanted all names tokens h = record {
-  first = [];
-  words = refl;
-  names_are = refl;
-  tokens_are = sym (append-nil tokens);
-  left = refl;
-  starts = h;
-}
-
 -- the head ends before these answers
 pub record EndsBefore (wanted : Wanted) (rest ahead : List Answer) : Type 0 where
   pub none : answer_words wanted rest ≡ []
@@ -127,29 +101,21 @@ pub ends-other : (wanted : Wanted) (rest new : List Answer) (answer : Lexed) →
 ends-other wanted [] new answer g n = record { none = refl; is = sym (gives-is [] new answer g) }
 ends-other wanted (Note note place ∷ rest) new answer g n = let e = ends-other wanted rest new answer g n in
     record { none = e.none; is = e.is }
-ends-other wanted (Begin t ∷ rest) new answer g n =
-    record { none = refl; is = sym (gives-is (Begin t ∷ rest) new answer g) }
-ends-other wanted (Finish t ∷ rest) new answer g n =
-    record { none = refl; is = sym (gives-is (Finish t ∷ rest) new answer g) }
+ends-other wanted (Begin t ∷ rest) new answer g n = record { none = refl; is = sym (gives-is _ new answer g) }
+ends-other wanted (Finish t ∷ rest) new answer g n = record { none = refl; is = sym (gives-is _ new answer g) }
 ends-other wanted (Token t ∷ rest) new answer g n = absurd (only-token t rest new answer g n)
 
 pub ends-token : (wanted : Wanted) (rest new : List Answer) (t : Tok) → Gives (without_notes rest) (lexed.Token t) new
     → head_behind wanted t.kind t.span ≡ None → EndsBefore wanted rest (answers_in (lexed.Token t) ++ new)
 ends-token wanted rest new t g e = record {
-  none = sym (words-notes wanted rest) ∙ (ap (answer_words wanted) g
-      ∙ ap (λ o. elim o as (λ o. List Seen) [ Some next ↦ seen t ∷ answer_words next new | None ↦ [] ]) e);
-  is = sym (sym (left-notes wanted rest) ∙ (ap (without_words wanted) g
-      ∙ ap (λ o. elim o as (λ o. List Answer) [ Some next ↦ without_words next new | None ↦ Token (seen t) ∷ new ]) e));
+  none = rw ((bare rest).words wanted, g, e, answer_words);
+  is = rw ((bare rest).left wanted, g, e, without_words);
 }
 
-module _ (wanted₀ : Wanted) (all : List Answer) (names₀ : List Entry) (tokens₀ : List StoredToken) (wanted : Wanted)
-    (rest : List Answer) (names : List Entry) (tokens : List StoredToken)
+module _ {wanted₀ : Wanted} {all : List Answer} {names₀ : List Entry} {tokens₀ : List StoredToken} {wanted : Wanted}
+    {rest : List Answer} {names : List Entry} {tokens : List StoredToken}
     (r : ReadsWords wanted₀ all names₀ tokens₀ wanted rest names tokens) where
-  -- the names on the way
-  pub reads-within : NamesWithin (answer_words wanted₀ all) names₀ names
-  reads-within = record { first = r.first; later = answer_words wanted rest; are = r.words; is = r.names_are }
-
-  module _ (ahead : List Answer) (e : EndsBefore wanted rest ahead) where
+  module _ {ahead : List Answer} (e : EndsBefore wanted rest ahead) where
     all-read : answer_words wanted₀ all ≡ r.first
     all-read = sym r.words ∙ (ap (λ ws. r.first ++ ws) e.none ∙ append-nil r.first)
 
@@ -166,7 +132,7 @@ module _ (wanted₀ : Wanted) (all : List Answer) (names₀ : List Entry) (token
   pub reads-starts : (answer : Lexed) (new : List Answer) → Gives (without_notes rest) answer new
       → StartsBelow (2 ^ 32) (answers_in answer ++ new)
   reads-starts answer new g = subst (StartsBelow (2 ^ 32)) (gives-is (without_notes rest) new answer g)
-      (starts-notes (2 ^ 32) rest r.starts)
+      ((bare rest).starts (2 ^ 32) r.starts)
 
   -- one word more
   module _ (t : Tok) (new : List Answer) (g : Gives (without_notes rest) (lexed.Token t) new) (next : Wanted)
@@ -182,12 +148,10 @@ module _ (wanted₀ : Wanted) (all : List Answer) (names₀ : List Entry) (token
     }) (sym r.names_are)
 
     here : answer_words wanted rest ≡ seen t ∷ answer_words next new
-    here = sym (words-notes wanted rest) ∙ (ap (answer_words wanted) g
-        ∙ ap (λ o. elim o as (λ o. List Seen) [ Some next ↦ seen t ∷ answer_words next new | None ↦ [] ]) e)
+    here = rw ((bare rest).words wanted, g, e, answer_words)
 
     there : without_words wanted rest ≡ without_words next new
-    there = sym (left-notes wanted rest) ∙ (ap (without_words wanted) g
-        ∙ ap (λ o. elim o as (λ o. List Answer) [ Some next ↦ without_words next new | None ↦ Token (seen t) ∷ new ]) e)
+    there = rw ((bare rest).left wanted, g, e, without_words)
 
     all-words : (r.first ++ seen t ∷ []) ++ answer_words next new ≡ answer_words wanted₀ all
     all-words = append_assoc r.first (seen t ∷ []) (answer_words next new)
@@ -209,21 +173,22 @@ module _ (wanted₀ : Wanted) (all : List Answer) (names₀ : List Entry) (token
       first = r.first ++ seen t ∷ [];
       words = all-words;
       names_are = named ∙ ap (λ s. s.names) (sym behind);
-      tokens_are = pushed ∙ (ap (λ ts. ts ++ token ∷ []) r.tokens_are
-          ∙ (append_assoc tokens₀ (spelled r.first names₀).tokens (token ∷ [])
-          ∙ (ap (λ ts. tokens₀ ++ ((spelled r.first names₀).tokens ++ ts))
-          (sym (form-is (token_form t.kind t.text.now t.hash_line t.span.start names) token form))
-          ∙ ap (λ s. tokens₀ ++ s.tokens) (sym behind))));
+      tokens_are = rw (
+        pushed,
+        r.tokens_are,
+        append_assoc tokens₀ (spelled r.first names₀).tokens (token ∷ []),
+        ← form-is (token_form t.kind t.text.now t.hash_line t.span.start names) token form,
+        behind,
+      );
       left = sym there ∙ r.left;
-      starts = (subst (StartsBelow (2 ^ 32)) g (starts-notes (2 ^ 32) rest r.starts)).1;
+      starts = (subst (StartsBelow (2 ^ 32)) g ((bare rest).starts (2 ^ 32) r.starts)).1;
     }
 
 -- ## Words of answers and of their nest
 
 group-words : (wanted : Wanted) (t : Seen) (ns : List Nest) → (head_words wanted (first_nest (group t ns))).words ≡ []
-group-words wanted t [] = refl
-group-words wanted t (n ∷ []) = refl
 group-words wanted t (n ∷ m ∷ ns) = refl
+group-words wanted t ns = refl
 
 pub words-same : (wanted : Wanted) (answers : List Answer) → IsNested answers → (head_words wanted (nest answers)).words
     ≡ answer_words wanted answers
@@ -243,26 +208,32 @@ words-same wanted (Token t ∷ answers) h = ap (λ n. (head_words wanted n).word
     by None more = refl
     by (Some next) more = ap (λ ws. t ∷ ws) (more next)
 
--- all of them are words
 abbrev pub word_kind : Seen → Bool
 word_kind word = is_word word.kind
 
-pub head-words-fit : (wanted : Wanted) (n : Nest) → list_all word_kind (head_words wanted n).words ≡ true
-head-words-fit wanted End = refl
-head-words-fit wanted (Group t inner rest) = refl
-head-words-fit wanted (Leaf t rest) = by (head_behind wanted t.kind t.span) (takes-word wanted t.kind t.span)
-    (λ next. head-words-fit next rest)
+-- what holds of no word, and with one more word where it holds behind it, holds of the words of a head
+pub head-words-by : (P : Wanted → Nest → Words → Type 0) → ((wanted : Wanted) (n : Nest) → P wanted n (no_word n))
+    → ((wanted next : Wanted) (t : Seen) (rest : Nest) → head_behind wanted t.kind t.span ≡ Some next
+    → P next rest (head_words next rest) → P wanted (Leaf t rest) (word_before t (head_words next rest)))
+    → (wanted : Wanted) (n : Nest) → P wanted n (head_words wanted n)
+head-words-by P none more wanted End = none wanted End
+head-words-by P none more wanted (Group t inner rest) = none wanted (Group t inner rest)
+head-words-by P none more wanted (Leaf t rest) = by (head_behind wanted t.kind t.span) refl
+    (λ next. head-words-by P none more next rest)
   where
-    by : (o : Option Wanted) → ((next : Wanted) → o ≡ Some next → word_kind t ≡ true)
-        → ((next : Wanted) → list_all word_kind (head_words next rest).words ≡ true)
-        → list_all word_kind (elim o as (λ o. Words) [
+    by : (o : Option Wanted) → head_behind wanted t.kind t.span ≡ o
+        → ((next : Wanted) → P next rest (head_words next rest))
+        → P wanted (Leaf t rest) (elim o as (λ o. Words) [
           | Some next ↦ word_before t (head_words next rest)
           | None ↦ no_word (Leaf t rest)
-        ]).words
-        ≡ true
-    by None is more = refl
-    by (Some next) is more = both (word_kind t) (list_all word_kind (head_words next rest).words) (is next refl)
-        (more next)
+        ])
+    by None e later = none wanted (Leaf t rest)
+    by (Some next) e later = more wanted next t rest e (later next)
+
+pub head-words-fit : (wanted : Wanted) (n : Nest) → list_all word_kind (head_words wanted n).words ≡ true
+head-words-fit = head-words-by (λ wanted n ws. list_all word_kind ws.words ≡ true) (λ wanted n. refl)
+    (λ wanted next t rest e h. both (word_kind t) (list_all word_kind (head_words next rest).words)
+    (takes-word wanted t.kind t.span next e) h)
 
 -- the first of two words, and the second
 pub first-all : (p : Seen → Bool) (words : List Seen) → list_all p words ≡ true → list_all p (first_word words) ≡ true
@@ -273,17 +244,6 @@ pub later-all : (p : Seen → Bool) (words : List Seen) → list_all p words ≡
 later-all p [] h = refl
 later-all p (word ∷ words) h = both-right (p word) (list_all p words) h
 
-pub words-fit : (wanted : Wanted) (answers : List Answer) → list_all word_kind (answer_words wanted answers) ≡ true
-words-fit wanted [] = refl
-words-fit wanted (Begin t ∷ answers) = refl
-words-fit wanted (Finish t ∷ answers) = refl
-words-fit wanted (Note note place ∷ answers) = words-fit wanted answers
-words-fit wanted (Token t ∷ answers) = by (head_behind wanted t.kind t.span) refl (λ next. words-fit next answers)
-  where
-    by : (o : Option Wanted) → head_behind wanted t.kind t.span ≡ o
-        → ((next : Wanted) → list_all word_kind (answer_words next answers) ≡ true)
-        → list_all word_kind (elim o as (λ o. List Seen) [ Some next ↦ t ∷ answer_words next answers | None ↦ [] ])
-        ≡ true
-    by None e more = refl
-    by (Some next) e more = both (word_kind t) (list_all word_kind (answer_words next answers))
-        (takes-word wanted t.kind t.span next e) (more next)
+pub words-fit : (wanted : Wanted) (answers : List Answer) → IsNested answers
+    → list_all word_kind (answer_words wanted answers) ≡ true
+words-fit wanted answers h = rw (← words-same wanted answers h) (head-words-fit wanted (nest answers))

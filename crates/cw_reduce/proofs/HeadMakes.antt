@@ -1,29 +1,235 @@
--- What the head of a definition makes.
-use Rattle.cw_reduce.proofs.Terms.{◌≡◌, ℕ, ◌≤◌, true, false, Some, None, List, [], ◌∷◌, ◌++◌, length, refl, sym, ap}
-use Rattle.cw_reduce.proofs.Terms.{◌∙◌, subst, arith, list_all, Flags, Text, Answer, Seen, Wanted, TokKind, Head, Macro}
-use Rattle.cw_reduce.proofs.Terms.{Format, Silent, headed_by, head_words, wanted_by, Nest, nest, IsNested, Entry, Scrap}
-use Rattle.cw_reduce.proofs.Terms.{scrap_agrees, ListId, StoredToken as Token, IsTied, trees_from, unfolded}
-use Rattle.cw_reduce.proofs.Terms.{StoredLists, unfolded-new, Keeps, scraps_of, roots_of, AreRoots, IsSoundLine}
-use Rattle.cw_reduce.proofs.Terms.{leaf-sound, HeadRead, refs_in, IsLast, HasTokens, answer_words, head_line}
-use Rattle.cw_reduce.proofs.Terms.{is_definition, macro_tokens, format_tokens, with_break, read_made, words_in}
-use Rattle.cw_reduce.proofs.Terms.{words_tokens, NameTexts, Known, Made, with_names, spelled, first_word, later_words}
-use Rattle.cw_reduce.proofs.Terms.{dollared, names_in_text, dead, leaf_scrap, head_made, empty-line, keeps-itself}
-use Rattle.cw_base.specs.declared.category.Cat.TheVariants as cat
-use Rattle.cw_rules.specs.declared.codes.Code.TheVariants as code
-use Rattle.cw_lex.specs.declared.heads.Wanted.TheVariants as wants
+-- What the head of a definition makes: the tokens of its list, and its scrap. They refer to no list, and their names
+-- are names. Behind that, what stands behind heads, as they are read.
+use Rattle.cw_reduce.proofs.Terms.{if◌then◌else◌, list_all, ltb-true, both-left, both-right, Cat, Exp, NameId, is_entry}
+use Rattle.cw_reduce.proofs.Terms.{with_entry, Ident as ident_kind, word_form, is_word, names-grow, Wanted, nest}
+use Rattle.cw_reduce.proofs.Terms.{IsNested, ListId, HeadRead, empty-line, keeps-itself, err-if, err-ok, on-err, Token}
+use Rattle.cw_reduce.proofs.Terms.{seen, Gives, is_head_sign, Lexed, Tok, is_name_kind, Nest, Leaf, End, Group, group}
+use Rattle.cw_reduce.proofs.Terms.{nests, first_nest, nested-behind, nest-token, words-leave, Beginning, StartsBelow}
+use Rattle.std.proofs.lemmas.Option.{slice_get-get_or}
 use Rattle.cw_rules.specs.declared.tokens.TokKind.TheVariants as kind
 use Rattle.cw_trees.specs.declared.Control.TheVariants as control
 use Rattle.cw_tokens.specs.declared.token.Token.TheVariants as token
+use Rattle.cw_rewrite.proofs.GatherSteps.{ref-place}
+use Rattle.cw_reduce.proofs.HeadAnswers.{word_kind, words-fit, words-same, bare, only-token}
+use Rattle.cw_base.specs.declared.category.Cat.TheVariants as cat
+use Rattle.cw_rules.specs.declared.codes.Code.TheVariants as code
+use Rattle.cw_lex.specs.declared.heads.Wanted.TheVariants as wants
 use Rattle.cw_reduce.specs.declared.heads.HeadRead.TheVariants as read
-use Rattle.cw_reduce.proofs.HeadAnswers.{word_kind, words-fit, words-same}
-use Rattle.cw_reduce.proofs.HeadReads.{HeadFits, dead-agrees, format-spells, macro-spells}
-use Rattle.cw_reduce.proofs.HeadTokens.{AreNamed, spelled-named, spelled-grow, plain-refs, macro-named, format-named}
-use Rattle.cw_reduce.proofs.HeadTokens.{break-behind, later-names, head-plain, head-tree, head-good}
+use Rattle.cw_reduce.proofs.HeadsShown.{HeadFits, Spells, dead-agrees, fits-by, format-spells, macro-spells}
+use Rattle.cw_reduce.proofs.HeadsShown.{sign_headed}
 use Rattle.cw_translator.proofs.OpenLaws.{plain-keeps}
+use Rattle.cw_rules.specs.declared.tokens.Lexed.TheVariants as lexed
+use Rattle.cw_reduce.proofs.ReadSteps.{gives-is}
+use Rattle.cw_translator.specs.Translating.{spelled, form_tokens, word_tokens, first_word, later_words, dollared, dead}
+use Rattle.cw_translator.specs.Translating.{is_macro, NameTexts, head_made}
+use Rattle.std.proofs.lemmas.List.Sums.{prefix_len-le-length}
+use Rattle.cw_translator.proofs.Terms.{◌≡◌, ℕ, ◌<◌, Option, Some, None, List, [], ◌∷◌, ◌++◌, length, get_or, refl, sym}
+use Rattle.cw_translator.proofs.Terms.{◌∙◌, arith, Token as StoredToken, shape, ref_of, StoredLists, MayBePushed}
+use Rattle.cw_translator.proofs.Terms.{refs_in, ◌≤◌, true, ap, slice_get, append-nil, length-append, Text, Seen}
+use Rattle.cw_translator.proofs.Terms.{TokKind, Entry, place_of, scrap_agrees, reads, Tree, token_ref, tree_in}
+use Rattle.cw_translator.proofs.Terms.{tree_in-same, token_form, names_with, IsNamedBelow, IsGood, leaf_scrap}
+use Rattle.cw_translator.proofs.Terms.{name_in_text, names_in_text, Flags, Answer, IsTied, trees_from, unfolded-new}
+use Rattle.cw_translator.proofs.Terms.{Keeps, scraps_of, roots_of, AreRoots, IsSoundLine, Known, with_names, IsErrAnd}
+use Rattle.cw_translator.proofs.Terms.{Memory, subst, Begin, Note, answers_in}
+use Rattle.std.proofs.Common.{Bool, false, not, nat_lt, Ok, Result, ◌^◌}
+use Rattle.cw_reduce.specs.HeadReading.{macro_tokens, format_tokens, with_break, IsLast, HasTokens, answer_words}
+use Rattle.cw_reduce.specs.HeadReading.{head_line, is_definition, read_made, words_in, words_tokens, NamesWithin}
+use Rattle.cw_reduce.specs.HeadReading.{answers_ahead, head_named, without_notes}
+use Rattle.cw_lex.specs.Heads.{Head, Macro, Format, Silent, headed_by, head_words, wanted_by, Named, Headed, headed}
+use Rattle.cw_lex.specs.Heads.{headless, named_headed, without_words}
+use Rattle.cw_scraps.proofs.LeafForms.{leaf-sound}
+use Rattle.cw_reduce.specs.HeadsRead.{HeadIsRead}
+
+pub word-plain : (ws : List StoredToken) (i : ℕ) (d : StoredToken) → refs_in ws ≡ [] → i < length ws
+    → ref_of (shape (get_or ws i d)) ≡ None
+word-plain ws i d e h = by (ref_of (shape (get_or ws i d))) refl
+  where
+    by : (o : Option ℕ) → ref_of (shape (get_or ws i d)) ≡ o → o ≡ None
+    by None k = refl
+    by (Some x) k =
+        let a = ref-place ws i x (ap token_ref (slice_get-get_or ws i d h) ∙ k) in
+        absurd (omega (arith, ap length e, a.below))
+
+pub plain-may : (s : StoredLists) (t : StoredToken) → ref_of (shape t) ≡ None → MayBePushed s t
+plain-may s t e x h = let k : ◌≡◌ {A = Option ℕ} None (Some x) = sym e ∙ h in absurd cc
+
+-- tokens that refer to no list, with names that are among so many
+abbrev pub IsNamed : ℕ → StoredToken → Type 0
+IsNamed count (token.Source number mode) = Unit {0}
+IsNamed count (token.Ident name number) = name.index < count
+IsNamed count (token.Reserved name number c) = name.index < count
+IsNamed count (token.Control c) = Unit {0}
+IsNamed count _ = ⊥
+
+abbrev pub AreNamed : ℕ → List StoredToken → Type 0
+AreNamed count [] = Unit {0}
+AreNamed count (t ∷ ts) = IsNamed count t × AreNamed count ts
+
+named-append : (count : ℕ) (xs ys : List StoredToken) → AreNamed count xs → AreNamed count ys
+    → AreNamed count (xs ++ ys)
+named-append count [] ys h k = k
+named-append count (x ∷ xs) ys h k = (h.0, named-append count xs ys h.1 k)
+
+more-named : (m n : ℕ) → m ≤ n → (ts : List StoredToken) → AreNamed m ts → AreNamed n ts
+more-named m n le [] h = tt
+more-named m n le (t ∷ ts) h = (more t h.0, more-named m n le ts h.1)
+  where
+    more : (t : StoredToken) → IsNamed m t → IsNamed n t
+    more (token.Ident name number) k = omega arith
+    more (token.Reserved name number c) k = omega arith
+    more _ k = k
+
+pub plain-refs : (count : ℕ) (ts : List StoredToken) → AreNamed count ts → refs_in ts ≡ []
+plain-refs count [] h = refl
+plain-refs count (token.Inner list ∷ ts) h = absurd h.0
+plain-refs count (token.List list ∷ ts) h = absurd h.0
+plain-refs count (_ ∷ ts) h = plain-refs count ts h.1
+
+named-tree : (count : ℕ) (trees : List Tree) (ts : List StoredToken) → AreNamed count ts
+    → IsNamedBelow count (tree_in trees ts)
+named-tree count trees [] h = tt
+named-tree count trees (token.Inner list ∷ ts) h = absurd h.0
+named-tree count trees (token.List list ∷ ts) h = absurd h.0
+named-tree count trees (_ ∷ ts) h = (h.0, named-tree count trees ts h.1)
+
+-- ## The tokens of words
+
+form-named : (c : Cat) (name : NameId) (number count : ℕ) → name.index < count
+    → AreNamed count (word_form c name number).tokens
+form-named Exp name number count h = (h, tt)
+form-named c name number count h = (h, tt)
+
+place-there : (text : List ℕ) (names : List Entry)
+    → place_of ident_kind text names < length (with_entry ident_kind text names)
+place-there text names = by (nat_lt (place_of ident_kind text names) (length names)) refl
+  where
+    new : Entry
+    new = record { kind = ident_kind; text = text; category = Exp }
+
+    by : (b : Bool) → nat_lt (place_of ident_kind text names) (length names) ≡ b
+        → place_of ident_kind text names < length (if b then names else names ++ new ∷ [])
+    by true e = ltb-true (place_of ident_kind text names) (length names) e
+    by false e =
+        let most = prefix_len-le-length (λ entry. not (is_entry ident_kind text entry)) names in
+        omega (arith, length-append names (new ∷ []), most)
+
+kind-named : (k : TokKind) (text : List ℕ) (hash_line : Bool) (n : ℕ) (names : List Entry) → is_word k ≡ true
+    → AreNamed (length (names_with k text names)) (form_tokens (token_form k text hash_line n names))
+kind-named kind.Identifier text hash_line n names h = form-named _ (record { index = place_of ident_kind text names }) n
+    _ (place-there text names)
+kind-named (kind.Sign s) text hash_line n names h = (tt, tt)
+kind-named k text hash_line n names h = absurd cc
+
+pub spelled-grow : (words : List Seen) (names : List Entry) → length names ≤ length (spelled words names).names
+spelled-grow [] names = omega arith
+spelled-grow (word ∷ words) names =
+    let more = spelled-grow words (names_with word.kind word.text names) in
+    omega (arith, names-grow word.kind word.text names, more)
+
+pub spelled-named : (words : List Seen) (names : List Entry) → list_all word_kind words ≡ true
+    → AreNamed (length (spelled words names).names) (spelled words names).tokens
+spelled-named [] names h = tt
+spelled-named (word ∷ words) names h =
+    let n = names_with word.kind word.text names in
+    named-append (length (spelled words n).names) (word_tokens word names) (spelled words n).tokens
+    (more-named (length n) (length (spelled words n).names) (spelled-grow words n) (word_tokens word names)
+    (kind-named word.kind word.text word.hash_line word.span.start names
+    (both-left (word_kind word) (list_all word_kind words) h)))
+    (spelled-named words n (both-right (word_kind word) (list_all word_kind words) h))
+
+-- each word is one token
+record IsOne (ts : List StoredToken) : Type 0 where
+  pub token : StoredToken
+  pub is : ts ≡ token ∷ []
+
+form-one : (c : Cat) (name : NameId) (number : ℕ) → IsOne (word_form c name number).tokens
+form-one Exp name number = record { token = token.Ident name number; is = refl }
+form-one c name number = record { token = token.Reserved name number c; is = refl }
+
+kind-one : (k : TokKind) (text : List ℕ) (hash_line : Bool) (n : ℕ) (names : List Entry) → is_word k ≡ true
+    → IsOne (form_tokens (token_form k text hash_line n names))
+kind-one kind.Identifier text hash_line n names h = form-one _ _ n
+kind-one (kind.Sign s) text hash_line n names h = record { token = _; is = refl }
+kind-one k text hash_line n names h = absurd cc
+
+-- the first of them, the break, and the others
+pub break-behind : (words : List Seen) (names : List Entry) → list_all word_kind words ≡ true
+    → names_in_text (spelled (first_word words) names).tokens ++ token.Control control.OptionalBreak
+    ∷ names_in_text (spelled (later_words words) (spelled (first_word words) names).names).tokens
+    ≡ with_break (spelled words names).tokens
+break-behind [] names h = refl
+break-behind (word ∷ words) names h =
+    let n = names_with word.kind word.text names in
+    by (word_tokens word names) (spelled words n).tokens (kind-one word.kind word.text word.hash_line word.span.start
+    names (both-left (word_kind word) (list_all word_kind words) h))
+  where
+    by : (ts us : List StoredToken) → IsOne ts
+        → names_in_text (ts ++ []) ++ token.Control control.OptionalBreak ∷ names_in_text us ≡ with_break (ts ++ us)
+    by ts us o = rw (o.is, append-nil (name_in_text o.token))
+
+pub later-names : (words : List Seen) (names : List Entry)
+    → (spelled (later_words words) (spelled (first_word words) names).names).names ≡ (spelled words names).names
+later-names [] names = refl
+later-names (word ∷ words) names = refl
+
+-- ## The tokens of heads
+
+dollared-named : (count : ℕ) (ts : List StoredToken) → AreNamed count ts → AreNamed count (dollared ts)
+dollared-named count [] h = tt
+dollared-named count (t ∷ ts) h = (tt, named-append count (t ∷ ts) (token.Control control.Dollar ∷ []) h (tt, tt))
+
+name-named : (count : ℕ) (t : StoredToken) → IsNamed count t → AreNamed count (name_in_text t)
+name-named count t h = by (is_macro t)
+  where
+    by : (b : Bool) → AreNamed count (if b then dollared (t ∷ []) else t ∷ [])
+    by true = (tt, (h, (tt, tt)))
+    by false = (h, tt)
+
+names-named : (count : ℕ) (ts : List StoredToken) → AreNamed count ts → AreNamed count (names_in_text ts)
+names-named count [] h = tt
+names-named count (t ∷ ts) h =
+    named-append count (name_in_text t) (names_in_text ts) (name-named count t h.0) (names-named count ts h.1)
+
+break-named : (count : ℕ) (ts : List StoredToken) → AreNamed count ts → AreNamed count (with_break ts)
+break-named count [] h = (tt, tt)
+break-named count (t ∷ ts) h =
+    named-append count (name_in_text t) (token.Control control.OptionalBreak ∷ names_in_text ts)
+    (name-named count t h.0) (tt, names-named count ts h.1)
+
+pub macro-named : (count number : ℕ) (ts : List StoredToken) → AreNamed count ts
+    → AreNamed count (macro_tokens number ts)
+macro-named count number ts h =
+    let named = named-append count (dollared ts) (token.Control control.OptionalBreak ∷ []) (dollared-named count ts h)
+    (tt, tt) in
+    (tt, (tt, named))
+
+pub format-named : (count number : ℕ) (ts : List StoredToken) → AreNamed count ts
+    → AreNamed count (format_tokens number ts)
+format-named count number ts h = (tt, (tt, break-named count ts h))
+
+-- ## The scrap of a head
+
+module _ (count number : ℕ) (ts : List StoredToken) (named : AreNamed count (dead number ts).tokens)
+    (agrees : scrap_agrees (leaf_scrap (dead number ts))) where
+  pub head-plain : (p x : ℕ) → token_ref (slice_get (dead number ts).tokens p) ≡ Some x → ⊥
+  head-plain p x e =
+      let a = ref-place (dead number ts).tokens p x e in
+      omega (arith, a.below, ap length (plain-refs count (dead number ts).tokens named))
+
+  pub head-tree : (trees : List Tree) → tree_in trees (dead number ts).tokens ≡ tree_in [] (dead number ts).tokens
+  head-tree trees = tree_in-same trees [] (dead number ts).tokens (λ q x e. absurd (head-plain q x e))
+
+  pub head-good : IsGood count (dead number ts)
+  head-good = record {
+    plain = head-plain;
+    named = λ trees. named-tree count trees (dead number ts).tokens named;
+    agrees = λ trees. ap (λ t. reads t Text) (head-tree trees) ∙ agrees;
+    fine = λ trees. refl;
+  }
 
 -- ## A list that is new
 
-no-roots : (lists : List (List Token)) → AreRoots lists []
+no-roots : (lists : List (List StoredToken)) → AreRoots lists []
 no-roots lists = record {
   there = λ i h. absurd (omega arith);
   free = λ i h l p q. omega arith;
@@ -35,17 +241,16 @@ pub record Makes (old new : StoredLists) (names names' : List Entry) (head : Hea
   pub sound : IsSoundLine new names' (head_line head)
   pub keeps : Keeps old.lists new.lists [] (roots_of (head_line head))
 
-module _ (number : ℕ) (ts : List Token) (list : ListId) (old new : StoredLists) (names names' : List Entry)
+module _ (number : ℕ) (ts : List StoredToken) (list : ListId) (old new : StoredLists) (names names' : List Entry)
     (named : AreNamed (length names') (dead number ts).tokens) (agrees : scrap_agrees (leaf_scrap (dead number ts)))
     (last : IsLast (dead number ts).tokens list.index old.lists new.lists) where
-  tokens : List Token
-  tokens = (dead number ts).tokens
-
   pub dead-seen : scraps_of new.lists (head_line (read.Dead list)) ≡ leaf_scrap (dead number ts) ∷ []
-  dead-seen = ap (λ tree. record { cat = cat.Dead; tree = tree; left = Text; right = Text } ∷ [])
-      (ap (unfolded new.lists) last.list_is ∙ (ap (λ ls. unfolded ls (length old.lists)) last.lists
-      ∙ (unfolded-new old.lists (dead number ts).tokens
-      ∙ head-tree (length names') number ts named agrees (trees_from [] old.lists))))
+  dead-seen = rw (
+    last.list_is,
+    last.lists,
+    unfolded-new old.lists (dead number ts).tokens,
+    head-tree (length names') number ts named agrees (trees_from [] old.lists),
+  )
 
   module _ (tied : IsTied old.lists) (was_idle : old.building ≡ None) (idle : new.building
       ≡ None) (more : length names ≤ length names') where
@@ -55,92 +260,65 @@ module _ (number : ℕ) (ts : List Token) (list : ListId) (old new : StoredLists
           names names' [] (head-good (length names') number ts named agrees)
           (record { cat = refl; left = refl; right = refl; list = last.list_is; lists = last.lists }) tied idle more
           (empty-line old names was_idle);
-      keeps = subst (λ x. Keeps old.lists new.lists [] (x ∷ [])) (sym last.list_is)
-          (subst (λ ls. Keeps old.lists ls [] (length old.lists ∷ [])) (sym last.lists)
-          (plain-keeps old.lists (dead number ts).tokens [] tied (no-roots old.lists)
-          (head-plain (length names') number ts named agrees)));
+      keeps = rw (last.list_is, last.lists) (plain-keeps old.lists (dead number ts).tokens [] tied (no-roots old.lists)
+          (head-plain (length names') number ts named agrees));
     }
-
-pub none-makes : (old new : StoredLists) (names names' : List Entry) → new.lists ≡ old.lists → new.building ≡ None
-    → Makes old new names names' read.None
-none-makes old new names names' same idle = record {
-  sound = empty-line new names' idle;
-  keeps = subst (λ ls. Keeps old.lists ls [] []) (sym same) (keeps-itself old.lists []);
-}
 
 -- ## The heads of definitions
 
-abbrev IsMade : List (List Token) → List Entry → List Entry → HeadRead → Head → Type 0
-IsMade lists names names' head h = (flags : Flags) (named : NameTexts) (known : Known)
-    → head_made flags named h (with_names names known) ≡ read_made flags named lists head (with_names names' known)
-
 pub record Defines (old new : StoredLists) (names names' : List Entry) (head : HeadRead) (h : Head) : Type 0 where
-  pub made : IsMade new.lists names names' head h
+  pub made : (flags : Flags) (named : NameTexts) (known : Known)
+      → head_made flags named h (with_names names known)
+      ≡ read_made flags named new.lists head (with_names names' known)
   pub makes : Makes old new names names' head
 
-scrap-made : (scraps scraps' : List Scrap) (names names' : List Entry) (known : Known) → scraps' ≡ scraps
-    → names' ≡ names → ◌≡◌ {A = Made} (record { scraps = scraps; items = []; known = with_names names known })
-    (record { scraps = scraps'; items = []; known = with_names names' known })
-scrap-made scraps scraps' names names' known e f = cc
-
-module _ (number : ℕ) (words : List Seen) (old new : StoredLists) (names names' : List Entry) (head : HeadRead)
+module _ (number : ℕ) (words : List Seen) (old new : StoredLists) (names names' : List Entry)
     (fit : list_all word_kind words ≡ true) (are : names' ≡ (spelled words names).names)
     (tied : IsTied old.lists) (was_idle : old.building ≡ None) (idle : new.building ≡ None) where
   spelled-there : AreNamed (length names') (spelled words names).tokens
-  spelled-there = subst (λ ns. AreNamed (length ns) (spelled words names).tokens) (sym are)
-      (spelled-named words names fit)
+  spelled-there = rw are (spelled-named words names fit)
 
   more : length names ≤ length names'
-  more = subst (λ ns. length names ≤ length ns) (sym are) (spelled-grow words names)
+  more = rw are (spelled-grow words names)
+
+  -- a dead scrap with these tokens
+  dead-by : (head : HeadRead) (h : Head) (ts : List StoredToken) (numbers : List ℕ) → Spells Text Text ts numbers
+      → AreNamed (length names') (dead number ts).tokens
+      → HasTokens (Some (dead number ts).tokens) head old.lists new.lists
+      → ((flags : Flags) (named : NameTexts) (known : Known) → head_made flags named h (with_names names known)
+      ≡ record { scraps = leaf_scrap (dead number ts) ∷ []; items = []; known = with_names names' known })
+      → Defines old new names names' head h
+  dead-by (read.Dead list) h ts numbers spells all last makes =
+      let agrees = dead-agrees number spells in
+      record {
+        made = λ flags named known. makes flags named known
+            ∙ ap (λ scraps. record { scraps = scraps; items = []; known = with_names names' known })
+            (sym (dead-seen number ts list old new names names' all agrees last));
+        makes = dead-makes number ts list old new names names' all agrees last tied was_idle idle more;
+      }
+  dead-by _ h ts numbers spells all last makes = absurd last
 
   macro-by : (head : HeadRead)
       → HasTokens (Some (macro_tokens number (spelled words names).tokens)) head old.lists new.lists
       → Defines old new names names' head (Macro number words)
-  macro-by (read.Dead list) last =
-      let ts = dollared (spelled words names).tokens ++ token.Control control.OptionalBreak ∷ [] in
-      let agrees = dead-agrees number ts _ (macro-spells words names fit) in
-      let all = macro-named (length names') number (spelled words names).tokens spelled-there in
-      record {
-        made = λ flags named known. scrap-made (leaf_scrap (dead number ts) ∷ [])
-            (scraps_of new.lists (head_line (read.Dead list))) (spelled words names).names names' known
-            (dead-seen number ts list old new names names' all agrees last) are;
-        makes = dead-makes number ts list old new names names' all agrees last tied was_idle idle more;
-      }
-  macro-by read.None last = absurd last
-  macro-by (read.Named n s) last = absurd last
+  macro-by head last = dead-by head (Macro number words) _ _ (macro-spells words names fit)
+      (macro-named (length names') number (spelled words names).tokens spelled-there) last (λ flags named known. rw are)
 
   format-by : (head : HeadRead) → HeadFits (Format number words)
       → HasTokens (Some (format_tokens number (spelled words names).tokens)) head old.lists new.lists
       → Defines old new names names' head (Format number words)
-  format-by (read.Dead list) fits last =
-      let first = spelled (first_word words) names in
-      let ts = names_in_text first.tokens ++ token.Control control.OptionalBreak
-      ∷ names_in_text (spelled (later_words words) first.names).tokens in
-      let same : ts ≡ with_break (spelled words names).tokens = break-behind words names fit in
-      let agrees = dead-agrees number ts _ (format-spells words names fits) in
-      let all : AreNamed (length names') (dead number ts).tokens =
-      subst (λ us. AreNamed (length names') (dead number us).tokens) (sym same)
-      (format-named (length names') number (spelled words names).tokens spelled-there) in
-      let last' : IsLast (dead number ts).tokens list.index old.lists new.lists =
-      subst (λ us. IsLast (dead number us).tokens list.index old.lists new.lists) (sym same) last in
-      record {
-        made = λ flags named known. scrap-made (leaf_scrap (dead number ts) ∷ [])
-            (scraps_of new.lists (head_line (read.Dead list))) (spelled (later_words words) first.names).names names'
-            known (dead-seen number ts list old new names names' all agrees last') (are
-            ∙ sym (later-names words names));
-        makes = dead-makes number ts list old new names names' all agrees last' tied was_idle idle more;
-      }
-  format-by read.None fits last = absurd last
-  format-by (read.Named n s) fits last = absurd last
+  format-by head fits last = dead-by head (Format number words) _ _ (format-spells words names fits)
+      (rw (break-behind words names fit)
+      (format-named (length names') number (spelled words names).tokens spelled-there))
+      (rw (break-behind words names fit) last) (λ flags named known. rw (are ∙ sym (later-names words names)))
 
   silent-by : (head : HeadRead) → HasTokens None head old.lists new.lists
       → Defines old new names names' head (Silent words)
   silent-by read.None same = record {
-    made = λ flags named known. scrap-made [] [] (spelled words names).names names' known refl are;
-    makes = none-makes old new names names' same idle;
+    made = λ flags named known. rw are;
+    makes = record { sound = empty-line new names' idle; keeps = rw same (keeps-itself old.lists []) };
   }
-  silent-by (read.Dead list) last = absurd last
-  silent-by (read.Named n s) last = absurd last
+  silent-by _ last = absurd last
 
 -- Behind the code of a definition: its head, by the answers.
 pub record Behind (k : TokKind) (t : Seen) (answers : List Answer) : Type 0 where
@@ -155,60 +333,214 @@ behind (kind.Code code.SilentFormat) t answers d h =
     record { words = words-same (wants.First true) answers h; rest = refl }
 behind k t answers d h = absurd cc
 
-abbrev DefinesBy : (k : TokKind) → Seen → List Answer → StoredLists → StoredLists → List Entry → List Entry → HeadRead
-    → Type 0
-DefinesBy k t answers old new names names' head = Defines old new names names' head (headed_by k t (nest answers)).head
-
 pub definition-defines : (k : TokKind) (t : Seen) (answers : List Answer) (old new : StoredLists)
     (names names' : List Entry) (head : HeadRead) → is_definition k ≡ true → IsNested answers
     → names' ≡ (spelled (answer_words (wanted_by k) answers) names).names → IsTied old.lists → old.building ≡ None
     → new.building ≡ None
     → HasTokens (words_tokens (wanted_by k) t.span.start (spelled (answer_words (wanted_by k) answers) names).tokens)
-    head old.lists new.lists
-    → ((n : Nest) → HeadFits (headed_by k t n).head) → DefinesBy k t answers old new names names' head
-definition-defines (kind.Code code.Define) t answers old new names names' head d h are tied was idle has fits =
-    let same = words-same wants.Macro answers h in
-    subst (λ ws. Defines old new names names' head (Macro t.span.start ws)) (sym same)
-    (macro-by t.span.start (answer_words wants.Macro answers) old new names names' head (words-fit wants.Macro answers)
-    are tied was idle head has)
-definition-defines (kind.Code code.Format) t answers old new names names' head d h are tied was idle has fits =
+    head old.lists new.lists → Defines old new names names' head (headed_by k t (nest answers)).head
+definition-defines (kind.Code code.Define) t answers old new names names' head d h are tied was idle has =
+    rw (words-same wants.Macro answers h) (macro-by t.span.start (answer_words wants.Macro answers) old new names names'
+    (words-fit wants.Macro answers h) are tied was idle head has)
+definition-defines (kind.Code code.Format) t answers old new names names' head d h are tied was idle has =
     let same = words-same (wants.First false) answers h in
-    let f : HeadFits (Format t.span.start (answer_words (wants.First false) answers)) =
-    subst (λ ws. HeadFits (Format t.span.start ws)) same (fits (nest answers)) in
-    subst (λ ws. Defines old new names names' head (Format t.span.start ws)) (sym same)
-    (format-by t.span.start (answer_words (wants.First false) answers) old new names names' head
-    (words-fit (wants.First false) answers) are tied was idle head f has)
-definition-defines (kind.Code code.SilentFormat) t answers old new names names' head d h are tied was idle has fits =
-    let same = words-same (wants.First true) answers h in
-    subst (λ ws. Defines old new names names' head (Silent ws)) (sym same)
-    (silent-by t.span.start (answer_words (wants.First true) answers) old new names names' head
-    (words-fit (wants.First true) answers) are tied was idle head has)
-definition-defines k t answers old new names names' head d h are tied was idle has fits = absurd cc
+    let fits = (fits-by (kind.Code code.Format) t (nest answers)).head in
+    rw same (format-by t.span.start (answer_words (wants.First false) answers) old new names names'
+    (words-fit (wants.First false) answers h) are tied was idle head (rw same at fits) has)
+definition-defines (kind.Code code.SilentFormat) t answers old new names names' head d h are tied was idle has =
+    rw (words-same (wants.First true) answers h) (silent-by t.span.start (answer_words (wants.First true) answers) old
+    new names names' (words-fit (wants.First true) answers h) are tied was idle head has)
+definition-defines k t answers old new names names' head d h are tied was idle has = absurd cc
 
 -- ## Words that were read into a vector
 
-pub words-plain : (wanted : Wanted) (answers : List Answer) (names : List Entry) (items slice before : List Token)
-    → items ≡ before ++ (spelled (answer_words wanted answers) names).tokens → before ≡ [] → slice ≡ items
-    → refs_in slice ≡ []
-words-plain wanted answers names items slice before e none is =
-    let all = spelled-named (answer_words wanted answers) names (words-fit wanted answers) in
-    ap refs_in (is ∙ (e ∙ ap (λ ts. ts ++ (spelled (answer_words wanted answers) names).tokens) none))
-    ∙ plain-refs (length (spelled (answer_words wanted answers) names).names)
-    (spelled (answer_words wanted answers) names).tokens all
+pub words-plain : (wanted : Wanted) (answers : List Answer) (names : List Entry) (items slice before : List StoredToken)
+    → IsNested answers → items ≡ before ++ (spelled (answer_words wanted answers) names).tokens → before ≡ []
+    → slice ≡ items → refs_in slice ≡ []
+words-plain wanted answers names items slice before h e none is =
+    let all = spelled (answer_words wanted answers) names in
+    rw (is, e, none) (plain-refs (length all.names) all.tokens
+    (spelled-named (answer_words wanted answers) names (words-fit wanted answers h)))
 
-pub words-there : (wanted : Wanted) (k : TokKind) (answers : List Answer) (names : List Entry)
-    (items slice before : List Token) (number : ℕ) (head : HeadRead) (old new mid : List (List Token))
-    → wanted ≡ wanted_by k
-    → items ≡ before ++ (spelled (answer_words wanted answers) names).tokens → before ≡ [] → slice ≡ items
-    → HasTokens (words_tokens wanted number slice) head mid new → mid ≡ old
-    → HasTokens (words_tokens (wanted_by k) number (spelled (answer_words (wanted_by k) answers) names).tokens) head old
-    new
-words-there wanted k answers names items slice before number head old new mid w e none is has same =
-    let all : slice ≡ (spelled (answer_words wanted answers) names).tokens = is
-    ∙ (e ∙ ap (λ ts. ts ++ (spelled (answer_words wanted answers) names).tokens) none) in
-    let a : HasTokens (words_tokens wanted number (spelled (answer_words wanted answers) names).tokens) head mid new =
-    subst (λ ts. HasTokens (words_tokens wanted number ts) head mid new) all has in
-    let b : HasTokens (words_tokens wanted number (spelled (answer_words wanted answers) names).tokens) head old new =
-    subst (λ ls. HasTokens (words_tokens wanted number (spelled (answer_words wanted answers) names).tokens) head ls
-    new) same a in
-    subst (λ v. HasTokens (words_tokens v number (spelled (answer_words v answers) names).tokens) head old new) w b
+-- ## Definitions
+
+pub definition-rest : (k : TokKind) (t : Seen) (answers ahead : List Answer) → is_definition k ≡ true
+    → IsNested (Token t ∷ answers) → ahead ≡ without_words (wanted_by k) answers
+    → IsNested ahead × (nest ahead ≡ (headed_by k t (nest answers)).rest)
+definition-rest k t answers ahead d h is =
+    let inner = nested-behind t answers h in
+    let l = words-leave (wanted_by k) answers inner in
+    rw is (l.0, l.1 ∙ sym (behind k t answers d inner).rest)
+
+pub definition-within : (k : TokKind) (t : Seen) (answers : List Answer) (names new : List Entry) → is_definition k
+    ≡ true → IsNested (Token t ∷ answers) → NamesWithin (answer_words (wanted_by k) answers) names new
+    → NamesWithin (words_in (headed_by k t (nest answers)).head) names new
+definition-within k t answers names new d h w = rw (behind k t answers d (nested-behind t answers h)).words w
+
+pub all-within : (words : List Seen) (names new : List Entry) → new ≡ (spelled words names).names
+    → NamesWithin words names new
+all-within words names new e = record { first = words; later = []; are = append-nil words; is = e }
+
+-- ## Behind notes
+
+-- What the answer behind notes and the later ones are.
+pub record Ahead (rest ahead : List Answer) : Type 0 where
+  pub nested : IsNested ahead
+  pub same : nest ahead ≡ nest rest
+  pub starts : StartsBelow (2 ^ 32) ahead
+
+pub ahead-of : (rest new : List Answer) (answer : Lexed) → Gives (without_notes rest) answer new → IsNested rest
+    → StartsBelow (2 ^ 32) rest → Ahead rest (answers_in answer ++ new)
+ahead-of rest new answer g h s = subst (Ahead rest) (gives-is (without_notes rest) new answer g)
+    (record { nested = (bare rest).nested h; same = (bare rest).same; starts = (bare rest).starts (2 ^ 32) s })
+
+-- ## Names
+
+-- What holds of the end of a text and of each group holds of the nest of answers whose first is no token.
+nest-other : (P : Nest → Type 0) → P End → ((t : Seen) (inner rest : Nest) → P (Group t inner rest))
+    → (rest new : List Answer) (answer : Lexed) → Gives (without_notes rest) answer new
+    → ((t : Tok) → answer ≡ lexed.Token t → ⊥) → P (nest rest)
+nest-other P none grouped (Note note place ∷ rest) new answer g n = nest-other P none grouped rest new answer g n
+nest-other P none grouped (Begin t ∷ rest) new answer g n = by (nests rest)
+  where
+    by : (ns : List Nest) → P (first_nest (group t ns))
+    by [] = none
+    by (inner ∷ []) = grouped t inner End
+    by (inner ∷ rest ∷ outer) = grouped t inner rest
+nest-other P none grouped (Token t ∷ rest) new answer g n = absurd (only-token t rest new answer g n)
+nest-other P none grouped _ new answer g n = none
+
+pub unsigned-other : (name : Seen) (rest new : List Answer) (answer : Lexed) → Gives (without_notes rest) answer new
+    → ((t : Tok) → answer ≡ lexed.Token t → ⊥) → named_headed name (nest rest) ≡ headless (Leaf name (nest rest))
+unsigned-other name =
+    nest-other (λ n. named_headed name n ≡ headless (Leaf name n)) refl (λ t inner rest. refl)
+
+pub headless-other : (rest new : List Answer) (answer : Lexed) → Gives (without_notes rest) answer new
+    → ((t : Tok) → answer ≡ lexed.Token t → ⊥) → headed (nest rest) ≡ headless (nest rest)
+headless-other = nest-other (λ n. headed n ≡ headless n) refl (λ t inner rest. refl)
+
+-- the nest of answers whose first is a token
+module _ (rest new : List Answer) (t : Tok) (g : Gives (without_notes rest) (lexed.Token t) new) (h : IsNested rest)
+  where
+    pub token-nested : IsNested (Token (seen t) ∷ new)
+    token-nested = rw g at ((bare rest).nested h)
+
+    pub token-nest : nest rest ≡ Leaf (seen t) (nest new)
+    token-nest = sym (bare rest).same ∙ (ap nest g ∙ nest-token (seen t) new token-nested)
+
+    pub signed : (name : Seen) → is_head_sign t.kind ≡ true → named_headed name (nest rest)
+        ≡ record { head = Named name.span.start t.span.start; rest = nest new }
+    signed name e = ap (named_headed name) token-nest ∙ ap (sign_headed name (seen t) (nest new)) e
+
+    pub unsigned-token : (name : Seen) → is_head_sign t.kind ≡ false → named_headed name (nest rest)
+        ≡ headless (Leaf name (nest rest))
+    unsigned-token name e = ap (named_headed name) token-nest
+        ∙ (ap (sign_headed name (seen t) (nest new)) e ∙ ap (λ n. headless (Leaf name n)) (sym token-nest))
+
+-- a name of another kind than text stands in C text
+abbrev NestedOf : TokKind → Seen → List Answer → Type 0
+NestedOf k name list =
+    IsNested (Token (record { kind = k; text = name.text; span = name.span; hash_line = name.hash_line }) ∷ list)
+
+nested-by : (k : TokKind) (name : Seen) (rest ahead : List Answer) → NestedOf k name rest → IsNested ahead
+    → NestedOf k name ahead
+nested-by kind.Text name rest ahead h i = absurd cc
+nested-by _ name rest ahead h i = i
+
+pub name-headed : (k : TokKind) (t : Seen) (n : Nest) → is_name_kind k ≡ true → headed_by k t n ≡ named_headed t n
+name-headed (kind.Code code.SectionName) t n e = refl
+name-headed k t n e = cc
+
+pub none-headed : (k : TokKind) (t : Seen) (n : Nest) → is_definition k ≡ false → is_name_kind k ≡ false
+    → headed_by k t n ≡ headless (Leaf t n)
+none-headed (kind.Code code.Define) t n d e = cc
+none-headed k t n d e = cc
+
+pub token-headed : (rest new : List Answer) (t : Tok) → Gives (without_notes rest) (lexed.Token t) new → IsNested rest
+    → headed (nest rest) ≡ headed_by t.kind (seen t) (nest new)
+token-headed rest new t g h = ap headed (token-nest rest new t g h)
+
+-- ## What the calls give
+
+-- a name that heads nothing
+pub record Signs (name : Seen) (rest : List Answer) (b : Beginning) (ahead : List Answer) : Type 0 where
+  pub head : (named_headed name (nest rest)).head ≡ head_named b.head
+  pub line : head_line b.head ≡ []
+  pub rest_is : nest ahead ≡ (named_headed name (nest rest)).rest
+  pub nested : IsNested ahead
+  pub starts : StartsBelow (2 ^ 32) ahead
+
+pub unsigned-signs : {name : Tok} {answer : Lexed} (rest new : List Answer) (b : Beginning) → b.head ≡ read.None
+    → b.name ≡ Some name → b.next ≡ answer → Gives (without_notes rest) answer new
+    → IsNested (Token (seen name) ∷ rest) → StartsBelow (2 ^ 32) (Token (seen name) ∷ rest)
+    → named_headed (seen name) (nest rest) ≡ headless (Leaf (seen name) (nest rest))
+    → Signs (seen name) rest b (answers_ahead b ++ new)
+unsigned-signs {name = name} {answer = answer} rest new b head named next g h s u =
+    let a = ahead-of rest new answer g (nested-behind (seen name) rest h) s.1 in
+    let n : IsNested (Token (seen name) ∷ (answers_in answer ++ new)) =
+    nested-by name.kind (seen name) rest (answers_in answer ++ new) h a.nested in
+    record {
+      head = ap (λ x. x.head) u ∙ ap head_named (sym head);
+      line = ap head_line head;
+      rest_is = rw (named, next) (nest-token (seen name) (answers_in answer ++ new) n ∙ (ap (Leaf (seen name)) a.same
+          ∙ ap (λ x. x.rest) (sym u)));
+      nested = rw (named, next) n;
+      starts = rw (named, next) (s.0, a.starts);
+    }
+
+pub none-token : (rest new : List Answer) (t : Tok) → Gives (without_notes rest) (lexed.Token t) new → IsNested rest
+    → is_definition t.kind ≡ false → is_name_kind t.kind ≡ false → headed (nest rest) ≡ headless (nest rest)
+none-token rest new t g h d n = token-headed rest new t g h
+    ∙ (none-headed t.kind (seen t) (nest new) d n ∙ ap headless (sym (token-nest rest new t g h)))
+
+-- the head of a named C part, or none
+pub name-token : (rest new : List Answer) (t : Tok) → Gives (without_notes rest) (lexed.Token t) new → IsNested rest
+    → is_name_kind t.kind ≡ true → headed (nest rest) ≡ named_headed (seen t) (nest new)
+name-token rest new t g h n = token-headed rest new t g h ∙ name-headed t.kind (seen t) (nest new) n
+
+pub sign-by : (flags : Flags) (named : NameTexts) (lists : List (List StoredToken)) (known : Known) (head : HeadRead)
+    → head_line head ≡ [] → head_made flags named (head_named head) known ≡ read_made flags named lists head known
+sign-by flags named lists known read.None line = refl
+sign-by flags named lists known head line = cc
+
+pub sign-words : (head : HeadRead) (names : List Entry) → names ≡ (spelled (words_in (head_named head)) names).names
+sign-words read.None names = refl
+sign-words _ names = refl
+
+-- A call that reads a head is refused.
+pub head-refused : {h : Headed} {old new : StoredLists} {names names' : List Entry} {coming : List Answer}
+    {error : Memory} {result : Result Beginning Memory}
+    → IsErrAnd result (λ found. found ≡ error) → NamesWithin (words_in h.head) names names' → new.lists ≡ old.lists
+    → new.building ≡ None → HeadIsRead h old names new names' coming result
+head-refused {error = error} {result = result} is within same idle = record {
+  made = err-if result error _ is;
+  spelt = err-ok result error _ is;
+  rest = err-if result error _ is;
+  nested = err-if result error _ is;
+  start = err-if result error _ is;
+  sound = err-if result error _ is;
+  keeps = err-if result error _ is;
+  idle = idle;
+  no_names = on-err result _ within;
+  no_lists = on-err result _ same;
+}
+
+pub no-head : {names : List Entry} {store : StoredLists} {answer : Lexed} (rest new : List Answer) (b : Beginning)
+    → b.head ≡ read.None → b.name ≡ None → b.next ≡ answer → Gives (without_notes rest) answer new → IsNested rest
+    → StartsBelow (2 ^ 32) rest → headed (nest rest) ≡ headless (nest rest) → store.building ≡ None
+    → HeadIsRead (headed (nest rest)) store names store names new (Ok b)
+no-head {names = names} {store = store} {answer = answer} rest new b none named next g h s u idle =
+    let a = ahead-of rest new answer g h s in
+    record {
+      made = λ flags texts known. ap (λ x. head_made flags texts x.head (with_names names known)) u
+          ∙ ap (λ x. read_made flags texts store.lists x (with_names names known)) (sym none);
+      spelt = ap (λ x. (spelled (words_in x.head) names).names) (sym u);
+      rest = rw (named, next) (a.same ∙ ap (λ x. x.rest) (sym u));
+      nested = rw (named, next) a.nested;
+      start = rw (named, next) a.starts;
+      sound = rw none (empty-line store names idle);
+      keeps = rw none (keeps-itself store.lists []);
+      idle = idle;
+      no_names = tt;
+      no_lists = tt;
+    }

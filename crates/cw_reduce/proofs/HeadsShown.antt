@@ -1,64 +1,277 @@
--- The words of heads stand in the tree of a translation as well.
-use Rattle.cw_reduce.proofs.Terms.{Named, ◌≡◌, ℕ, Bool, true, false, is_some, Option, Some, None, List, [], ◌∷◌, ◌++◌}
-use Rattle.cw_reduce.proofs.Terms.{refl, ◌∙◌, ap, append-nil, Dead, Flags, Text, Answer, Seen, is_head_sign, TokKind}
-use Rattle.cw_reduce.proofs.Terms.{IsNested, Entry, struck, list_if, Nest, End, Leaf, Group, nest, IsWell, nest-well}
-use Rattle.cw_reduce.proofs.Terms.{Head, Headless, Macro, Format, Silent, headed, headed_by, named_headed, Words}
-use Rattle.cw_reduce.proofs.Terms.{no_word, word_before, head_behind, head_words, Wanted, starts, shown_in, shown_head}
-use Rattle.cw_reduce.proofs.Terms.{shown, Known, first_word, later_words, sign_behind, texts_named, head_made}
-use Rattle.cw_reduce.proofs.Terms.{headed_made, leaf_of_name, made, begin}
+-- The words of heads stand in the tree of a translation as well, and read from text, they end in text. So do whole
+-- texts; their steps are at most the limit.
+use Rattle.cw_reduce.proofs.Terms.{◌≡◌, ℕ, Bool, true, false, Option, Some, List, [], ◌∷◌, ◌++◌, refl, sym, ap, ◌∙◌}
+use Rattle.cw_reduce.proofs.Terms.{list_all, append-nil, Cat, Exp, TexLike, Flags, MathMode, Text, Math, Span, Answer}
+use Rattle.cw_reduce.proofs.Terms.{Seen, is_head_sign, Wanted, TokKind, Head, Headless, Macro, Format, Silent, Named}
+use Rattle.cw_reduce.proofs.Terms.{Headed, headed, headed_by, headless, named_headed, head_behind, head_words, Nest}
+use Rattle.cw_reduce.proofs.Terms.{Leaf, nest, NameId, Entry, reads, StoredToken as Token, tree_in, sign_mode}
+use Rattle.cw_reduce.proofs.Terms.{token_form, word_form, names_with, is_word, InnersRead, ReadsInText, Known}
+use Rattle.cw_reduce.proofs.Terms.{leaf_scrap, sign_behind, names_in_text, names-append, struck, starts, scrap_agrees}
+use Rattle.cw_reduce.proofs.Terms.{append_assoc, IsWell, ◌≤◌, arith, State, productions-sound, ticks_in, limit_in}
+use Rattle.cw_reduce.proofs.Terms.{is_some, None, Dead, IsNested, list_if, nest-well, shown_in, shown_head, shown}
+use Rattle.cw_reduce.proofs.Terms.{ticks-most, limit-one, limits-more, ticks-more, ticks-one}
 use Rattle.cw_rules.specs.declared.codes.Code.TheVariants as code
+use Rattle.cw_lex.specs.declared.heads.Wanted.TheVariants as wants
+use Rattle.cw_rules.specs.declared.signs.Sign.{Sign}
+use Rattle.cw_rules.specs.declared.signs.Sign.TheVariants as sign
 use Rattle.cw_rules.specs.declared.tokens.TokKind.TheVariants as kind
 use Rattle.cw_trees.specs.declared.Control.TheVariants as control
 use Rattle.cw_tokens.specs.declared.token.Token.TheVariants as token
-use Rattle.cw_lex.specs.declared.heads.Wanted.TheVariants as wants
-use Rattle.cw_translator.specs.Translating.{translated}
-use Rattle.cw_reduce.proofs.ShownLaws.{Shows, shows-beside, shows-made, shows-name, struck-end, struck-parts}
-use Rattle.cw_reduce.proofs.HeadReads.{HeadFits, format-spells, head-fits, macro-spells, sign_headed, spells-numbers}
+use Rattle.cw_translator.specs.Translating.{translated, spelled, form_tokens, word_tokens, first_word, later_words}
+use Rattle.cw_translator.specs.Translating.{dollared, dead, head_made, headed_made, leaf_of_name, made, begin, end_of}
+use Rattle.cw_translator.specs.Translating.{texts_named}
+use Rattle.cw_reduce.proofs.HeadAnswers.{first-all, head-words-by, head-words-fit, later-all, word_kind}
+use Rattle.cw_reduce.proofs.ShownLaws.{IsFineKnown, IsSoundMade, reads-nothing, reads-scrap, reads-beside, reads-end}
+use Rattle.cw_reduce.proofs.ShownLaws.{reads-made, reads-leaf, reads-headed-name, fine-end, fine_state, Shows}
+use Rattle.cw_reduce.proofs.ShownLaws.{shows-beside, shows-made, shows-name, struck-end, struck-parts}
+use Rattle.cw_table.specs.Productions.{productions}
+use Rattle.cw_base.proofs.TestLaws.{both, both-left, both-right}
+use Rattle.cw_trees.specs.Joining.{leads_on, stays}
 
--- What follows the words of a head is well.
-words-rest : (wanted : Wanted) (n : Nest) → IsWell false n → IsWell false (head_words wanted n).rest
-words-rest wanted End w = w
-words-rest wanted (Group t inner rest) w = w
-words-rest wanted (Leaf t rest) w = by (head_behind wanted t.kind t.span) (λ next. words-rest next rest w.1)
+-- Tokens that lead from one mode to another, hold no inner text, and show these numbers.
+pub record Spells (from to : MathMode) (tokens : List Token) (numbers : List ℕ) : Type 0 where
+  pub leads : (rest : List Token) → reads (tree_in [] (tokens ++ rest)) from ≡ reads (tree_in [] rest) to
+  pub inners : (rest : List Token) → InnersRead (tree_in [] rest) → InnersRead (tree_in [] (tokens ++ rest))
+  pub shows : (rest : List Token) → struck (tree_in [] (tokens ++ rest)) ≡ numbers ++ struck (tree_in [] rest)
+
+spells-none : (mode : MathMode) → Spells mode mode [] []
+spells-none mode = record { leads = λ rest. refl; inners = λ rest h. h; shows = λ rest. refl }
+
+spells-append : {l m n : MathMode} {a b : List Token} {p q : List ℕ} → Spells l m a p → Spells m n b q
+    → Spells l n (a ++ b) (p ++ q)
+spells-append {a = a} {b = b} {p = p} {q = q} s t = record {
+  leads = λ rest. rw (append_assoc a b rest) (s.leads (b ++ rest) ∙ t.leads rest);
+  inners = λ rest h. rw (append_assoc a b rest) (s.inners (b ++ rest) (t.inners rest h));
+  shows = λ rest. rw (append_assoc a b rest, append_assoc p q (struck (tree_in [] rest)))
+      (s.shows (b ++ rest) ∙ ap (λ ns. p ++ ns) (t.shows rest));
+}
+
+pub spells-numbers : {from to : MathMode} {tokens : List Token} {numbers : List ℕ} → Spells from to tokens numbers
+    → struck (tree_in [] tokens) ≡ numbers
+spells-numbers s = simp append-nil at (s.shows [])
+
+word-spells : (mode : MathMode) (c : Cat) (name : NameId) (n : ℕ)
+    → Spells mode mode (word_form c name n).tokens (n ∷ [])
+word-spells mode Exp name n = record { leads = λ rest. refl; inners = λ rest h. h; shows = λ rest. refl }
+word-spells mode _ name n = record { leads = λ rest. refl; inners = λ rest h. h; shows = λ rest. refl }
+
+sign-math : (s : Sign) → stays (sign_mode s) Math ≡ Some Math
+sign-math sign.LeftParen = refl
+sign-math _ = refl
+
+sign-spells : (s : Sign) (n : ℕ) → Spells Math Math (token.Source n (sign_mode s) ∷ []) (n ∷ [])
+sign-spells s n = record {
+  leads = λ rest. ap (λ o. leads_on o (reads (tree_in [] rest))) (sign-math s);
+  inners = λ rest h. h;
+  shows = λ rest. refl;
+}
+
+-- identifiers and signs in math
+kind-spells : (k : TokKind) (text : List ℕ) (hash_line : Bool) (n : ℕ) (names : List Entry) → is_word k ≡ true
+    → Spells Math Math (form_tokens (token_form k text hash_line n names)) (n ∷ [])
+kind-spells kind.Identifier text hash_line n names h = word-spells Math _ _ n
+kind-spells (kind.Sign s) text hash_line n names h = sign-spells s n
+kind-spells k text hash_line n names h = absurd cc
+
+spelled-spells : (words : List Seen) (names : List Entry) → list_all word_kind words ≡ true
+    → Spells Math Math (spelled words names).tokens (starts words)
+spelled-spells [] names h = spells-none Math
+spelled-spells (word ∷ words) names h = spells-append
+    (kind-spells word.kind word.text word.hash_line word.span.start names
+    (both-left (word_kind word) (list_all word_kind words) h))
+    (spelled-spells words _ (both-right (word_kind word) (list_all word_kind words) h))
+
+dollared-spells : (tokens : List Token) (numbers : List ℕ) → Spells Math Math tokens numbers
+    → Spells Text Text (dollared tokens) numbers
+dollared-spells [] numbers s = record { leads = λ rest. refl; inners = λ rest h. h; shows = s.shows }
+dollared-spells (t ∷ ts) numbers s = rw (← append-nil numbers) (spells-append in_math (spells-append s out_of_math))
   where
-    by : (o : Option Wanted) → ((next : Wanted) → IsWell false (head_words next rest).rest)
-        → IsWell false (elim o as (λ o. Words) [
-          | Some next ↦ word_before t (head_words next rest)
-          | None ↦ no_word (Leaf t rest)
-        ]).rest
-    by None more = w
-    by (Some next) more = more next
+    in_math : Spells Text Math (token.Control control.Dollar ∷ []) []
+    in_math = record { leads = λ rest. refl; inners = λ rest h. h; shows = λ rest. refl }
 
--- What stands behind a head is well.
-well-named-if : (b : Bool) (t s : Seen) (rest : Nest) → IsWell false (Leaf t (Leaf s rest))
-    → IsWell false (sign_headed t s rest b).rest
-well-named-if true t s rest w = w.1.1
-well-named-if false t s rest w = w
+    out_of_math : Spells Math Text (token.Control control.Dollar ∷ []) []
+    out_of_math = record { leads = λ rest. refl; inners = λ rest h. h; shows = λ rest. refl }
 
-well-named : (t : Seen) (rest : Nest) → IsWell false (Leaf t rest) → IsWell false (named_headed t rest).rest
-well-named t End w = w
-well-named t (Group u inner more) w = w
-well-named t (Leaf s rest) w = well-named-if (is_head_sign s.kind) t s rest w
+break-spells : Spells Text Text (token.Control control.OptionalBreak ∷ []) []
+break-spells = record { leads = λ rest. refl; inners = λ rest h. h; shows = λ rest. refl }
 
-well-by : (k : TokKind) (t : Seen) (rest : Nest) → IsWell false (Leaf t rest) → IsWell false (headed_by k t rest).rest
-well-by (kind.Code code.Define) t rest w = words-rest wants.Macro rest w.1
-well-by (kind.Code code.Format) t rest w = words-rest (wants.First false) rest w.1
-well-by (kind.Code code.SilentFormat) t rest w = words-rest (wants.First true) rest w.1
-well-by (kind.Code code.SectionName) t rest w = well-named t rest w
-well-by (kind.Code code.FileName) t rest w = well-named t rest w
-well-by k t rest w = w
+-- the names of a format definition, in text
+abbrev is_name : TokKind → Bool
+is_name kind.Identifier = true
+is_name k = false
 
-well-headed : (n : Nest) → IsWell false n → IsWell false (headed n).rest
-well-headed End w = w
-well-headed (Group t inner rest) w = w
-well-headed (Leaf t rest) w = well-by t.kind t rest w
+abbrev name_kind : Seen → Bool
+name_kind word = is_name word.kind
+
+word-in-text : (c : Cat) (name : NameId) (n : ℕ)
+    → Spells Text Text (names_in_text (word_form c name n).tokens) (n ∷ [])
+word-in-text TexLike name n = record { leads = λ rest. refl; inners = λ rest h. h; shows = λ rest. refl }
+word-in-text _ name n = record { leads = λ rest. refl; inners = λ rest h. h; shows = λ rest. refl }
+
+name-in-text : (k : TokKind) (text : List ℕ) (hash_line : Bool) (n : ℕ) (names : List Entry) → is_name k ≡ true
+    → Spells Text Text (names_in_text (form_tokens (token_form k text hash_line n names))) (n ∷ [])
+name-in-text kind.Identifier text hash_line n names h = word-in-text _ _ n
+name-in-text k text hash_line n names h = absurd cc
+
+names-spell : (words : List Seen) (names : List Entry) → list_all name_kind words ≡ true
+    → Spells Text Text (names_in_text (spelled words names).tokens) (starts words)
+names-spell [] names h = spells-none Text
+names-spell (word ∷ words) names h =
+    let n = names_with word.kind word.text names in
+    rw (names-append (word_tokens word names) (spelled words n).tokens)
+    (spells-append (name-in-text word.kind word.text word.hash_line word.span.start names
+    (both-left (name_kind word) (list_all name_kind words) h))
+    (names-spell words n (both-right (name_kind word) (list_all name_kind words) h)))
+
+-- the tokens of heads
+pub macro-spells : (words : List Seen) (names : List Entry) → list_all word_kind words ≡ true
+    → Spells Text Text (dollared (spelled words names).tokens ++ token.Control control.OptionalBreak ∷ [])
+    (starts words ++ [])
+macro-spells words names fits =
+    spells-append (dollared-spells _ _ (spelled-spells words names fits)) break-spells
+
+pub format-spells : (words : List Seen) (names : List Entry) → list_all name_kind words ≡ true
+    → Spells Text Text (names_in_text (spelled (first_word words) names).tokens ++ token.Control control.OptionalBreak
+    ∷ names_in_text (spelled (later_words words) (spelled (first_word words) names).names).tokens)
+    (starts (first_word words) ++ starts (later_words words))
+format-spells words names fits = spells-append (names-spell (first_word words) names (first-all name_kind words fits))
+    (spells-append break-spells (names-spell (later_words words) _ (later-all name_kind words fits)))
+
+pub dead-agrees : {tokens : List Token} {numbers : List ℕ} (number : ℕ) → Spells Text Text tokens numbers
+    → scrap_agrees (leaf_scrap (dead number tokens))
+dead-agrees {tokens = tokens} number s = rw (append-nil tokens) at (s.leads [])
+
+reads-dead : {tokens : List Token} {numbers : List ℕ} (number : ℕ) (known : Known) → Spells Text Text tokens numbers
+    → IsFineKnown known
+    → IsSoundMade (record { scraps = leaf_scrap (dead number tokens) ∷ []; items = []; known = known })
+reads-dead {tokens = tokens} number known s f = reads-scrap (leaf_scrap (dead number tokens)) known
+    (dead-agrees number s) (rw (append-nil tokens) at (s.inners [] tt)) refl f
+
+-- the words of heads
+abbrev is_names : Wanted → Bool
+is_names (wants.First silent) = true
+is_names (wants.Second silent) = true
+is_names wants.Nothing = true
+is_names wanted = false
+
+some-wanted : (a b : Wanted) → ◌≡◌ {A = Option Wanted} (Some a) (Some b) → a ≡ b
+some-wanted a b e = cc
+
+takes-text : (wanted : Wanted) (k : TokKind) (span : Span) (next : Wanted) → is_names wanted ≡ true
+    → head_behind wanted k span ≡ Some next → (is_name k ≡ true) × (is_names next ≡ true)
+takes-text (wants.First silent) kind.Identifier span next n h =
+    (refl, ap is_names (sym (some-wanted (wants.Second silent) next h)))
+takes-text (wants.First silent) (kind.Sign sign.LeftParen) span next n h = absurd cc
+takes-text (wants.Second silent) kind.Identifier span next n h =
+    (refl, ap is_names (sym (some-wanted wants.Nothing next h)))
+takes-text (wants.Second silent) (kind.Sign sign.LeftParen) span next n h = absurd cc
+takes-text wants.Nothing (kind.Sign sign.LeftParen) span next n h = absurd cc
+takes-text _ k span next n h = absurd cc
+
+words-text : (wanted : Wanted) (n : Nest) → is_names wanted ≡ true
+    → list_all name_kind (head_words wanted n).words ≡ true
+words-text = head-words-by (λ wanted n ws. is_names wanted ≡ true → list_all name_kind ws.words ≡ true)
+    (λ wanted n w. refl) (λ wanted next t rest e more w.
+    let f = takes-text wanted t.kind t.span next w e in
+    both (name_kind t) (list_all name_kind (head_words next rest).words) f.0 (more f.1))
+
+abbrev pub HeadFits : Head → Type 0
+HeadFits (Macro number words) = list_all word_kind words ≡ true
+HeadFits (Format number words) = list_all (name_kind) words ≡ true
+HeadFits h = Unit {0}
+
+abbrev pub sign_headed : Seen → Seen → Nest → Bool → Headed
+sign_headed t s rest b = elim b [
+  | true ↦ record { head = Named t.span.start s.span.start; rest = rest }
+  | false ↦ headless (Leaf t (Leaf s rest))
+]
+
+-- The words of a head fit it, and what stands behind it is well.
+pub record IsFit (n : Nest) (h : Headed) : Type 0 where
+  pub head : HeadFits h.head
+  pub rest : IsWell false n → IsWell false h.rest
+
+words-rest : (wanted : Wanted) (n : Nest) → IsWell false n → IsWell false (head_words wanted n).rest
+words-rest = head-words-by (λ wanted n ws. IsWell false n → IsWell false ws.rest) (λ wanted n w. w)
+    (λ wanted next t rest e more w. more w.1)
+
+sign-fits : (b : Bool) (t s : Seen) (rest : Nest) → IsFit (Leaf t (Leaf s rest)) (sign_headed t s rest b)
+sign-fits true t s rest = record { head = tt; rest = λ w. w.1.1 }
+sign-fits false t s rest = record { head = tt; rest = λ w. w }
+
+named-fits : (t : Seen) (rest : Nest) → IsFit (Leaf t rest) (named_headed t rest)
+named-fits t (Leaf s rest) = sign-fits (is_head_sign s.kind) t s rest
+named-fits t rest = record { head = tt; rest = λ w. w }
+
+pub fits-by : (k : TokKind) (t : Seen) (rest : Nest) → IsFit (Leaf t rest) (headed_by k t rest)
+fits-by (kind.Code code.Define) t rest =
+    record { head = head-words-fit wants.Macro rest; rest = λ w. words-rest wants.Macro rest w.1 }
+fits-by (kind.Code code.Format) t rest =
+    record { head = words-text (wants.First false) rest refl; rest = λ w. words-rest (wants.First false) rest w.1 }
+fits-by (kind.Code code.SilentFormat) t rest =
+    record { head = tt; rest = λ w. words-rest (wants.First true) rest w.1 }
+fits-by (kind.Code code.SectionName) t rest = named-fits t rest
+fits-by (kind.Code code.FileName) t rest = named-fits t rest
+fits-by k t rest = record { head = tt; rest = λ w. w }
+
+pub head-fits : (n : Nest) → IsFit n (headed n)
+head-fits (Leaf t rest) = fits-by t.kind t rest
+head-fits n = record { head = tt; rest = λ w. w }
+
+pub reads-head : (flags : Flags) (named : ℕ → Option (List (List Answer))) (h : Head) (known : Known) → HeadFits h
+    → IsFineKnown known → IsSoundMade (head_made flags named h known)
+reads-head flags named Headless known fits f = reads-nothing known f
+reads-head flags named (Silent words) known fits f = reads-nothing _ f
+reads-head flags named (Macro number words) known fits f =
+    reads-dead number _ (macro-spells words known.names fits) f
+reads-head flags named (Format number words) known fits f =
+    reads-dead number _ (format-spells words known.names fits) f
+reads-head flags named (Named number sign) known fits f = reads-headed-name flags (named number) (sign_behind sign)
+    number known refl tt f
+
+pub reads-headed : (flags : Flags) (named : ℕ → Option (List (List Answer))) (answers : List Answer)
+    (names : List Entry) (marks : List ℕ)
+    → IsSoundMade (headed_made flags named (headed (nest answers)) (begin names marks))
+reads-headed flags named answers names marks =
+    let h = headed (nest answers) in
+    let known = begin names marks in
+    let first = head_made flags named h.head known in
+    let g = reads-head flags named h.head known (head-fits (nest answers)).head refl in
+    reads-beside first (made flags (leaf_of_name flags named) h.rest first.known) g
+    (reads-made flags (leaf_of_name flags named) (reads-leaf flags named) h.rest first.known g.known)
+
+pub stands-in-text : (flags : Flags) (named : ℕ → Option (List (List Answer))) (answers : List Answer)
+    (names : List Entry) (marks : List ℕ) → ReadsInText (translated flags named answers names marks).tree
+unfolding translated
+stands-in-text flags named answers names marks =
+    reads-end flags (headed_made flags named (headed (nest answers)) (begin names marks))
+    (reads-headed flags named answers names marks)
+
+most : (flags : Flags) (ended : List State) → list_all fine_state ended ≡ true
+    → ticks_in flags ended ≤ limit_in flags ended
+most flags [] f = omega arith
+most flags (state ∷ ended) f =
+    let first = both-left (fine_state state) (list_all fine_state ended) f in
+    let later = most flags ended (both-right (fine_state state) (list_all fine_state ended) f) in
+    let most_here = ticks-most productions flags state productions-sound first in
+    let ticked = ticks-more flags (state ∷ []) ended in
+    let limits = limits-more flags (state ∷ []) ended in
+    omega (arith, most_here, later, ticked, limits, ticks-one flags state, limit-one flags state)
+
+pub ticks-within : (flags : Flags) (named : ℕ → Option (List (List Answer))) (answers : List Answer)
+    (names : List Entry) (marks : List ℕ) → ticks_in flags (translated flags named answers names marks).known.ended
+    ≤ limit_in flags (translated flags named answers names marks).known.ended
+unfolding translated
+ticks-within flags named answers names marks =
+    let m = headed_made flags named (headed (nest answers)) (begin names marks) in
+    most flags (end_of flags m).known.ended (fine-end flags m (reads-headed flags named answers names marks))
 
 shows-named-head : (flags : Flags) (o : Option (List (List Answer))) (number sign : ℕ) (known : Known)
     → Shows false (texts_named flags o Dead Text (sign_behind sign) number known) (list_if (is_some o) (number ∷ [])
     ++ list_if (is_some o) (sign ∷ []))
-shows-named-head flags None number sign known = record { fine = refl; numbers_are = refl }
+shows-named-head flags None number sign known = refl
 shows-named-head flags (Some parts) number sign known =
-    record { fine = refl; numbers_are = ap (λ ns. number ∷ (ns ++ [])) (struck-parts flags parts _ known) }
+    ap (λ ns. number ∷ (ns ++ [])) (struck-parts flags parts _ known)
 
 -- the two names of a format definition
 starts-split : (words : List Seen) → starts (first_word words) ++ starts (later_words words) ≡ starts words
@@ -67,18 +280,12 @@ starts-split (word ∷ words) = refl
 
 shows-head : (flags : Flags) (named : ℕ → Option (List (List Answer))) (h : Head) (known : Known) → HeadFits h
     → Shows false (head_made flags named h known) (shown_head (λ n. is_some (named n)) h)
-shows-head flags named Headless known w = record { fine = refl; numbers_are = refl }
-shows-head flags named (Silent words) known w = record { fine = refl; numbers_are = refl }
-shows-head flags named (Macro number words) known w = record {
-  fine = refl;
-  numbers_are = append-nil _ ∙ ap (λ ns. number ∷ ns)
-      (spells-numbers _ _ _ (macro-spells words known.names w) ∙ append-nil (starts words));
-}
-shows-head flags named (Format number words) known w = record {
-  fine = refl;
-  numbers_are = append-nil _ ∙ ap (λ ns. number ∷ ns)
-      (spells-numbers _ _ _ (format-spells words known.names w) ∙ starts-split words);
-}
+shows-head flags named Headless known w = refl
+shows-head flags named (Silent words) known w = refl
+shows-head flags named (Macro number words) known w = append-nil _ ∙ ap (λ ns. number ∷ ns)
+    (spells-numbers (macro-spells words known.names w) ∙ append-nil (starts words))
+shows-head flags named (Format number words) known w = append-nil _ ∙ ap (λ ns. number ∷ ns)
+    (spells-numbers (format-spells words known.names w) ∙ starts-split words)
 shows-head flags named (Named number sign) known w = shows-named-head flags (named number) number sign known
 
 pub translated-shown : (flags : Flags) (named : ℕ → Option (List (List Answer))) (answers : List Answer)
@@ -87,13 +294,14 @@ pub translated-shown : (flags : Flags) (named : ℕ → Option (List (List Answe
 unfolding translated
 translated-shown flags named answers names marks nested =
     let h = headed (nest answers) in
-    let w = well-headed (nest answers) (nest-well answers nested) in
+    let fit = head-fits (nest answers) in
     let known = begin names marks in
     let first = head_made flags named h.head known in
-    let rest = made flags (leaf_of_name flags named) h.rest first.known in
-    let s = shows-beside false first rest (shown_head (λ n. is_some (named n)) h.head)
-    (shown_in (λ n. is_some (named n)) h.rest) (shows-head flags named h.head known (head-fits (nest answers)))
-    (shows-made flags (λ n. is_some (named n)) (leaf_of_name flags named)
-    (λ number k. shows-name flags (named number) number k) h.rest false first.known w) in
-    struck-end flags (headed_made flags named h known).scraps (headed_made flags named h known).known s.fine
-    ∙ s.numbers_are
+    let is_named = λ (n : ℕ). is_some (named n) in
+    struck-end flags (headed_made flags named h known).scraps (headed_made flags named h known).known
+    (reads-headed flags named answers names marks).fine
+    ∙ shows-beside false first (made flags (leaf_of_name flags named) h.rest first.known) (shown_head is_named h.head)
+    (shown_in is_named h.rest) (shows-head flags named h.head known fit.head)
+    (shows-made flags is_named (leaf_of_name flags named) (λ number k. shows-name flags (named number) number k)
+    (reads-leaf flags named) h.rest false first.known (fit.rest (nest-well answers nested))
+    (reads-head flags named h.head known fit.head refl).known)

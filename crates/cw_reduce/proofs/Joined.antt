@@ -1,18 +1,30 @@
--- A translation on its way comes to the translation that is defined over the nest.
+-- A translation on its way comes to the translation that is defined over the nest, also with section names.
 use Rattle.cw_reduce.proofs.Terms.{◌≡◌, ℕ, Option, Some, None, List, [], ◌∷◌, refl, sym, ◌∙◌, ap, append-nil, Flags}
 use Rattle.cw_reduce.proofs.Terms.{Answer, Token, Begin, Finish, Note, Seen, TokKind, Nest, End, leaf, group, nests}
-use Rattle.cw_reduce.proofs.Terms.{first_nest, Level, InCode, InComment, after_token as level_token}
-use Rattle.cw_reduce.proofs.Terms.{after_begin as level_begin, after_finish as level_finish, levels_after}
-use Rattle.cw_reduce.proofs.Terms.{all_levels_after, Scrap, LeafForm, token_form, names_with, Frame, CText, Comment}
-use Rattle.cw_reduce.proofs.Terms.{with_scrap, with_item, with_form, Progress, extended, with_made, after_answers}
-use Rattle.cw_reduce.proofs.Terms.{CommentItem, Piece, InnerText, comment_scrap, leaf_scrap, Known, Made, nothing}
-use Rattle.cw_reduce.proofs.Terms.{one_item, beside, made_before, end_of, as_item, form_made, with_names, token_made}
-use Rattle.cw_reduce.proofs.Terms.{group_made, made, no_name, SameSize, some-levels, first-levels, nests-size}
-use Rattle.cw_reduce.proofs.Terms.{append_assoc}
+use Rattle.cw_reduce.proofs.Terms.{Level, InCode, InComment, after_token as level_token, after_begin as level_begin}
+use Rattle.cw_reduce.proofs.Terms.{after_finish as level_finish, levels_after, all_levels_after, Scrap, LeafForm}
+use Rattle.cw_reduce.proofs.Terms.{token_form, names_with, Frame, CText, Comment, with_scrap, with_item, with_form}
+use Rattle.cw_reduce.proofs.Terms.{Progress, after_answers, CommentItem, Piece, InnerText, comment_scrap, leaf_scrap}
+use Rattle.cw_reduce.proofs.Terms.{Known, with_names, get_or, All-map, append_assoc, ◌++◌, map, arith, All, slice_get}
+use Rattle.cw_reduce.proofs.Terms.{IfSome, All-head, All-tail, SectionScrap, Maybe, Span, tokens_of, inner_mode, nest}
+use Rattle.cw_reduce.proofs.Terms.{IsNested, until_section, inner_parts, NameUse, name_at, SecKind, Tree, Empty, Then}
+use Rattle.cw_reduce.proofs.Terms.{Source, Sign, Holder, name_texts, parts_by_kind, texts_kept, texts_of_name}
+use Rattle.cw_reduce.proofs.Terms.{held_answers, name_answers, text_answers, text_token, texts_answers, token_answers}
+use Rattle.cw_reduce.proofs.Terms.{with_texts, all_ended, after-append}
+use Rattle.cw_lex.proofs.Nests.{SameSize, some-levels, first-levels, nests-size, nests-nested}
 use Rattle.cw_rules.specs.declared.codes.Code.TheVariants as code
 use Rattle.cw_rules.specs.declared.tokens.TokKind.TheVariants as kind
 use Rattle.cw_translator.specs.declared.holders.Holder.TheVariants as holder
-use Rattle.cw_translator.specs.Reading.{after_token, after_begin, after_finish}
+use Rattle.cw_translator.specs.Reading.{extended, with_made, ended_in, with_held, after_token, after_begin}
+use Rattle.cw_translator.specs.Reading.{after_finish}
+use Rattle.cw_secnames.specs.declared.kinds.SecKind.TheVariants.{Named, File}
+use Rattle.cw_trees.specs.declared.Control.TheVariants as control
+use Rattle.cw_translator.specs.Holders.{held_cat, held_mode, held_tree, name_rest, name_tree}
+use Rattle.cw_secnames.specs.Kept.{SecName}
+use Rattle.cw_translator.specs.Translating.{Made, nothing, one_item, beside, made_before, end_of, as_item, form_made}
+use Rattle.cw_translator.specs.Translating.{token_made, group_made, made, no_name, plain_text, NameTexts, texts_made}
+use Rattle.cw_translator.specs.Translating.{texts_named, leaf_of_name}
+use Rattle.cw_lex.proofs.Nesting.{parts-nested as c-parts-nested}
 
 abbrev pub level : Flags → (ℕ → Known → Made) → Nest → Progress → Progress
 level flags name n a = with_made a.frames (made flags name n a.known)
@@ -61,42 +73,23 @@ form-known : (form : Option LeafForm) (known : Known) → (form_made form known)
 form-known None known = refl
 form-known (Some form) known = refl
 
--- one after the other
 pub level-before : (flags : Flags) (name : ℕ → Known → Made) (m : Made) (n : Nest) (frames : List Frame)
     → with_made frames (made_before m (made flags name n)) ≡ level flags name n (with_made frames m)
-level-before flags name m n frames = ap (λ fs. record { frames = fs; known = (made flags name n m.known).known })
-    (extended-beside m (made flags name n m.known) frames)
+level-before flags name m n frames = rw (extended-beside m (made flags name n m.known) frames)
 
 at-form : (form : Option LeafForm) (known : Known) (frames : List Frame)
     → record { frames = with_form form frames; known = known } ≡ with_made frames (form_made form known)
-at-form form known frames = ap (λ fs. record { frames = fs; known = known }) (extended-form form known frames)
-    ∙ ap (λ k. record { frames = extended (form_made form known) frames; known = k }) (sym (form-known form known))
+at-form form known frames = rw (extended-form form known frames, form-known form known)
 
--- A token.
 pub step-token : (k : TokKind) (token : Seen) (a : Progress) → after_token k token a
     ≡ with_made a.frames (token_made no_name k token a.known)
-step-token kind.Text token a = ap (λ fs. record { frames = fs; known = a.known })
-    (extended-item (Piece token.span.start) a.known a.frames)
-step-token (kind.Code code.SectionName) token a = ap (λ fs. record { frames = fs; known = a.known })
-    (sym (extended-nothing a.frames a.known))
-step-token (kind.Code code.FileName) token a = ap (λ fs. record { frames = fs; known = a.known })
-    (sym (extended-nothing a.frames a.known))
+step-token kind.Text token a = rw (extended-item (Piece token.span.start) a.known a.frames)
+step-token (kind.Code code.SectionName) token a = rw (extended-nothing a.frames a.known)
+step-token (kind.Code code.FileName) token a = rw (extended-nothing a.frames a.known)
 step-token k token a = at-form (token_form k token.text token.hash_line token.span.start a.known.names)
     (with_names (names_with k token.text a.known.names) a.known) a.frames
 
 -- A comment and an inner text.
-level-inner : (flags : Flags) (name : ℕ → Known → Made) (token : Seen) (inner rest : Nest) (a : Progress)
-    → level flags name rest
-    (closed flags (level flags name inner (record { frames = CText [] ∷ a.frames; known = a.known })))
-    ≡ with_made a.frames (made_before (group_made flags kind.InnerText token (made flags name inner a.known))
-    (made flags name rest))
-level-inner flags name token inner rest a =
-    let m = made flags name inner a.known in
-    let text = end_of flags m in
-    ap (λ fs. level flags name rest (record { frames = fs; known = text.known }))
-    (extended-item (InnerText text.tree) text.known a.frames)
-    ∙ sym (level-before flags name (as_item text) rest a.frames)
-
 level-comment : (flags : Flags) (name : ℕ → Known → Made) (token : Seen) (inner rest : Nest) (a : Progress)
     → level flags name rest (closed flags (level flags name inner (record {
       frames = Comment (holder.Comment token.span.start) [] ∷ a.frames;
@@ -117,34 +110,30 @@ pushed k number frames = Comment (holder.Comment number) [] ∷ frames
 pub step-begin : (k : TokKind) (number : ℕ) (levels next : List Level) (a : Progress) → level_begin k levels ≡ Some next
     → after_begin k number a ≡ record { frames = pushed k number a.frames; known = a.known }
 step-begin kind.InnerText number levels next a h = refl
-step-begin kind.LongComment number levels next a h = refl
-step-begin kind.ShortComment number levels next a h = refl
-step-begin k number levels next a h = absurd cc
+step-begin k number levels next a h = cc
 
 level-begin : (flags : Flags) (name : ℕ → Known → Made) (k : TokKind) (token : Seen) (inner rest : Nest)
     (levels next : List Level) (a : Progress) → level_begin k levels ≡ Some next → level flags name rest
     (closed flags (level flags name inner (record { frames = pushed k token.span.start a.frames; known = a.known })))
     ≡ with_made a.frames (made_before (group_made flags k token (made flags name inner a.known)) (made flags name rest))
-level-begin flags name kind.InnerText token inner rest levels next a h = level-inner flags name token inner rest a
+level-begin flags name kind.InnerText token inner rest levels next a h =
+    let text = end_of flags (made flags name inner a.known) in
+    ap (λ fs. level flags name rest (record { frames = fs; known = text.known }))
+    (extended-item (InnerText text.tree) text.known a.frames)
+    ∙ sym (level-before flags name (as_item text) rest a.frames)
 level-begin flags name kind.LongComment token inner rest levels next a h = level-comment flags name token inner rest a
 level-begin flags name kind.ShortComment token inner rest levels next a h = level-comment flags name token inner rest a
 level-begin flags name k token inner rest levels next a h = absurd cc
 
 -- All answers.
-abbrev pub IsOne : List Level → Type 0
-IsOne [] = ⊥
-IsOne (l ∷ ls) = Unit {0}
-
 abbrev pub IsTwo : List Level → Type 0
 IsTwo (l ∷ m ∷ ls) = Unit {0}
 IsTwo ls = ⊥
 
-pub token-one : (k : TokKind) (levels next : List Level) → level_token k levels ≡ Some next → IsOne next
-token-one kind.Text (InComment ∷ levels) next h = rw (sym (some-levels (InComment ∷ levels) next h)) tt
-token-one kind.Text [] next h = absurd cc
-token-one kind.Text (InCode ∷ levels) next h = absurd cc
-token-one k (InCode ∷ levels) next h = rw (sym (some-levels (InCode ∷ levels) next h)) tt
-token-one k levels next h = absurd cc
+token-some : (k : TokKind) (levels : List Level) → level_token k levels ≡ Some [] → ⊥
+token-some kind.Text (InComment ∷ levels) h = cc
+token-some k (InCode ∷ levels) h = cc
+token-some k levels h = cc
 
 pub begin-two : (k : TokKind) (levels next : List Level) → level_begin k levels ≡ Some next → IsTwo next
 begin-two kind.InnerText (InComment ∷ levels) next h = rw (sym (some-levels (InCode ∷ InComment ∷ levels) next h)) tt
@@ -152,65 +141,202 @@ begin-two kind.LongComment (InCode ∷ levels) next h = rw (sym (some-levels (In
 begin-two kind.ShortComment (InCode ∷ levels) next h = rw (sym (some-levels (InComment ∷ InCode ∷ levels) next h)) tt
 begin-two k levels next h = absurd cc
 
-pub finish-one : (levels next : List Level) → level_finish levels ≡ Some next → IsOne next
-finish-one (InCode ∷ InComment ∷ levels) next h = rw (sym (some-levels (InComment ∷ levels) next h)) tt
-finish-one (InComment ∷ InCode ∷ levels) next h = rw (sym (some-levels (InCode ∷ levels) next h)) tt
-finish-one levels next h = absurd cc
+finish-some : (levels : List Level) → level_finish levels ≡ Some [] → ⊥
+finish-some (InCode ∷ InComment ∷ levels) h = cc
+finish-some (InComment ∷ InCode ∷ levels) h = cc
+finish-some levels h = cc
 
-pub run-leaf : (flags : Flags) (name : ℕ → Known → Made) (token : Seen) (ns : List Nest) (ls : List Level)
-    (a : Progress) → IsOne ls → SameSize ns ls → run flags name ns
-    (with_made a.frames (token_made name token.kind token a.known)) ≡ run flags name (leaf token ns) a
-run-leaf flags name token ns [] a one s = absurd one
-run-leaf flags name token [] (l ∷ ls) a one s = absurd s
-run-leaf flags name token (n ∷ ns) (l ∷ ls) a one s =
-    ap (outer flags name ns) (sym (level-before flags name (token_made name token.kind token a.known) n a.frames))
+-- what an answer steps to
+abbrev stepped : Flags → (ℕ → Known → Made) → Answer → Progress → Progress
+stepped flags name (Token token) a = with_made a.frames (token_made name token.kind token a.known)
+stepped flags name (Begin token) a = after_begin token.kind token.span.start a
+stepped flags name (Finish token) a = closed flags a
+stepped flags name (Note note place) a = a
 
-pub run-end : (flags : Flags) (name : ℕ → Known → Made) (ns : List Nest) (ls : List Level) (a : Progress) → IsOne ls
-    → SameSize ns ls → run flags name ns (closed flags a) ≡ run flags name (End ∷ ns) a
-run-end flags name ns [] a one s = absurd one
-run-end flags name [] (l ∷ ls) a one s = absurd s
-run-end flags name (n ∷ ns) (l ∷ ls) a one s = ap (λ fs. outer flags name (n ∷ ns)
-    (record { frames = fs; known = a.known })) (sym (extended-nothing a.frames a.known))
+module _ (flags : Flags) (name : ℕ → Known → Made) where
+  run-leaf : (token : Seen) (ns : List Nest) (levels next : List Level) (a : Progress)
+      → level_token token.kind levels ≡ Some next → SameSize ns next
+      → run flags name ns (stepped flags name (Token token) a) ≡ run flags name (leaf token ns) a
+  run-leaf token ns levels [] a h s = absurd (token-some token.kind levels h)
+  run-leaf token [] levels (l ∷ ls) a h s = absurd s
+  run-leaf token (n ∷ ns) levels (l ∷ ls) a h s =
+      ap (outer flags name ns) (sym (level-before flags name (token_made name token.kind token a.known) n a.frames))
 
-pub run-group : (flags : Flags) (name : ℕ → Known → Made) (token : Seen) (ns : List Nest) (levels next : List Level)
-    (a : Progress) → level_begin token.kind levels ≡ Some next → IsTwo next → SameSize ns next
-    → run flags name ns (record { frames = pushed token.kind token.span.start a.frames; known = a.known })
-    ≡ run flags name (group token ns) a
-run-group flags name token ns levels [] a h two s = absurd two
-run-group flags name token ns levels (l ∷ []) a h two s = absurd two
-run-group flags name token [] levels (l ∷ m ∷ ls) a h two s = absurd s
-run-group flags name token (inner ∷ []) levels (l ∷ m ∷ ls) a h two s = absurd s
-run-group flags name token (inner ∷ rest ∷ ns) levels (l ∷ m ∷ ls) a h two s =
-    ap (outer flags name ns) (level-begin flags name token.kind token inner rest levels (l ∷ m ∷ ls) a h)
+  run-end : (ns : List Nest) (levels next : List Level) (a : Progress) → level_finish levels ≡ Some next
+      → SameSize ns next → run flags name ns (closed flags a) ≡ run flags name (End ∷ ns) a
+  run-end ns levels [] a h s = absurd (finish-some levels h)
+  run-end [] levels (l ∷ ls) a h s = absurd s
+  run-end (n ∷ ns) levels (l ∷ ls) a h s = rw (extended-nothing a.frames a.known)
 
-run-one : (flags : Flags) (answer : Answer) (answers : List Answer) (levels next : List Level) (a : Progress)
-    → levels_after answer levels ≡ Some next → SameSize (nests answers) next
-    → ((b : Progress) → after_answers flags answers b ≡ run flags no_name (nests answers) b)
-    → after_answers flags (answer ∷ answers) a ≡ run flags no_name (nests (answer ∷ answers)) a
-run-one flags (Token token) answers levels next a h s rest =
-    ap (after_answers flags answers) (step-token token.kind token a)
-    ∙ rest (with_made a.frames (token_made no_name token.kind token a.known))
-    ∙ run-leaf flags no_name token (nests answers) next a (token-one token.kind levels next h) s
-run-one flags (Begin token) answers levels next a h s rest =
-    ap (after_answers flags answers) (step-begin token.kind token.span.start levels next a h)
-    ∙ rest (record { frames = pushed token.kind token.span.start a.frames; known = a.known })
-    ∙ run-group flags no_name token (nests answers) levels next a h (begin-two token.kind levels next h) s
-run-one flags (Finish token) answers levels next a h s rest = rest (closed flags a)
-    ∙ run-end flags no_name (nests answers) next a (finish-one levels next h) s
-run-one flags (Note note place) answers levels next a h s rest = rest a
+  run-group : (token : Seen) (ns : List Nest) (levels next : List Level) (a : Progress)
+      → level_begin token.kind levels ≡ Some next → IsTwo next → SameSize ns next
+      → run flags name ns (record { frames = pushed token.kind token.span.start a.frames; known = a.known })
+      ≡ run flags name (group token ns) a
+  run-group token (inner ∷ rest ∷ ns) levels (l ∷ m ∷ ls) a h two s =
+      ap (outer flags name ns) (level-begin flags name token.kind token inner rest levels (l ∷ m ∷ ls) a h)
+  run-group token ns levels (l ∷ m ∷ ls) a h two s = absurd s
+  run-group token ns levels next a h two s = absurd two
 
-pub run-all : (flags : Flags) (answers : List Answer) (levels : List Level) (a : Progress)
-    → all_levels_after answers levels ≡ Some (InCode ∷ []) → after_answers flags answers a
-    ≡ run flags no_name (nests answers) a
-run-all flags [] levels a h = ap (λ fs. record { frames = fs; known = a.known })
-    (sym (extended-nothing a.frames a.known))
-run-all flags (answer ∷ answers) levels a h =
-    let f = first-levels answer answers levels (levels_after answer levels) refl h in
-    run-one flags answer answers levels f.0 a f.1.0 (nests-size answers f.0 f.1.1)
-    (λ b. run-all flags answers f.0 b f.1.1)
+  run-one : (answer : Answer) (answers : List Answer) (levels next : List Level) (a : Progress)
+      → levels_after answer levels ≡ Some next → SameSize (nests answers) next
+      → run flags name (nests answers) (stepped flags name answer a) ≡ run flags name (nests (answer ∷ answers)) a
+  run-one (Token token) answers levels next a h s = run-leaf token (nests answers) levels next a h s
+  run-one (Begin token) answers levels next a h s =
+      ap (run flags name (nests answers)) (step-begin token.kind token.span.start levels next a h)
+      ∙ run-group token (nests answers) levels next a h (begin-two token.kind levels next h) s
+  run-one (Finish token) answers levels next a h s = run-end (nests answers) levels next a h s
+  run-one (Note note place) answers levels next a h s = refl
 
-pub one-nest : (flags : Flags) (name : ℕ → Known → Made) (ns : List Nest) (a : Progress) → SameSize ns (InCode ∷ [])
-    → run flags name ns a ≡ level flags name (first_nest ns) a
-one-nest flags name [] a s = absurd s
-one-nest flags name (n ∷ []) a s = refl
-one-nest flags name (n ∷ m ∷ ns) a s = absurd s
+  -- answers of which each steps so, with texts or without
+  module _ (texts : List Answer → List Answer) (none : texts [] ≡ []) (one : (answer : Answer) (answers : List Answer)
+      (a : Progress) → after_answers flags (texts (answer ∷ answers)) a
+      ≡ after_answers flags (texts answers) (stepped flags name answer a)) where
+    run-all : (answers : List Answer) (levels : List Level) (a : Progress) → all_levels_after answers levels
+        ≡ Some (InCode ∷ []) → after_answers flags (texts answers) a ≡ run flags name (nests answers) a
+    run-all [] levels a h = rw (none, extended-nothing a.frames a.known)
+    run-all (answer ∷ answers) levels a h =
+        let f = first-levels answer answers levels (levels_after answer levels) refl h in
+        one answer answers a ∙ (run-all answers f.0 (stepped flags name answer a) f.1.1
+        ∙ run-one answer answers levels f.0 a f.1.0 (nests-size answers f.0 f.1.1))
+
+    run-nested : (answers : List Answer) (a : Progress) → IsNested answers
+        → after_answers flags (texts answers) a ≡ level flags name (nest answers) a
+    run-nested answers a h = run-all answers (InCode ∷ []) a h
+        ∙ ap (λ ns. run flags name ns a) (nests-nested answers h)
+
+-- An inner text of a name.
+plain-one : (flags : Flags) (answer : Answer) (answers : List Answer) (a : Progress)
+    → after_answers flags (answer ∷ answers) a ≡ after_answers flags answers (stepped flags no_name answer a)
+plain-one flags (Token token) answers a = ap (after_answers flags answers) (step-token token.kind token a)
+plain-one flags _ answers a = refl
+
+text-law : (flags : Flags) (text : List Answer) (p : Progress) → IsNested text
+    → after_answers flags (text_answers text) p ≡ ended_in p.frames (plain_text flags text p.known)
+text-law flags text p nested =
+    let opened : Progress = record { frames = CText [] ∷ p.frames; known = p.known } in
+    after-append flags text (Finish text_token ∷ []) opened
+    ∙ ap (closed flags) (run-nested flags no_name (λ xs. xs) refl (plain-one flags) text opened nested)
+
+-- The inner texts of a name, and the name that holds them.
+abbrev pub text_items : Flags → List (List Answer) → Known → List CommentItem
+text_items flags [] known = []
+text_items flags (text ∷ texts) known = InnerText (plain_text flags text known).tree
+    ∷ text_items flags texts (plain_text flags text known).known
+
+items-tree : (flags : Flags) (texts : List (List Answer)) (behind : Tree) (known : Known)
+    → name_rest (text_items flags texts known) behind
+    ≡ (texts_made flags texts (Then (Sign control.NameEnd) behind) known).tree
+items-tree flags [] behind known = refl
+items-tree flags (text ∷ texts) behind known = rw (items-tree flags texts behind (plain_text flags text known).known)
+
+texts-law : (flags : Flags) (texts : List (List Answer)) (held_by : Holder) (items : List CommentItem)
+    (frames : List Frame) (behind : Tree) (known : Known) → All IsNested texts
+    → after_answers flags (texts_answers texts) (record { frames = Comment held_by items ∷ frames; known = known })
+    ≡ record {
+      frames = Comment held_by (items ++ text_items flags texts known) ∷ frames;
+      known = (texts_made flags texts behind known).known;
+    }
+texts-law flags [] held_by items frames behind known nested =
+    ap (λ xs. record { frames = Comment held_by xs ∷ frames; known = known }) (sym (append-nil items))
+texts-law flags (text ∷ texts) held_by items frames behind known nested =
+    let p : Progress = record { frames = Comment held_by items ∷ frames; known = known } in
+    let t = plain_text flags text known in
+    rw (
+      after-append flags (text_answers text) (texts_answers texts) p,
+      text-law flags text p (All-head IsNested text texts nested),
+      texts-law flags texts held_by (items ++ InnerText t.tree ∷ []) frames behind t.known
+          (All-tail IsNested text texts nested),
+      append_assoc items (InnerText t.tree ∷ []) (text_items flags texts t.known),
+    )
+
+pub name-law : (flags : Flags) (texts : List (List Answer)) (held_by : Holder) (number : ℕ) (behind : Tree)
+    (p : Progress) → ((items : List CommentItem) → held_tree held_by items ≡ name_tree number behind items)
+    → All IsNested texts → after_answers flags (held_answers texts) (with_held held_by p)
+    ≡ with_made p.frames (texts_named flags (Some texts) (held_cat held_by) (held_mode held_by) behind number p.known)
+name-law flags texts held_by number behind p is nested =
+    let text = texts_made flags texts (Then (Sign control.NameEnd) behind) p.known in
+    let items = text_items flags texts p.known in
+    rw (
+      after-append flags (texts_answers texts) (Finish text_token ∷ []) (with_held held_by p),
+      texts-law flags texts held_by [] p.frames (Then (Sign control.NameEnd) behind) p.known nested,
+      is items,
+      items-tree flags texts behind p.known,
+      extended-scrap (record {
+        cat = held_cat held_by;
+        tree = Then (Source number Maybe) text.tree;
+        left = held_mode held_by;
+        right = held_mode held_by;
+      }) text.known p.frames,
+    )
+
+-- A token.
+abbrev pub AllNested : NameTexts → Type 0
+AllNested named = (number : ℕ) → IfSome (named number) (All IsNested)
+
+module _ (flags : Flags) (named : NameTexts) (nested : AllNested named) where
+  abbrev name : ℕ → Known → Made
+  name = leaf_of_name flags named
+
+  -- as the step of a section name
+  abbrev IsPassed : TokKind → Seen → Progress → Type 0
+  IsPassed k token a = after_token k token a ≡ with_made a.frames (nothing a.known)
+
+  abbrev IsHeld : TokKind → Seen → Progress → Type 0
+  IsHeld k token a = after_begin k token.span.start a ≡ with_held (holder.Name token.span.start) a
+
+  step-name : (o : Option (List (List Answer))) (token : Seen) (a : Progress) → IsPassed token.kind token a
+      → IsHeld token.kind token a → IfSome o (All IsNested) → after_answers flags (name_answers o token) a
+      ≡ with_made a.frames (texts_named flags o SectionScrap Maybe Empty token.span.start a.known)
+  step-name None token a passed held n = passed
+  step-name (Some texts) token a passed held n = ap (after_answers flags (held_answers texts)) held
+      ∙ name-law flags texts (holder.Name token.span.start) token.span.start Empty a (λ items. refl) n
+
+  pub step-named : (k : TokKind) (token : Seen) (a : Progress) → token.kind ≡ k
+      → after_answers flags (token_answers named k token) a ≡ with_made a.frames (token_made name k token a.known)
+  step-named (kind.Code code.SectionName) token a e =
+      step-name (named token.span.start) token a (ap (λ j. after_token j token a) e
+      ∙ step-token (kind.Code code.SectionName) token a) (ap (λ j. after_begin j token.span.start a) e)
+      (nested token.span.start)
+  step-named (kind.Code code.FileName) token a e =
+      step-name (named token.span.start) token a (ap (λ j. after_token j token a) e
+      ∙ step-token (kind.Code code.FileName) token a) (ap (λ j. after_begin j token.span.start a) e)
+      (nested token.span.start)
+  step-named k token a e = ap (λ j. after_token j token a) e ∙ step-token k token a
+
+  named-one : (answer : Answer) (answers : List Answer) (a : Progress)
+      → after_answers flags (with_texts named (answer ∷ answers)) a
+      ≡ after_answers flags (with_texts named answers) (stepped flags name answer a)
+  named-one (Token token) answers a =
+      after-append flags (token_answers named token.kind token) (with_texts named answers) a
+      ∙ ap (after_answers flags (with_texts named answers)) (step-named token.kind token a refl)
+  named-one _ answers a = refl
+
+  -- what is made of a head, and then the answers behind it
+  pub named-translation : (head : Made) (answers : List Answer) → IsNested answers
+      → all_ended flags (after_answers flags (with_texts named answers) (with_made (CText [] ∷ []) head))
+      ≡ end_of flags (made_before head (made flags name (nest answers)))
+  named-translation head answers h =
+      let a : Progress = with_made (CText [] ∷ []) head in
+      ap (all_ended flags) (run-nested flags name (with_texts named) refl named-one answers a h
+      ∙ sym (level-before flags name head (nest answers) (CText [] ∷ [])))
+
+-- The inner texts of names are nested.
+parts-nested : (text : List ℕ) (spans : List Span)
+    → All IsNested (map (λ span. until_section (tokens_of text span.start span.end inner_mode)) spans)
+parts-nested text spans = All-map IsNested (λ s. until_section (tokens_of text s.start s.end inner_mode)) spans
+    (λ k d h. c-parts-nested text (get_or spans k d).start (get_or spans k d).end inner_mode refl)
+
+kind-nested : (k : SecKind) (text : List ℕ) → All IsNested (parts_by_kind k text)
+kind-nested Named text = parts-nested text (inner_parts text)
+kind-nested File text = λ i d h. absurd (omega arith)
+
+name-nested : (o : Option SecName) → IfSome (texts_of_name o) (All IsNested)
+name-nested None = tt
+name-nested (Some name) = kind-nested name.kind name.text
+
+kept-nested : (kept : List SecName) (o : Option ℕ) → IfSome (texts_kept kept o) (All IsNested)
+kept-nested kept None = tt
+kept-nested kept (Some k) = name-nested (slice_get kept k)
+
+pub texts-nested : (kept : List SecName) (uses : List NameUse) → AllNested (name_texts kept uses)
+texts-nested kept uses = λ number. kept-nested kept (name_at number uses)

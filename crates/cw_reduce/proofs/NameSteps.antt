@@ -1,31 +1,40 @@
--- A section name, its inner texts, and a text with section names, one call after the other.
-use Rattle.cw_reduce.proofs.Terms.{◌≡◌, ℕ, ◌+◌, ◌^◌, ◌<◌, ◌≤◌, Bool, true, false, Option, Some, None, List, [], ◌∷◌}
-use Rattle.cw_reduce.proofs.Terms.{◌++◌, length, map, get_or, nat_eq, option_map, refl, sym, ap, ◌∙◌, subst, add-zero}
-use Rattle.cw_reduce.proofs.Terms.{arith, Result, Ok, All, slice_get, append-nil, All-cons, All-head, All-tail, Flags}
-use Rattle.cw_reduce.proofs.Terms.{Memory, Span, Answer, Seen, Token, Begin, Finish, Note, Gives, seen, is_name_kind}
-use Rattle.cw_reduce.proofs.Terms.{tokens_of, until_section, Lexed, inner_mode, TokKind, Entry, SecName, id as id_of}
-use Rattle.cw_reduce.proofs.Terms.{parts_at, IsNextPart, NameUse, name_at, SecId, SecKind, StoredLists, Keeps, AreRoots}
-use Rattle.cw_reduce.proofs.Terms.{Holder, OpenCText as CText, Translator, Work, AreNamesOf, name_texts, parts_by_kind}
-use Rattle.cw_reduce.proofs.Terms.{texts_kept, texts_of_name, held_answers, is_name_answer, name_answers, text_answers}
-use Rattle.cw_reduce.proofs.Terms.{text_token, texts_answers, token_answers, with_texts, all_roots, answers_in}
-use Rattle.cw_reduce.proofs.Terms.{frames_of, IsSoundFrame, IsTranslating, progress_of, Progress, after_answers}
-use Rattle.cw_reduce.proofs.Terms.{with_held, Comment as CommentFrame, NamesAmong, NamesOnTheWay, later, NameTexts}
-use Rattle.cw_reduce.proofs.Terms.{Told, Advances, over, progress_over, begin-advances, unchanged, recorded-none}
-use Rattle.cw_reduce.proofs.Terms.{Advancing, advancing-begun, advancing-next, advances-as, advances-done}
-use Rattle.cw_reduce.proofs.Terms.{advances-none, Steps, keeps-itself, append_assoc}
+-- A section name, its inner texts, a text with section names, and one with its head, one call after the other.
+use Rattle.cw_reduce.proofs.Terms.{◌^◌, Bool, false, nat_eq, Result, Ok, Span, Token, Gives, seen, is_name_kind}
+use Rattle.cw_reduce.proofs.Terms.{tokens_of, until_section, Lexed, inner_mode, parts_at, IsNextPart, NameUse, name_at}
+use Rattle.cw_reduce.proofs.Terms.{SecKind, Holder, Translator, Work, held_answers, is_name_answer, name_answers}
+use Rattle.cw_reduce.proofs.Terms.{text_answers, text_token, texts_answers, token_answers, with_texts, begin-advances}
+use Rattle.cw_reduce.proofs.Terms.{unchanged, recorded-none, Advancing, advancing-begun, advancing-next, advances-as}
+use Rattle.cw_reduce.proofs.Terms.{advances-done, advances-none, keeps-itself, ListId, Dead, headed, nest, IsNested}
+use Rattle.cw_reduce.proofs.Terms.{HeadRead, Translated, read_made, StartsBelow, ends-as, same-names, LineEntry}
 use Rattle.std.proofs.lemmas.Option.{get_or_from_slice_get, slice_get_within}
 use Rattle.cw_rules.specs.declared.codes.Code.TheVariants as code
 use Rattle.cw_rules.specs.declared.tokens.Lexed.TheVariants as lexed
 use Rattle.cw_rules.specs.declared.tokens.TokKind.TheVariants as kind
-use Rattle.cw_secnames.specs.Kept.{shown}
+use Rattle.cw_secnames.specs.Kept.{shown, SecName, id as id_of}
 use Rattle.cw_translator.specs.declared.holders.Holder.TheVariants as holder
-use Rattle.cw_translator.specs.declared.nesting.Open.TheVariants.{Comment}
-use Rattle.cw_translator.specs.Reading.{after_token, after_begin}
-use Rattle.cw_reduce.proofs.ReadSteps.{gives-is}
+use Rattle.cw_translator.specs.declared.nesting.Open.TheVariants.{Comment, CText as OpenCText}
+use Rattle.cw_translator.specs.Reading.{with_held, with_made, after_token, after_begin}
+use Rattle.cw_reduce.proofs.ReadSteps.{gives-is, starts-split}
+use Rattle.cw_reduce.specs.declared.heads.HeadRead.TheVariants as read
+use Rattle.cw_translator.specs.Translating.{translated, NameTexts, begin, head_made, texts_named}
+use Rattle.cw_reduce.proofs.Joined.{AllNested, name-law, named-translation}
+use Rattle.cw_reduce.specs.Heading.{NamesOfHead, NamesOfHeaded, in_name, behind, after_head, after_held, head_begun}
+use Rattle.cw_reduce.specs.Heading.{headed_text, of_head, over_head, over_headed, to_headed}
+use Rattle.cw_translator.proofs.Terms.{◌≡◌, ℕ, ◌+◌, ◌<◌, ◌≤◌, true, Option, Some, None, List, [], ◌∷◌, ◌++◌, length}
+use Rattle.cw_translator.proofs.Terms.{map, option_map, refl, sym, ap, ◌∙◌, add-zero, arith, All, slice_get, append-nil}
+use Rattle.cw_translator.proofs.Terms.{All-cons, All-head, All-tail, Flags, Memory, Answer, Seen, Begin, Finish}
+use Rattle.cw_translator.proofs.Terms.{TokKind, Entry, all_roots, answers_in, frames_of, IsSoundFrame, IsTranslating}
+use Rattle.cw_translator.proofs.Terms.{Progress, after_answers, Comment as CommentFrame, NamesAmong, later, Told}
+use Rattle.cw_translator.proofs.Terms.{Advances, over, progress_over, append_assoc, ◌⊎◌, inl, inr, IfSome}
+use Rattle.cw_translator.proofs.Terms.{Token as StoredToken, StoredLists, Text, IsSoundLine, scraps_of, marked_names}
+use Rattle.cw_translator.proofs.Terms.{CText, all_ended, here, Known, sign_behind, with_names, EndsIn}
+use Rattle.cw_secnames.specs.declared.kinds.SecId.{SecId}
+use Rattle.cw_translator.specs.NameParts.{AreNamesOf, name_texts, parts_by_kind, texts_kept, texts_of_name}
 
 -- An inner text has begun.
 pub text-begun : {L R : Type 0} {told : R → Option Told} (flags : Flags) (text : List Answer) {t t1 : Translator}
-    {work : Work L R} → IsTranslating work.store.now work.names.now t → t1 ≡ record t { nesting = CText [] ∷ t.nesting }
+    {work : Work L R} → IsTranslating work.store.now work.names.now t
+    → t1 ≡ record t { nesting = OpenCText [] ∷ t.nesting }
     → Advancing told flags (text_answers text) (text ++ Finish text_token ∷ []) (progress_over work t) t work t1 work
 text-begun flags text is e = advancing-next (Begin text_token ∷ []) (text ++ Finish text_token ∷ [])
     (advancing-begun flags (text_answers text) is) refl
@@ -48,46 +57,37 @@ pub held-begun : {L R : Type 0} {told : R → Option Told} (flags : Flags) (held
     {work : Work L R} → IsTranslating work.store.now work.names.now t
     → t1 ≡ record t { nesting = Comment held_by [] ∷ t.nesting } → (all : List Answer)
     → Advancing told flags all all (with_held held_by (progress_over work t)) t work t1 work
-held-begun flags held_by {t = t} {t1 = t1} {work = work} is e all =
-    let store : StoredLists = work.store.now in
-    let names : List Entry = work.names.now in
-    let steps : Steps store store names names t t1 = subst (Steps store store names names t) (sym e) (record {
-      translating = record {
-        idle = is.idle;
-        roots = subst (AreRoots store.lists) (sym (append-nil (all_roots t.nesting))) is.roots;
-        sound = All-cons (IsSoundFrame (length names)) (CommentFrame held_by []) (frames_of store.lists t.nesting)
-            (λ i d b. absurd (omega arith)) is.sound;
-        light = is.light;
-      };
-      keeps = subst (Keeps store.lists store.lists (all_roots t.nesting)) (sym (append-nil (all_roots t.nesting)))
-          (keeps-itself store.lists (all_roots t.nesting));
-    }) in
-    record {
-      done = [];
-      reads = record {
-        translating = steps.translating;
-        come = record {
-          is = ap (λ x. progress_of store.lists names work.marks.now x []) e;
-          scraps = ap (λ (x : Translator). x.scraps) e ∙ sym (add-zero t.scraps);
-          productions_are = ap (λ (x : Translator). x.productions) e ∙ sym (add-zero t.productions);
-          steps_are = sym (add-zero work.steps.now);
-        };
-        keeps = steps.keeps;
-        names = tt;
-        recorded = recorded-none flags [] refl (omega arith);
-        bound = omega arith;
-        same = unchanged;
-        idle = is.idle;
-      };
-      goes = refl;
-    }
+held-begun flags held_by {t = t} {work = work} is e all = rw e (record {
+  done = [];
+  reads = record {
+    translating = record {
+      idle = is.idle;
+      roots = rw (append-nil (all_roots t.nesting)) is.roots;
+      sound = All-cons (IsSoundFrame (length work.names.now)) (CommentFrame held_by [])
+          (frames_of work.store.now.lists t.nesting) (λ i d b. absurd (omega arith)) is.sound;
+      light = is.light;
+    };
+    come = record {
+      is = refl;
+      scraps = sym (add-zero t.scraps);
+      productions_are = sym (add-zero t.productions);
+      steps_are = sym (add-zero work.steps.now);
+    };
+    keeps = rw (append-nil (all_roots t.nesting)) (keeps-itself work.store.now.lists (all_roots t.nesting));
+    names = tt;
+    recorded = recorded-none flags [] refl (omega arith);
+    bound = omega arith;
+    same = unchanged;
+    idle = is.idle;
+  };
+  goes = refl;
+})
 
 -- A section name by the pair of its place.
 pub name-token : (named : NameTexts) (k : TokKind) (token : Seen) → is_name_kind k ≡ true → token_answers named k token
     ≡ name_answers (named token.span.start) token
 name-token named (kind.Code code.SectionName) token h = refl
-name-token named (kind.Code code.FileName) token h = refl
-name-token named k token h = absurd cc
+name-token named k token h = cc
 
 name-passes : (k : TokKind) (token : Seen) (p : Progress) → is_name_kind k ≡ true → after_token k token p ≡ p
 name-passes (kind.Code code.SectionName) token p h = refl
@@ -107,28 +107,10 @@ some-at : (o : Option ℕ) (id : SecId) → option_map id_of o ≡ Some id → o
 some-at None id h = cc
 some-at (Some k) id h = cc
 
--- Without a pair it is passed over.
-module _ (kept : List SecName) (uses : List NameUse) (token : Seen) (named : is_name_kind token.kind
-    ≡ true) (found : option_map id_of (name_at token.span.start uses) ≡ None) where
-  unpaired : token_answers (name_texts kept uses) token.kind token ≡ Token token ∷ []
-  unpaired = name-token (name_texts kept uses) token.kind token named
-      ∙ ap (λ o. name_answers o token) (ap (texts_kept kept) (none-at (name_at token.span.start uses) found))
-
-  pub unpaired-advances : {L R T : Type 0} {told : R → Option Told} (flags : Flags) {t : Translator} {work : Work L R}
-      {value : T} → IsTranslating work.store.now work.names.now t
-      → Advances told (over flags (token_answers (name_texts kept uses) token.kind token) (progress_over work t)) t work
-      t work (Ok value)
-  unpaired-advances flags {t = t} {work = work} is =
-      let p : Progress = progress_over work t in
-      advances-done (sym (name-passes token.kind token p named) ∙ ap (λ xs. after_answers flags xs p) (sym unpaired))
-      (advances-none flags is)
-
--- With one it is what is kept of the name.
 texts-shown : (o : Option SecName) (k : SecKind) (text : List ℕ) → option_map (λ (n : SecName). n.kind) o ≡ Some k
     → option_map (λ (n : SecName). n.text) o ≡ Some text → texts_of_name o ≡ Some (parts_by_kind k text)
 texts-shown None k text a b = cc
-texts-shown (Some name) k text a b = ap (λ o. elim o [ None ↦ None | Some x ↦ Some (parts_by_kind x name.text) ]) a
-    ∙ ap (λ o. elim o [ None ↦ None | Some x ↦ Some (parts_by_kind k x) ]) b
+texts-shown (Some name) k text a b = cc
 
 pub among-at : (count : ℕ) (uses : List NameUse) (place k : ℕ) → All (λ (u : NameUse). u.name < count) uses
     → name_at place uses ≡ Some k → k < count
@@ -138,47 +120,58 @@ among-at count (u ∷ uses) place k all h = by (nat_eq u.place place)
   where
     by : (b : Bool) → (name_at place uses ≡ Some k → k < count)
         → ◌≡◌ {A = Option ℕ} (elim b [ true ↦ Some u.name | false ↦ name_at place uses ]) (Some k) → k < count
-    by true next e = (let same : u.name ≡ k = cc in
-        subst (λ n. n < count) same (All-head (λ (v : NameUse). v.name < count) u uses all))
+    by true next e =
+        let same : u.name ≡ k = cc in
+        rw same at (All-head (λ (v : NameUse). v.name < count) u uses all)
     by false next e = next e
 
-module _ (kept : List SecName) (uses : List NameUse) (number : ℕ) (id : SecId)
+module _ {kept : List SecName} {uses : List NameUse} {id : SecId} (names : AreNamesOf kept uses) (number : ℕ)
     (found : option_map id_of (name_at number uses) ≡ Some id) where
   paired : name_at number uses ≡ Some id.index
   paired = some-at (name_at number uses) id found
 
-  pub paired-among : AreNamesOf kept uses → id.index < length kept
-  paired-among names = among-at (length kept) uses number id.index names.among paired
+  pub paired-among : id.index < length kept
+  paired-among = among-at (length kept) uses number id.index names.among paired
 
-  module _ (text : List ℕ) (texts : shown (λ (n : SecName). n.text) id.index kept ≡ Some text) where
-    pub paired-short : AreNamesOf kept uses → length text ≤ 2 ^ 24
-    paired-short names = found-short (slice_get kept id.index) refl texts
+  module _ {text : List ℕ} (texts : shown (λ (n : SecName). n.text) id.index kept ≡ Some text) where
+    pub paired-short : length text ≤ 2 ^ 24
+    paired-short = found-short (slice_get kept id.index) refl texts
       where
         found-short : (o : Option SecName) → slice_get kept id.index ≡ o → option_map (λ (n : SecName). n.text) o
             ≡ Some text → length text ≤ 2 ^ 24
         found-short None e h = absurd cc
         found-short (Some name) e h =
             let same : name.text ≡ text = cc in
-            let at : get_or kept id.index name ≡ name = get_or_from_slice_get kept id.index name name e in
-            subst (λ (x : List ℕ). length x ≤ 2 ^ 24) same (subst (λ (n : SecName). length n.text ≤ 2 ^ 24) at
-            (names.short id.index name (slice_get_within kept id.index name e)))
+            rw (← same, ← get_or_from_slice_get kept id.index name name e)
+            (names.short id.index name (slice_get_within kept id.index name e))
 
-    pub texts-paired : (k : SecKind) → shown (λ (n : SecName). n.kind) id.index kept ≡ Some k
+    pub texts-paired : {k : SecKind} → shown (λ (n : SecName). n.kind) id.index kept ≡ Some k
         → name_texts kept uses number ≡ Some (parts_by_kind k text)
-    texts-paired k kinds = ap (texts_kept kept) paired ∙ texts-shown (slice_get kept id.index) k text kinds texts
+    texts-paired {k = k} kinds = ap (texts_kept kept) paired ∙ texts-shown (slice_get kept id.index) k text kinds texts
 
 pub texts-unpaired : (kept : List SecName) (uses : List NameUse) (number : ℕ) → option_map id_of (name_at number uses)
     ≡ None → name_texts kept uses number ≡ None
 texts-unpaired kept uses number found = ap (texts_kept kept) (none-at (name_at number uses) found)
 
-module _ (kept : List SecName) (uses : List NameUse) (token : Seen) (named : is_name_kind token.kind
-    ≡ true) (id : SecId) (found : option_map id_of (name_at token.span.start uses) ≡ Some id) where
-  module _ (k : SecKind) (text : List ℕ) (kinds : shown (λ (n : SecName). n.kind) id.index kept
-      ≡ Some k) (texts : shown (λ (n : SecName). n.text) id.index kept ≡ Some text) where
+-- Without a pair it is passed over.
+pub unpaired-advances : {L R T : Type 0} {told : R → Option Told} (flags : Flags) (kept : List SecName)
+    (uses : List NameUse) (token : Seen) {t : Translator} {work : Work L R} {value : T} → is_name_kind token.kind ≡ true
+    → option_map id_of (name_at token.span.start uses) ≡ None → IsTranslating work.store.now work.names.now t
+    → Advances told (over flags (token_answers (name_texts kept uses) token.kind token) (progress_over work t)) t work t
+    work (Ok value)
+unpaired-advances flags kept uses token {t = t} {work = work} named found is =
+    rw (name-token (name_texts kept uses) token.kind token named, texts-unpaired kept uses token.span.start found)
+    (advances-done (sym (name-passes token.kind token (progress_over work t) named)) (advances-none flags is))
+
+-- With one it is what is kept of the name.
+module _ {kept : List SecName} {uses : List NameUse} {id : SecId} (names : AreNamesOf kept uses) (token : Seen)
+    (named : is_name_kind token.kind ≡ true) (found : option_map id_of (name_at token.span.start uses) ≡ Some id) where
+  module _ {k : SecKind} {text : List ℕ} (kinds : shown (λ (n : SecName). n.kind) id.index kept ≡ Some k)
+      (texts : shown (λ (n : SecName). n.text) id.index kept ≡ Some text) where
     answers-are : token_answers (name_texts kept uses) token.kind token
         ≡ Begin token ∷ held_answers (parts_by_kind k text)
     answers-are = name-token (name_texts kept uses) token.kind token named
-        ∙ ap (λ o. name_answers o token) (texts-paired kept uses token.span.start id found text texts k kinds)
+        ∙ ap (λ o. name_answers o token) (texts-paired names token.span.start found texts kinds)
 
     abbrev held_texts : List Answer
     held_texts = held_answers (parts_by_kind k text)
@@ -186,16 +179,14 @@ module _ (kept : List SecName) (uses : List NameUse) (token : Seen) (named : is_
     then-held : (flags : Flags) (p : Progress) → after_answers flags held_texts
         (with_held (holder.Name token.span.start) p)
         ≡ after_answers flags (token_answers (name_texts kept uses) token.kind token) p
-    then-held flags p = ap (after_answers flags held_texts) (sym (name-begins token.kind token.span.start p named))
-        ∙ ap (λ xs. after_answers flags xs p) (sym answers-are)
+    then-held flags p = rw answers-are (ap (after_answers flags held_texts)
+        (sym (name-begins token.kind token.span.start p named)))
 
     paired-fails : (flags : Flags) (p : Progress) (entries : List Entry)
         → NamesAmong flags held_texts (with_held (holder.Name token.span.start) p) entries
         → NamesAmong flags (token_answers (name_texts kept uses) token.kind token) p entries
-    paired-fails flags p entries h = subst (λ xs. NamesAmong flags xs p entries) (sym answers-are)
-        (λ coming. later (Begin token) (held_texts ++ coming) p entries
-        (subst (λ q. NamesOnTheWay flags (held_texts ++ coming) q entries)
-        (sym (name-begins token.kind token.span.start p named)) (h coming)))
+    paired-fails flags p entries h = rw answers-are (λ coming. later (Begin token) (held_texts ++ coming) p entries
+        (rw (name-begins token.kind token.span.start p named) (h coming)))
 
     pub paired-advances : {L R T : Type 0} {told : R → Option Told} (flags : Flags) (p : Progress) {t t' : Translator}
         {old new : Work L R} {result : Result T Memory} → Advances told
@@ -206,12 +197,11 @@ module _ (kept : List SecName) (uses : List NameUse) (token : Seen) (named : is_
 pub with-texts-append : (named : NameTexts) (xs ys : List Answer) → with_texts named (xs ++ ys)
     ≡ with_texts named xs ++ with_texts named ys
 with-texts-append named [] ys = refl
-with-texts-append named (Token token ∷ xs) ys =
-    ap (λ zs. token_answers named token.kind token ++ zs) (with-texts-append named xs ys)
-    ∙ sym (append_assoc (token_answers named token.kind token) (with_texts named xs) (with_texts named ys))
-with-texts-append named (Begin token ∷ xs) ys = ap (λ zs. Begin token ∷ zs) (with-texts-append named xs ys)
-with-texts-append named (Finish token ∷ xs) ys = ap (λ zs. Finish token ∷ zs) (with-texts-append named xs ys)
-with-texts-append named (Note note place ∷ xs) ys = ap (λ zs. Note note place ∷ zs) (with-texts-append named xs ys)
+with-texts-append named (Token token ∷ xs) ys = rw (
+  with-texts-append named xs ys,
+  append_assoc (token_answers named token.kind token) (with_texts named xs) (with_texts named ys),
+)
+with-texts-append named (x ∷ xs) ys = ap (λ zs. x ∷ zs) (with-texts-append named xs ys)
 
 pub with-texts-next : (named : NameTexts) (old new : List Answer) (answer : Lexed) → Gives old answer new
     → with_texts named old ≡ with_texts named (answers_in answer) ++ with_texts named new
@@ -221,15 +211,118 @@ with-texts-next named old new answer g = ap (with_texts named) (gives-is old new
 -- An answer that is no section name stands for itself.
 pub no-name-token : (named : NameTexts) (k : TokKind) (token : Seen) → is_name_kind k ≡ false
     → token_answers named k token ≡ Token token ∷ []
-no-name-token named (kind.Code code.SectionName) token h = absurd cc
-no-name-token named (kind.Code code.FileName) token h = absurd cc
-no-name-token named k token h = refl
+no-name-token named (kind.Code code.SectionName) token h = cc
+no-name-token named k token h = cc
 
 pub no-name-answer : (named : NameTexts) (answer : Lexed) → is_name_answer answer ≡ false
     → answers_in answer ≡ with_texts named (answers_in answer)
 no-name-answer named (lexed.Token t) h = sym (append-nil (token_answers named t.kind (seen t))
     ∙ no-name-token named t.kind (seen t) h)
-no-name-answer named (lexed.Begin t) h = refl
-no-name-answer named (lexed.Finish t) h = refl
-no-name-answer named (lexed.Note note place) h = refl
-no-name-answer named lexed.End h = refl
+no-name-answer named _ h = refl
+
+-- The whole text.
+module _ (flags : Flags) (named : NameTexts) (nested : AllNested named) (lists : List (List StoredToken)) where
+  held-made : (o : Option (List (List Answer))) (number sign : ℕ) (known : Known) → IfSome o (All IsNested)
+      → after_held flags o (holder.Head number sign) (record { frames = CText [] ∷ []; known = known })
+      ≡ with_made (CText [] ∷ []) (texts_named flags o Dead Text (sign_behind sign) number known)
+  held-made None number sign known n = refl
+  held-made (Some texts) number sign known n = name-law flags texts (holder.Head number sign) number (sign_behind sign)
+      (record { frames = CText [] ∷ []; known = known }) (λ items. refl) n
+
+  head-made : (head : HeadRead) (known : Known) → after_head flags named head (head_begun lists head known)
+      ≡ with_made (CText [] ∷ []) (read_made flags named lists head known)
+  head-made read.None known = refl
+  head-made (read.Dead list) known = refl
+  head-made (read.Named number sign) known = held-made (named number) number sign known (nested number)
+
+  pub headed-whole : (head : HeadRead) (rest : List Answer) (known : Known) → IsNested rest
+      → all_ended flags (after_answers flags (with_texts named rest)
+      (after_head flags named head (head_begun lists head known))) ≡ headed_text flags named lists head rest known
+  headed-whole head rest known h =
+      rw (head-made head known) (named-translation flags named nested (read_made flags named lists head known) rest h)
+
+  pub headed-translated : (head : HeadRead) (rest answers : List Answer) (old new : List Entry) (marks : List ℕ)
+      → ((f : Flags) (n : NameTexts) (known : Known) → head_made f n (headed (nest answers)).head (with_names old known)
+      ≡ read_made f n lists head (with_names new known))
+      → nest rest ≡ (headed (nest answers)).rest → headed_text flags named lists head rest (begin new marks)
+      ≡ translated flags named answers old marks
+  unfolding translated
+  headed-translated head rest answers old new marks makes leaves = rw (← makes flags named (begin old marks), leaves)
+
+-- The answers behind a head: those read beyond it, and all others.
+pub cut-first : (named : NameTexts) (a b c : List Answer) → with_texts named ((a ++ b) ++ c)
+    ≡ with_texts named a ++ with_texts named (b ++ c)
+cut-first named a b c = ap (with_texts named) (append_assoc a b c) ∙ with-texts-append named a (b ++ c)
+
+pub starts-ahead : (limit : ℕ) (a b c : List Answer) → StartsBelow limit ((a ++ b) ++ c)
+    → StartsBelow limit a × StartsBelow limit b × StartsBelow limit c
+starts-ahead limit a b c h =
+    let both = starts-split limit (a ++ b) c h in
+    let first = starts-split limit a b both.0 in
+    (first.0, first.1, both.1)
+
+-- the first of them have been read
+pub ahead-advancing : {L R T : Type 0} {told : R → Option Told} (flags : Flags) (named : NameTexts)
+    (a b c : List Answer) {t t' : Translator} {old new : Work L R} {value : T}
+    → IsTranslating old.store.now old.names.now t
+    → Advances told (over flags (with_texts named a) (progress_over old t)) t old t' new (Ok value)
+    → Advancing told flags (with_texts named ((a ++ b) ++ c)) (with_texts named (b ++ c))
+    (progress_over old t) t old t' new
+ahead-advancing flags named a b c is r = advancing-next (with_texts named a) (with_texts named (b ++ c))
+    (advancing-begun flags (with_texts named ((a ++ b) ++ c)) is) (cut-first named a b c) r
+
+pub headed-among : (flags : Flags) (named : NameTexts) (head : HeadRead) (rest : List Answer) (p : Progress)
+    (new : List Entry)
+    → NamesOfHead flags named head p new ⊎ NamesAmong flags (with_texts named rest) (after_head flags named head p) new
+    → NamesOfHeaded flags named head rest p new
+headed-among flags named head rest p new (inl h) = in_name h
+headed-among flags named head rest p new (inr h) = behind (rw (append-nil (with_texts named rest)) at (h []))
+
+-- A head that has a scrap of its own, or none, makes nothing more.
+pub headless-advances : {L R T : Type 0} {told : R → Option Told} (flags : Flags) (named : NameTexts) (head : HeadRead)
+    {t : Translator} {work : Work L R} {value : T} → ((list : ListId) × (head ≡ read.Dead list)) ⊎ (head ≡ read.None)
+    → IsTranslating work.store.now work.names.now t
+    → Advances told (over_head flags named head (progress_over work t)) t work t work (Ok value)
+headless-advances flags named head (inl h) is = rw h.1 (advances-done refl (advances-none flags is))
+headless-advances flags named head (inr e) is = rw e (advances-done refl (advances-none flags is))
+
+-- A translation that begins with a head.
+pub head-translating : (store : StoredLists) (names : List Entry) (t : Translator) (line : List LineEntry)
+    → t ≡ record { nesting = OpenCText line ∷ []; scraps = 0; productions = 0 } → IsSoundLine store names line
+    → IsTranslating store names t
+head-translating store names t line e s = rw e (record {
+  idle = s.idle;
+  roots = s.roots;
+  sound = All-cons (IsSoundFrame (length names)) (CText (scraps_of store.lists line)) []
+      (record { named = s.named; modes = s.modes; fine = s.fine }) (λ i d h. absurd (omega arith));
+  light = omega arith;
+})
+
+-- What it comes to is the text with its head.
+pub headed-as : {L R : Type 0} {told : R → Option Told} (flags : Flags) (named : NameTexts) → AllNested named
+    → (head : HeadRead)
+    (rest : List Answer) → IsNested rest → {t : Translator} {work new : Work L R} {result : Result Translated Memory}
+    → t ≡ of_head head → EndsIn told (record {
+      flags = flags;
+      text = all_ended flags (over_headed flags named head rest (progress_over work t)).ends;
+      leaves = (over_headed flags named head rest (progress_over work t)).leaves;
+    }) t work new result
+    → EndsIn told (to_headed flags named work.store.now.lists head rest
+    (begin work.names.now (marked_names work.marks.now))) (of_head head) work new result
+headed-as flags named nested head rest well {work = work} e r =
+    ends-as (headed-whole flags named nested work.store.now.lists head rest
+    (begin work.names.now (marked_names work.marks.now)) well) (λ names h. h) (rw e at r)
+
+-- The names where it begins.
+held-start : (flags : Flags) (named : NameTexts) (number sign : ℕ) (rest : List Answer) (p : Progress)
+    (o : Option (List (List Answer))) → named number ≡ o
+    → NamesOfHeaded flags named (read.Named number sign) rest p p.known.names
+held-start flags named number sign rest p None e = behind (rw e (here (with_texts named rest) p))
+held-start flags named number sign rest p (Some texts) e =
+    in_name (rw e (same-names flags (held_answers texts) (with_held (holder.Head number sign) p)))
+
+pub whole-start : (flags : Flags) (named : NameTexts) (head : HeadRead) (rest : List Answer) (p : Progress)
+    → NamesOfHeaded flags named head rest p p.known.names
+whole-start flags named read.None rest p = behind (here (with_texts named rest) p)
+whole-start flags named (read.Dead list) rest p = behind (here (with_texts named rest) p)
+whole-start flags named (read.Named number sign) rest p = held-start flags named number sign rest p (named number) refl

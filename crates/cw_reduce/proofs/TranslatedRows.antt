@@ -1,324 +1,198 @@
--- Worked rows of translation: the counts, the visible tokens and the bytes of some C texts.
-use Rattle.cw_reduce.proofs.Terms.{◌≡◌, ℕ, Bool, false, true, List, [], ◌∷◌, map, codes, get_or, length, eqb, refl}
-use Rattle.cw_reduce.proofs.Terms.{Option, Some, None, start_flags, Text, CPart, Definition, inner_mode as InnerMode}
+-- Worked rows of translation: the counts, the productions, the visible tokens and the bytes of some C texts.
+use Rattle.cw_reduce.proofs.Terms.{Option, MathMode, ◌≡◌, ℕ, false, true, List, [], ◌∷◌, map, codes, get_or, length}
+use Rattle.cw_reduce.proofs.Terms.{eqb, refl, Some, None, is_some, Text, CPart, Definition, inner_mode as InnerMode}
 use Rattle.cw_reduce.proofs.Terms.{Answer, tokens_of, Entry, Item, SourceItem, IdentItem, ReservedItem, SignItem, Open}
 use Rattle.cw_reduce.proofs.Terms.{Close, flat, trimmed_items, struck, reads, scraps_in, productions_in, logs_in}
-use Rattle.cw_reduce.proofs.Terms.{parts_of_name, Ended, unnamed, shown as shown_numbers}
+use Rattle.cw_reduce.proofs.Terms.{parts_of_name, Ended, shown as shown_numbers, Ident as ident_kind, built_in_words}
 use Rattle.cw_base.specs.declared.category.Cat.TheVariants as cat
-use Rattle.cw_names.specs.Words.{built_in_words}
 use Rattle.cw_trees.specs.Printing.{Printable, printed, sign_bytes, ident_bytes, reserved_bytes}
+use Rattle.cw_trees.specs.declared.Control.TheVariants as control
 use Rattle.cw_table.specs.Normal.{normal, log, count}
 use Rattle.cw_table.specs.NormalWalk.{positions}
 use Rattle.cw_table.specs.WalkCounts.{looks}
 use Rattle.cw_table.specs.Productions.{productions}
-use Rattle.cw_translator.specs.Translating.{translated}
+use Rattle.cw_translator.specs.Translating.{translated, NameTexts, unnamed}
+use Prim.Native.String.{String}
+use Rattle.cw_base.specs.Flags.{start_flags}
 
-abbrev none_named : ℕ → Bool
-none_named number = false
+-- ## Texts
 
-abbrev c_answers : List ℕ → List Answer
-c_answers text = tokens_of text 0 (length text) CPart
+abbrev c_answers : String → List Answer
+c_answers text = tokens_of (codes text) 0 (length (codes text)) CPart
 
-abbrev pub in_c_part : List ℕ → Ended
-in_c_part text = translated start_flags unnamed (c_answers text) built_in_words []
+abbrev definition_answers : String → List Answer
+definition_answers text = tokens_of (codes text) 0 (length (codes text)) Definition
 
-abbrev pub in_bars : List ℕ → Ended
-in_bars text = translated start_flags unnamed (tokens_of text 0 (length text) InnerMode) built_in_words []
+abbrev ended : NameTexts → List Answer → Ended
+ended named answers = translated start_flags named answers built_in_words []
 
--- the bytes of a source token that is not printed as it is read, by its number
-abbrev bytes_at : List (ℕ × List ℕ) → ℕ → List ℕ
-bytes_at [] number = []
-bytes_at (pair ∷ pairs) number = elim (eqb pair.0 number) [ true ↦ pair.1 | false ↦ bytes_at pairs number ]
+abbrev in_c_part : String → Ended
+in_c_part text = ended unnamed (c_answers text)
 
-abbrev text_of : List Entry → ℕ → List ℕ
-text_of names name = (get_or names name (record {
-  kind = Rattle.cw_names.specs.declared.entry.EntryKind.TheVariants.Ident;
-  text = [];
-  category = cat.Exp;
-})).text
+abbrev in_bars : String → Ended
+in_bars text = ended unnamed (tokens_of (codes text) 0 (length (codes text)) InnerMode)
 
-abbrev shown : List (ℕ × List ℕ) → List Entry → Item → Printable
-shown texts names (SourceItem n) = record { item = SourceItem n; bytes = bytes_at texts n }
-shown texts names (IdentItem name n) = record { item = IdentItem name n; bytes = ident_bytes (text_of names name) }
-shown texts names (ReservedItem name n) =
-    record { item = ReservedItem name n; bytes = reserved_bytes (text_of names name) }
-shown texts names (SignItem control) = record { item = SignItem control; bytes = sign_bytes control }
-shown texts names Open = record { item = Open; bytes = codes "\\PB{" }
-shown texts names Close = record { item = Close; bytes = codes "}" }
+abbrev in_definition : String → Ended
+in_definition text = ended unnamed (definition_answers text)
 
-abbrev pub bytes_of : List (ℕ × List ℕ) → Ended → List ℕ
-bytes_of texts t = printed false (map (shown texts t.known.names) (trimmed_items (flat t.tree)))
+-- a name at this place alone, with these inner texts
+abbrev named_at : ℕ → List (List Answer) → NameTexts
+named_at place texts number = elim (eqb number place) [ true ↦ Some texts | false ↦ None ]
 
--- the scraps and the productions
-abbrev done : Ended → List ℕ
-done t = scraps_in t.known.ended ∷ productions_in start_flags t.known.ended ∷ []
+abbrev name_at_three : NameTexts
+name_at_three = named_at 3 (tokens_of (codes "A |x+1| b") 3 6 InnerMode ∷ [])
 
--- `int a=b+c, *d;`
-declaration_counts : done (in_c_part (codes "@c int a=b+c, *d;")) ≡ 10 ∷ 10 ∷ []
-unfolding translated normal log count positions looks productions
-declaration_counts = refl
+abbrev name_at_zero : NameTexts
+name_at_zero = named_at 0 (tokens_of (codes "A |x| b") 3 4 InnerMode ∷ [])
 
-declaration_bytes : bytes_of ((8, codes "\\K") ∷ (10, codes "+") ∷ (12, codes ",") ∷ (14, codes "*") ∷ (16, codes ";")
-    ∷ []) (in_c_part (codes "@c int a=b+c, *d;")) ≡ codes "\\&{int} \\|a${}\\K\\|b+\\|c,{}$ ${}{*}\\|d;$"
-unfolding translated normal log count positions looks productions
-declaration_bytes = refl
+-- ## What is printed
 
-declaration_struck : struck (in_c_part (codes "@c int a=b+c, *d;")).tree ≡ 3 ∷ 7 ∷ 8 ∷ 9 ∷ 10 ∷ 11 ∷ 12 ∷ 14 ∷ 15 ∷ 16
-    ∷ []
-unfolding translated normal log count positions looks productions
-declaration_struck = refl
-
-declaration_shown : shown_numbers none_named (c_answers (codes "@c int a=b+c, *d;")) ≡ 3 ∷ 7 ∷ 8 ∷ 9 ∷ 10 ∷ 11 ∷ 12 ∷ 14
-    ∷ 15 ∷ 16 ∷ []
-declaration_shown = refl
-
--- `if(a)b; /* c */ else d;`
-commented_bytes : bytes_of ((5, codes "(") ∷ (7, codes ")") ∷ (9, codes ";") ∷ (11, codes "\\C{") ∷ (13, codes " c ")
-    ∷ (25, codes ";") ∷ []) (in_c_part (codes "@c if(a)b; /* c */ else d;"))
-    ≡ codes "\\&{if} (\\|a)\\1\\5\\|b;\\C{ c }\\2\\6\n\\&{else}\\1\\5\\|d;\\2"
-unfolding translated normal log count positions looks productions
-commented_bytes = refl
-
--- `a; /* b |x /* c |y| */| */`: two comments, and two inner texts
-nested_counts : done (in_c_part (codes "@c a; /* b |x /* c |y| */| */")) ≡ 6 ∷ 3 ∷ []
-unfolding translated normal log count positions looks productions
-nested_counts = refl
-
-nested_bytes : bytes_of ((4, codes ";") ∷ (6, codes "\\C{") ∷ (8, codes " b ") ∷ (14, codes "\\C{") ∷ (16, codes " c ")
-    ∷ (22, codes " ") ∷ (26, codes " ") ∷ []) (in_c_part (codes "@c a; /* b |x /* c |y| */| */"))
-    ≡ codes "\\|a;\\C{ b \\PB{\\|x\\C{ c \\PB{\\|y} }} }"
-unfolding translated normal log count positions looks productions
-nested_bytes = refl
-
-nested_struck : struck (in_c_part (codes "@c a; /* b |x /* c |y| */| */")).tree ≡ 3 ∷ 4 ∷ 6 ∷ 8 ∷ 12 ∷ 14 ∷ 16 ∷ 20 ∷ 22
-    ∷ 26 ∷ []
-unfolding translated normal log count positions looks productions
-nested_struck = refl
-
-nested_visible : shown_numbers none_named (c_answers (codes "@c a; /* b |x /* c |y| */| */"))
-    ≡ 3 ∷ 4 ∷ 6 ∷ 8 ∷ 12 ∷ 14 ∷ 16 ∷ 20 ∷ 22 ∷ 26 ∷ []
-nested_visible = refl
-
--- `) } ; @;`: three scraps are left
-left_bytes : bytes_of ((3, codes ")") ∷ (5, codes "\\}") ∷ (7, codes ";") ∷ []) (in_c_part (codes "@c ) } ; @;"))
-    ≡ codes ") $\\}$ ;"
-unfolding translated normal log count positions looks productions
-left_bytes = refl
-
--- `@[int@]=x; @]`
-argument_bytes : bytes_of ((10, codes "\\K") ∷ (12, codes ";") ∷ []) (in_c_part (codes "@c @[int@]=x; @]"))
-    ≡ codes "$\\&{int}\\K\\|x;$"
-unfolding translated normal log count positions looks productions
-argument_bytes = refl
-
--- `x=a?b:c;`
-conditional_bytes : bytes_of ((4, codes "\\K") ∷ (6, codes "\\?") ∷ (8, codes ":") ∷ (10, codes ";") ∷ [])
-    (in_c_part (codes "@c x=a?b:c;")) ≡ codes "$\\|x\\K\\|a\\?\\|b:\\|c;$"
-unfolding translated normal log count positions looks productions
-conditional_bytes = refl
-
--- `struct s p={.x=1,.y=2};`
-field_names_bytes : bytes_of ((13, codes "\\K") ∷ (14, codes "\\{") ∷ (15, codes ".") ∷ (17, codes "\\K")
-    ∷ (18, codes "\\T{1}") ∷ (19, codes ",") ∷ (20, codes ".") ∷ (22, codes "\\K") ∷ (23, codes "\\T{2}")
-    ∷ (24, codes "\\}") ∷ (25, codes ";") ∷ []) (in_c_part (codes "@c struct s p={.x=1,.y=2};"))
-    ≡ codes "\\&{struct} \\|s \\|p${}\\K\\{{.}\\|x\\K\\T{1},\\39{.}\\|y\\K\\T{2}\\};$"
-unfolding translated normal log count positions looks productions
-field_names_bytes = refl
-
--- `x=(int){1};`
-literal_bytes : bytes_of ((4, codes "\\K") ∷ (5, codes "(") ∷ (9, codes ")") ∷ (10, codes "\\{") ∷ (11, codes "\\T{1}")
-    ∷ (12, codes "\\}") ∷ (13, codes ";") ∷ []) (in_c_part (codes "@c x=(int){1};"))
-    ≡ codes "$\\|x\\K(\\&{int})\\{\\T{1}\\};$"
-unfolding translated normal log count positions looks productions
-literal_bytes = refl
-
--- `_Generic(x,default:2);`
-selection_bytes : bytes_of ((11, codes "(") ∷ (13, codes ",") ∷ (21, codes ":") ∷ (22, codes "\\T{2}") ∷ (23, codes ")")
-    ∷ (24, codes ";") ∷ []) (in_c_part (codes "@c _Generic(x,default:2);"))
-    ≡ codes "\\&{\\_Generic} ${}(\\|x,\\39{}$\\&{default}: \\T{2});"
-unfolding translated normal log count positions looks productions
-selection_bytes = refl
-
--- `a.b;`
-field_bytes : bytes_of ((4, codes ".") ∷ (6, codes ";") ∷ []) (in_c_part (codes "@c a.b;")) ≡ codes "$\\|a.\\|b;$"
-unfolding translated normal log count positions looks productions
-field_bytes = refl
-
-field_names_log : map (λ log. map (λ p. p.number) log)
-    (logs_in start_flags (in_c_part (codes "@c struct s p={.x=1,.y=2};")).known.ended)
-    ≡ (43 ∷ 29 ∷ 33 ∷ 95 ∷ 6 ∷ 95 ∷ 7 ∷ 6 ∷ 51 ∷ 34 ∷ 37 ∷ []) ∷ []
-unfolding translated normal log count positions looks productions
-field_names_log = refl
-
-literal_log : map (λ log. map (λ p. p.number) log)
-    (logs_in start_flags (in_c_part (codes "@c x=(int){1};")).known.ended) ≡ (89 ∷ 14 ∷ 94 ∷ 6 ∷ 8 ∷ []) ∷ []
-unfolding translated normal log count positions looks productions
-literal_log = refl
-
-selection_log : map (λ log. map (λ p. p.number) log)
-    (logs_in start_flags (in_c_part (codes "@c _Generic(x,default:2);")).known.ended)
-    ≡ (15 ∷ 67 ∷ 96 ∷ 12 ∷ 26 ∷ 8 ∷ []) ∷ []
-unfolding translated normal log count positions looks productions
-selection_log = refl
-
-field_log : map (λ log. map (λ p. p.number) log) (logs_in start_flags (in_c_part (codes "@c a.b;")).known.ended)
-    ≡ (97 ∷ 6 ∷ 8 ∷ []) ∷ []
-unfolding translated normal log count positions looks productions
-field_log = refl
-
--- `a; /* |b| */`, and inner C text of one identifier
-counted : done (in_c_part (codes "@c a; /* |b| */")) ≡ 4 ∷ 2 ∷ []
-unfolding translated normal log count positions looks productions
-counted = refl
-
-one_name : done (in_bars (codes "a")) ≡ 1 ∷ 0 ∷ []
-unfolding translated normal log count positions looks productions
-one_name = refl
-
--- Definitions.
-abbrev pub in_definition : List ℕ → Ended
-in_definition text = translated start_flags unnamed (tokens_of text 0 (length text) Definition) built_in_words []
-
-macro_bytes : bytes_of ((0, codes "\\D") ∷ (5, codes "\\T{3}") ∷ []) (in_definition (codes "@d n 3"))
-    ≡ codes "\\4\\D$\\|n$\\5\\T{3}"
-unfolding translated normal log count positions looks productions
-macro_bytes = refl
-
-parameter_bytes : bytes_of ((0, codes "\\D") ∷ (4, codes "(") ∷ (6, codes ",") ∷ (9, codes ")") ∷ (11, codes "+") ∷ [])
-    (in_definition (codes "@d n(a, b)a+b")) ≡ codes "\\4\\D$\\|n(\\|a,\\|b)$\\5$\\|a+\\|b$"
-unfolding translated normal log count positions looks productions
-parameter_bytes = refl
-
-improper_bytes : bytes_of ((0, codes "\\D") ∷ (4, codes "(") ∷ (6, codes "+") ∷ []) (in_definition (codes "@d n(a+b"))
-    ≡ codes "\\4\\D$\\|n(\\|a$\\5${+}\\|b$"
-unfolding translated normal log count positions looks productions
-improper_bytes = refl
-
-empty_macro_bytes : bytes_of ((0, codes "\\D") ∷ (3, codes "\\T{3}") ∷ []) (in_definition (codes "@d 3"))
-    ≡ codes "\\4\\D\\5\\T{3}"
-unfolding translated normal log count positions looks productions
-empty_macro_bytes = refl
-
-format_bytes : bytes_of ((0, codes "\\F") ∷ []) (in_definition (codes "@f foo int"))
-    ≡ codes "\\4\\F\\\\{foo}\\5\\&{int}"
-unfolding translated normal log count positions looks productions
-format_bytes = refl
-
--- A parenthesis behind a blank begins no parameters, and a number is no second name.
-spaced_bytes : bytes_of ((0, codes "\\D") ∷ (5, codes "(") ∷ (7, codes ")") ∷ []) (in_definition (codes "@d f (a)"))
-    ≡ codes "\\4\\D$\\|f$\\5(\\|a)"
-unfolding translated normal log count positions looks productions
-spaced_bytes = refl
-
-improper_format_bytes : bytes_of ((0, codes "\\F") ∷ (5, codes "\\T{5}") ∷ []) (in_definition (codes "@f x 5"))
-    ≡ codes "\\4\\F\\|x\\5\\T{5}"
-unfolding translated normal log count positions looks productions
-improper_format_bytes = refl
-
-silent_bytes : bytes_of [] (in_definition (codes "@s foo int")) ≡ []
-unfolding translated normal log count positions looks productions
-silent_bytes = refl
-
-format_struck : struck (in_definition (codes "@f foo int")).tree ≡ 0 ∷ 3 ∷ 7 ∷ []
-unfolding translated normal log count positions looks productions
-format_struck = refl
-
--- Section names. The text of the name at 3 is `A |x+1| b`.
-abbrev in_name : List ℕ → List Answer
-in_name text = tokens_of text 3 6 InnerMode
-
-abbrev named_at_three : ℕ → Option (List (List Answer))
-named_at_three number = elim (eqb number 3) [ true ↦ Some (in_name (codes "A |x+1| b") ∷ []) | false ↦ None ]
-
-abbrev with_name : List ℕ → Ended
-with_name text = translated start_flags named_at_three (c_answers text) built_in_words []
-
-name_bytes : bytes_of ((3, codes "\\X1:A ") ∷ (4, codes "+") ∷ (5, codes "\\T{1}") ∷ (16, codes ";") ∷ [])
-    (with_name (codes "@c @<A |x+1| b@>;")) ≡ codes "\\X1:A \\PB{$\\|x+\\T{1}$};"
-unfolding translated normal log count positions looks productions
-name_bytes = refl
-
-name_struck : struck (with_name (codes "@c @<A |x+1| b@>;")).tree ≡ 3 ∷ 16 ∷ []
-unfolding translated normal log count positions looks productions
-name_struck = refl
-
-name_counts : done (with_name (codes "@c @<A |x+1| b@>;")) ≡ 5 ∷ 2 ∷ []
-unfolding translated normal log count positions looks productions
-name_counts = refl
-
--- A name without a pair makes no leaf.
-ignored_struck : struck (with_name (codes "@c a; @<B@>;")).tree ≡ 3 ∷ 4 ∷ 11 ∷ []
-unfolding translated normal log count positions looks productions
-ignored_struck = refl
-
-abbrev named_at_zero : ℕ → Option (List (List Answer))
-named_at_zero number = elim (eqb number 0) [
-  | true ↦ Some (tokens_of (codes "A |x| b") 3 4 InnerMode ∷ [])
-  | false ↦ None
+-- the bytes of a source token, by its number: these, or its first byte
+abbrev bytes_at : List ℕ → List (ℕ × String) → ℕ → List ℕ
+bytes_at text [] number = get_or text number 0 ∷ []
+bytes_at text (pair ∷ pairs) number = elim (eqb pair.0 number) [
+  | true ↦ codes pair.1
+  | false ↦ bytes_at text pairs number
 ]
 
-abbrev with_head : List ℕ → Ended
-with_head text = translated start_flags named_at_zero (c_answers text) built_in_words []
+abbrev text_of : List Entry → ℕ → List ℕ
+text_of names name = (get_or names name (record { kind = ident_kind; text = []; category = cat.Exp })).text
 
-head_bytes : bytes_of ((0, codes "\\X1:A ") ∷ (12, codes "${}\\E{}$") ∷ (15, codes ";") ∷ [])
-    (with_head (codes "@<A |x| b@> = y;")) ≡ codes "\\X1:A \\PB{\\|x}${}\\E{}$\\6\n\\|y;"
+abbrev item_bytes : List ℕ → List (ℕ × String) → List Entry → Item → List ℕ
+item_bytes text texts names (SourceItem n) = bytes_at text texts n
+item_bytes text texts names (IdentItem name n) = ident_bytes (text_of names name)
+item_bytes text texts names (ReservedItem name n) = reserved_bytes (text_of names name)
+item_bytes text texts names (SignItem control) = sign_bytes control
+item_bytes text texts names Open = codes "\\PB{"
+item_bytes text texts names Close = codes "}"
+
+abbrev printable : List ℕ → List (ℕ × String) → List Entry → Item → Printable
+printable text texts names item = record { item = item; bytes = item_bytes text texts names item }
+
+abbrev items : Ended → List Item
+items t = trimmed_items (flat t.tree)
+
+abbrev bytes_of : List ℕ → List (ℕ × String) → Ended → List ℕ
+bytes_of text texts t = printed false (map (printable text texts t.known.names) (items t))
+
+-- what is found of texts, and what is wanted
+abbrev Rows : Type 0
+Rows = List (List ℕ × List ℕ)
+
+-- Of a text: what it comes to, by its answers, the source tokens in it that aren't printed as their first byte, and
+-- what is printed of it.
+abbrev row : NameTexts → (String → List Answer) → String → List (ℕ × String) → String
+    → List ℕ × List ℕ
+row named answers text texts printed = (bytes_of (codes text) texts (ended named (answers text)), codes printed)
+
+abbrev c_row : String → List (ℕ × String) → String → List ℕ × List ℕ
+c_row = row unnamed c_answers
+
+abbrev definition_row : String → List (ℕ × String) → String → List ℕ × List ℕ
+definition_row = row unnamed definition_answers
+
+abbrev counts : Ended → List ℕ
+counts t = scraps_in t.known.ended ∷ productions_in start_flags t.known.ended ∷ []
+
+-- Of a text that ends in `} ;` three scraps are left, and `a;@+break;` stands in one line. A parenthesis behind a blank
+-- begins no parameters, and a number is no second name. Then a section name in a text, one at its head, one with two
+-- inner texts, and the numbers of scraps and productions.
+abbrev rows : Rows
+rows = c_row "@c int a=b+c, *d;" ((8, "\\K") ∷ []) "\\&{int} \\|a${}\\K\\|b+\\|c,{}$ ${}{*}\\|d;$"
+    ∷ c_row "@c if(a)b; /* c */ else d;" ((11, "\\C{") ∷ (13, " c ") ∷ [])
+    "\\&{if} (\\|a)\\1\\5\\|b;\\C{ c }\\2\\6\n\\&{else}\\1\\5\\|d;\\2"
+    ∷ c_row "@c a; /* b |x /* c |y| */| */" ((6, "\\C{") ∷ (8, " b ") ∷ (14, "\\C{") ∷ (16, " c ") ∷ [])
+    "\\|a;\\C{ b \\PB{\\|x\\C{ c \\PB{\\|y} }} }"
+    ∷ c_row "@c ) } ; @;" ((5, "\\}") ∷ []) ") $\\}$ ;"
+    ∷ c_row "@c @[int@]=x; @]" ((10, "\\K") ∷ []) "$\\&{int}\\K\\|x;$"
+    ∷ c_row "@c x=a?b:c;" ((4, "\\K") ∷ (6, "\\?") ∷ []) "$\\|x\\K\\|a\\?\\|b:\\|c;$"
+    ∷ c_row "@c struct s p={.x=1,.y=2};" ((13, "\\K") ∷ (14, "\\{") ∷ (17, "\\K") ∷ (18, "\\T{1}") ∷ (22, "\\K")
+    ∷ (23, "\\T{2}") ∷ (24, "\\}") ∷ []) "\\&{struct} \\|s \\|p${}\\K\\{{.}\\|x\\K\\T{1},\\39{.}\\|y\\K\\T{2}\\};$"
+    ∷ c_row "@c x=(int){1};" ((4, "\\K") ∷ (10, "\\{") ∷ (11, "\\T{1}") ∷ (12, "\\}") ∷ [])
+    "$\\|x\\K(\\&{int})\\{\\T{1}\\};$"
+    ∷ c_row "@c _Generic(x,default:2);" ((22, "\\T{2}") ∷ []) "\\&{\\_Generic} ${}(\\|x,\\39{}$\\&{default}: \\T{2});"
+    ∷ c_row "@c a.b;" [] "$\\|a.\\|b;$" ∷ c_row "@c a;@+break;" [] "\\|a;\\5\\&{break};"
+    ∷ definition_row "@d n 3" ((0, "\\D") ∷ (5, "\\T{3}") ∷ []) "\\4\\D$\\|n$\\5\\T{3}"
+    ∷ definition_row "@d n(a, b)a+b" ((0, "\\D") ∷ []) "\\4\\D$\\|n(\\|a,\\|b)$\\5$\\|a+\\|b$"
+    ∷ definition_row "@d n(a+b" ((0, "\\D") ∷ []) "\\4\\D$\\|n(\\|a$\\5${+}\\|b$"
+    ∷ definition_row "@d 3" ((0, "\\D") ∷ (3, "\\T{3}") ∷ []) "\\4\\D\\5\\T{3}"
+    ∷ definition_row "@d f (a)" ((0, "\\D") ∷ []) "\\4\\D$\\|f$\\5(\\|a)"
+    ∷ definition_row "@f foo int" ((0, "\\F") ∷ []) "\\4\\F\\\\{foo}\\5\\&{int}"
+    ∷ definition_row "@f x 5" ((0, "\\F") ∷ (5, "\\T{5}") ∷ []) "\\4\\F\\|x\\5\\T{5}"
+    ∷ definition_row "@s foo int" [] ""
+    ∷ row name_at_three c_answers "@c @<A |x+1| b@>;" ((3, "\\X1:A ") ∷ (4, "+") ∷ (5, "\\T{1}") ∷ [])
+    "\\X1:A \\PB{$\\|x+\\T{1}$};"
+    ∷ row name_at_zero c_answers "@<A |x| b@> = y;" ((0, "\\X1:A ") ∷ (12, "${}\\E{}$") ∷ [])
+    "\\X1:A \\PB{\\|x}${}\\E{}$\\6\n\\|y;"
+    ∷ row (named_at 3 (parts_of_name (codes "A |x| b |y=1| c"))) c_answers "@c @<A |x| b |y=1| c@>;"
+    ((3, "\\X1:A ") ∷ (10, "\\K") ∷ (11, "\\T{1}") ∷ []) "\\X1:A \\PB{\\|x}\\PB{$\\|y\\K\\T{1}$};"
+    ∷ (counts (in_c_part "@c int a=b+c, *d;"), 10 ∷ 10 ∷ [])
+    ∷ (counts (in_c_part "@c a; /* b |x /* c |y| */| */"), 6 ∷ 3 ∷ [])
+    ∷ (counts (in_c_part "@c a; /* |b| */"), 4 ∷ 2 ∷ []) ∷ (counts (in_bars "a"), 1 ∷ 0 ∷ [])
+    ∷ (counts (ended name_at_three (c_answers "@c @<A |x+1| b@>;")), 5 ∷ 2 ∷ []) ∷ []
+
+found : map (λ row. row.0) rows ≡ map (λ row. row.1) rows
 unfolding translated normal log count positions looks productions
-head_bytes = refl
+found = refl
 
-head_struck : struck (with_head (codes "@<A |x| b@> = y;")).tree ≡ 0 ∷ 12 ∷ 14 ∷ 15 ∷ []
+-- A macro of TeX is an expression in math. Boxes, dots, attributes and the signs of two bytes have rows of their own.
+abbrev logged : List (String × List ℕ)
+logged = ("@c struct s p={.x=1,.y=2};", 43 ∷ 29 ∷ 33 ∷ 95 ∷ 6 ∷ 95 ∷ 7 ∷ 6 ∷ 51 ∷ 34 ∷ 37 ∷ [])
+    ∷ ("@c x=(int){1};", 89 ∷ 14 ∷ 94 ∷ 6 ∷ 8 ∷ [])
+    ∷ ("@c _Generic(x,default:2);", 15 ∷ 67 ∷ 96 ∷ 12 ∷ 26 ∷ 8 ∷ []) ∷ ("@c a.b;", 97 ∷ 6 ∷ 8 ∷ [])
+    ∷ ("@c i=i+1;", 6 ∷ 6 ∷ 8 ∷ []) ∷ ("@c a=NULL;", 6 ∷ 8 ∷ [])
+    ∷ ("@c a=@t$b$@>;", 113 ∷ 6 ∷ 8 ∷ [])
+    ∷ ("@c f(int a,...);", 89 ∷ 29 ∷ 33 ∷ 15 ∷ 111 ∷ 14 ∷ 11 ∷ 8 ∷ [])
+    ∷ ("@c [[a]] int b;", 114 ∷ 117 ∷ 89 ∷ 29 ∷ 33 ∷ 37 ∷ [])
+    ∷ ("@c alignas(8) int b;", 12 ∷ 115 ∷ 117 ∷ 89 ∷ 29 ∷ 33 ∷ 37 ∷ [])
+    ∷ ("@c typeof(a) b;", 12 ∷ 118 ∷ 29 ∷ 33 ∷ 37 ∷ []) ∷ ("@c std::x;", 6 ∷ 8 ∷ [])
+    ∷ ("@c a=b?:c;", 6 ∷ 6 ∷ 8 ∷ []) ∷ []
+
+logs : map (λ row. map (λ log. map (λ p. p.number) log) (logs_in start_flags (in_c_part row.0).known.ended)) logged
+    ≡ map (λ row. row.1 ∷ []) logged
 unfolding translated normal log count positions looks productions
-head_struck = refl
+logs = refl
 
--- The parts of names.
-abbrev by_text : ℕ → Option (List (List Answer))
-by_text number = elim (eqb number 3) [ true ↦ Some (parts_of_name (codes "A |x| b |y=1| c")) | false ↦ None ]
+-- ## What is shown, in trees that are read from text to text
 
-two_parts : bytes_of ((3, codes "\\X1:A ") ∷ (10, codes "\\K") ∷ (11, codes "\\T{1}") ∷ (22, codes ";") ∷ [])
-    (translated start_flags by_text (c_answers (codes "@c @<A |x| b |y=1| c@>;")) built_in_words [])
-    ≡ codes "\\X1:A \\PB{\\|x}\\PB{$\\|y\\K\\T{1}$};"
+-- Comments and inner texts are shown. A name without a pair makes no leaf, and a silent definition shows nothing.
+abbrev numbered : List (NameTexts × List Answer × List ℕ)
+numbered = (unnamed, c_answers "@c int a=b+c, *d;", 3 ∷ 7 ∷ 8 ∷ 9 ∷ 10 ∷ 11 ∷ 12 ∷ 14 ∷ 15 ∷ 16 ∷ [])
+    ∷ (unnamed, c_answers "@c a; /* b |x /* c |y| */| */", 3 ∷ 4 ∷ 6 ∷ 8 ∷ 12 ∷ 14 ∷ 16 ∷ 20 ∷ 22 ∷ 26 ∷ [])
+    ∷ (unnamed, definition_answers "@f foo int", 0 ∷ 3 ∷ 7 ∷ [])
+    ∷ (unnamed, definition_answers "@f TeX NULL", 0 ∷ 3 ∷ 7 ∷ [])
+    ∷ (unnamed, definition_answers "@d n(a, b)a+b", 0 ∷ 3 ∷ 4 ∷ 5 ∷ 6 ∷ 8 ∷ 9 ∷ 10 ∷ 11 ∷ 12 ∷ [])
+    ∷ (unnamed, definition_answers "@d n(a, b, ...)a+b", 0 ∷ 3 ∷ 4 ∷ 5 ∷ 6 ∷ 8 ∷ 9 ∷ 11 ∷ 14 ∷ 15 ∷ 16 ∷ 17 ∷ [])
+    ∷ (unnamed, definition_answers "@d n(a+b", 0 ∷ 3 ∷ 4 ∷ 5 ∷ 6 ∷ 7 ∷ [])
+    ∷ (unnamed, definition_answers "@s foo int", [])
+    ∷ (name_at_three, c_answers "@c @<A |x+1| b@>;", 3 ∷ 16 ∷ [])
+    ∷ (name_at_three, c_answers "@c a; @<B@>;", 3 ∷ 4 ∷ 11 ∷ [])
+    ∷ (name_at_zero, c_answers "@<A |x| b@> = y;", 0 ∷ 12 ∷ 14 ∷ 15 ∷ [])
+    ∷ (name_at_zero, c_answers "@<A |x| b@> = y+1;", 0 ∷ 12 ∷ 14 ∷ 15 ∷ 16 ∷ 17 ∷ []) ∷ []
+
+abbrev numbers_in : NameTexts → List Answer → List (List ℕ) × Option MathMode
+numbers_in named answers = (
+  struck (ended named answers).tree ∷ shown_numbers (λ n. is_some (named n)) answers ∷ [],
+  reads (ended named answers).tree Text,
+)
+
+numbers : map (λ row. numbers_in row.0 row.1) numbered ≡ map (λ row. (row.2 ∷ row.2 ∷ [], Some Text)) numbered
 unfolding translated normal log count positions looks productions
-two_parts = refl
+numbers = refl
 
--- A part that a section code cuts.
-cut_part : map (λ answers. shown_numbers none_named answers) (parts_of_name (codes "A |x /* y @* z|"))
+-- a part that a section code cuts
+cut_part : map (λ answers. shown_numbers (λ number. false) answers) (parts_of_name (codes "A |x /* y @* z|"))
     ≡ (3 ∷ 5 ∷ 7 ∷ []) ∷ []
 cut_part = refl
 
--- The trees can be read in text.
-macro_reads : reads (in_definition (codes "@d n(a, b, ...)a+b")).tree Text ≡ Some Text
+-- A macro of TeX is a reserved word: `NULL` is the word at 86. In the head of a format definition it has dollars of its
+-- own; in that of a macro it stands between those of the head.
+word_items : map items
+    (in_bars "NULL" ∷ in_definition "@f x NULL" ∷ in_definition "@d NULL 0" ∷ [])
+    ≡ (SignItem control.Dollar ∷ ReservedItem 86 0 ∷ SignItem control.Dollar ∷ [])
+    ∷ (SignItem control.Backup ∷ SourceItem 0 ∷ IdentItem 102 3 ∷ SignItem control.OptionalBreak
+    ∷ SignItem control.Dollar ∷ ReservedItem 86 5 ∷ SignItem control.Dollar ∷ [])
+    ∷ (SignItem control.Backup ∷ SourceItem 0 ∷ SignItem control.Dollar ∷ ReservedItem 86 3
+    ∷ SignItem control.Dollar ∷ SignItem control.OptionalBreak ∷ SignItem control.Blank ∷ SourceItem 8 ∷ []) ∷ []
 unfolding translated normal log count positions looks productions
-macro_reads = refl
-
-improper_reads : reads (in_definition (codes "@d n(a+b")).tree Text ≡ Some Text
-unfolding translated normal log count positions looks productions
-improper_reads = refl
-
-format_reads : reads (in_definition (codes "@f foo int")).tree Text ≡ Some Text
-unfolding translated normal log count positions looks productions
-format_reads = refl
-
-head_reads : reads (with_head (codes "@<A |x| b@> = y+1;")).tree Text ≡ Some Text
-unfolding translated normal log count positions looks productions
-head_reads = refl
-
-name_reads : reads (with_name (codes "@c @<A |x+1| b@>;")).tree Text ≡ Some Text
-unfolding translated normal log count positions looks productions
-name_reads = refl
-
--- What is shown.
-macro_struck : struck (in_definition (codes "@d n(a, b)a+b")).tree ≡ 0 ∷ 3 ∷ 4 ∷ 5 ∷ 6 ∷ 8 ∷ 9 ∷ 10 ∷ 11 ∷ 12 ∷ []
-unfolding translated normal log count positions looks productions
-macro_struck = refl
-
-macro_shown : shown_numbers none_named (tokens_of (codes "@d n(a, b)a+b") 0 13 Definition)
-    ≡ 0 ∷ 3 ∷ 4 ∷ 5 ∷ 6 ∷ 8 ∷ 9 ∷ 10 ∷ 11 ∷ 12 ∷ []
-macro_shown = refl
-
-silent_shown : shown_numbers none_named (tokens_of (codes "@s foo int") 0 10 Definition) ≡ []
-silent_shown = refl
-
--- The log of `i=i+1;`.
-sum_log : map (λ log. map (λ p. p.number) log) (logs_in start_flags (in_c_part (codes "@c i=i+1;")).known.ended)
-    ≡ (6 ∷ 6 ∷ 8 ∷ []) ∷ []
-unfolding translated normal log count positions looks productions
-sum_log = refl
+word_items = refl

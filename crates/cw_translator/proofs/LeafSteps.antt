@@ -1,55 +1,35 @@
 -- A token becomes a scrap of what is open.
-use Rattle.cw_translator.proofs.Terms.{◌≡◌, ℕ, ◌+◌, ◌<◌, ◌≤◌, List, [], ◌∷◌, ◌++◌, length, get_or, Option, None, Some}
-use Rattle.cw_translator.proofs.Terms.{IsSome, IfSome, refl, sym, ap, ◌∙◌, subst, arith, All, slice_get}
-use Rattle.cw_translator.proofs.Terms.{get_or_default_zero, TokKind, Seen, Entry, place_of, Token, tree_in, trees_from}
-use Rattle.cw_translator.proofs.Terms.{unfolded, StoredLists, token_ref, IsTied, tree_in-same, unfolded-new}
-use Rattle.cw_translator.proofs.Terms.{unfolded-old, Leaf, LineEntry, Keeps, LeafForm, HasForm, MakesLeaf, entry_of}
-use Rattle.cw_translator.proofs.Terms.{token_form, names_with, seen, AreRoots, IsSoundLine, MarkList, State, IsGood}
-use Rattle.cw_translator.proofs.Terms.{token-good, token-some, length-entry, Translator, with_entry, with_part}
-use Rattle.cw_translator.proofs.Terms.{frames_of, all_roots, AreSoundScraps, IsSoundFrame, IsTranslating, progress_of}
-use Rattle.cw_translator.proofs.Terms.{Progress, with_scrap, with_form, after_token, Piece, leaf_scrap, with_names}
+use Rattle.cw_translator.proofs.Terms.{◌≡◌, ℕ, ◌+◌, ◌*◌, ◌≤◌, List, [], ◌∷◌, ◌++◌, length, Option, None, Some, inl, inr}
+use Rattle.cw_translator.proofs.Terms.{IsSome, IfSome, refl, sym, ap, ◌∙◌, subst, arith, All, slice_get, append-nil}
+use Rattle.cw_translator.proofs.Terms.{TokKind, Seen, Entry, place_of, Token, tree_in, trees_from, Open, Frame}
+use Rattle.cw_translator.proofs.Terms.{unfolded, StoredLists, token_ref, IsTied, tree_in-same, unfolded-new, Leaf}
+use Rattle.cw_translator.proofs.Terms.{LineEntry, Keeps, LeafForm, HasForm, MakesLeaf, entry_of, token_form, names_with}
+use Rattle.cw_translator.proofs.Terms.{seen, AreRoots, IsSoundLine, MarkList, State, IsGood, token-good, token-some}
+use Rattle.cw_translator.proofs.Terms.{length-entry, Translator, with_entry, with_part, frames_of, all_roots}
+use Rattle.cw_translator.proofs.Terms.{AreSoundScraps, IsSoundFrame, IsTranslating, progress_of, Progress, with_scrap}
+use Rattle.cw_translator.proofs.Terms.{with_item, with_form, after_token, Piece, leaf_scrap, with_names}
 use Rattle.cw_rules.specs.declared.tokens.TokKind.TheVariants as kind
 use Rattle.cw_names.specs.declared.entry.EntryKind.TheVariants.{Ident as ident_kind}
 use Rattle.cw_translator.specs.declared.comments.CommentPart.TheVariants as part
-use Rattle.cw_translator.proofs.OpenLaws.{frames-entry, frames-part, frames-same, plain-roots, plain-keeps, entry-roots}
-use Rattle.cw_translator.proofs.OpenLaws.{piece-roots, KeptRoots, more-frames, scrap-sound, item-sound}
+use Rattle.cw_translator.proofs.OpenLaws.{Ends, KeptRoots, Put, ends-kept, ends-frames, kept-put, entry-put, put-part}
+use Rattle.cw_translator.proofs.OpenLaws.{plain-roots, plain-keeps, more-frames, scrap-sound, item-sound}
 
 -- the form of a token that makes a scrap
-pub record Formed (o : Option LeafForm) (leaf : Leaf) (old new : List (List Token)) : Type 0 where
-  pub form : LeafForm
-  pub is : o ≡ Some form
-  pub has : HasForm form leaf old new
-
-pub formed-by : (o : Option LeafForm) (leaf : Leaf) (old new : List (List Token)) → IsSome o
-    → IfSome o (λ form. HasForm form leaf old new) → Formed o leaf old new
-formed-by None leaf old new some has = cc
-formed-by (Some form) leaf old new some has = record { form = form; is = refl; has = has }
+formed-by : (o : Option LeafForm) (P : LeafForm → Type 0) → IsSome o → IfSome o P
+    → (form : LeafForm) × (o ≡ Some form) × P form
+formed-by None P some has = cc
+formed-by (Some form) P some has = (form, refl, has)
 
 -- what the definition does with it
-abbrev pub leaf_behind : TokKind → Seen → LeafForm → Progress → Progress
-leaf_behind k token form p = record {
-  frames = with_scrap (leaf_scrap form) p.frames;
-  known = with_names (names_with k token.text p.known.names) p.known;
-}
-
 abbrev form_behind : TokKind → Seen → Progress → Option LeafForm → Progress
 form_behind k token p o =
     record { frames = with_form o p.frames; known = with_names (names_with k token.text p.known.names) p.known }
 
-pub after-leaf : (k : TokKind) (token : Seen) (p : Progress) (form : LeafForm) → MakesLeaf k
+after-leaf : (k : TokKind) (token : Seen) (p : Progress) (form : LeafForm) → MakesLeaf k
     → token_form k token.text token.hash_line token.span.start p.known.names ≡ Some form
-    → after_token k token p ≡ leaf_behind k token form p
+    → after_token k token p ≡ form_behind k token p (Some form)
 after-leaf kind.Text token p form makes is = cc
-after-leaf kind.Identifier token p form makes is = ap (form_behind kind.Identifier token p) is
-after-leaf kind.Constant token p form makes is = ap (form_behind kind.Constant token p) is
-after-leaf kind.Quoted token p form makes is = ap (form_behind kind.Quoted token p) is
-after-leaf kind.IncludeName token p form makes is = ap (form_behind kind.IncludeName token p) is
-after-leaf kind.OtherByte token p form makes is = ap (form_behind kind.OtherByte token p) is
-after-leaf (kind.Sign s) token p form makes is = ap (form_behind (kind.Sign s) token p) is
-after-leaf kind.HashLine token p form makes is = ap (form_behind kind.HashLine token p) is
-after-leaf kind.HashLineEnd token p form makes is = ap (form_behind kind.HashLineEnd token p) is
-after-leaf (kind.Code c) token p form makes is = ap (form_behind (kind.Code c) token p) is
-after-leaf _ token p form makes is = cc
+after-leaf k token p form makes is = ap (form_behind k token p) is
 
 -- the names do not get fewer
 pub names-grow : (k : TokKind) (text : List ℕ) (names : List Entry) → length names ≤ length (names_with k text names)
@@ -68,32 +48,68 @@ pub record Same (t t' : Translator) : Type 0 where
   pub scraps : t'.scraps ≡ t.scraps
   pub productions : t'.productions ≡ t.productions
 
+-- no list is new
+pub stay-steps : (store : StoredLists) (names : List Entry) (t t' : Translator) → IsTranslating store names t
+    → all_roots t'.nesting ≡ all_roots t.nesting → All (IsSoundFrame (length names)) (frames_of store.lists t'.nesting)
+    → Same t t' → Steps store store names names t t'
+stay-steps store names t t' is same sound counts = record {
+  translating = record {
+    idle = is.idle;
+    roots = rw same is.roots;
+    sound = sound;
+    light = rw (counts.scraps, counts.productions) is.light;
+  };
+  keeps = rw same (keeps-itself store.lists (all_roots t.nesting));
+}
+
 pub piece-steps : (store : StoredLists) (names : List Entry) (t t' : Translator) (number : ℕ)
     → IsTranslating store names t → t'.nesting ≡ with_part (part.Piece number) t.nesting → Same t t'
     → Steps store store names names t t'
 piece-steps store names t t' number is made counts =
-    let same : all_roots t'.nesting ≡ all_roots t.nesting = ap all_roots made ∙ piece-roots number t.nesting in
-    record {
-      translating = record {
-        idle = is.idle;
-        roots = subst (AreRoots store.lists) (sym same) is.roots;
-        sound = subst (All (IsSoundFrame (length names))) (sym (ap (frames_of store.lists) made
-            ∙ frames-part store.lists (part.Piece number) t.nesting))
-            (item-sound (length names) (Piece number) (frames_of store.lists t.nesting) tt is.sound);
-        light = rw (counts.scraps, counts.productions) is.light;
-      };
-      keeps = subst (Keeps store.lists store.lists (all_roots t.nesting)) (sym same)
-          (keeps-itself store.lists (all_roots t.nesting));
-    }
+    let put : Put store.lists [] t.nesting t'.nesting (with_item (Piece number) (frames_of store.lists t.nesting)) =
+    rw made (put-part store.lists (part.Piece number) t.nesting) in
+    let same : all_roots t'.nesting ≡ all_roots t.nesting = elim put.roots [
+      | inl e ↦ e ∙ append-nil (all_roots t.nesting)
+      | inr e ↦ e
+    ] in
+    stay-steps store names t t' is same (rw put.is (item-sound (length names) (Piece number)
+    (frames_of store.lists t.nesting) tt is.sound)) counts
+
+-- A list takes the place of those of what ends, and becomes a part of what is open around it.
+abbrev pub Placed : (old new : StoredLists) (names names' : List Entry) (t t' : Translator) → List Frame → Type 0
+Placed old new names names' t t' frames = (frames_of new.lists t'.nesting ≡ frames)
+    × (All (IsSoundFrame (length names')) frames → t'.productions ≤ 8 * t'.scraps → Steps old new names names' t t')
+
+pub placed : {old new : StoredLists} {names names' : List Entry} {t t' : Translator} (outer : List Open) (rs : List ℕ)
+    (list : ℕ) → IsTranslating old names t → IsTied old.lists → all_roots t.nesting ≡ all_roots outer ++ rs
+    → Ends old new rs list → (among : List Frame → List Frame)
+    → Put new.lists (list ∷ []) outer t'.nesting (among (frames_of new.lists outer))
+    → Placed old new names names' t t' (among (frames_of old.lists outer))
+placed {old = old} {new = new} {t = t} {t' = t'} outer rs list is tied roots_are ends among put =
+    let roots : AreRoots old.lists (all_roots outer ++ rs) = rw roots_are at is.roots in
+    let frames : frames_of new.lists t'.nesting ≡ among (frames_of old.lists outer) = put.is
+    ∙ ap among (ends-frames old new outer rs list tied roots ends) in
+    let kept : KeptRoots old.lists new.lists (all_roots t.nesting) (all_roots t'.nesting) =
+    kept-put old.lists new.lists (all_roots t.nesting) (list ∷ []) outer t'.nesting put.roots
+    (rw roots_are (ends-kept old new outer rs list tied roots ends)) in (
+      frames,
+      λ sound light. record {
+        translating = record { idle = ends.idle; roots = kept.roots; sound = rw frames sound; light = light };
+        keeps = kept.keeps;
+      },
+    )
+
+no-roots : (lists : List (List Token)) → AreRoots lists []
+no-roots lists = record {
+  there = λ i h. absurd (omega arith);
+  free = λ i h l p q. omega arith;
+  apart = λ i j h k q. absurd (omega arith);
+}
 
 pub empty-line : (store : StoredLists) (ns : List Entry) → store.building ≡ None → IsSoundLine store ns []
 empty-line store ns e = record {
   idle = e;
-  roots = record {
-    there = λ i h. absurd (omega arith);
-    free = λ i h l p q. omega arith;
-    apart = λ i j h k q. absurd (omega arith);
-  };
+  roots = no-roots store.lists;
   named = λ i d h. absurd (omega arith);
   modes = λ i d h. absurd (omega arith);
   fine = refl;
@@ -111,53 +127,36 @@ module _ (k : TokKind) (token : Seen) (old new : StoredLists) (names names' : Li
     (λ form. HasForm form leaf old.lists new.lists)) (named : names' ≡ names_with k token.text names)
     (sound : (line : List LineEntry) → IsSoundLine old names line → IsSoundLine new names' (line ++ entry_of leaf ∷ []))
     (made : t'.nesting ≡ with_entry (entry_of leaf) t.nesting) (counts : Same t t') where
-  formed : Formed (token_form k token.text token.hash_line token.span.start names) leaf old.lists new.lists
-  formed = formed-by (token_form k token.text token.hash_line token.span.start names) leaf old.lists new.lists
+  abbrev form_of : Option LeafForm
+  form_of = token_form k token.text token.hash_line token.span.start names
+
+  formed : (form : LeafForm) × (form_of ≡ Some form) × HasForm form leaf old.lists new.lists
+  formed = formed-by form_of (λ form. HasForm form leaf old.lists new.lists)
       (token-some k token.text token.hash_line token.span.start names makes) has
 
   abbrev form : LeafForm
-  form = formed.form
+  form = formed.0
 
   plain : (p x : ℕ) → token_ref (slice_get form.tokens p) ≡ Some x → ⊥
-  plain = (subst (λ o. IfSome o (IsGood (place_of ident_kind token.text names + 1))) formed.is
+  plain = (subst (λ o. IfSome o (IsGood (place_of ident_kind token.text names + 1))) formed.1
       (token-good (place_of ident_kind token.text names + 1) k token.text token.hash_line token.span.start names
       (λ e. omega arith))).plain
 
-  behind : KeptRoots old.lists (old.lists ++ form.tokens ∷ []) (all_roots t.nesting) (all_roots t.nesting
-      ++ length old.lists ∷ [])
-  behind = record {
-    roots = plain-roots old.lists form.tokens (all_roots t.nesting) tied is.roots plain;
-    keeps = plain-keeps old.lists form.tokens (all_roots t.nesting) tied is.roots plain;
+  ends : Ends old new [] leaf.list.index
+  ends = record {
+    root = rw (formed.2.list, formed.2.lists) (plain-roots old.lists form.tokens [] tied (no-roots old.lists) plain);
+    keeps = rw (formed.2.list, formed.2.lists) (plain-keeps old.lists form.tokens [] tied (no-roots old.lists)
+        plain);
+    idle = idle;
   }
 
-  now : KeptRoots old.lists new.lists (all_roots t.nesting) (all_roots t'.nesting)
-  now = subst (λ ls. KeptRoots old.lists new.lists (all_roots t.nesting) (all_roots ls)) (sym made)
-      (entry-roots old.lists new.lists (all_roots t.nesting) (entry_of leaf) t.nesting
-      (subst (λ x. KeptRoots old.lists new.lists (all_roots t.nesting) (all_roots t.nesting ++ x ∷ []))
-      (sym formed.has.list)
-      (subst (λ ls. KeptRoots old.lists ls (all_roots t.nesting) (all_roots t.nesting ++ length old.lists ∷ []))
-      (sym formed.has.lists) behind)))
-
-  -- the frames that were open are as they were
-  old-tree : (i d : ℕ) → i < length (all_roots t.nesting) → unfolded new.lists (get_or (all_roots t.nesting) i d)
-      ≡ unfolded old.lists (get_or (all_roots t.nesting) i d)
-  old-tree i d h = ap (λ ls. unfolded ls (get_or (all_roots t.nesting) i d)) formed.has.lists
-      ∙ unfolded-old old.lists form.tokens (get_or (all_roots t.nesting) i d)
-      (subst (λ x. x < length old.lists) (sym (get_or_default_zero (all_roots t.nesting) i d h)) (is.roots.there i h))
-
-  before : frames_of new.lists t.nesting ≡ frames_of old.lists t.nesting
-  before = frames-same old.lists new.lists t.nesting (λ i d h. old-tree i d h)
-
   tree : unfolded new.lists leaf.list.index ≡ tree_in [] form.tokens
-  tree = ap (unfolded new.lists) formed.has.list ∙ (ap (λ ls. unfolded ls (length old.lists)) formed.has.lists
+  tree = ap (unfolded new.lists) formed.2.list ∙ (ap (λ ls. unfolded ls (length old.lists)) formed.2.lists
       ∙ (unfolded-new old.lists form.tokens ∙ tree_in-same (trees_from [] old.lists) [] form.tokens
       (λ q x e. absurd (plain q x e))))
 
   scrap : seen new.lists (entry_of leaf) ≡ leaf_scrap form
-  scrap = cc (formed.has.cat, tree, formed.has.left, formed.has.right)
-
-  frames : frames_of new.lists t'.nesting ≡ with_scrap (leaf_scrap form) (frames_of old.lists t.nesting)
-  frames = cc (made, frames-entry new.lists (entry_of leaf) t.nesting, before, scrap)
+  scrap = cc (formed.2.cat, tree, formed.2.left, formed.2.right)
 
   sound-alone : AreSoundScraps (length names') (leaf_scrap form ∷ [])
   sound-alone =
@@ -165,22 +164,16 @@ module _ (k : TokKind) (token : Seen) (old new : StoredLists) (names names' : Li
       subst (λ s. AreSoundScraps (length names') (s ∷ [])) scrap
       (record { named = alone.named; modes = alone.modes; fine = alone.fine })
 
-  more : length names ≤ length names'
-  more = subst (λ ns. length names ≤ length ns) (sym named) (names-grow k token.text names)
-
   pub leaf-step : LeafStep k token old new names names' t t'
-  leaf-step = record {
-    steps = record {
-      translating = record {
-        idle = idle;
-        roots = now.roots;
-        sound = subst (All (IsSoundFrame (length names'))) (sym frames) (scrap-sound (length names') (leaf_scrap form)
-            (frames_of old.lists t.nesting) sound-alone
-            (more-frames (length names) (length names') (frames_of old.lists t.nesting) more is.sound));
-        light = rw (counts.scraps, counts.productions) is.light;
-      };
-      keeps = now.keeps;
-    };
-    progress = λ marks ended.
-        cc (frames, named, after-leaf k token (progress_of old.lists names marks t ended) form makes formed.is);
-  }
+  leaf-step =
+      let now : Placed old new names names' t t' (with_scrap (leaf_scrap form) (frames_of old.lists t.nesting)) =
+      placed t.nesting [] leaf.list.index is tied (sym (append-nil (all_roots t.nesting))) ends
+      (with_scrap (leaf_scrap form))
+      (entry-put new.lists (entry_of leaf) t.nesting t'.nesting (leaf_scrap form) scrap made) in
+      record {
+        steps = now.1 (scrap-sound (length names') (leaf_scrap form) (frames_of old.lists t.nesting) sound-alone
+            (more-frames (length names) (length names') (frames_of old.lists t.nesting)
+            (rw named (names-grow k token.text names)) is.sound)) (rw (counts.scraps, counts.productions) is.light);
+        progress = λ marks ended.
+            cc (now.0, named, after-leaf k token (progress_of old.lists names marks t ended) form makes formed.1);
+      }

@@ -1,9 +1,10 @@
 -- What is told of texts that end: of none, of one, and of some and then others.
-use Rattle.cw_translator.proofs.Terms.{◌≡◌, ℕ, suc, ◌+◌, ◌≤◌, List, [], ◌∷◌, ◌++◌, length, map, take, Option, Some}
-use Rattle.cw_translator.proofs.Terms.{None, refl, sym, ap, ◌∙◌, arith, Result, Ok, Err, IsErrAnd, OnOk, append-nil}
+use Rattle.cw_translator.proofs.Terms.{◌≡◌, ◌+◌, ◌≤◌, List, [], ◌∷◌, ◌++◌, length, map, take, Option, Some, None, refl}
+use Rattle.cw_translator.proofs.Terms.{sym, ap, ◌∙◌, arith, Result, Ok, Err, IfOk, IsErrAnd, OnOk, append-nil}
 use Rattle.cw_translator.proofs.Terms.{length-append, map-append, take-append-le, take_all, on_ok_weaker, Flags, Memory}
 use Rattle.cw_translator.proofs.Terms.{Scrap, Production, log, productions, State, Told, grown_by, HasRecorded}
 use Rattle.cw_translator.proofs.Terms.{begun_over, ended_now, logged, longer_by, texts_told, append_assoc}
+use Rattle.std.proofs.Math.Seq.{take-append-add}
 use Rattle.cw_leaves.specs.declared.lines.TextLog.{TextLog}
 
 -- what holds whatever is answered
@@ -11,24 +12,23 @@ pub on-ok : {T E : Type 0} (r : Result T E) (P : Type 0) → P → OnOk r P
 on-ok (Ok x) P h = h
 on-ok (Err e) P h = tt
 
-err-all : {T E : Type 0} (r : Result T E) (error : E) (P : Type 0) → IsErrAnd r (λ found. found ≡ error) → OnOk r P
-err-all (Ok x) error P h = absurd h
-err-all (Err e) error P h = tt
+-- nothing holds of a value where memory was wanting
+pub err-if : {T E : Type 0} (r : Result T E) (error : E) (P : T → Type 0) → IsErrAnd r (λ found. found ≡ error)
+    → IfOk r P
+err-if (Ok x) error P h = absurd h
+err-if (Err e) error P h = tt
+
+pub err-ok : {T E : Type 0} (r : Result T E) (error : E) (P : Type 0) → IsErrAnd r (λ found. found ≡ error) → OnOk r P
+err-ok r error P h = err-if r error (λ x. P) h
 
 longer-none : (texts : Option (List TextLog)) → longer_by [] texts ≡ texts
 longer-none None = refl
 longer-none (Some l) = ap Some (append-nil l)
 
-longer-more : (xs ys : List TextLog) (texts : Option (List TextLog)) → longer_by ys (longer_by xs texts)
-    ≡ longer_by (xs ++ ys) texts
+longer-more : (xs ys : List TextLog) (texts : Option (List TextLog))
+    → longer_by ys (longer_by xs texts) ≡ longer_by (xs ++ ys) texts
 longer-more xs ys None = refl
 longer-more xs ys (Some l) = ap Some (append_assoc l xs ys)
-
-take-both : {A : Type 0} (xs ys : List A) (n : ℕ) → take (length xs + n) (xs ++ ys) ≡ xs ++ take n ys
-take-both [] ys n = ap (λ k. take k ys) (let e : 0 + n ≡ n = omega arith in e)
-take-both {A} (x ∷ xs) ys n =
-    ap (λ k. take k (x ∷ (xs ++ ys))) (let e : length {A = A} (x ∷ xs) + n ≡ suc (length xs + n) = omega arith in e)
-    ∙ ap (λ l. x ∷ l) (take-both xs ys n)
 
 -- none has ended
 pub recorded-none : {T : Type 0} (flags : Flags) (states : List State) {before told : Option Told}
@@ -46,7 +46,7 @@ pub recorded-unended : {T : Type 0} (flags : Flags) (states : List State) {befor
     {result : Result T Memory} {error : Memory} → texts_told told ≡ texts_told before
     → IsErrAnd result (λ found. found ≡ error) → HasRecorded flags states before told result
 recorded-unended flags states {result = result} {error} same is =
-    recorded-none flags states same (err-all result error _ is)
+    recorded-none flags states same (err-ok result error _ is)
 
 pub recorded-refused : {T : Type 0} (flags : Flags) (states : List State) {before : Option Told}
     {result : Result T Memory} {error : Memory} → IsErrAnd result (λ found. found ≡ error)
@@ -67,14 +67,14 @@ recorded-stopped flags xs ys {before = before} {result = result} {error} is r = 
   within = omega (arith, r.within, length-append xs ys);
   is = r.is ∙ ap (λ l. longer_by (map (logged flags) l) (texts_told before))
       (sym (take-append-le r.number xs ys r.within));
-  all = err-all result error _ is;
+  all = err-ok result error _ is;
 }
 
 pub recorded-error : {T U : Type 0} (flags : Flags) (xs : List State) {before told : Option Told}
     {first : Result T Memory} {result : Result U Memory} {error : Memory} → IsErrAnd result (λ found. found ≡ error)
     → HasRecorded flags xs before told first → HasRecorded flags xs before told result
 recorded-error flags xs {result = result} {error} is r =
-    record { number = r.number; within = r.within; is = r.is; all = err-all result error _ is }
+    record { number = r.number; within = r.within; is = r.is; all = err-ok result error _ is }
 
 -- some, and then others
 pub recorded-then : {T U : Type 0} (flags : Flags) (xs ys : List State) {before mid told : Option Told} {value : T}
@@ -83,10 +83,7 @@ pub recorded-then : {T U : Type 0} (flags : Flags) (xs ys : List State) {before 
 recorded-then flags xs ys {before = before} {result = result} a b =
     let all : take a.number xs ≡ xs = take_all a.number xs a.all in
     let joined : map (logged flags) (take a.number xs) ++ map (logged flags) (take b.number ys)
-    ≡ map (logged flags) (take (length xs + b.number) (xs ++ ys)) =
-    ap (λ l. map (logged flags) l ++ map (logged flags) (take b.number ys)) all
-    ∙ (sym (map-append (logged flags) xs (take b.number ys))
-    ∙ ap (map (logged flags)) (sym (take-both xs ys b.number))) in
+    ≡ map (logged flags) (take (length xs + b.number) (xs ++ ys)) = rw (all, take-append-add, map-append) in
     record {
       number = length xs + b.number;
       within = omega (arith, length-append xs ys, b.within);
@@ -99,18 +96,14 @@ recorded-then flags xs ys {before = before} {result = result} a b =
 -- ## One text
 
 -- it began, and some productions were told
-pub begun-texts : (scraps : List Scrap) (told : Option Told) → texts_told (begun_over scraps told) ≡ texts_told told
-begun-texts scraps None = refl
-begun-texts scraps (Some t) = refl
-
-grown-texts : (items : List Production) (told : Option Told) → texts_told (grown_by items told) ≡ texts_told told
-grown-texts items None = refl
-grown-texts items (Some t) = refl
+told-texts : (scraps : List Scrap) (items : List Production) (before : Option Told)
+    → texts_told (grown_by items (begun_over scraps before)) ≡ texts_told before
+told-texts scraps items None = refl
+told-texts scraps items (Some t) = refl
 
 pub begun-told : (scraps : List Scrap) (items : List Production) (before : Option Told) {begun told : Option Told}
     → begun ≡ begun_over scraps before → told ≡ grown_by items begun → texts_told told ≡ texts_told before
-begun-told scraps items before {begun = begun} b g =
-    ap texts_told g ∙ (grown-texts items begun ∙ (ap texts_told b ∙ begun-texts scraps before))
+begun-told scraps items before b g = ap texts_told (g ∙ ap (grown_by items) b) ∙ told-texts scraps items before
 
 -- no production is told of it
 pub grown-none : (told : Option Told) → grown_by [] told ≡ told

@@ -4,23 +4,16 @@ use Rattle.cw_translator.proofs.Terms.{productions, State, categories, words_of,
 use Rattle.cw_names.specs.declared.entry.EntryKind.{EntryKind}
 use Rattle.cw_table.specs.Reaching.{IsAfter}
 
-abbrev first_word : List (EntryKind × List ℕ) → EntryKind × List ℕ → EntryKind × List ℕ
-first_word [] word = word
-first_word (word ∷ words) other = word
-
 -- names are their words with their categories
-pub with-categories-is : (new old : List Entry) → words_of new ≡ words_of old
+with-categories-is : (new old : List Entry) → words_of new ≡ words_of old
     → new ≡ with_categories (categories new) old
 with-categories-is [] [] e = refl
 with-categories-is [] (o ∷ old) e = absurd (cc e)
 with-categories-is (n ∷ new) [] e = absurd (cc e)
 with-categories-is (n ∷ new) (o ∷ old) e =
-    let first : n.kind ≡ o.kind = ap (λ ws. (first_word ws (n.kind, n.text)).0) e in
-    let second : n.text ≡ o.text = ap (λ ws. (first_word ws (n.kind, n.text)).1) e in
-    let rest : words_of new ≡ words_of old = ap (drop 1) e in
-    ap (λ k. record { kind = k; text = n.text; category = n.category } ∷ new) first
-    ∙ (ap (λ t. record { kind = o.kind; text = t; category = n.category } ∷ new) second
-    ∙ ap (λ ns. record { kind = o.kind; text = o.text; category = n.category } ∷ ns) (with-categories-is new old rest))
+    let same : ◌≡◌ {A = EntryKind × List ℕ} (n.kind, n.text) (o.kind, o.text) = cc in
+    ap (λ (word : EntryKind × List ℕ). record n { kind = word.0; text = word.1 } ∷ new) same
+    ∙ ap (λ ns. record o { category = n.category } ∷ ns) (with-categories-is new old (ap (drop 1) e))
 
 pub retypes : (flags : Flags) (old now : State) (names new : List Entry) → IsAfter productions flags old now → now.cats
     ≡ categories new → words_of new ≡ words_of names → Retypes flags old names new

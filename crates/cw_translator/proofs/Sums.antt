@@ -18,14 +18,7 @@ module _ (flags : Flags) (state : State) where
   limit-one = sym (zero-add _)
 
 -- what has ended before, and more texts
-pub scraps-more : (done more : List State) → scraps_in (done ++ more) ≡ scraps_in done + scraps_in more
-scraps-more = sum_by-append (λ state. length state.scraps)
-
 module _ (flags : Flags) where
-  pub productions-more : (done more : List State) → productions_in flags (done ++ more)
-      ≡ productions_in flags done + productions_in flags more
-  productions-more = sum_by-append (λ state. count productions flags state)
-
   pub ticks-more : (done more : List State) → ticks_in flags (done ++ more) ≡ ticks_in flags done + ticks_in flags more
   ticks-more = sum_by-append (λ state. ticks productions flags state)
 

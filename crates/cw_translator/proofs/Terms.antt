@@ -60,7 +60,7 @@ pub use Rattle.cw_trees.specs.Joining.{scrap_agrees, reads, whole, Scrap}
 pub use Rattle.cw_trees.specs.Tree.{Then, Inner, Source, Sign, Tree, Empty}
 pub use Rattle.std.proofs.Common.{◌≡◌, ℕ, ◌+◌, ◌*◌, ◌≤◌, List, [], ◌∷◌, length, None, ◌⊎◌, inl, inr, refl, sym, ap, ◌∙◌}
 pub use Rattle.std.proofs.Common.{subst, Option, add-zero, arith, ◌-◌, ◌<◌, ◌++◌, get_or, Some, map, drop, option_map}
-pub use Rattle.std.proofs.Common.{true, append_assoc, IsSome, IfSome, suc, take, zero-add}
+pub use Rattle.std.proofs.Common.{true, append_assoc, IsSome, IfSome, suc, take, zero-add, rules}
 pub use Rattle.std.proofs.lemmas.Grind.{get_or_default_zero, common_steps}
 pub use Rattle.std.proofs.lemmas.List.{append-nil, get_or_append_left, get_or-append-add, get_or-append_right}
 pub use Rattle.std.proofs.lemmas.List.{length-append, drop_more, drop_all, length-map, map-append, take_all}

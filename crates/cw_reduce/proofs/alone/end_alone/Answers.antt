@@ -1,9 +1,10 @@
 -- The scrap is reduced already, and its list takes the place of its own.
-use Rattle.cw_reduce.proofs.Terms.{◌∷◌, [], length, refl, sym, subst, arith, tied-idle, entry_of, IsNamedBelow}
-use Rattle.cw_reduce.proofs.Terms.{scraps_of, recorded-unended, ends-refused, gathers-root}
+use Rattle.cw_reduce.proofs.Terms.{ends-refused, gathers-root}
 use Rattle.cw_reduce.proofs.AloneSteps.{alone-done, alone-fails, alone-recorded, alone-spent}
 use Rattle.cw_rewrite.proofs.GatherLaws.{gathers-keeps, whole-named}
 use Rattle.cw_reduce.proofs.alone.end_alone.Goals as goal
+use Rattle.cw_translator.proofs.Terms.{◌∷◌, [], length, refl, arith, tied-idle, entry_of, scraps_of}
+use Rattle.cw_translator.proofs.Recorded.{recorded-unended}
 
 pub returns-in_err-record_alone : goal.returns-in_err-record_alone
 returns-in_err-record_alone g c = λ flags. ends-refused c.from_residual.ensures.1
@@ -28,8 +29,7 @@ returns g c = λ flags. record {
       c.tick-4.new.self c.in_ok-list.ensures.tree refl refl
       (omega (arith, c.tick.ensures, c.tick-2.ensures, c.tick-3.ensures, c.tick-4.ensures));
   few = omega arith;
-  named = subst (IsNamedBelow (length c.args.work.now.names.now)) (sym c.in_ok-list.ensures.tree)
-      (whole-named (length c.args.work.now.names.now)
+  named = rw c.in_ok-list.ensures.tree (whole-named (length c.args.work.now.names.now)
       (scraps_of c.args.work.now.store.now.lists (entry_of c.args.leaf ∷ [])) c.requires.sound.named);
   root = gathers-root _ _ _ _ c.in_ok-list.ensures.gathers (tied-idle c.args.work.now.store.now c.requires.sound.idle
       c.tied_law.ensures) c.requires.sound.roots;

@@ -1,23 +1,12 @@
 -- What the scrap, and then the answers behind it, come to is the text.
-use Rattle.cw_reduce.proofs.Terms.{◌++◌, sym, subst, arith, answers_ahead, with_texts, IsTranslating, StartsBelow}
-use Rattle.cw_reduce.proofs.Terms.{answers_in, of_leaf, here, progress_over, texts_in, unchanged, recorded-refused}
-use Rattle.cw_reduce.proofs.Terms.{ends-answers, ends-answers-stopped, ends-refused}
-use Rattle.cw_reduce.proofs.FirstSteps.{ahead-is, leaf-as}
+use Rattle.cw_reduce.proofs.Terms.{◌++◌, arith, answers_ahead, with_texts, here, progress_over, texts_in, unchanged}
+use Rattle.cw_reduce.proofs.Terms.{recorded-refused, ends-answers, ends-answers-stopped, ends-refused}
+use Rattle.cw_reduce.proofs.AloneSteps.{ahead-is, leaf-as}
 use Rattle.cw_reduce.proofs.alone.translate_on.Goals as goal
-
-pub read_behind-requires-clause-start : goal.read_behind-requires-clause-start
-read_behind-requires-clause-start g c = subst (StartsBelow 4294967296)
-    (sym (ahead-is c.headless.result c.args.next.now c.args.reader.now.coming c.headless.ensures.name
-    c.headless.ensures.next)) c.requires.start
-
-pub read_behind-requires-clause-translating : goal.read_behind-requires-clause-translating
-read_behind-requires-clause-translating g c = subst (IsTranslating c.args.work.now.store.now c.args.work.now.names.now)
-    (sym c.in_ok-translator.ensures) c.requires.translating
 
 pub returns-in_err-translator-clause-text : goal.returns-in_err-translator-clause-text
 returns-in_err-translator-clause-text g c = ends-refused c.from_residual.ensures.1
-    (here (with_texts (texts_in c.args.context.now) (answers_in c.args.next.now ++ c.args.reader.now.coming))
-    (progress_over c.args.work.now (of_leaf c.args.leaf))) (recorded-refused _ _ c.from_residual.ensures.1)
+    (here _ _) (recorded-refused _ _ c.from_residual.ensures.1)
     (omega arith) unchanged c.requires.translating.idle
 
 pub returns-in_err-read_behind-clause-text : goal.returns-in_err-read_behind-clause-text

@@ -1,8 +1,7 @@
 -- A name that was read ahead, the first answer behind it, and then all others are the answers behind the head.
 use Rattle.cw_reduce.proofs.Terms.{◌++◌, name_ahead, with_texts, answers_in, texts_in, advancing-begun, advancing-last}
 use Rattle.cw_reduce.proofs.Terms.{advancing-next, advancing-stopped}
-use Rattle.cw_reduce.proofs.HeadSteps.{ahead-advancing, cut-first, starts-ahead}
-use Rattle.cw_reduce.proofs.NameSteps.{with-texts-append}
+use Rattle.cw_reduce.proofs.NameSteps.{ahead-advancing, cut-first, starts-ahead, with-texts-append}
 use Rattle.cw_reduce.proofs.headed.read_behind.Goals as goal
 
 pub name_ahead-requires-clause-start : goal.name_ahead-requires-clause-start

@@ -1,8 +1,8 @@
 -- What the head makes, and then the answers behind it, are the text with its head.
-use Rattle.cw_reduce.proofs.Terms.{◌++◌, refl, answers_ahead, with_texts, progress_over, texts_in, advances-as}
-use Rattle.cw_reduce.proofs.Terms.{advances-stopped, advances-then}
-use Rattle.cw_reduce.proofs.HeadSteps.{headed-among}
+use Rattle.cw_reduce.proofs.Terms.{answers_ahead, with_texts, texts_in, advances-as, advances-stopped, advances-then}
+use Rattle.cw_reduce.proofs.NameSteps.{headed-among}
 use Rattle.cw_reduce.proofs.headed.read_headed.Goals as goal
+use Rattle.cw_translator.proofs.Terms.{◌++◌, refl, progress_over}
 
 pub returns-in_err-head_name-clause-reads : goal.returns-in_err-head_name-clause-reads
 returns-in_err-head_name-clause-reads g c = advances-as refl

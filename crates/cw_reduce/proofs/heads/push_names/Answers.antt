@@ -1,24 +1,25 @@
 -- One name more stands behind those so far.
-use Rattle.cw_reduce.proofs.Terms.{◌≡◌, ℕ, ◌+◌, ◌<◌, Option, Some, None, List, [], ◌∷◌, ◌++◌, ap, append_assoc, arith}
-use Rattle.cw_reduce.proofs.Terms.{get_or, length, option_map, sym, take, ◌∙◌, append-nil, take_more}
-use Rattle.cw_reduce.proofs.Terms.{StoredToken as Token, name_in_text, names_in_text, names-append}
-use Rattle.cw_reduce.proofs.HeadLists.{word-plain}
+use Rattle.cw_reduce.proofs.Terms.{◌≡◌, ℕ, ◌+◌, ◌<◌, Option, Some, None, List, [], ◌∷◌, ◌++◌, append_assoc, arith}
+use Rattle.cw_reduce.proofs.Terms.{get_or, length, option_map, take, ◌∙◌, append-nil, take_more, StoredToken as Token}
+use Rattle.cw_reduce.proofs.Terms.{name_in_text, names_in_text, names-append}
+use Rattle.cw_reduce.proofs.HeadMakes.{word-plain}
 use Rattle.cw_reduce.proofs.heads.push_names.Goals as goal
 
 more-names : (o now new : Option (List Token)) (ws : List Token) (i : ℕ) (d : Token) → i < length ws
     → now ≡ option_map (λ ts. ts ++ names_in_text (take i ws)) o
     → new ≡ option_map (λ ts. ts ++ name_in_text (get_or ws i d)) now
     → new ≡ option_map (λ ts. ts ++ names_in_text (take (i + 1) ws)) o
-more-names None now new ws i d h e f =
-    f ∙ ap (λ (x : Option (List Token)). option_map (λ ts. ts ++ name_in_text (get_or ws i d)) x) e
+more-names None now new ws i d h e f = rw (f, e)
 more-names (Some ts) now new ws i d h e f =
-    let first = names_in_text (take i ws) in
     let one = name_in_text (get_or ws i d) in
-    let more : names_in_text (take (i + 1) ws) ≡ first ++ one =
-    ap names_in_text (take_more ws i d h)
-    ∙ (names-append (take i ws) (get_or ws i d ∷ []) ∙ ap (λ us. first ++ us) (append-nil one)) in
-    f ∙ (ap (λ (x : Option (List Token)). option_map (λ us. us ++ one) x) e
-    ∙ ap Some (append_assoc ts first one ∙ ap (λ us. ts ++ us) (sym more)))
+    rw (
+      f,
+      e,
+      take_more ws i d h,
+      names-append (take i ws) (get_or ws i d ∷ []),
+      append-nil one,
+      append_assoc ts (names_in_text (take i ws)) one,
+    )
 
 pub push_name-requires-clause-plain : goal.push_name-requires-clause-plain
 push_name-requires-clause-plain c = word-plain c.args.words.now c.loop-word.word-index _ c.requires.plain

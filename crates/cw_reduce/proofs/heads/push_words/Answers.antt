@@ -1,5 +1,5 @@
 -- A word refers to no list, so it may stand in the list that is being built.
-use Rattle.cw_reduce.proofs.HeadLists.{word-plain, plain-may}
+use Rattle.cw_reduce.proofs.HeadMakes.{word-plain, plain-may}
 use Rattle.cw_reduce.proofs.heads.push_words.Goals as goal
 
 pub push-requires-clause-reference : goal.push-requires-clause-reference

@@ -7,15 +7,14 @@ use Rattle.cw_reduce.proofs.heads.read_words.Goals as goal
 
 pub returns-in_default : goal.returns-in_default
 returns-in_default c =
-    let ahead = answers_in c.next_answer-answer.result ++ c.next_answer-answer.new.reader.coming in
     let e = ends-other c.loop-word.wanted c.loop-word.reader.coming c.next_answer-answer.new.reader.coming
     c.next_answer-answer.result c.next_answer-answer.ensures.gives c.in_default.not-Token in
     let read = c.loop-word.invariant.0 in
     record {
-      words = reads-tokens _ _ _ _ _ _ _ _ read ahead e;
-      names = reads-names _ _ _ _ _ _ _ _ read ahead e;
-      rest = reads-left _ _ _ _ _ _ _ _ read ahead e;
-      start = reads-starts _ _ _ _ _ _ _ _ read c.next_answer-answer.result c.next_answer-answer.new.reader.coming
+      words = reads-tokens read e;
+      names = reads-names read e;
+      rest = reads-left read e;
+      start = reads-starts read c.next_answer-answer.result c.next_answer-answer.new.reader.coming
           c.next_answer-answer.ensures.gives;
       all = stays-trans _ _ _ c.loop-word.invariant.1 c.next_answer-answer.ensures.all;
       no_names = tt;
@@ -23,23 +22,22 @@ returns-in_default c =
 
 pub returns-in_default-behind : goal.returns-in_default-behind
 returns-in_default-behind c =
-    let ahead = answers_in (lexed.Token c.in-Token.word) ++ c.next_answer-answer.new.reader.coming in
     let e = ends-token c.loop-word.wanted c.loop-word.reader.coming c.next_answer-answer.new.reader.coming
     c.in-Token.word c.in-Token.ensures.gives (sym c.behind.ensures ∙ c.in_default-behind.is) in
     let read = c.loop-word.invariant.0 in
     record {
-      words = reads-tokens _ _ _ _ _ _ _ _ read ahead e;
-      names = reads-names _ _ _ _ _ _ _ _ read ahead e;
+      words = reads-tokens read e;
+      names = reads-names read e;
       rest = ap (λ l. answers_in l ++ c.next_answer-answer.new.reader.coming) c.in-Token.is
-          ∙ reads-left _ _ _ _ _ _ _ _ read ahead e;
-      start = reads-starts _ _ _ _ _ _ _ _ read c.next_answer-answer.result c.next_answer-answer.new.reader.coming
+          ∙ reads-left read e;
+      start = reads-starts read c.next_answer-answer.result c.next_answer-answer.new.reader.coming
           c.next_answer-answer.ensures.gives;
       all = stays-trans _ _ _ c.loop-word.invariant.1 c.next_answer-answer.ensures.all;
       no_names = tt;
     }
 
 pub word_token-requires-clause-start : goal.word_token-requires-clause-start
-word_token-requires-clause-start c = (reads-starts _ _ _ _ _ _ _ _ c.loop-word.invariant.0
+word_token-requires-clause-start c = (reads-starts c.loop-word.invariant.0
     (lexed.Token c.in-Token.word) c.next_answer-answer.new.reader.coming c.in-Token.ensures.gives).0
 
 pub loop-word-smaller : goal.loop-word-smaller
@@ -48,7 +46,7 @@ loop-word-smaller c = token-shorter c.loop-word.reader.coming c.next_answer-answ
 
 pub loop-word-preserved : goal.loop-word-preserved
 loop-word-preserved c = (
-  reads-word _ _ _ _ _ _ _ _ c.loop-word.invariant.0 c.in-Token.word c.next_answer-answer.new.reader.coming
+  reads-word c.loop-word.invariant.0 c.in-Token.word c.next_answer-answer.new.reader.coming
       c.in-Token.ensures.gives c.in-Some.next (sym c.behind.ensures ∙ c.in-Some.is) c.word_token.new.names
       c.in_ok-word_token.ensures.names c.in_ok-word_token.field-0 c.push.new.self.items
       c.in_ok-word_token.ensures.token c.in_ok-push.ensures.items,
@@ -58,9 +56,6 @@ loop-word-preserved c = (
 pub returns-in_err-push-clause-no_names : goal.returns-in_err-push-clause-no_names
 returns-in_err-push-clause-no_names c = on-err c.from_residual-in_err-push.result
     (NamesWithin (answer_words c.args.wanted c.args.reader.now.coming) c.args.names.now c.word_token.new.names)
-    (word-within _ _ _ _ _ _ _ _ c.loop-word.invariant.0 c.in-Token.word c.next_answer-answer.new.reader.coming
+    (word-within c.loop-word.invariant.0 c.in-Token.word c.next_answer-answer.new.reader.coming
     c.in-Token.ensures.gives c.in-Some.next (sym c.behind.ensures ∙ c.in-Some.is) c.word_token.new.names
     c.in_ok-word_token.ensures.names)
-
-pub returns-in_err-push-clause-all : goal.returns-in_err-push-clause-all
-returns-in_err-push-clause-all c = stays-trans _ _ _ c.loop-word.invariant.1 c.next_answer-answer.ensures.all

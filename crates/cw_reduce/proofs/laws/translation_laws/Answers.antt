@@ -1,7 +1,5 @@
 -- Shown tokens stand in the tree once and in order, the tree ends in text, and the steps keep to the limit.
-use Rattle.cw_reduce.proofs.HeadReads.{stands-in-text}
-use Rattle.cw_reduce.proofs.HeadsShown.{translated-shown}
-use Rattle.cw_reduce.proofs.Limits.{ticks-within}
+use Rattle.cw_reduce.proofs.HeadsShown.{stands-in-text, ticks-within, translated-shown}
 use Rattle.cw_reduce.proofs.laws.translation_laws.Goals as goal
 
 pub returns : goal.returns

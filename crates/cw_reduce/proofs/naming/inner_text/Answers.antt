@@ -1,10 +1,10 @@
 -- An inner text of a name begins, is read up to a section code, and ends: these are its answers.
-use Rattle.cw_reduce.proofs.Terms.{[], ◌∷◌, refl, ap, arith, Finish, until_section, text_answers, text_token}
-use Rattle.cw_reduce.proofs.Terms.{progress_over, answers-as, advancing-last, advancing-next, advancing-stopped}
-use Rattle.cw_reduce.proofs.Terms.{advances-unread}
+use Rattle.cw_reduce.proofs.Terms.{[], ◌∷◌, refl, ap, arith, Finish, until_section, progress_over, answers-as}
+use Rattle.cw_reduce.proofs.Terms.{advancing-last, advancing-next, advancing-stopped, advances-unread}
 use Rattle.cw_reduce.proofs.NameSteps.{part_answers, text-begun}
 use Rattle.cw_reduce.proofs.ReadSteps.{within-starts}
 use Rattle.cw_reduce.proofs.naming.inner_text.Goals as goal
+use Rattle.cw_reduce.specs.Naming.{text_answers, text_token}
 
 pub read_until_section-requires-clause-translating : goal.read_until_section-requires-clause-translating
 read_until_section-requires-clause-translating g c = (text-begun {told = g.R.Watch.told}

@@ -10,9 +10,6 @@ loop-span-init g c = (
   omega arith,
 )
 
-pub inner_text-requires-clause-translating : goal.inner_text-requires-clause-translating
-inner_text-requires-clause-translating g c = c.loop-span.invariant.0.reads.translating
-
 pub loop-span-preserved : goal.loop-span-preserved
 loop-span-preserved g c = (
   advancing-next (text_answers (part_answers c.args.text.now c.in-Some.span))

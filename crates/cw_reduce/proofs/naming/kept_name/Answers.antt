@@ -1,9 +1,9 @@
 -- A section name begins, its inner texts are read, and it ends: these are the answers that it stands for.
 use Rattle.cw_reduce.proofs.Terms.{[], ◌∷◌, refl, Finish, parts_by_kind, held_answers, text_token, texts_answers}
-use Rattle.cw_reduce.proofs.Terms.{with_held, progress_over, advancing-last, advancing-next, advancing-stopped}
-use Rattle.cw_reduce.proofs.Terms.{advances-unread}
+use Rattle.cw_reduce.proofs.Terms.{progress_over, advancing-last, advancing-next, advancing-stopped, advances-unread}
 use Rattle.cw_reduce.proofs.NameSteps.{held-begun}
 use Rattle.cw_reduce.proofs.naming.kept_name.Goals as goal
+use Rattle.cw_translator.specs.Reading.{with_held}
 
 pub texts_by_kind-requires-clause-translating : goal.texts_by_kind-requires-clause-translating
 texts_by_kind-requires-clause-translating g c = (held-begun {told = g.R.Watch.told} c.args.context.now.flags.now

@@ -1,8 +1,8 @@
 -- One answer more is one step of the reading, up to the section code or to want of memory.
-use Rattle.cw_reduce.proofs.Terms.{sym, ◌∙◌, until_section, answers_in, advancing-begun, advancing-ended}
-use Rattle.cw_reduce.proofs.Terms.{advancing-next, advancing-stopped}
+use Rattle.cw_reduce.proofs.Terms.{until_section, advancing-begun, advancing-ended, advancing-next, advancing-stopped}
 use Rattle.cw_reduce.proofs.ReadSteps.{starts-next, until-ends, until-goes}
 use Rattle.cw_reduce.proofs.naming.read_until_section.Goals as goal
+use Rattle.cw_translator.proofs.Terms.{sym, ◌∙◌, answers_in}
 
 pub loop-answer-init : goal.loop-answer-init
 loop-answer-init g c = (

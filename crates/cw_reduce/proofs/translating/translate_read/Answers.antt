@@ -1,20 +1,14 @@
 -- The text from its first answer on is the whole text.
-use Rattle.cw_reduce.proofs.Terms.{◌≡◌, List, subst, on_ok_weaker, read-up-behind, Answer, Gives, Lexed, without_notes}
+use Rattle.cw_reduce.proofs.Terms.{on_ok_weaker, read-up-behind}
 use Rattle.cw_rules.specs.declared.tokens.Lexed.TheVariants as lexed
-use Rattle.cw_reduce.proofs.FirstSteps.{gives-again, text-as}
-use Rattle.cw_reduce.proofs.HeadFinds.{ahead-of}
+use Rattle.cw_reduce.proofs.AloneSteps.{gives-again, text-as}
+use Rattle.cw_reduce.proofs.HeadMakes.{ahead-of}
 use Rattle.cw_reduce.proofs.translating.translate_read.Goals as goal
-
--- the answers from the first on, where it is a token that makes a scrap, and any
-from-leaf : (rest new : List Answer) {first answer : Lexed} → first ≡ answer → Gives (without_notes rest) first new
-    → Gives (without_notes rest) answer new
-from-leaf rest new is g = subst (λ answer. Gives (without_notes rest) answer new) is g
 
 pub translate_from-requires : goal.translate_from-requires
 translate_from-requires g c =
     let a = ahead-of c.args.reader.now.coming c.next_answer-first.new.reader.coming (lexed.Token c.in-Some.token.now)
-    (from-leaf c.args.reader.now.coming c.next_answer-first.new.reader.coming c.in-Some.ensures.is
-    c.next_answer-first.ensures.gives) c.requires.nested c.requires.start in
+    (rw c.in-Some.ensures.is at c.next_answer-first.ensures.gives) c.requires.nested c.requires.start in
     record {
       makes = c.in-Some.ensures.makes;
       nested = a.nested;
@@ -26,8 +20,7 @@ translate_from-requires g c =
 pub returns-in-Some : goal.returns-in-Some
 returns-in-Some g c =
     let a = ahead-of c.args.reader.now.coming c.next_answer-first.new.reader.coming (lexed.Token c.in-Some.token.now)
-    (from-leaf c.args.reader.now.coming c.next_answer-first.new.reader.coming c.in-Some.ensures.is
-    c.next_answer-first.ensures.gives) c.requires.nested c.requires.start in
+    (rw c.in-Some.ensures.is at c.next_answer-first.ensures.gives) c.requires.nested c.requires.start in
     record {
       read = on_ok_weaker _ (read-up-behind _ _ _ c.next_answer-first.ensures.all) c.translate_from.ensures.read;
       text = text-as _ _ _ _ _ _ a.same c.translate_from.ensures.text;

@@ -1,6 +1,8 @@
 -- The list of a section name has the name's tree, and refers to each of its inner texts once and in order.
-use Rattle.cw_translator.proofs.Terms.{◌≤◌, length, ◌∙◌, arith, common_steps, builds-start, builds-pushed}
-use Rattle.cw_translator.proofs.NameLists.{name_tokens, part-may, parts-end, sign-end, name-tree, name-gathers}
+use Rattle.cw_translator.proofs.Terms.{ap, Then, Source, Maybe, rules, sym, subst, AreRoots, ◌∙◌, arith}
+use Rattle.cw_translator.proofs.Terms.{builds-start, name_part, [], append-nil, builds-more, builds-pushed, sign_tokens}
+use Rattle.cw_translator.proofs.HeldLists.{built, name_end, name_tokens, name-ref, name-refs, name-rest, part-may}
+use Rattle.cw_translator.proofs.HeldLists.{parts-end}
 use Rattle.cw_translator.proofs.holders.name_list.Goals as goal
 
 pub loop-part-init : goal.loop-part-init
@@ -13,30 +15,21 @@ loop-part-init c = (
 )
 
 pub push_part-requires-clause-reference : goal.push_part-requires-clause-reference
-push_part-requires-clause-reference c = part-may c.args.store.now.lists c.args.number c.args.sign c.args.parts.now
-    c.loop-part.part-index c.loop-part.store c.loop-part.invariant.0 _ c.loop-part-test.true c.requires.roots
+push_part-requires-clause-reference c = part-may c.args.store.now.lists _ name_part (name_end c.args.sign)
+    c.args.parts.now c.loop-part.part-index c.loop-part.store c.loop-part.invariant.0 _ c.loop-part-test.true
+    (subst (AreRoots c.args.store.now.lists) (sym (name-refs c.args.sign c.args.parts.now)) c.requires.roots)
+    name-ref
 
-pub returns-clause-tree : goal.returns-clause-tree
-returns-clause-tree c =
-    let all : length c.args.parts.now ≤ c.loop-part.part-index = omega (arith, c.loop-part-test.false) in
-    let b = sign-end c.args.store.now.lists c.args.number c.args.sign c.args.parts.now c.push-2.new.self
-    c.push_sign.new.store (builds-pushed _ _ _ _ c.loop-part.store c.push-2.new.self
-    (parts-end c.args.store.now.lists c.args.number c.args.sign c.args.parts.now c.loop-part.part-index
-    c.loop-part.store c.loop-part.invariant.0 all) c.push-2.ensures.building c.push-2.ensures.lists)
+pub returns : goal.returns
+returns c =
+    let all = name_tokens c.args.number c.args.sign c.args.parts.now in
+    let b = builds-more c.args.store.now.lists all (sign_tokens c.args.sign) [] c.push-2.new.self c.push_sign.new.store
+    (rw append-nil (builds-pushed _ _ _ _ c.loop-part.store c.push-2.new.self (parts-end c.args.store.now.lists all
+    name_part (name_end c.args.sign) c.args.parts.now c.loop-part.part-index c.loop-part.store c.loop-part.invariant.0
+    (omega (arith, c.loop-part-test.false))) c.push-2.ensures.building c.push-2.ensures.lists))
     c.push_sign.ensures.building c.push_sign.ensures.lists in
-    name-tree c.args.store.now.lists c.args.number c.args.sign c.args.parts.now c.push_sign.new.store b
-    c.finish.new.self.lists c.finish.result.index c.finish.ensures.lists c.finish.ensures.id
-
-pub returns-clause-gathers : goal.returns-clause-gathers
-returns-clause-gathers c =
-    let all : length c.args.parts.now ≤ c.loop-part.part-index = omega (arith, c.loop-part-test.false) in
-    let b = sign-end c.args.store.now.lists c.args.number c.args.sign c.args.parts.now c.push-2.new.self
-    c.push_sign.new.store (builds-pushed _ _ _ _ c.loop-part.store c.push-2.new.self
-    (parts-end c.args.store.now.lists c.args.number c.args.sign c.args.parts.now c.loop-part.part-index
-    c.loop-part.store c.loop-part.invariant.0 all) c.push-2.ensures.building c.push-2.ensures.lists)
-    c.push_sign.ensures.building c.push_sign.ensures.lists in
-    name-gathers c.args.store.now.lists c.args.number c.args.sign c.args.parts.now c.push_sign.new.store b
-    c.finish.new.self.lists c.finish.result.index c.finish.ensures.lists c.finish.ensures.id
-
-pub push_part-requires-clause-building : goal.push_part-requires-clause-building
-push_part-requires-clause-building c = grind (arith, common_steps)
+    let list = built c.args.store.now.lists all c.push_sign.new.store c.finish.new.self.lists c.finish.result.index
+    c.args.parts.now _ (ap (Then (Source c.args.number Maybe))
+    (name-rest c.args.store.now.lists c.args.sign c.args.parts.now))
+    (name-refs c.args.sign c.args.parts.now) b c.finish.ensures.lists c.finish.ensures.id in
+    record { tree = list.0; gathers = list.1; idle = search rules; refused = search rules }

@@ -1,7 +1,6 @@
 -- A line that is reduced and put together is one list, with the categories of names that its normal form has.
-use Rattle.cw_translator.proofs.Terms.{[], length, refl, sym, ap, ◌∙◌, subst, arith, productions, State, whole}
-use Rattle.cw_translator.proofs.Terms.{state_of, IsNamedBelow, scraps_of, keeps-trans, tied-idle, gathers-keeps}
-use Rattle.cw_translator.proofs.Terms.{whole-named}
+use Rattle.cw_translator.proofs.Terms.{length, refl, sym, ap, ◌∙◌, subst, arith, productions, State, whole, state_of}
+use Rattle.cw_translator.proofs.Terms.{IsNamedBelow, scraps_of, keeps-trans, tied-idle, gathers-keeps, whole-named}
 use Rattle.cw_table.proofs.Examples.{productions-sound}
 use Rattle.cw_table.proofs.StepLaws.{is-after}
 use Rattle.cw_translator.proofs.FinishSteps.{gathers-root}
@@ -56,26 +55,24 @@ returns-clause-recorded g c = recorded-one c.args.context.now.flags.now
     c.in_ok-begin.ensures.begins (rw c.in-Some.is at c.in_ok-reduced.ensures.told) c.in_ok-end.ensures.ends
 
 pub returns-clause-done : goal.returns-clause-done
-returns-clause-done g c = record {
-  tree = c.in_ok-list.ensures.tree ∙ ap (λ (s : State). whole s.scraps)
-      (rw c.in-Some.is at c.in_ok-reduced.ensures.normal);
-  scraps = c.len-scraps.ensures.length;
-  productions_are = (rw c.in-Some.is at c.in_ok-reduced.ensures.productions);
-  few = (let few = (rw c.in-Some.is at c.in_ok-reduced.ensures.few) in let size = c.len-scraps.ensures.length in
-      omega (arith, few, size));
-  names_are = retyped-names _ _ _ _ _ (rw c.in-Some.is at c.in_ok-reduced.ensures.normal) refl
-      c.in_ok-reduced.ensures.words;
-  marks_are = ap (λ (s : State). s.marks) (rw c.in-Some.is at c.in_ok-reduced.ensures.normal);
-  steps_are = (rw c.in-Some.is at c.in_ok-reduced.ensures.steps);
-  words = c.in_ok-reduced.ensures.words;
-  named = subst (IsNamedBelow (length c.reduce_watched.new.names)) (sym c.in_ok-list.ensures.tree)
-      (whole-named (length c.reduce_watched.new.names)
-      (scraps_of c.reduce_watched.new.store.lists c.reduce_watched.new.line) c.in_ok-reduced.ensures.sound.named);
-  root = gathers-root _ _ _ _ c.in_ok-list.ensures.gathers
-      (tied-idle c.reduce_watched.new.store c.in_ok-reduced.ensures.sound.idle c.tied_law.ensures)
-      c.in_ok-reduced.ensures.sound.roots;
-  keeps = keeps-trans _ _ _ _ _ _ c.in_ok-reduced.ensures.others (gathers-keeps _ _ _ _ c.in_ok-list.ensures.gathers
-      (tied-idle c.reduce_watched.new.store c.in_ok-reduced.ensures.sound.idle c.tied_law.ensures)
-      c.in_ok-reduced.ensures.sound.roots);
-  idle = c.in_ok-list.ensures.idle;
-}
+returns-clause-done g c =
+    let tied = tied-idle c.reduce_watched.new.store c.in_ok-reduced.ensures.sound.idle c.tied_law.ensures in
+    record {
+      tree = c.in_ok-list.ensures.tree ∙ ap (λ (s : State). whole s.scraps)
+          (rw c.in-Some.is at c.in_ok-reduced.ensures.normal);
+      scraps = c.len-scraps.ensures.length;
+      productions_are = (rw c.in-Some.is at c.in_ok-reduced.ensures.productions);
+      few = omega (arith, c.len-scraps.ensures.length, rw c.in-Some.is at c.in_ok-reduced.ensures.few);
+      names_are = retyped-names _ _ _ _ _ (rw c.in-Some.is at c.in_ok-reduced.ensures.normal) refl
+          c.in_ok-reduced.ensures.words;
+      marks_are = ap (λ (s : State). s.marks) (rw c.in-Some.is at c.in_ok-reduced.ensures.normal);
+      steps_are = (rw c.in-Some.is at c.in_ok-reduced.ensures.steps);
+      words = c.in_ok-reduced.ensures.words;
+      named = subst (IsNamedBelow (length c.reduce_watched.new.names)) (sym c.in_ok-list.ensures.tree)
+          (whole-named (length c.reduce_watched.new.names)
+          (scraps_of c.reduce_watched.new.store.lists c.reduce_watched.new.line) c.in_ok-reduced.ensures.sound.named);
+      root = gathers-root _ _ _ _ c.in_ok-list.ensures.gathers tied c.in_ok-reduced.ensures.sound.roots;
+      keeps = keeps-trans _ _ _ _ _ _ c.in_ok-reduced.ensures.others (gathers-keeps _ _ _ _
+          c.in_ok-list.ensures.gathers tied c.in_ok-reduced.ensures.sound.roots);
+      idle = c.in_ok-list.ensures.idle;
+    }

@@ -1,6 +1,6 @@
 -- What begins neither an inner text nor a comment nor a section name opens nothing.
-use Rattle.cw_translator.proofs.Terms.{ap, arith, common_steps}
-use Rattle.cw_translator.proofs.AnswerSteps.{begun-other}
+use Rattle.cw_translator.proofs.Terms.{ap}
+use Rattle.cw_translator.proofs.AnswerRoutes.{begun-other}
 use Rattle.cw_translator.proofs.translator.Translator.begin.Goals as goal
 
 pub returns-in_default : goal.returns-in_default
@@ -9,6 +9,3 @@ returns-in_default c = record {
       (begun-other c.args.token.now.kind c.args.token.now.span.start c.args.self.now.nesting c.in_default.not-InnerText
       c.in_default.not-LongComment c.in_default.not-ShortComment c.in_default.not-Code);
 }
-
-pub returns-in-LongComment : goal.returns-in-LongComment
-returns-in-LongComment c = grind (arith, common_steps)

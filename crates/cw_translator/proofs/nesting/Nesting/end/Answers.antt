@@ -1,6 +1,0 @@
--- `end`: answer; said here, so that a wrong one fails at once.
-use Rattle.cw_translator.proofs.Terms.{arith, common_steps}
-use Rattle.cw_translator.proofs.nesting.Nesting.end.Goals as goal
-
-pub returns : goal.returns
-returns c = grind (arith, common_steps)
