@@ -7,7 +7,7 @@ mod OrderNames
 mod Completeness
 mod StandLaws
 mod EnteredLaws
-mod PuttingLaws
+mod PrintingLaws
 mod AloneLaws
 mod SectionLaws
 mod ClosingLaws

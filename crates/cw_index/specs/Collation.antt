@@ -1,8 +1,9 @@
 -- The order of the entries of the index.
-use Rattle.std.specs.Prelude.{ℕ, ◌+◌, ◌==◌, nat_le, List, if◌then◌else◌}
+use Rattle.std.specs.Prelude.{ℕ, ◌+◌, ◌-◌, ◌==◌, nat_le, List, if◌then◌else◌}
 use Rattle.std.specs.declared.cmp.Ordering.{Ordering}
 use Rattle.std.specs.Ordering.{nat_cmp, on, ordering_then, then_cmp}
 use Rattle.std.specs.Cmp.Lexicographic.{slice_cmp}
+use Rattle.cw_base.specs.Bytes.{byte_of}
 use Rattle.cw_base.specs.Text.{is_blank}
 use Rattle.cw_rules.specs.Bytes.{is_between, is_digit}
 use Rattle.cw_names.specs.declared.entry.EntryKind.{EntryKind}
@@ -17,9 +18,9 @@ use Rattle.cw_index.specs.declared.collation.Class.TheVariants.{Blank, Sign, Und
 abbrev pub class_of : ℕ → Class
 class_of byte =
     if is_blank byte then Blank
-    else if byte == 95 then Underscore
-    else if is_between 97 122 byte then Letter byte
-    else if is_between 65 90 byte then Letter (byte + 32)
+    else if byte == byte_of "_" then Underscore
+    else if is_between (byte_of "a") (byte_of "z") byte then Letter byte
+    else if is_between (byte_of "A") (byte_of "Z") byte then Letter (byte + (byte_of "a" - byte_of "A"))
     else if is_digit byte then Digit byte
     else if nat_le 128 byte then High byte
     else Sign byte

@@ -1,13 +1,15 @@
 //! The lines with which the TeX file of a book closes.
 ghost use Rattle.std.specs.Prelude.{◌≡◌, ◌&&◌, [], IfOk, codes, if◌then◌else◌};
 ghost use Rattle.std.specs.List.{list_any};
+ghost use Rattle.cw_lines.specs.Sheets.{CanPrint, Prints};
 ghost use Rattle.cw_lines.specs.Writes.{CanWrite, Puts};
-ghost use Rattle.cw_index.specs.Closing.{before_change, change, changed_from, changes_line, printed_changes, closing_lines};
+ghost use Rattle.cw_index.specs.Closing.{before_change, change, changed_from, changes_line};
+ghost use Rattle.cw_index.specs.Closing.{printed_changes, closing_lines};
 ghost use Rattle.cw_index.specs.Closing.{last_lines};
 
 use cw_base::Flags;
 use cw_desk::Desk;
-use cw_lines::{LineOut, PutError};
+use cw_lines::{LineOut, PutError, Sheet};
 use cw_phase1::Book;
 use cw_texpart::{Counts, put_number};
 
@@ -51,33 +53,27 @@ fn behind_changes(none: bool) -> &'static [u8]
 }
 
 // Puts the number of a changed section, and what stands before it.
-fn put_change<D: Desk>(
-    first: bool,
-    number: u32,
-    out: &mut LineOut,
-    desk: &mut D,
-) -> Result<(), PutError>
-    requires can { CanWrite (D.told desk.old) out.old }
-    ensures { Puts (change first number) out.old out.new (D.told desk.old) (D.told desk.new) result }
+fn put_change<D: Desk>(first: bool, number: u32, sheet: &mut Sheet<D>) -> Result<(), PutError>
+    requires can { CanPrint D.told sheet.old }
+    ensures { Prints D.told (change first number) sheet.old sheet.new result }
 {
-    out.put_all(before_change(first), desk)?;
-    put_number(number, true, out, desk)
+    sheet.put_all(before_change(first))?;
+    put_number(number, true, sheet.line, sheet.desk)
 }
 
 // Puts a line with the numbers of the changed sections, where there is one.
-fn put_changes<D: Desk>(book: &Book, out: &mut LineOut, desk: &mut D) -> Result<(), PutError>
-    requires can { CanWrite (D.told desk.old) out.old }
-    ensures { Puts (printed_changes (changed_from 1 book.now.outline.sections)) out.old out.new
-        (D.told desk.old) (D.told desk.new) result }
+fn put_changes<D: Desk>(book: &Book, sheet: &mut Sheet<D>) -> Result<(), PutError>
+    requires can { CanPrint D.told sheet.old }
+    ensures { Prints D.told (printed_changes (changed_from 1 book.now.outline.sections)) sheet.old sheet.new result }
 {
     let mut first = true;
     for before in 0..book.section_count() {
         if book.section(before + 1).changed {
-            put_change(first, before + 1, out, desk)?;
+            put_change(first, before + 1, sheet)?;
             first = false;
         }
     }
-    out.put_all(behind_changes(first), desk)
+    sheet.put_all(behind_changes(first))
 }
 
 // Whether the changed sections are listed: with flag r, before the index.
@@ -88,18 +84,12 @@ fn lists_changes(flags: &Flags) -> bool
 }
 
 // Puts the line of changed sections where it is asked for.
-fn put_changes_if<D: Desk>(
-    book: &Book,
-    flags: &Flags,
-    out: &mut LineOut,
-    desk: &mut D,
-) -> Result<(), PutError>
-    requires can { CanWrite (D.told desk.old) out.old }
-    ensures { Puts (changes_line flags.now book.now.outline.sections) out.old out.new
-        (D.told desk.old) (D.told desk.new) result }
+fn put_changes_if<D: Desk>(book: &Book, flags: &Flags, sheet: &mut Sheet<D>) -> Result<(), PutError>
+    requires can { CanPrint D.told sheet.old }
+    ensures { Prints D.told (changes_line flags.now book.now.outline.sections) sheet.old sheet.new result }
 {
     if lists_changes(flags) {
-        return put_changes(book, out, desk);
+        return put_changes(book, sheet);
     }
     Ok(())
 }
@@ -118,8 +108,23 @@ pub fn write_closing<D: Desk>(
     ensures scraps { IfOk result (λ counts. counts.scraps ≡ 0) }
     ensures productions { IfOk result (λ counts. counts.productions ≡ 0) }
 {
-    put_changes_if(book, flags, out, desk)?;
+    let mut sheet = Sheet { line: out, desk };
+    print_closing(book, flags, &mut sheet)
+}
+
+// Prints the same on a sheet.
+fn print_closing<D: Desk>(
+    book: &Book,
+    flags: &Flags,
+    sheet: &mut Sheet<D>,
+) -> Result<Counts, PutError>
+    requires can { CanPrint D.told sheet.old }
+    ensures prints { Prints D.told (closing_lines flags.now book.now.outline.sections) sheet.old sheet.new result }
+    ensures scraps { IfOk result (λ counts. counts.scraps ≡ 0) }
+    ensures productions { IfOk result (λ counts. counts.productions ≡ 0) }
+{
+    put_changes_if(book, flags, sheet)?;
     let bytes = closing_bytes(flags.index, has_starred(book));
-    out.put_all(bytes, desk)?;
+    sheet.put_all(bytes)?;
     Ok(Counts::none())
 }

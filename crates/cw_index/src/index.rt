@@ -2,6 +2,7 @@
 ghost use Rattle.std.specs.Prelude.{◌≡◌, ◌<◌, [], ◌∷◌, All, IfOk, length, map, true};
 ghost use Rattle.std.specs.List.{flat_map};
 ghost use Rattle.cw_join.specs.Tokens.{is_tex_like, word_at};
+ghost use Rattle.cw_lines.specs.Sheets.{CanPrint, Prints};
 ghost use Rattle.cw_lines.specs.Writes.{CanWrite, Puts};
 ghost use Rattle.cw_print.specs.Escaping.{braced};
 ghost use Rattle.cw_print.specs.Sources.{is_changed};
@@ -18,7 +19,7 @@ use crate::headings::headings;
 use cw_base::{Cat, Web};
 use cw_desk::Desk;
 use cw_join::{FlatToken, Joiner};
-use cw_lines::{LineOut, PutError};
+use cw_lines::{LineOut, PutError, Sheet};
 use cw_names::{EntryKind, NameId, Names, SectionRef};
 use cw_phase1::Book;
 use cw_print::is_changed;
@@ -28,56 +29,48 @@ use std::alloc::Global;
 use std::collections::BTreeSet;
 
 // Puts an identifier, as it stands in C text.
-fn put_ident<D: Desk>(
-    names: &Names,
-    id: NameId,
-    out: &mut LineOut,
-    desk: &mut D,
-) -> Result<(), PutError>
-    requires can { CanWrite (D.told desk.old) out.old }
+fn put_ident<D: Desk>(names: &Names, id: NameId, sheet: &mut Sheet<D>) -> Result<(), PutError>
+    requires can { CanPrint D.told sheet.old }
     requires name { id.index < length names.now }
-    ensures { Puts (word_at ident_bytes names.now id.index) out.old out.new
-        (D.told desk.old) (D.told desk.new) result }
+    ensures { Prints D.told (word_at ident_bytes names.now id.index) sheet.old sheet.new result }
 {
     let item = FlatItem::Ident(id, 0);
     let mut joiner = Joiner::new(false);
-    joiner.push(FlatToken { item, bytes: b"" }, names, out, desk)?;
-    joiner.finish(out, desk)
+    joiner.push(
+        FlatToken { item, bytes: b"" },
+        names,
+        sheet.line,
+        sheet.desk,
+    )?;
+    joiner.finish(sheet.line, sheet.desk)
 }
 
 // Puts a reserved word, as it stands in C text.
-fn put_reserved<D: Desk>(
-    names: &Names,
-    id: NameId,
-    out: &mut LineOut,
-    desk: &mut D,
-) -> Result<(), PutError>
-    requires can { CanWrite (D.told desk.old) out.old }
+fn put_reserved<D: Desk>(names: &Names, id: NameId, sheet: &mut Sheet<D>) -> Result<(), PutError>
+    requires can { CanPrint D.told sheet.old }
     requires name { id.index < length names.now }
-    ensures { Puts (word_at reserved_bytes names.now id.index) out.old out.new
-        (D.told desk.old) (D.told desk.new) result }
+    ensures { Prints D.told (word_at reserved_bytes names.now id.index) sheet.old sheet.new result }
 {
     let item = FlatItem::Reserved(id, 0);
     let mut joiner = Joiner::new(false);
-    joiner.push(FlatToken { item, bytes: b"" }, names, out, desk)?;
-    joiner.finish(out, desk)
+    joiner.push(
+        FlatToken { item, bytes: b"" },
+        names,
+        sheet.line,
+        sheet.desk,
+    )?;
+    joiner.finish(sheet.line, sheet.desk)
 }
 
 // Puts a name between the dollars of a formula.
-fn put_formula<D: Desk>(
-    names: &Names,
-    id: NameId,
-    out: &mut LineOut,
-    desk: &mut D,
-) -> Result<(), PutError>
-    requires can { CanWrite (D.told desk.old) out.old }
+fn put_formula<D: Desk>(names: &Names, id: NameId, sheet: &mut Sheet<D>) -> Result<(), PutError>
+    requires can { CanPrint D.told sheet.old }
     requires name { id.index < length names.now }
-    ensures { Puts (formula (word_at reserved_bytes names.now id.index)) out.old out.new
-        (D.told desk.old) (D.told desk.new) result }
+    ensures { Prints D.told (formula (word_at reserved_bytes names.now id.index)) sheet.old sheet.new result }
 {
-    out.put_all(b"$", desk)?;
-    put_reserved(names, id, out, desk)?;
-    out.put_all(b"$", desk)
+    sheet.put_all(b"$")?;
+    put_reserved(names, id, sheet)?;
+    sheet.put_all(b"$")
 }
 
 fn is_tex_like(category: Cat) -> bool
@@ -93,59 +86,47 @@ fn is_exp(category: Cat) -> bool
 }
 
 // Puts an identifier by its category.
-fn put_word<D: Desk>(
-    names: &Names,
-    heading: &Heading,
-    out: &mut LineOut,
-    desk: &mut D,
-) -> Result<(), PutError>
-    requires can { CanWrite (D.told desk.old) out.old }
+fn put_word<D: Desk>(names: &Names, heading: &Heading, sheet: &mut Sheet<D>) -> Result<(), PutError>
+    requires can { CanPrint D.told sheet.old }
     requires name { IsNamed names.now heading.now }
-    ensures { Puts (word_bytes heading.now.category heading.now.collated.text.now) out.old out.new
-        (D.told desk.old) (D.told desk.new) result }
+    ensures { Prints D.told (word_bytes heading.now.category heading.now.collated.text.now) sheet.old sheet.new result }
 {
     if is_tex_like(heading.category) {
-        return put_formula(names, heading.id, out, desk);
+        return put_formula(names, heading.id, sheet);
     }
     if is_exp(heading.category) {
-        return put_ident(names, heading.id, out, desk);
+        return put_ident(names, heading.id, sheet);
     }
-    put_reserved(names, heading.id, out, desk)
+    put_reserved(names, heading.id, sheet)
 }
 
 // Puts a text in braces, behind a macro.
-fn put_braced<D: Desk>(
-    name: &[u8],
-    text: &[u8],
-    out: &mut LineOut,
-    desk: &mut D,
-) -> Result<(), PutError>
-    requires can { CanWrite (D.told desk.old) out.old }
-    ensures { Puts (braced name.now text.now) out.old out.new (D.told desk.old) (D.told desk.new) result }
+fn put_braced<D: Desk>(name: &[u8], text: &[u8], sheet: &mut Sheet<D>) -> Result<(), PutError>
+    requires can { CanPrint D.told sheet.old }
+    ensures { Prints D.told (braced name.now text.now) sheet.old sheet.new result }
 {
-    out.put_all(name, desk)?;
-    out.put_all(b"{", desk)?;
-    out.put_all(text, desk)?;
-    out.put_all(b"}", desk)
+    sheet.put_all(name)?;
+    sheet.put_all(b"{")?;
+    sheet.put_all(text)?;
+    sheet.put_all(b"}")
 }
 
 // Puts the name of a heading.
 fn put_entry<D: Desk>(
     names: &Names,
     heading: &Heading,
-    out: &mut LineOut,
-    desk: &mut D,
+    sheet: &mut Sheet<D>,
 ) -> Result<(), PutError>
-    requires can { CanWrite (D.told desk.old) out.old }
+    requires can { CanPrint D.told sheet.old }
     requires name { IsNamed names.now heading.now }
-    ensures { Puts (entry_bytes (entry_of heading.now)) out.old out.new (D.told desk.old) (D.told desk.new) result }
+    ensures { Prints D.told (entry_bytes (entry_of heading.now)) sheet.old sheet.new result }
 {
     let text = heading.collated.text;
     match heading.collated.kind {
-        EntryKind::Ident => put_word(names, heading, out, desk),
-        EntryKind::Roman => put_braced(b"", text, out, desk),
-        EntryKind::Typewriter => put_braced(b"\\.", text, out, desk),
-        EntryKind::User => put_braced(b"\\9", text, out, desk),
+        EntryKind::Ident => put_word(names, heading, sheet),
+        EntryKind::Roman => put_braced(b"", text, sheet),
+        EntryKind::Typewriter => put_braced(b"\\.", text, sheet),
+        EntryKind::User => put_braced(b"\\9", text, sheet),
     }
 }
 
@@ -153,63 +134,55 @@ fn put_entry<D: Desk>(
 fn put_section_number<D: Desk>(
     book: &Book,
     number: u32,
-    out: &mut LineOut,
-    desk: &mut D,
+    sheet: &mut Sheet<D>,
 ) -> Result<(), PutError>
-    requires can { CanWrite (D.told desk.old) out.old }
-    ensures { Puts (section_number number (is_changed book.now.outline.sections number)) out.old out.new
-        (D.told desk.old) (D.told desk.new) result }
+    requires can { CanPrint D.told sheet.old }
+    ensures { Prints D.told (section_number number (is_changed book.now.outline.sections number))
+        sheet.old sheet.new result }
 {
-    put_number(number, is_changed(book, number), out, desk)
+    put_number(number, is_changed(book, number), sheet.line, sheet.desk)
 }
 
 // Puts the number of a section in which a name is underlined.
-fn put_underlined<D: Desk>(
-    book: &Book,
-    number: u32,
-    out: &mut LineOut,
-    desk: &mut D,
-) -> Result<(), PutError>
-    requires can { CanWrite (D.told desk.old) out.old }
-    ensures { Puts (number_bytes true (section_number number (is_changed book.now.outline.sections number)))
-        out.old out.new (D.told desk.old) (D.told desk.new) result }
+fn put_underlined<D: Desk>(book: &Book, number: u32, sheet: &mut Sheet<D>) -> Result<(), PutError>
+    requires can { CanPrint D.told sheet.old }
+    ensures { Prints D.told
+        (number_bytes true (section_number number (is_changed book.now.outline.sections number)))
+        sheet.old sheet.new result }
 {
-    out.put_all(b"\\[", desk)?;
-    put_section_number(book, number, out, desk)?;
-    out.put_all(b"]", desk)
+    sheet.put_all(b"\\[")?;
+    put_section_number(book, number, sheet)?;
+    sheet.put_all(b"]")
 }
 
 // Puts the number of a section, as it is underlined.
 fn put_reference<D: Desk>(
     book: &Book,
     section: SectionRef,
-    out: &mut LineOut,
-    desk: &mut D,
+    sheet: &mut Sheet<D>,
 ) -> Result<(), PutError>
-    requires can { CanWrite (D.told desk.old) out.old }
-    ensures { Puts (number_bytes section.underlined
+    requires can { CanPrint D.told sheet.old }
+    ensures { Prints D.told (number_bytes section.underlined
         (section_number section.section (is_changed book.now.outline.sections section.section)))
-        out.old out.new (D.told desk.old) (D.told desk.new) result }
+        sheet.old sheet.new result }
 {
     if section.underlined {
-        return put_underlined(book, section.section, out, desk);
+        return put_underlined(book, section.section, sheet);
     }
-    put_section_number(book, section.section, out, desk)
+    put_section_number(book, section.section, sheet)
 }
 
 // Puts a section behind a comma.
 fn put_listed<D: Desk>(
     book: &Book,
     section: SectionRef,
-    out: &mut LineOut,
-    desk: &mut D,
+    sheet: &mut Sheet<D>,
 ) -> Result<(), PutError>
-    requires can { CanWrite (D.told desk.old) out.old }
-    ensures { Puts (section_bytes book.now.outline.sections section) out.old out.new
-        (D.told desk.old) (D.told desk.new) result }
+    requires can { CanPrint D.told sheet.old }
+    ensures { Prints D.told (section_bytes book.now.outline.sections section) sheet.old sheet.new result }
 {
-    out.put_all(b", ", desk)?;
-    put_reference(book, section, out, desk)
+    sheet.put_all(b", ")?;
+    put_reference(book, section, sheet)
 }
 
 // Puts a section, if it is listed.
@@ -217,16 +190,15 @@ fn put_section<D: Desk>(
     book: &Book,
     heading: &Heading,
     section: SectionRef,
-    out: &mut LineOut,
-    desk: &mut D,
+    sheet: &mut Sheet<D>,
 ) -> Result<(), PutError>
-    requires can { CanWrite (D.told desk.old) out.old }
-    ensures { Puts
+    requires can { CanPrint D.told sheet.old }
+    ensures { Prints D.told
         (flat_map (section_bytes book.now.outline.sections) (listed heading.now.underlined_only (section ∷ [])))
-        out.old out.new (D.told desk.old) (D.told desk.new) result }
+        sheet.old sheet.new result }
 {
     if heading.lists(section) {
-        return put_listed(book, section, out, desk);
+        return put_listed(book, section, sheet);
     }
     Ok(())
 }
@@ -235,15 +207,14 @@ fn put_section<D: Desk>(
 fn put_sections<D: Desk>(
     book: &Book,
     heading: &Heading,
-    out: &mut LineOut,
-    desk: &mut D,
+    sheet: &mut Sheet<D>,
 ) -> Result<(), PutError>
-    requires can { CanWrite (D.told desk.old) out.old }
-    ensures { Puts (flat_map (section_bytes book.now.outline.sections) (row_of heading.now).sections) out.old out.new
-        (D.told desk.old) (D.told desk.new) result }
+    requires can { CanPrint D.told sheet.old }
+    ensures { Prints D.told (flat_map (section_bytes book.now.outline.sections) (row_of heading.now).sections)
+        sheet.old sheet.new result }
 {
     for section in heading.sections {
-        put_section(book, heading, *section, out, desk)?;
+        put_section(book, heading, *section, sheet)?;
     }
     Ok(())
 }
@@ -252,34 +223,31 @@ fn put_sections<D: Desk>(
 fn put_heading<D: Desk>(
     book: &Book,
     heading: &Heading,
-    out: &mut LineOut,
-    desk: &mut D,
+    sheet: &mut Sheet<D>,
 ) -> Result<(), PutError>
-    requires can { CanWrite (D.told desk.old) out.old }
+    requires can { CanPrint D.told sheet.old }
     requires name { IsNamed book.now.names heading.now }
-    ensures { Puts (row_bytes book.now.outline.sections (row_of heading.now)) out.old out.new
-        (D.told desk.old) (D.told desk.new) result }
+    ensures { Prints D.told (row_bytes book.now.outline.sections (row_of heading.now)) sheet.old sheet.new result }
 {
-    out.put_all(b"\\I", desk)?;
-    put_entry(&book.names, heading, out, desk)?;
-    put_sections(book, heading, out, desk)?;
-    out.put_all(b".\n", desk)
+    sheet.put_all(b"\\I")?;
+    put_entry(&book.names, heading, sheet)?;
+    put_sections(book, heading, sheet)?;
+    sheet.put_all(b".\n")
 }
 
 // Puts the lines of headings.
 fn put_headings<D: Desk>(
     book: &Book,
     headings: BTreeSet<Heading>,
-    out: &mut LineOut,
-    desk: &mut D,
+    sheet: &mut Sheet<D>,
 ) -> Result<(), PutError>
-    requires can { CanWrite (D.told desk.old) out.old }
+    requires can { CanPrint D.told sheet.old }
     requires named { All (IsNamed book.now.names) headings.keys }
-    ensures { Puts (flat_map (row_bytes book.now.outline.sections) (map row_of headings.entry.keys)) out.old out.new
-        (D.told desk.old) (D.told desk.new) result }
+    ensures { Prints D.told (flat_map (row_bytes book.now.outline.sections) (map row_of headings.entry.keys))
+        sheet.old sheet.new result }
 {
     for heading in headings {
-        put_heading(book, &heading, out, desk)?;
+        put_heading(book, &heading, sheet)?;
     }
     Ok(())
 }
@@ -299,7 +267,23 @@ pub fn write_index<D: Desk>(
     ensures productions { IfOk result (λ counts. counts.productions ≡ 0) }
 {
     let _ = web;
+    let mut sheet = Sheet { line: out, desk };
+    print_index(alloc, book, &mut sheet)
+}
+
+// Prints the same on a sheet.
+fn print_index<D: Desk>(
+    alloc: Global,
+    book: &Book,
+    sheet: &mut Sheet<D>,
+) -> Result<Counts, PutError>
+    requires can { CanPrint D.told sheet.old }
+    ensures prints { Prints D.told (index_bytes book.now.outline.sections book.now.names book.now.xrefs)
+        sheet.old sheet.new result }
+    ensures scraps { IfOk result (λ counts. counts.scraps ≡ 0) }
+    ensures productions { IfOk result (λ counts. counts.productions ≡ 0) }
+{
     let headings = headings(alloc, &book.names, &book.xrefs)?;
-    put_headings(book, headings, out, desk)?;
+    put_headings(book, headings, sheet)?;
     Ok(Counts::none())
 }

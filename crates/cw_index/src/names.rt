@@ -1,10 +1,11 @@
 //! The section list, as it is printed.
 ghost use Rattle.std.specs.Prelude.{◌≡◌, ◌^◌, ◌≤◌, ◌<◌, All, length};
 ghost use Rattle.cw_base.specs.Web.{text_of};
+ghost use Rattle.cw_lines.specs.Sheets.{CanPrint, IsSameSheet};
 ghost use Rattle.cw_lines.specs.Writes.{CanWrite};
 ghost use Rattle.cw_translator.specs.NameParts.{AreNamesOf};
 ghost use Rattle.cw_texpart.specs.Texts.{lasting, setting};
-ghost use Rattle.cw_texpart.specs.Weaving.{Weaves};
+ghost use Rattle.cw_texpart.specs.Weaving.{Weaves, press};
 ghost use Rattle.cw_index.specs.ListForms.{list_setting};
 ghost use Rattle.cw_index.specs.NameList.{IsWholeName, all_listed, listed_done, name_span, names_done};
 ghost use Rattle.cw_index.specs.Standing.{listed_names};
@@ -13,7 +14,7 @@ use crate::standing::{Listed, listed_names};
 use cw_base::{Flags, Ledger, Span, Steps, Web};
 use cw_desk::Desk;
 use cw_lex::{Lexed, Lexer, Mode};
-use cw_lines::{LineOut, PutError};
+use cw_lines::{LineOut, PutError, Sheet};
 use cw_part::put_use_footnotes;
 use cw_phase1::Book;
 use cw_texpart::{CText, Counts, print_text};
@@ -45,18 +46,17 @@ fn put_listed<D: Desk, L: Ledger>(
     t: ListText,
     listed: Listed,
     book: &mut Book,
-    out: &mut LineOut,
-    desk: &mut D,
+    sheet: &mut Sheet<D>,
     steps: &mut Steps<L>,
 ) -> Result<Counts, PutError>
-    requires can { CanWrite (D.told desk.old) out.old }
+    requires can { CanPrint D.told sheet.old }
     requires short { length t.text.now ≤ 2 ^ 24 }
     requires whole { IsWholeName t.text.now listed }
     requires kept { AreNamesOf book.old.sec_names book.old.name_uses }
-    ensures { Weaves (list_setting t.entry (lasting book.old))
+    ensures weaves { Weaves (list_setting t.entry (lasting book.old))
         (listed_done (list_setting t.entry (lasting book.old)) listed book.old.names)
-        (record { book = book.old; line = out.old; told = D.told desk.old; steps = steps.old })
-        (record { book = book.new; line = out.new; told = D.told desk.new; steps = steps.new }) result }
+        (press D.told book.old sheet.old steps.old) (press D.told book.new sheet.new steps.new) result }
+    ensures same { IsSameSheet sheet.old sheet.new }
 {
     let c = CText {
         text: t.text,
@@ -66,10 +66,10 @@ fn put_listed<D: Desk, L: Ledger>(
         section: 0,
         flags: t.flags,
     };
-    out.put_all(b"\\I", desk)?;
-    let counts = print_text(t.alloc, c, book, out, desk, steps)?;
-    out.put_all(b"\n", desk)?;
-    put_use_footnotes(book, listed.id, out, desk)?;
+    sheet.put_all(b"\\I")?;
+    let counts = print_text(t.alloc, c, book, sheet.line, sheet.desk, steps)?;
+    sheet.put_all(b"\n")?;
+    put_use_footnotes(book, listed.id, sheet.line, sheet.desk)?;
     Ok(counts)
 }
 
@@ -78,22 +78,21 @@ fn put_all_listed<D: Desk, L: Ledger>(
     t: ListText,
     listed: &[Listed],
     book: &mut Book,
-    out: &mut LineOut,
-    desk: &mut D,
+    sheet: &mut Sheet<D>,
     steps: &mut Steps<L>,
 ) -> Result<Counts, PutError>
-    requires can { CanWrite (D.told desk.old) out.old }
+    requires can { CanPrint D.told sheet.old }
     requires short { length t.text.now ≤ 2 ^ 24 }
     requires whole { All (IsWholeName t.text.now) listed.now }
     requires kept { AreNamesOf book.old.sec_names book.old.name_uses }
-    ensures { Weaves (list_setting t.entry (lasting book.old))
+    ensures weaves { Weaves (list_setting t.entry (lasting book.old))
         (all_listed (list_setting t.entry (lasting book.old)) listed.now book.old.names)
-        (record { book = book.old; line = out.old; told = D.told desk.old; steps = steps.old })
-        (record { book = book.new; line = out.new; told = D.told desk.new; steps = steps.new }) result }
+        (press D.told book.old sheet.old steps.old) (press D.told book.new sheet.new steps.new) result }
+    ensures same { IsSameSheet sheet.old sheet.new }
 {
     let mut counts = Counts::none();
     for one in listed {
-        let more = put_listed(t, *one, book, out, desk, steps)?;
+        let more = put_listed(t, *one, book, sheet, steps)?;
         counts = counts.plus(more)?;
     }
     Ok(counts)
@@ -122,5 +121,6 @@ pub fn write_names<D: Desk, L: Ledger>(
     let text = web.text();
     let listed = listed_names(alloc, &book.sec_names, &book.name_uses)?;
     let t = ListText { text, flags, alloc };
-    put_all_listed(t, &listed, book, out, desk, steps)
+    let mut sheet = Sheet { line: out, desk };
+    put_all_listed(t, &listed, book, &mut sheet, steps)
 }

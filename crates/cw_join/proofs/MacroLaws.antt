@@ -2,15 +2,16 @@
 use Rattle.std.proofs.Common.{◌≡◌, ℕ, ◌+◌, ◌<◌, List, [], ◌∷◌, ◌++◌, length, map, get_or, drop, ap, ◌∙◌, sym, add-one}
 use Rattle.std.proofs.Common.{drop-cons}
 use Rattle.std.proofs.lemmas.List.{append_assoc}
+use Rattle.std.specs.Prelude.{Ok, ⊤}
 use Rattle.cw_desk.specs.Told.{Told}
-use Rattle.cw_lines.specs.Line.{LineState}
-use Rattle.cw_lines.specs.Writes.{HasPut}
+use Rattle.cw_lines.specs.Sheets.{Prints}
+use Rattle.cw_lines.specs.declared.sheet.Sheet.{Sheet}
 use Rattle.cw_join.specs.Tokens.{macro_letter}
 
 -- what the walk over a name holds: what is put already, with the letters of the rest
-pub record LettersPut (name rest : List ℕ) (old new : LineState) (before now : Told) : Type 0 where
+pub record LettersPut {D : Type 0} (told : D → Told) (name rest : List ℕ) (old new : Sheet D) : Type 0 where
   pub done : List ℕ
-  pub put : HasPut done old new before now
+  pub put : Prints {T = ⊤} told done old new (Ok (tt {0}))
   pub is : done ++ map macro_letter rest ≡ map macro_letter name
 
 next-letter : (name : List ℕ) (i : ℕ) → i < length name

@@ -4,16 +4,17 @@ use Rattle.std.proofs.Common.{length, take, drop, refl, sym, ap, subst, ◌∙�
 use Rattle.std.specs.List.{list_any, position_or_len}
 use Rattle.std.proofs.lemmas.Bool.{eqb-true}
 use Rattle.std.proofs.lemmas.List.{append_assoc}
+use Rattle.std.specs.Prelude.{Ok, ⊤}
 use Rattle.cw_desk.specs.Told.{Told}
-use Rattle.cw_lines.specs.Line.{LineState}
-use Rattle.cw_lines.specs.Writes.{HasPut}
+use Rattle.cw_lines.specs.Sheets.{Prints}
+use Rattle.cw_lines.specs.declared.sheet.Sheet.{Sheet}
 use Rattle.cw_trees.specs.Printing.{ident_bytes, is_lower, long_ident_bytes, name_bytes}
 use Rattle.cw_join.specs.Tokens.{BeginsMarked, font_bytes, is_marked}
 
 -- what the walk over a name holds: what is put already, and that a byte with a backslash or the end comes next
-pub record PiecesPut (bytes rest : List ℕ) (old new : LineState) (before now : Told) : Type 0 where
+pub record PiecesPut {D : Type 0} (told : D → Told) (bytes rest : List ℕ) (old new : Sheet D) : Type 0 where
   pub done : List ℕ
-  pub put : HasPut done old new before now
+  pub put : Prints {T = ⊤} told done old new (Ok (tt {0}))
   pub is : done ++ name_bytes rest ≡ name_bytes bytes
   pub begins : BeginsMarked rest
 

@@ -1,6 +1,7 @@
 -- What an item prints where it is in no run.
 use Rattle.std.specs.Prelude.{◌≡◌, ℕ, ◌<◌, ◌||◌, Bool, codes, eqb, true, false, List, [], ◌∷◌, map, option_map}
 use Rattle.std.specs.Prelude.{None, slice_get, unwrap_or, if◌then◌else◌}
+use Rattle.cw_base.specs.Bytes.{byte_of, backslash}
 use Rattle.cw_base.specs.declared.category.Cat.{Cat}
 use Rattle.cw_base.specs.declared.category.Cat.TheVariants.{Exp, TexLike}
 use Rattle.cw_names.specs.Names.{Entry}
@@ -15,7 +16,7 @@ use Rattle.cw_join.specs.declared.token.FlatToken.{FlatToken}
 
 -- a byte that has a backslash in a name
 abbrev pub is_marked : ℕ → Bool
-is_marked byte = eqb byte 95 || eqb byte 36
+is_marked byte = eqb byte (byte_of "_") || eqb byte (byte_of "$")
 
 -- no bytes, or bytes the first of which has one
 abbrev pub BeginsMarked : List ℕ → Type 0
@@ -40,10 +41,11 @@ is_tex_like category = false
 
 -- A macro prints a backslash and its name, in which `x` stands for `_` and `X` for `$`.
 abbrev pub macro_letter : ℕ → ℕ
-macro_letter byte = if eqb byte 95 then 120 else (if eqb byte 36 then 88 else byte)
+macro_letter byte =
+    if eqb byte (byte_of "_") then byte_of "x" else (if eqb byte (byte_of "$") then byte_of "X" else byte)
 
 abbrev pub macro_bytes : List ℕ → List ℕ
-macro_bytes name = 92 ∷ map macro_letter name
+macro_bytes name = backslash ∷ map macro_letter name
 
 -- What a name prints: a macro, or else what its text prints as an identifier or as a reserved word.
 abbrev pub word_at : (List ℕ → List ℕ) → List Entry → ℕ → List ℕ

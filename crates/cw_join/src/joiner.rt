@@ -2,6 +2,7 @@
 ghost use Rattle.std.specs.Prelude.{◌≡◌, ◌∷◌, ◌++◌, [], List, OnOk, length};
 ghost use Rattle.cw_trees.specs.Printing.{Printable, opened};
 ghost use Rattle.cw_tokens.specs.FlatItems.{item_is};
+ghost use Rattle.cw_lines.specs.Sheets.{CanPrint, Prints};
 ghost use Rattle.cw_lines.specs.Writes.{CanWrite, Puts};
 ghost use Rattle.cw_join.specs.Early.{added, late, run_front};
 ghost use Rattle.cw_join.specs.Runs.{run_more, run_state, state_back, state_of, step_bytes};
@@ -9,12 +10,12 @@ ghost use Rattle.cw_join.specs.Standing.{Stands};
 ghost use Rattle.cw_join.specs.Stretches.{is_inner};
 ghost use Rattle.cw_join.specs.Tokens.{CanCome, HasRoom, IsNamed, item_bytes, printable};
 
-use crate::naming::{put_ident_of, put_reserved_of};
+use crate::naming::{put_identifier, put_reserved_of};
 use crate::pieces::{put_some, sign};
 use crate::run::{Run, indent, run_control};
 use crate::token::FlatToken;
 use cw_desk::Desk;
-use cw_lines::{LineOut, PutError};
+use cw_lines::{LineOut, PutError, Sheet};
 use cw_names::Names;
 use cw_tokens::FlatItem;
 use cw_trees::Control;
@@ -70,9 +71,10 @@ impl Joiner {
             → OnOk result (Stands self.new (ps ++ printable names.now token.entry ∷ [])) }
         ensures inner { OnOk result (self.new.inner ≡ self.old.inner) }
     {
+        let mut sheet = Sheet { line: out, desk };
         match run_control(token.item) {
-            Some(control) => self.push_control(control, out, desk),
-            None => self.push_other(token, names, out, desk),
+            Some(control) => self.push_control(control, &mut sheet),
+            None => self.push_other(token, names, &mut sheet),
         }
     }
 
@@ -85,7 +87,20 @@ impl Joiner {
         ensures stands { OnOk result (Stands self.new []) }
         ensures inner { OnOk result (self.new.inner ≡ self.old.inner) }
     {
-        end_run(self.run, self.is_inner(), out, desk)?;
+        let mut sheet = Sheet { line: out, desk };
+        self.end(&mut sheet)
+    }
+
+    // The run ends on a sheet.
+    fn end<D: Desk>(&mut self, sheet: &mut Sheet<D>) -> Result<(), PutError>
+        requires can { CanPrint D.told sheet.old }
+        requires closed { self.old.depth ≡ 0 }
+        ensures prints { (ps : List Printable) → Stands self.old ps
+            → Prints D.told (late self.old.inner ps) sheet.old sheet.new result }
+        ensures stands { OnOk result (Stands self.new []) }
+        ensures inner { OnOk result (self.new.inner ≡ self.old.inner) }
+    {
+        end_run(self.run, self.is_inner(), sheet)?;
         self.run = Run::new();
         Ok(())
     }
@@ -101,12 +116,11 @@ impl Joiner {
     fn push_control<D: Desk>(
         &mut self,
         control: Control,
-        out: &mut LineOut,
-        desk: &mut D,
+        sheet: &mut Sheet<D>,
     ) -> Result<(), PutError>
-        requires can { CanWrite (D.told desk.old) out.old }
-        ensures puts { Puts (run_front (is_inner self.old.inner self.old.depth) (control ∷ [])) out.old out.new
-            (D.told desk.old) (D.told desk.new) result }
+        requires can { CanPrint D.told sheet.old }
+        ensures prints { Prints D.told (run_front (is_inner self.old.inner self.old.depth) (control ∷ []))
+            sheet.old sheet.new result }
         ensures state { OnOk result (self.new ≡ record self.old { run = run_more self.old.run control }) }
     {
         let front: &[u8] = if self.is_inner() {
@@ -114,7 +128,7 @@ impl Joiner {
         } else {
             indent(control)
         };
-        put_some(front, out, desk)?;
+        put_some(front, sheet)?;
         self.run.add(control);
         Ok(())
     }
@@ -124,21 +138,19 @@ impl Joiner {
         &mut self,
         token: FlatToken,
         names: &Names,
-        out: &mut LineOut,
-        desk: &mut D,
+        sheet: &mut Sheet<D>,
     ) -> Result<(), PutError>
-        requires can { CanWrite (D.told desk.old) out.old }
+        requires can { CanPrint D.told sheet.old }
         requires come { CanCome (length names.now) self.old.depth token.item }
-        ensures puts { Puts (state_back (is_inner self.old.inner self.old.depth) self.old.run
-            ++ item_bytes names.now token.entry.item token.entry.bytes.now)
-            out.old out.new (D.told desk.old) (D.told desk.new) result }
+        ensures prints { Prints D.told (state_back (is_inner self.old.inner self.old.depth) self.old.run
+            ++ item_bytes names.now token.entry.item token.entry.bytes.now) sheet.old sheet.new result }
         ensures state { OnOk result (self.new ≡ record self.old {
           depth = opened self.old.depth (item_is token.entry.item);
           run = run_state [];
         }) }
     {
-        end_run(self.run, self.is_inner(), out, desk)?;
-        put_item(token, names, out, desk)?;
+        end_run(self.run, self.is_inner(), sheet)?;
+        put_item(token, names, sheet)?;
         self.depth = depth_behind(self.depth, token.item);
         self.run = Run::new();
         Ok(())
@@ -146,12 +158,12 @@ impl Joiner {
 }
 
 // Puts what a run prints when it has ended.
-fn end_run<D: Desk>(run: Run, inner: bool, out: &mut LineOut, desk: &mut D) -> Result<(), PutError>
-    requires can { CanWrite (D.told desk.old) out.old }
-    ensures { Puts (state_back inner (state_of run)) out.old out.new (D.told desk.old) (D.told desk.new) result }
+fn end_run<D: Desk>(run: Run, inner: bool, sheet: &mut Sheet<D>) -> Result<(), PutError>
+    requires can { CanPrint D.told sheet.old }
+    ensures { Prints D.told (state_back inner (state_of run)) sheet.old sheet.new result }
 {
-    put_some(run.pause(inner), out, desk)?;
-    put_some(step(run.backs(inner)), out, desk)
+    put_some(run.pause(inner), sheet)?;
+    put_some(step(run.backs(inner)), sheet)
 }
 
 /// The step to the left of a run that has one.
@@ -162,22 +174,16 @@ pub(crate) fn step(backs: bool) -> &'static [u8]
 }
 
 // Puts the bytes of an item that is in no run.
-fn put_item<D: Desk>(
-    token: FlatToken,
-    names: &Names,
-    out: &mut LineOut,
-    desk: &mut D,
-) -> Result<(), PutError>
-    requires can { CanWrite (D.told desk.old) out.old }
+fn put_item<D: Desk>(token: FlatToken, names: &Names, sheet: &mut Sheet<D>) -> Result<(), PutError>
+    requires can { CanPrint D.told sheet.old }
     requires named { IsNamed (length names.now) token.item }
-    ensures { Puts (item_bytes names.now token.entry.item token.entry.bytes.now) out.old out.new
-        (D.told desk.old) (D.told desk.new) result }
+    ensures { Prints D.told (item_bytes names.now token.entry.item token.entry.bytes.now) sheet.old sheet.new result }
 {
     match token.item {
-        FlatItem::Ident(name, _) => put_ident_of(names, name, out, desk),
-        FlatItem::Reserved(name, _) => put_reserved_of(names, name, out, desk),
-        FlatItem::Control(control) => put_some(sign(control, token.bytes), out, desk),
-        FlatItem::Source(_) | FlatItem::Open | FlatItem::Close => put_some(token.bytes, out, desk),
+        FlatItem::Ident(name, _) => put_identifier(names, name, sheet),
+        FlatItem::Reserved(name, _) => put_reserved_of(names, name, sheet),
+        FlatItem::Control(control) => put_some(sign(control, token.bytes), sheet),
+        FlatItem::Source(_) | FlatItem::Open | FlatItem::Close => put_some(token.bytes, sheet),
     }
 }
 

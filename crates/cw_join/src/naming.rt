@@ -2,6 +2,7 @@
 ghost use Rattle.std.specs.Prelude.{◌≡◌, ◌+◌, ◌<◌, ◌≤◌, ◌∷◌, ◌++◌, codes, drop, length, map};
 ghost use Rattle.std.specs.List.{list_any, position_or_len};
 ghost use Rattle.cw_trees.specs.Printing.{ident_bytes, is_lower, name_bytes, reserved_bytes};
+ghost use Rattle.cw_lines.specs.Sheets.{CanPrint, Prints};
 ghost use Rattle.cw_lines.specs.Writes.{CanWrite, Puts};
 ghost use Rattle.cw_join.specs.Tokens.{BeginsMarked, category_at, font_bytes, is_marked, is_tex_like, macro_bytes};
 ghost use Rattle.cw_join.specs.Tokens.{macro_letter, text_at, word_at};
@@ -9,7 +10,7 @@ ghost use Rattle.cw_join.specs.Tokens.{macro_letter, text_at, word_at};
 use crate::short_names::{LONGEST, short_ident};
 use cw_base::Cat;
 use cw_desk::Desk;
-use cw_lines::{LineOut, PutError};
+use cw_lines::{LineOut, PutError, Sheet};
 use cw_names::{NameId, Names};
 
 /// The text of a name.
@@ -40,48 +41,60 @@ pub fn put_ident_of<D: Desk>(
     ensures { Puts (word_at ident_bytes names.now name.index) out.old out.new
         (D.told desk.old) (D.told desk.new) result }
 {
+    let mut sheet = Sheet { line: out, desk };
+    put_identifier(names, name, &mut sheet)
+}
+
+/// Puts the same on a sheet.
+pub(crate) fn put_identifier<D: Desk>(
+    names: &Names,
+    name: NameId,
+    sheet: &mut Sheet<D>,
+) -> Result<(), PutError>
+    requires can { CanPrint D.told sheet.old }
+    requires named { name.index < length names.now }
+    ensures { Prints D.told (word_at ident_bytes names.now name.index) sheet.old sheet.new result }
+{
     let text = text_of(names, name);
     if is_macro(names, name) {
-        return put_macro(text, out, desk);
+        return put_macro(text, sheet);
     }
-    put_ident(text, out, desk)
+    put_ident(text, sheet)
 }
 
 /// Puts a reserved word, which may be a macro of TeX.
 pub(crate) fn put_reserved_of<D: Desk>(
     names: &Names,
     name: NameId,
-    out: &mut LineOut,
-    desk: &mut D,
+    sheet: &mut Sheet<D>,
 ) -> Result<(), PutError>
-    requires can { CanWrite (D.told desk.old) out.old }
+    requires can { CanPrint D.told sheet.old }
     requires named { name.index < length names.now }
-    ensures { Puts (word_at reserved_bytes names.now name.index) out.old out.new
-        (D.told desk.old) (D.told desk.new) result }
+    ensures { Prints D.told (word_at reserved_bytes names.now name.index) sheet.old sheet.new result }
 {
     let text = text_of(names, name);
     if is_macro(names, name) {
-        return put_macro(text, out, desk);
+        return put_macro(text, sheet);
     }
-    put_reserved(text, out, desk)
+    put_reserved(text, sheet)
 }
 
 // Puts the name of a macro of TeX.
-fn put_macro<D: Desk>(name: &[u8], out: &mut LineOut, desk: &mut D) -> Result<(), PutError>
-    requires can { CanWrite (D.told desk.old) out.old }
-    ensures { Puts (macro_bytes name.now) out.old out.new (D.told desk.old) (D.told desk.new) result }
+fn put_macro<D: Desk>(name: &[u8], sheet: &mut Sheet<D>) -> Result<(), PutError>
+    requires can { CanPrint D.told sheet.old }
+    ensures { Prints D.told (macro_bytes name.now) sheet.old sheet.new result }
 {
-    out.put_all(b"\\", desk)?;
-    put_letters(name, out, desk)
+    sheet.put_all(b"\\")?;
+    put_letters(name, sheet)
 }
 
 // Puts the letters of a macro of TeX, one by one.
-fn put_letters<D: Desk>(name: &[u8], out: &mut LineOut, desk: &mut D) -> Result<(), PutError>
-    requires can { CanWrite (D.told desk.old) out.old }
-    ensures { Puts (map macro_letter name.now) out.old out.new (D.told desk.old) (D.told desk.new) result }
+fn put_letters<D: Desk>(name: &[u8], sheet: &mut Sheet<D>) -> Result<(), PutError>
+    requires can { CanPrint D.told sheet.old }
+    ensures { Prints D.told (map macro_letter name.now) sheet.old sheet.new result }
 {
     'letters: for byte in name {
-        out.put_all(&[macro_letter(*byte)], desk)?;
+        sheet.put_all(&[macro_letter(*byte)])?;
     }
     Ok(())
 }
@@ -98,38 +111,32 @@ pub(crate) fn macro_letter(byte: u8) -> u8
 }
 
 // Puts an identifier that is no macro.
-fn put_ident<D: Desk>(name: &[u8], out: &mut LineOut, desk: &mut D) -> Result<(), PutError>
-    requires can { CanWrite (D.told desk.old) out.old }
-    ensures { Puts (ident_bytes name.now) out.old out.new (D.told desk.old) (D.told desk.new) result }
+fn put_ident<D: Desk>(name: &[u8], sheet: &mut Sheet<D>) -> Result<(), PutError>
+    requires can { CanPrint D.told sheet.old }
+    ensures { Prints D.told (ident_bytes name.now) sheet.old sheet.new result }
 {
     if name.len() <= LONGEST {
-        return out.put_all(short_ident(name).as_slice(), desk);
+        return sheet.put_all(short_ident(name).as_slice());
     }
-    put_word(font(name), name, out, desk)
+    put_word(font(name), name, sheet)
 }
 
 // Puts a reserved word that is no macro.
-fn put_reserved<D: Desk>(name: &[u8], out: &mut LineOut, desk: &mut D) -> Result<(), PutError>
-    requires can { CanWrite (D.told desk.old) out.old }
-    ensures { Puts (reserved_bytes name.now) out.old out.new (D.told desk.old) (D.told desk.new) result }
+fn put_reserved<D: Desk>(name: &[u8], sheet: &mut Sheet<D>) -> Result<(), PutError>
+    requires can { CanPrint D.told sheet.old }
+    ensures { Prints D.told (reserved_bytes name.now) sheet.old sheet.new result }
 {
-    put_word(b"\\&{", name, out, desk)
+    put_word(b"\\&{", name, sheet)
 }
 
 // Puts a name in braces, behind the macro of its font.
-fn put_word<D: Desk>(
-    font: &[u8],
-    name: &[u8],
-    out: &mut LineOut,
-    desk: &mut D,
-) -> Result<(), PutError>
-    requires can { CanWrite (D.told desk.old) out.old }
-    ensures { Puts (font.now ++ name_bytes name.now ++ codes "}") out.old out.new
-        (D.told desk.old) (D.told desk.new) result }
+fn put_word<D: Desk>(font: &[u8], name: &[u8], sheet: &mut Sheet<D>) -> Result<(), PutError>
+    requires can { CanPrint D.told sheet.old }
+    ensures { Prints D.told (font.now ++ name_bytes name.now ++ codes "}") sheet.old sheet.new result }
 {
-    out.put_all(font, desk)?;
-    put_name(name, out, desk)?;
-    out.put_all(b"}", desk)
+    sheet.put_all(font)?;
+    put_name(name, sheet)?;
+    sheet.put_all(b"}")
 }
 
 /// The macro of names with lower case letters, or of names without.
@@ -151,39 +158,39 @@ fn has_lower(name: &[u8]) -> bool
 }
 
 // Puts the bytes of a name; `_` and `$` have a backslash. What stands between them goes to the line whole.
-fn put_name<D: Desk>(name: &[u8], out: &mut LineOut, desk: &mut D) -> Result<(), PutError>
-    requires can { CanWrite (D.told desk.old) out.old }
-    ensures { Puts (name_bytes name.now) out.old out.new (D.told desk.old) (D.told desk.new) result }
+fn put_name<D: Desk>(name: &[u8], sheet: &mut Sheet<D>) -> Result<(), PutError>
+    requires can { CanPrint D.told sheet.old }
+    ensures { Prints D.told (name_bytes name.now) sheet.old sheet.new result }
 {
     let size = plain_size(name);
     let (first, rest) = name.split_at(size);
-    out.put_all(first, desk)?;
-    put_pieces(rest, out, desk)
+    sheet.put_all(first)?;
+    put_pieces(rest, sheet)
 }
 
 // Puts the rest of a name, piece by piece: each begins with a byte that has a backslash.
-fn put_pieces<D: Desk>(bytes: &[u8], out: &mut LineOut, desk: &mut D) -> Result<(), PutError>
-    requires can { CanWrite (D.told desk.old) out.old }
+fn put_pieces<D: Desk>(bytes: &[u8], sheet: &mut Sheet<D>) -> Result<(), PutError>
+    requires can { CanPrint D.told sheet.old }
     requires begins { BeginsMarked bytes.now }
-    ensures { Puts (name_bytes bytes.now) out.old out.new (D.told desk.old) (D.told desk.new) result }
+    ensures { Prints D.told (name_bytes bytes.now) sheet.old sheet.new result }
 {
     let mut rest = bytes;
     'pieces: while !rest.is_empty() {
         let size = piece_size(rest);
         let (piece, behind) = rest.split_at(size);
-        put_marked(piece, out, desk)?;
+        put_marked(piece, sheet)?;
         rest = behind;
     }
     Ok(())
 }
 
 // Puts bytes with a backslash before them.
-fn put_marked<D: Desk>(bytes: &[u8], out: &mut LineOut, desk: &mut D) -> Result<(), PutError>
-    requires can { CanWrite (D.told desk.old) out.old }
-    ensures { Puts (92 ∷ bytes.now) out.old out.new (D.told desk.old) (D.told desk.new) result }
+fn put_marked<D: Desk>(bytes: &[u8], sheet: &mut Sheet<D>) -> Result<(), PutError>
+    requires can { CanPrint D.told sheet.old }
+    ensures { Prints D.told (92 ∷ bytes.now) sheet.old sheet.new result }
 {
-    out.put_all(b"\\", desk)?;
-    out.put_all(bytes, desk)
+    sheet.put_all(b"\\")?;
+    sheet.put_all(bytes)
 }
 
 // How many bytes come before the next one with a backslash, the first one aside.

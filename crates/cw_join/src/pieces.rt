@@ -1,25 +1,21 @@
 //! Pieces of bytes that are put to a line.
 ghost use Rattle.std.specs.Prelude.{◌≡◌};
-ghost use Rattle.cw_lines.specs.Writes.{CanWrite, Puts};
+ghost use Rattle.cw_lines.specs.Sheets.{CanPrint, Prints};
 ghost use Rattle.cw_join.specs.Tokens.{control_bytes};
 
 use cw_desk::Desk;
-use cw_lines::{LineOut, PutError};
+use cw_lines::{PutError, Sheet};
 use cw_trees::Control;
 
 /// Puts bytes, if there are any.
-pub(crate) fn put_some<D: Desk>(
-    bytes: &[u8],
-    out: &mut LineOut,
-    desk: &mut D,
-) -> Result<(), PutError>
-    requires can { CanWrite (D.told desk.old) out.old }
-    ensures { Puts bytes.now out.old out.new (D.told desk.old) (D.told desk.new) result }
+pub(crate) fn put_some<D: Desk>(bytes: &[u8], sheet: &mut Sheet<D>) -> Result<(), PutError>
+    requires can { CanPrint D.told sheet.old }
+    ensures { Prints D.told bytes.now sheet.old sheet.new result }
 {
     if bytes.is_empty() {
         return Ok(());
     }
-    out.put_all(bytes, desk)
+    sheet.put_all(bytes)
 }
 
 /// What a control prints that is in no run.

@@ -2,8 +2,9 @@
 pub mod WovenLaws
 mod ParagraphLaws
 pub mod SectionLaws
-pub mod PutLaws
+pub mod PrintLaws
 mod FootnoteLaws
 mod Rows
 mod WholeDefinitions
 mod RefsWhole
+mod BareParts

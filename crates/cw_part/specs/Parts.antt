@@ -1,5 +1,5 @@
 -- Definitions and C parts, as they are printed.
-use Rattle.std.specs.Prelude.{ℕ, ◌&&◌, ◌||◌, Bool, true, false, is_some, nat_lt, List, [], ◌∷◌, ◌++◌, codes}
+use Rattle.std.specs.Prelude.{ℕ, ◌==◌, ◌&&◌, ◌||◌, Bool, true, false, not, is_some, nat_lt, List, [], ◌∷◌, ◌++◌, codes}
 use Rattle.cw_base.specs.Conditions.{list_if}
 use Rattle.cw_rules.specs.declared.tokens.Mode.TheVariants as modes
 use Rattle.cw_names.specs.Names.{Entry}
@@ -46,6 +46,10 @@ paragraph_if false front d = reprinted (λ out. []) d
 -- The C part is printed where it is named or has a scrap.
 abbrev pub prints_code : Section → Done ℕ → Bool
 prints_code section d = is_some section.name || nat_lt 0 (scraps_in d.ended)
+
+-- Nothing stands there, and it has no name. So it isn't printed.
+abbrev pub has_no_part : Section → Bool
+has_no_part section = not (is_some section.name) && section.c_part.start == section.c_part.«end»
 
 -- With flag r a name at its head stands one step to the left, as definitions do.
 abbrev pub step_left : Bool → Section → List ℕ

@@ -1,5 +1,6 @@
 //! The footnotes of section names.
 ghost use Rattle.std.specs.Prelude.{◌≡◌, ℕ, ◌<◌, ◌≤◌, ◌∷◌, ◌++◌, List, Some, codes, drop, length, map};
+ghost use Rattle.cw_lines.specs.Sheets.{CanPrint, Prints};
 ghost use Rattle.cw_lines.specs.Writes.{CanWrite, Puts};
 ghost use Rattle.cw_part.specs.Footnotes.{footnote, footnote_numbers, later_numbers, name_footnotes, number_in};
 ghost use Rattle.cw_part.specs.Footnotes.{of_name, separator, use_footnotes};
@@ -7,24 +8,18 @@ ghost use Rattle.cw_base.specs.Conditions.{list_if};
 ghost use Rattle.cw_print.specs.Sources.{defines_first};
 
 use cw_desk::Desk;
-use cw_lines::{LineOut, PutError};
+use cw_lines::{LineOut, PutError, Sheet};
 use cw_phase1::Book;
 use cw_print::{defines_first, is_changed};
 use cw_secnames::SecId;
 use cw_texpart::put_number;
 
 // Puts the number of a section of the book.
-fn put_section<D: Desk>(
-    book: &Book,
-    number: u32,
-    out: &mut LineOut,
-    desk: &mut D,
-) -> Result<(), PutError>
-    requires can { CanWrite (D.told desk.old) out.old }
-    ensures { Puts (number_in book.now.outline.sections number) out.old out.new
-        (D.told desk.old) (D.told desk.new) result }
+fn put_section<D: Desk>(book: &Book, number: u32, sheet: &mut Sheet<D>) -> Result<(), PutError>
+    requires can { CanPrint D.told sheet.old }
+    ensures { Prints D.told (number_in book.now.outline.sections number) sheet.old sheet.new result }
 {
-    put_number(number, is_changed(book, number), out, desk)
+    put_number(number, is_changed(book, number), sheet.line, sheet.desk)
 }
 
 // What stands before a number that these follow.
@@ -38,41 +33,30 @@ fn separator(following: &[u32]) -> &'static [u8]
 }
 
 // Puts the numbers behind the first one, where there are more than two in all.
-fn put_later<D: Desk>(
-    book: &Book,
-    numbers: &[u32],
-    out: &mut LineOut,
-    desk: &mut D,
-) -> Result<(), PutError>
-    requires can { CanWrite (D.told desk.old) out.old }
-    ensures { Puts (later_numbers (map (number_in book.now.outline.sections) numbers.now)) out.old out.new
-        (D.told desk.old) (D.told desk.new) result }
+fn put_later<D: Desk>(book: &Book, numbers: &[u32], sheet: &mut Sheet<D>) -> Result<(), PutError>
+    requires can { CanPrint D.told sheet.old }
+    ensures { Prints D.told (later_numbers (map (number_in book.now.outline.sections) numbers.now))
+        sheet.old sheet.new result }
 {
     let mut rest = numbers;
     while let [number, following @ ..] = rest {
-        out.put_all(separator(following), desk)?;
-        put_section(book, *number, out, desk)?;
+        sheet.put_all(separator(following))?;
+        put_section(book, *number, sheet)?;
         rest = following;
     }
     Ok(())
 }
 
 // Puts two numbers.
-fn put_two<D: Desk>(
-    book: &Book,
-    one: u32,
-    two: u32,
-    out: &mut LineOut,
-    desk: &mut D,
-) -> Result<(), PutError>
-    requires can { CanWrite (D.told desk.old) out.old }
-    ensures { Puts (codes "s" ++ number_in book.now.outline.sections one ++ codes "\\ET"
-        ++ number_in book.now.outline.sections two) out.old out.new (D.told desk.old) (D.told desk.new) result }
+fn put_two<D: Desk>(book: &Book, one: u32, two: u32, sheet: &mut Sheet<D>) -> Result<(), PutError>
+    requires can { CanPrint D.told sheet.old }
+    ensures { Prints D.told (codes "s" ++ number_in book.now.outline.sections one ++ codes "\\ET"
+        ++ number_in book.now.outline.sections two) sheet.old sheet.new result }
 {
-    out.put_all(b"s", desk)?;
-    put_section(book, one, out, desk)?;
-    out.put_all(b"\\ET", desk)?;
-    put_section(book, two, out, desk)
+    sheet.put_all(b"s")?;
+    put_section(book, one, sheet)?;
+    sheet.put_all(b"\\ET")?;
+    put_section(book, two, sheet)
 }
 
 // Puts a number and those behind it, at least two.
@@ -80,35 +64,29 @@ fn put_several<D: Desk>(
     book: &Book,
     one: u32,
     later: &[u32],
-    out: &mut LineOut,
-    desk: &mut D,
+    sheet: &mut Sheet<D>,
 ) -> Result<(), PutError>
-    requires can { CanWrite (D.told desk.old) out.old }
+    requires can { CanPrint D.told sheet.old }
     requires several { 2 ≤ length later.now }
-    ensures { Puts (footnote_numbers (map (number_in book.now.outline.sections) (one ∷ later.now))) out.old out.new
-        (D.told desk.old) (D.told desk.new) result }
+    ensures { Prints D.told (footnote_numbers (map (number_in book.now.outline.sections) (one ∷ later.now)))
+        sheet.old sheet.new result }
 {
-    out.put_all(b"s", desk)?;
-    put_section(book, one, out, desk)?;
-    put_later(book, later, out, desk)
+    sheet.put_all(b"s")?;
+    put_section(book, one, sheet)?;
+    put_later(book, later, sheet)
 }
 
 // Puts the numbers of a footnote.
-fn put_numbers<D: Desk>(
-    book: &Book,
-    numbers: &[u32],
-    out: &mut LineOut,
-    desk: &mut D,
-) -> Result<(), PutError>
-    requires can { CanWrite (D.told desk.old) out.old }
-    ensures { Puts (footnote_numbers (map (number_in book.now.outline.sections) numbers.now)) out.old out.new
-        (D.told desk.old) (D.told desk.new) result }
+fn put_numbers<D: Desk>(book: &Book, numbers: &[u32], sheet: &mut Sheet<D>) -> Result<(), PutError>
+    requires can { CanPrint D.told sheet.old }
+    ensures { Prints D.told (footnote_numbers (map (number_in book.now.outline.sections) numbers.now))
+        sheet.old sheet.new result }
 {
     match numbers {
         [] => Ok(()),
-        [one] => put_section(book, *one, out, desk),
-        [one, two] => put_two(book, *one, *two, out, desk),
-        [one, later @ ..] => put_several(book, *one, later, out, desk),
+        [one] => put_section(book, *one, sheet),
+        [one, two] => put_two(book, *one, *two, sheet),
+        [one, later @ ..] => put_several(book, *one, later, sheet),
     }
 }
 
@@ -117,19 +95,30 @@ fn put_footnote<D: Desk>(
     book: &Book,
     letter: &[u8],
     numbers: &[u32],
-    out: &mut LineOut,
-    desk: &mut D,
+    sheet: &mut Sheet<D>,
 ) -> Result<(), PutError>
-    requires can { CanWrite (D.told desk.old) out.old }
-    ensures { Puts (footnote book.now.outline.sections letter.now numbers.now) out.old out.new
-        (D.told desk.old) (D.told desk.new) result }
+    requires can { CanPrint D.told sheet.old }
+    ensures { Prints D.told (footnote book.now.outline.sections letter.now numbers.now) sheet.old sheet.new result }
 {
     if numbers.is_empty() {
         return Ok(());
     }
-    out.put_all(letter, desk)?;
-    put_numbers(book, numbers, out, desk)?;
-    out.put_all(b".\n", desk)
+    sheet.put_all(letter)?;
+    put_numbers(book, numbers, sheet)?;
+    sheet.put_all(b".\n")
+}
+
+// Puts the footnotes with the sections that cite and use a section name, where the book keeps one.
+fn put_uses<D: Desk>(book: &Book, id: SecId, sheet: &mut Sheet<D>) -> Result<(), PutError>
+    requires can { CanPrint D.told sheet.old }
+    ensures { Prints D.told (of_name (use_footnotes book.now.outline.sections) book.now.sec_names (Some id))
+        sheet.old sheet.new result }
+{
+    if id.index >= book.sec_names.len() {
+        return Ok(());
+    }
+    put_footnote(book, b"\\Q", book.sec_names.cited_in(id), sheet)?;
+    put_footnote(book, b"\\U", book.sec_names.used_in(id), sheet)
 }
 
 /// Puts the footnotes with the sections that cite and use the section name with this id, where the book keeps one.
@@ -143,11 +132,8 @@ pub fn put_use_footnotes<D: Desk>(
     ensures { Puts (of_name (use_footnotes book.now.outline.sections) book.now.sec_names (Some id)) out.old out.new
         (D.told desk.old) (D.told desk.new) result }
 {
-    if id.index >= book.sec_names.len() {
-        return Ok(());
-    }
-    put_footnote(book, b"\\Q", book.sec_names.cited_in(id), out, desk)?;
-    put_footnote(book, b"\\U", book.sec_names.used_in(id), out, desk)
+    let mut sheet = Sheet { line: out, desk };
+    put_uses(book, id, &mut sheet)
 }
 
 // The sections of a list behind the first.
@@ -161,20 +147,15 @@ fn behind_first(sections: &[u32]) -> &[u32]
 }
 
 // Puts all footnotes of a section name.
-fn put_name_footnotes<D: Desk>(
-    book: &Book,
-    id: SecId,
-    out: &mut LineOut,
-    desk: &mut D,
-) -> Result<(), PutError>
-    requires can { CanWrite (D.told desk.old) out.old }
+fn put_name_footnotes<D: Desk>(book: &Book, id: SecId, sheet: &mut Sheet<D>) -> Result<(), PutError>
+    requires can { CanPrint D.told sheet.old }
     requires kept { id.index < length book.now.sec_names }
-    ensures { Puts (of_name (name_footnotes book.now.outline.sections) book.now.sec_names (Some id)) out.old out.new
-        (D.told desk.old) (D.told desk.new) result }
+    ensures { Prints D.told (of_name (name_footnotes book.now.outline.sections) book.now.sec_names (Some id))
+        sheet.old sheet.new result }
 {
     let others = behind_first(book.sec_names.defined_in(id));
-    put_footnote(book, b"\\A", others, out, desk)?;
-    put_use_footnotes(book, id, out, desk)
+    put_footnote(book, b"\\A", others, sheet)?;
+    put_uses(book, id, sheet)
 }
 
 /// Puts the footnotes of a section that defines this name, or none: they stand in the first of those sections.
@@ -182,19 +163,17 @@ pub(crate) fn put_footnotes<D: Desk>(
     book: &Book,
     name: Option<SecId>,
     number: u32,
-    out: &mut LineOut,
-    desk: &mut D,
+    sheet: &mut Sheet<D>,
 ) -> Result<(), PutError>
-    requires can { CanWrite (D.told desk.old) out.old }
-    ensures { Puts (list_if (defines_first book.now.sec_names name number)
-        (of_name (name_footnotes book.now.outline.sections) book.now.sec_names name)) out.old out.new
-        (D.told desk.old) (D.told desk.new) result }
+    requires can { CanPrint D.told sheet.old }
+    ensures { Prints D.told (list_if (defines_first book.now.sec_names name number)
+        (of_name (name_footnotes book.now.outline.sections) book.now.sec_names name)) sheet.old sheet.new result }
 {
     match name {
         None => Ok(()),
         Some(id) => {
             if defines_first(book, id, number) {
-                return put_name_footnotes(book, id, out, desk);
+                return put_name_footnotes(book, id, sheet);
             }
             Ok(())
         }

@@ -2,18 +2,18 @@
 ghost use Rattle.std.specs.Prelude.{◌≡◌, ◌^◌, ◌||◌, ◌≤◌, false, length, nat_lt, true};
 ghost use Rattle.cw_lex.specs.Lexing.{tokens_of};
 ghost use Rattle.cw_lex.specs.Nested.{begins_section_in, is_c_mode};
-ghost use Rattle.cw_lines.specs.Writes.{CanWrite};
+ghost use Rattle.cw_lines.specs.Sheets.{CanPrint, IsSameSheet};
 ghost use Rattle.cw_part.specs.Parts.{paragraph_if};
 ghost use Rattle.cw_part.specs.PresentForms.{part_setting, text_of};
 ghost use Rattle.cw_translator.specs.Counting.{scraps_in};
 ghost use Rattle.cw_translator.specs.NameParts.{AreNamesOf};
 ghost use Rattle.cw_texpart.specs.Texts.{lasting};
-ghost use Rattle.cw_texpart.specs.Weaving.{Weaves};
+ghost use Rattle.cw_texpart.specs.Weaving.{Weaves, press};
 
 use cw_base::{Flags, Ledger, Span, Steps};
 use cw_desk::Desk;
 use cw_lex::Mode;
-use cw_lines::{LineOut, PutError};
+use cw_lines::{PutError, Sheet};
 use cw_phase1::Book;
 use cw_texpart::{Beside, CText, Counts, translate_text};
 use std::alloc::Global;
@@ -53,11 +53,10 @@ pub(crate) fn print_paragraph<D: Desk, L: Ledger>(
     p: Present,
     paragraph: Paragraph,
     book: &mut Book,
-    out: &mut LineOut,
-    desk: &mut D,
+    sheet: &mut Sheet<D>,
     steps: &mut Steps<L>,
 ) -> Result<Counts, PutError>
-    requires can { CanWrite (D.told desk.old) out.old }
+    requires can { CanPrint D.told sheet.old }
     requires order { paragraph.span.start ≤ paragraph.span.end }
     requires within { paragraph.span.end ≤ length p.text.now }
     requires short { length p.text.now ≤ 2 ^ 24 }
@@ -65,11 +64,11 @@ pub(crate) fn print_paragraph<D: Desk, L: Ledger>(
     requires uncut { begins_section_in
         (tokens_of p.text.now paragraph.span.start paragraph.span.end paragraph.mode) ≡ false }
     requires kept { AreNamesOf book.old.sec_names book.old.name_uses }
-    ensures { let d = text_of p.entry paragraph (lasting book.old) book.old.names in
+    ensures weaves { let d = text_of p.entry paragraph (lasting book.old) book.old.names in
         Weaves (part_setting p.entry (lasting book.old))
         (paragraph_if (paragraph.always || nat_lt 0 (scraps_in d.ended)) paragraph.front.now d)
-        (record { book = book.old; line = out.old; told = D.told desk.old; steps = steps.old })
-        (record { book = book.new; line = out.new; told = D.told desk.new; steps = steps.new }) result }
+        (press D.told book.old sheet.old steps.old) (press D.told book.new sheet.new steps.new) result }
+    ensures same { IsSameSheet sheet.old sheet.new }
 {
     let c = CText {
         text: p.text,
@@ -85,8 +84,8 @@ pub(crate) fn print_paragraph<D: Desk, L: Ledger>(
     if !printed {
         return Ok(counts);
     }
-    out.put_all(paragraph.front, desk)?;
-    translated.print(p.alloc, book, out, desk)?;
-    out.put_all(b"\\par\n", desk)?;
+    sheet.put_all(paragraph.front)?;
+    translated.print(p.alloc, book, sheet.line, sheet.desk)?;
+    sheet.put_all(b"\\par\n")?;
     Ok(counts)
 }

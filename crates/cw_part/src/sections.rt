@@ -1,9 +1,10 @@
 //! What stands behind the TeX part of a section.
 ghost use Rattle.std.specs.Prelude.{◌≡◌, ◌^◌, ◌-◌, ◌<◌, ◌≤◌, false, All, Some, length, slice_get};
 ghost use Rattle.cw_base.specs.Web.{text_of};
-ghost use Rattle.cw_lines.specs.Writes.{CanWrite, Puts};
+ghost use Rattle.cw_lines.specs.Sheets.{CanPrint, IsSameSheet, Prints};
+ghost use Rattle.cw_lines.specs.Writes.{CanWrite};
 ghost use Rattle.cw_texts.specs.Definitions.{definitions_in, printed_definitions};
-ghost use Rattle.cw_part.specs.Parts.{definitions_done, first_opening, part_by, part_opening};
+ghost use Rattle.cw_part.specs.Parts.{definitions_done, first_opening, has_no_part, part_by, part_opening};
 ghost use Rattle.cw_part.specs.PresentForms.{part_setting};
 ghost use Rattle.cw_part.specs.Sections.{ending, rest_by, rest_done};
 ghost use Rattle.cw_part.specs.WholeTexts.{IsWholeDefinition, IsWholeIn, IsWholeRest};
@@ -11,14 +12,14 @@ ghost use Rattle.cw_phase1.specs.declared.sections.Section.{Section};
 ghost use Rattle.cw_rules.specs.declared.tokens.Mode.TheVariants.{CPart, Definition};
 ghost use Rattle.cw_translator.specs.NameParts.{AreNamesOf};
 ghost use Rattle.cw_texpart.specs.Texts.{lasting, setting};
-ghost use Rattle.cw_texpart.specs.Weaving.{Weaves};
+ghost use Rattle.cw_texpart.specs.Weaving.{Weaves, press};
 
 use crate::footnotes::put_footnotes;
 use crate::paragraphs::{Paragraph, Present, print_paragraph};
 use cw_base::{Flags, Ledger, Span, Steps, Web};
 use cw_desk::Desk;
 use cw_lex::Mode;
-use cw_lines::{LineOut, PutError};
+use cw_lines::{LineOut, PutError, Sheet};
 use cw_phase1::{Book, Section};
 use cw_texpart::{Beside, Counts, code_beside};
 use cw_texts::Definitions;
@@ -50,21 +51,23 @@ fn print_definitions<D: Desk, L: Ledger>(
     p: Present,
     part: Span,
     book: &mut Book,
-    out: &mut LineOut,
-    desk: &mut D,
+    sheet: &mut Sheet<D>,
     steps: &mut Steps<L>,
 ) -> Result<Counts, PutError>
-    requires can { CanWrite (D.told desk.old) out.old }
+    requires can { CanPrint D.told sheet.old }
     requires short { length p.text.now ≤ 2 ^ 24 }
     requires whole { IsWholeIn Definition p.text.now part }
     requires each { All (IsWholeDefinition p.text.now) (definitions_in p.text.now part) }
     requires kept { AreNamesOf book.old.sec_names book.old.name_uses }
-    ensures { Weaves (part_setting p.entry (lasting book.old))
+    ensures weaves { Weaves (part_setting p.entry (lasting book.old))
         (definitions_done (part_setting p.entry (lasting book.old)) (first_opening p.entry.beside)
         (printed_definitions p.entry.text.now part) book.old.names)
-        (record { book = book.old; line = out.old; told = D.told desk.old; steps = steps.old })
-        (record { book = book.new; line = out.new; told = D.told desk.new; steps = steps.new }) result }
+        (press D.told book.old sheet.old steps.old) (press D.told book.new sheet.new steps.new) result }
+    ensures same { IsSameSheet sheet.old sheet.new }
 {
+    if part.start == part.end {
+        return Ok(Counts::none());
+    }
     let mut definitions = Definitions::over(p.text, part);
     let mut counts = Counts::none();
     let mut front = first_opening(p.beside);
@@ -77,7 +80,7 @@ fn print_definitions<D: Desk, L: Ledger>(
                     span,
                     always: true,
                 };
-                let more = print_paragraph(p, paragraph, book, out, desk, steps)?;
+                let more = print_paragraph(p, paragraph, book, sheet, steps)?;
                 counts = counts.plus(more)?;
                 front = b"\\B";
             }
@@ -86,31 +89,43 @@ fn print_definitions<D: Desk, L: Ledger>(
     }
 }
 
-// Prints the C part of a section.
+// Whether a section has no C part.
+fn has_no_part(section: &Section) -> bool
+    ensures { result ≡ has_no_part section.now }
+{
+    match section.name {
+        Some(_id) => false,
+        None => section.c_part.start == section.c_part.end,
+    }
+}
+
+// Prints the C part of a section, where there is one.
 fn print_c_part<D: Desk, L: Ledger>(
     p: Present,
     section: Section,
     book: &mut Book,
-    out: &mut LineOut,
-    desk: &mut D,
+    sheet: &mut Sheet<D>,
     steps: &mut Steps<L>,
 ) -> Result<Counts, PutError>
-    requires can { CanWrite (D.told desk.old) out.old }
+    requires can { CanPrint D.told sheet.old }
     requires short { length p.text.now ≤ 2 ^ 24 }
     requires whole { IsWholeIn CPart p.text.now section.c_part }
     requires kept { AreNamesOf book.old.sec_names book.old.name_uses }
-    ensures { Weaves (part_setting p.entry (lasting book.old))
+    ensures weaves { Weaves (part_setting p.entry (lasting book.old))
         (part_by p.entry.beside (part_setting p.entry (lasting book.old)) section book.old.names)
-        (record { book = book.old; line = out.old; told = D.told desk.old; steps = steps.old })
-        (record { book = book.new; line = out.new; told = D.told desk.new; steps = steps.new }) result }
+        (press D.told book.old sheet.old steps.old) (press D.told book.new sheet.new steps.new) result }
+    ensures same { IsSameSheet sheet.old sheet.new }
 {
+    if has_no_part(&section) {
+        return Ok(Counts::none());
+    }
     let paragraph = Paragraph {
         front: part_opening(p.beside, p.flags.ranged, &section),
         mode: Mode::CPart,
         span: section.c_part,
         always: section.name.is_some(),
     };
-    print_paragraph(p, paragraph, book, out, desk, steps)
+    print_paragraph(p, paragraph, book, sheet, steps)
 }
 
 // Puts what ends a section: its footnotes, a line `\fi` and an empty line.
@@ -118,15 +133,13 @@ fn put_ending<D: Desk>(
     p: Present,
     section: Section,
     book: &Book,
-    out: &mut LineOut,
-    desk: &mut D,
+    sheet: &mut Sheet<D>,
 ) -> Result<(), PutError>
-    requires can { CanWrite (D.told desk.old) out.old }
-    ensures { Puts (ending (part_setting p.entry (lasting book.now)) section) out.old out.new
-        (D.told desk.old) (D.told desk.new) result }
+    requires can { CanPrint D.told sheet.old }
+    ensures { Prints D.told (ending (part_setting p.entry (lasting book.now)) section) sheet.old sheet.new result }
 {
-    put_footnotes(book, section.name, p.section, out, desk)?;
-    out.put_all(b"\\fi\n\n", desk)
+    put_footnotes(book, section.name, p.section, sheet)?;
+    sheet.put_all(b"\\fi\n\n")
 }
 
 // Prints a section behind its TeX part.
@@ -134,23 +147,22 @@ fn print_rest<D: Desk, L: Ledger>(
     p: Present,
     section: Section,
     book: &mut Book,
-    out: &mut LineOut,
-    desk: &mut D,
+    sheet: &mut Sheet<D>,
     steps: &mut Steps<L>,
 ) -> Result<Counts, PutError>
-    requires can { CanWrite (D.told desk.old) out.old }
+    requires can { CanPrint D.told sheet.old }
     requires short { length p.text.now ≤ 2 ^ 24 }
     requires whole { IsWholeRest p.text.now section }
     requires kept { AreNamesOf book.old.sec_names book.old.name_uses }
-    ensures { Weaves (part_setting p.entry (lasting book.old))
+    ensures weaves { Weaves (part_setting p.entry (lasting book.old))
         (rest_by p.entry.beside (part_setting p.entry (lasting book.old)) section book.old.names)
-        (record { book = book.old; line = out.old; told = D.told desk.old; steps = steps.old })
-        (record { book = book.new; line = out.new; told = D.told desk.new; steps = steps.new }) result }
+        (press D.told book.old sheet.old steps.old) (press D.told book.new sheet.new steps.new) result }
+    ensures same { IsSameSheet sheet.old sheet.new }
 {
-    let counts = print_definitions(p, section.definitions, book, out, desk, steps)?;
-    let more = print_c_part(p, section, book, out, desk, steps)?;
+    let counts = print_definitions(p, section.definitions, book, sheet, steps)?;
+    let more = print_c_part(p, section, book, sheet, steps)?;
     let counts = counts.plus(more)?;
-    put_ending(p, section, book, out, desk)?;
+    put_ending(p, section, book, sheet)?;
     Ok(counts)
 }
 
@@ -188,5 +200,6 @@ pub fn weave_section<D: Desk, L: Ledger>(
         alloc,
         beside,
     };
-    print_rest(present, printed, book, out, desk, steps)
+    let mut sheet = Sheet { line: out, desk };
+    print_rest(present, printed, book, &mut sheet, steps)
 }

@@ -12,7 +12,8 @@ use cw_texts::Definitions;
 /// Whether the definitions of a section and its C part are whole. It scans them; who knows it from elsewhere needs no
 /// look.
 pub fn is_whole_rest(text: &[u8], section: &Section) -> bool
-    ensures { result ≡ true → IsWholeRest text.now section.now }
+    ensures whole { result ≡ true → IsWholeRest text.now section.now }
+    ensures only { IsWholeRest text.now section.now → result ≡ true }
 {
     if !is_whole(text, section.definitions, Mode::Definition) {
         return false;
@@ -24,7 +25,8 @@ pub fn is_whole_rest(text: &[u8], section: &Section) -> bool
 fn are_whole(text: &[u8], part: Span) -> bool
     requires order { part.start ≤ part.end }
     requires within { part.end ≤ length text.now }
-    ensures { result ≡ true → All (IsWholeDefinition text.now) (definitions_in text.now part) }
+    ensures whole { result ≡ true → All (IsWholeDefinition text.now) (definitions_in text.now part) }
+    ensures only { All (IsWholeDefinition text.now) (definitions_in text.now part) → result ≡ true }
 {
     let mut definitions = Definitions::over(text, part);
     while let Some(definition) = definitions.next() {
@@ -36,7 +38,8 @@ fn are_whole(text: &[u8], part: Span) -> bool
 }
 
 fn is_whole(text: &[u8], part: Span, mode: Mode) -> bool
-    ensures { result ≡ true → IsWholeIn mode text.now part }
+    ensures whole { result ≡ true → IsWholeIn mode text.now part }
+    ensures only { IsWholeIn mode text.now part → result ≡ true }
 {
     if part.start > part.end || part.end > text.len() {
         return false;

@@ -14,12 +14,11 @@ use Rattle.cw_trees.specs.declared.Control.{Control}
 use Rattle.cw_trees.specs.Printing.{Printable, opened, printed, run_sign}
 use Rattle.cw_tokens.specs.declared.flat.FlatItem.{FlatItem}
 use Rattle.cw_tokens.specs.FlatItems.{item_is, items_are}
-use Rattle.cw_lines.specs.Line.{LineState}
-use Rattle.cw_lines.specs.Writes.{HasPut, Puts}
-use Rattle.cw_lines.specs.WritesLaws.{puts-bytes, puts-none, puts-stop, puts-then}
-use Rattle.cw_lines.specs.WritesLaws.{puts-nothing}
+use Rattle.cw_lines.specs.Sheets.{Prints}
+use Rattle.cw_lines.specs.SheetLaws.{prints-bytes, prints-none, prints-nothing, prints-stop, prints-then}
 use Rattle.cw_lines.specs.declared.put_error.PutError.{PutError}
 use Rattle.cw_lines.specs.declared.put_error.PutError.TheVariants.{Memory}
+use Rattle.cw_lines.specs.declared.sheet.Sheet.{Sheet}
 use Rattle.cw_join.specs.Early.{added, depth_behind, early, late}
 use Rattle.cw_join.specs.Standing.{Stands}
 use Rattle.cw_join.specs.Tokens.{CanCome, alone}
@@ -34,15 +33,16 @@ use Rattle.cw_print.specs.Walked.{Walked, behind}
 use Rattle.cw_print.proofs.ComingLaws.{can-come, opened-most}
 use Rattle.cw_print.proofs.ShownLaws.{own-alone, placed-run, shown-append, stand-more}
 
--- the bytes were put, whatever the call answered
-pub has-put : {T : Type 0} {bytes : List ℕ} {old new : LineState} {before now : Told} {value : T}
-    → Puts {T = T} bytes old new before now (Ok value) → HasPut bytes old new before now
-has-put {bytes = bytes} {new = new} {now = now} puts =
-    puts-bytes (append-nil bytes) (puts-then puts (puts-none new now (tt {0})))
+-- the bytes were printed, whatever the call answered
+has-printed : {D T : Type 0} {told : D → Told} {bytes : List ℕ} {old new : Sheet D} {value : T}
+    → Prints {T = T} told bytes old new (Ok value) → Prints {T = ⊤} told bytes old new (Ok (tt {0}))
+has-printed {told = told} {new = new} prints =
+    prints-bytes (append-nil _) (prints-then prints (prints-none told new (tt {0})))
 
 -- Memory is refused, and nothing more is written.
-puts-refused : (bytes : List ℕ) {line : LineState} {told : Told} → Puts {T = ⊤} bytes line line told told (Err Memory)
-puts-refused bytes {line = line} {told = told} = puts-nothing bytes line told refl
+prints-refused : {D : Type 0} {told : D → Told} (bytes : List ℕ) (sheet : Sheet D)
+    → Prints {T = ⊤} told bytes sheet sheet (Err Memory)
+prints-refused bytes sheet = prints-nothing bytes sheet refl
 
 -- ## What is printed
 
@@ -151,11 +151,11 @@ pub printed-by : (inner : Bool) (ps : List Printable) → early inner ps ++ late
 printed-by inner ps = sym (printed-list inner ps ∙ printed-is inner ps)
 
 -- a failure in the first n items is one in the list
-pub puts-part : {T U : Type 0} (inner : Bool) (s : Source) (items : List Item) (n : ℕ) {old new : LineState}
-    {before now : Told} {error : PutError}
-    {result : Result U PutError} → Puts {T = T} (early inner (shown s (take n items))) old new before now (Err error)
-    → IsErrAnd result (λ found. found ≡ error) → Puts (printed inner (shown s items)) old new before now result
-puts-part inner s items n begun is =
+prints-part : {D T U : Type 0} {told : D → Told} (inner : Bool) (s : Source) (items : List Item) (n : ℕ)
+    {old new : Sheet D} {error : PutError} {result : Result U PutError}
+    → Prints {T = T} told (early inner (shown s (take n items))) old new (Err error)
+    → IsErrAnd result (λ found. found ≡ error) → Prints told (printed inner (shown s items)) old new result
+prints-part inner s items n begun is =
     let parts : shown s items ≡ shown s (take n items)
     ++ items_shown s (drop n items) (stand_after s (take n items) outside) =
     ap (shown s) (sym (take-append-drop n items)) ∙ shown-append s (take n items) (drop n items) outside in
@@ -163,11 +163,11 @@ puts-part inner s items n begun is =
     subst (λ (all : List Printable). BeginsEarly inner (shown s (take n items)) all) (sym parts)
     (begins-early inner (shown s (take n items))
     (items_shown s (drop n items) (stand_after s (take n items) outside))) in
-    puts-bytes
+    prints-bytes
     (sym (append_assoc (early inner (shown s (take n items))) first.rest (late inner (shown s items)))
     ∙ ap (λ (l : List ℕ). l ++ late inner (shown s items)) (sym first.is)
     ∙ printed-by inner (shown s items))
-    (puts-stop (first.rest ++ late inner (shown s items)) begun is)
+    (prints-stop (first.rest ++ late inner (shown s items)) begun is)
 
 -- ## Midway
 
@@ -232,10 +232,10 @@ module _ (items : List FlatItem) (i : ℕ) (item : FlatItem) (is : slice_get ite
         }
 
 -- What is put and what waits are what the first i items print early.
-pub record Waiting (inner : Bool) (s : Source) (items : List Item) (i : ℕ) (buffer : List ℕ) (old new : LineState)
-    (before now : Told) : Type 0 where
+pub record Waiting {D : Type 0} (told : D → Told) (inner : Bool) (s : Source) (items : List Item) (i : ℕ)
+    (buffer : List ℕ) (old new : Sheet D) : Type 0 where
   pub done : List ℕ
-  pub put : HasPut done old new before now
+  pub put : Prints {T = ⊤} told done old new (Ok (tt {0}))
   pub all : done ++ buffer ≡ early inner (shown s (take i items))
 
 -- the items up to a place were printed, of those from another on
@@ -290,39 +290,38 @@ module _ (items : List Item) (from i to : ℕ) (first printer : Printer) (old ne
   printed-bytes = subst (λ (n : ℕ). PrintsOn s inner items from n old new) is (printed_so s inner m).1
 
 -- more waits
-pub waits-on : (inner : Bool) (s : Source) (items : List Item) (from to : ℕ) (buffer more : List ℕ)
-    {old new : LineState} {before now : Told}
-    → Waiting inner s items from buffer old new before now → PrintsOn s inner items from to buffer more
-    → Waiting inner s items to more old new before now
+pub waits-on : {D : Type 0} {told : D → Told} (inner : Bool) (s : Source) (items : List Item) (from to : ℕ)
+    (buffer more : List ℕ) {old new : Sheet D}
+    → Waiting told inner s items from buffer old new → PrintsOn s inner items from to buffer more
+    → Waiting told inner s items to more old new
 waits-on inner s items from to buffer more w prints = record { done = w.done; put = w.put; all = prints w.done w.all }
 
 -- what waits is put
-pub waits-none : (inner : Bool) (s : Source) (items : List Item) (i : ℕ) (buffer left : List ℕ)
-    {old mid new : LineState} {a b c : Told}
-    → Waiting inner s items i buffer old mid a b → HasPut buffer mid new b c → left ≡ []
-    → Waiting inner s items i left old new a c
+pub waits-none : {D : Type 0} {told : D → Told} (inner : Bool) (s : Source) (items : List Item) (i : ℕ)
+    (buffer left : List ℕ) {old mid new : Sheet D}
+    → Waiting told inner s items i buffer old mid → Prints {T = ⊤} told buffer mid new (Ok (tt {0})) → left ≡ []
+    → Waiting told inner s items i left old new
 waits-none inner s items i buffer left w put none = record {
   done = w.done ++ buffer;
-  put = has-put (puts-then w.put put);
+  put = has-printed (prints-then w.put put);
   all = ap (λ (l : List ℕ). (w.done ++ buffer) ++ l) none ∙ append-nil (w.done ++ buffer) ∙ w.all;
 }
 
 -- memory is refused while bytes wait
-pub stops-waiting : {U : Type 0} (inner : Bool) (s : Source) (items : List Item) (i : ℕ) (buffer : List ℕ)
-    {old new : LineState} {before now : Told}
-    {result : Result U PutError} → Waiting inner s items i buffer old new before now
-    → IsErrAnd result (λ found. found ≡ Memory) → Puts (printed inner (shown s items)) old new before now result
-stops-waiting inner s items i buffer w is =
-    puts-part inner s items i (puts-bytes w.all (puts-then w.put (puts-refused buffer))) is
+pub stops-waiting : {D U : Type 0} {told : D → Told} (inner : Bool) (s : Source) (items : List Item) (i : ℕ)
+    (buffer : List ℕ) {old new : Sheet D} {result : Result U PutError}
+    → Waiting told inner s items i buffer old new
+    → IsErrAnd result (λ found. found ≡ Memory) → Prints told (printed inner (shown s items)) old new result
+stops-waiting inner s items i buffer {new = new} w is =
+    prints-part inner s items i (prints-bytes w.all (prints-then w.put (prints-refused buffer new))) is
 
 -- what waits is put, and fails
-pub fails-waiting : {T U : Type 0} (inner : Bool) (s : Source) (items : List Item) (i : ℕ) (buffer : List ℕ)
-    {old mid new : LineState} {a b c : Told}
-    {error : PutError} {result : Result U PutError} → Waiting inner s items i buffer old mid a b
-    → Puts {T = T} buffer mid new b c (Err error)
-    → IsErrAnd result (λ found. found ≡ error) → Puts (printed inner (shown s items)) old new a c result
-fails-waiting inner s items i buffer w failed is = puts-part inner s items i (puts-bytes w.all (puts-then w.put failed))
-    is
+pub fails-waiting : {D T U : Type 0} {told : D → Told} (inner : Bool) (s : Source) (items : List Item) (i : ℕ)
+    (buffer : List ℕ) {old mid new : Sheet D} {error : PutError} {result : Result U PutError}
+    → Waiting told inner s items i buffer old mid → Prints {T = T} told buffer mid new (Err error)
+    → IsErrAnd result (λ found. found ≡ error) → Prints told (printed inner (shown s items)) old new result
+fails-waiting inner s items i buffer w failed is =
+    prints-part inner s items i (prints-bytes w.all (prints-then w.put failed)) is
 
 -- ## The beginning and the end
 
@@ -344,17 +343,17 @@ module _ (items : List FlatItem) (n : ℕ) (all : length items ≤ n) where
       (drop_all n (items_are items) short) midway.come
 
   -- what waits, and what is left
-  pub puts-all : {U : Type 0} (inner : Bool) (s : Source) (buffer rest : List ℕ) {old mid new : LineState}
-      {a b c : Told} {result : Result U PutError}
-      → Waiting inner s (items_are items) n buffer old mid a b
+  pub prints-all : {D U : Type 0} {told : D → Told} (inner : Bool) (s : Source) (buffer rest : List ℕ)
+      {old mid new : Sheet D} {result : Result U PutError}
+      → Waiting told inner s (items_are items) n buffer old mid
       → rest ≡ buffer ++ late inner (shown s (take n (items_are items)))
-      → Puts rest mid new b c result
-      → Puts (printed inner (shown s (items_are items))) old new a c result
-  puts-all inner s buffer rest w left put =
-      puts-bytes
+      → Prints told rest mid new result
+      → Prints told (printed inner (shown s (items_are items))) old new result
+  prints-all inner s buffer rest w left put =
+      prints-bytes
       (ap (λ (l : List ℕ). w.done ++ l) left
       ∙ sym (append_assoc w.done buffer (late inner (shown s (take n (items_are items)))))
       ∙ ap (λ (l : List ℕ). l ++ late inner (shown s (take n (items_are items)))) w.all
       ∙ printed-by inner (shown s (take n (items_are items)))
       ∙ ap (λ (l : List Item). printed inner (shown s l)) (take_all n (items_are items) short))
-      (puts-then w.put put)
+      (prints-then w.put put)

@@ -10,6 +10,7 @@ ghost use Rattle.cw_tokens.specs.declared.flat.FlatItem.TheVariants.{Reserved as
 ghost use Rattle.cw_tokens.specs.declared.flat.FlatItem.TheVariants.{Control as FlatControl, Open, Close};
 ghost use Rattle.cw_tokens.specs.Shapes.{unfolded};
 ghost use Rattle.cw_scraps.specs.Lines.{IsNamedBelow};
+ghost use Rattle.cw_lines.specs.Sheets.{CanPrint, Prints};
 ghost use Rattle.cw_lines.specs.Writes.{CanWrite, Puts};
 ghost use Rattle.cw_join.specs.Early.{added};
 ghost use Rattle.cw_join.specs.Tokens.{CanCome, word_at};
@@ -27,7 +28,7 @@ use cw_base::{Bytes, Flags, Memory, Span};
 use cw_desk::Desk;
 use cw_join::{Joiner, put_ident_of};
 use cw_lex::Mode;
-use cw_lines::{LineOut, PutError};
+use cw_lines::{LineOut, PutError, Sheet};
 use cw_names::{NameId, Names};
 use cw_phase1::Book;
 use cw_tokens::{FlatItem, FlatTokens, ListId, TokenStore};
@@ -227,13 +228,12 @@ fn print_items<D: Desk>(
     alloc: Global,
     c: KeptText,
     items: &[FlatItem],
-    out: &mut LineOut,
-    desk: &mut D,
+    sheet: &mut Sheet<D>,
 ) -> Result<(), PutError>
-    requires can { CanWrite (D.told desk.old) out.old }
+    requires can { CanPrint D.told sheet.old }
     requires come { AllMay (MayCome (length c.book.now.names)) 0 (items_are items.now) }
-    ensures { Puts (printed c.entry.inner (shown (source_of c.entry) (items_are items.now))) out.old out.new
-        (D.told desk.old) (D.told desk.new) result }
+    ensures { Prints D.told (printed c.entry.inner (shown (source_of c.entry) (items_are items.now)))
+        sheet.old sheet.new result }
 {
     let mut printer = Printer::over(alloc, c);
     let mut buffer = empty_buffer(alloc, items.len())?;
@@ -241,13 +241,13 @@ fn print_items<D: Desk>(
     while items.len() - at > TOGETHER {
         let to = at + TOGETHER;
         printer.print(items, at, to, &mut buffer)?;
-        out.put_all(buffer.as_slice(), desk)?;
+        sheet.put_all(buffer.as_slice())?;
         buffer = cleared(buffer);
         at = to;
     }
     printer.print(items, at, items.len(), &mut buffer)?;
     printer.joiner.append_end(&mut buffer)?;
-    out.put_all(buffer.as_slice(), desk)
+    sheet.put_all(buffer.as_slice())
 }
 
 impl<'s, 'a> KeptText<'s, 'a> {
@@ -259,17 +259,12 @@ impl<'s, 'a> KeptText<'s, 'a> {
     }
 }
 
-fn put_bracket<D: Desk>(
-    wraps: bool,
-    bytes: &[u8],
-    out: &mut LineOut,
-    desk: &mut D,
-) -> Result<(), PutError>
-    requires can { CanWrite (D.told desk.old) out.old }
-    ensures { Puts (bracket wraps bytes.now) out.old out.new (D.told desk.old) (D.told desk.new) result }
+fn put_bracket<D: Desk>(wraps: bool, bytes: &[u8], sheet: &mut Sheet<D>) -> Result<(), PutError>
+    requires can { CanPrint D.told sheet.old }
+    ensures { Prints D.told (bracket wraps bytes.now) sheet.old sheet.new result }
 {
     if wraps {
-        return out.put_all(bytes, desk);
+        return sheet.put_all(bytes);
     }
     Ok(())
 }
@@ -292,17 +287,36 @@ fn print_name<D: Desk>(
     wraps: bool,
     names: &Names,
     name: NameId,
-    out: &mut LineOut,
-    desk: &mut D,
+    sheet: &mut Sheet<D>,
 ) -> Result<(), PutError>
-    requires can { CanWrite (D.told desk.old) out.old }
+    requires can { CanPrint D.told sheet.old }
     requires named { name.index < length names.now }
-    ensures { Puts (wrapped wraps (word_at ident_bytes names.now name.index)) out.old out.new
-        (D.told desk.old) (D.told desk.new) result }
+    ensures { Prints D.told (wrapped wraps (word_at ident_bytes names.now name.index)) sheet.old sheet.new result }
 {
-    put_bracket(wraps, b"\\PB{", out, desk)?;
-    put_ident_of(names, name, out, desk)?;
-    put_bracket(wraps, b"}", out, desk)
+    put_bracket(wraps, b"\\PB{", sheet)?;
+    put_ident_of(names, name, sheet.line, sheet.desk)?;
+    put_bracket(wraps, b"}", sheet)
+}
+
+// Prints a C text from its items.
+fn print_flat<D: Desk>(
+    alloc: Global,
+    c: KeptText,
+    items: &FlatTokens,
+    sheet: &mut Sheet<D>,
+) -> Result<(), PutError>
+    requires can { CanPrint D.told sheet.old }
+    requires come { AllMay (MayCome (length c.book.now.names)) 0 (items_are items.now) }
+    ensures { Prints D.told (wrapped (c.entry.inner && c.entry.flags.now.wrap)
+        (printed c.entry.inner (shown (source_of c.entry) (items_are items.now)))) sheet.old sheet.new result }
+{
+    let wraps = c.is_wrapped();
+    if let Some(name) = only_name(items) {
+        return print_name(wraps, &c.book.names, name, sheet);
+    }
+    put_bracket(wraps, b"\\PB{", sheet)?;
+    print_items(alloc, c, items.items(), sheet)?;
+    put_bracket(wraps, b"}", sheet)
 }
 
 /// Prints a C text from its translation, a list of the store, and prints section names as the book keeps them. It scans
@@ -324,14 +338,9 @@ pub fn print_answers<D: Desk>(
         (unfolded store.now.lists id.index))
         out.old out.new (D.told desk.old) (D.told desk.new) result }
 {
-    let wraps = c.is_wrapped();
     let items = store.flat_trimmed(alloc, id)?;
-    if let Some(name) = only_name(&items) {
-        return print_name(wraps, &c.book.names, name, out, desk);
-    }
-    put_bracket(wraps, b"\\PB{", out, desk)?;
-    print_items(alloc, c, items.items(), out, desk)?;
-    put_bracket(wraps, b"}", out, desk)
+    let mut sheet = Sheet { line: out, desk };
+    print_flat(alloc, c, &items, &mut sheet)
 }
 
 /// The same of a C text that has to be scanned first. `section` is the present section, or 0 in the section list; with

@@ -6,7 +6,8 @@ ghost use Rattle.cw_print.specs.Found.{numbered};
 ghost use Rattle.cw_print.specs.Showing.{number_shown};
 ghost use Rattle.cw_print.specs.Sources.{titles};
 ghost use Rattle.cw_print.specs.Tokens.{sign_macro};
-ghost use Rattle.cw_print.specs.Walk.{Stand, Title, bracket, control_shown, is_name_token, named_shown, outer_shown, outside};
+ghost use Rattle.cw_print.specs.Walk.{Stand, Title, bracket, control_shown, is_name_token};
+ghost use Rattle.cw_print.specs.Walk.{named_shown, outer_shown, outside};
 ghost use Rattle.cw_print.specs.Walk.{shown_as, seen_shown, source_shown};
 ghost use Rattle.cw_print.specs.Walked.{behind};
 

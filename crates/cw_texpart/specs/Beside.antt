@@ -29,6 +29,13 @@ abbrev pub first_code : Bool → Bool → Beside
 first_code defines prints =
     if defines then besides.Definition else if prints then besides.CPart else besides.Nothing
 
+-- with flag r, where it has no prose
+abbrev pub ranged_code : List ℕ → List NameUse → Section → Beside
+ranged_code text uses section =
+    if not (has_prose text section.tex)
+    then first_code (has_definition text section.definitions) (is_printed text uses section)
+    else besides.Nothing
+
 abbrev pub code_beside : List ℕ → Flags → List NameUse → Section → Beside
 code_beside text flags uses section =
     if flags.ranged && not (has_prose text section.tex)

@@ -1,5 +1,7 @@
 -- The heads of sections.
 use Rattle.std.specs.Prelude.{ℕ, ◌+◌, ◌==◌, nat_lt, Bool, true, false, List, [], ◌∷◌, ◌++◌, codes, if◌then◌else◌}
+use Rattle.cw_base.specs.Bytes.{byte_of}
+use Rattle.cw_rules.specs.Bytes.{digit_0}
 use Rattle.cw_phase1.specs.declared.sections.Depth.{Depth}
 use Rattle.cw_phase1.specs.declared.sections.Depth.TheVariants.{Minus, Zero, Digits}
 use Rattle.cw_phase1.specs.declared.sections.Section.{Section}
@@ -11,7 +13,7 @@ abbrev pub drop_zeros : List ℕ → List ℕ
 drop_zeros [] = codes "0"
 drop_zeros (digit ∷ []) = digit ∷ []
 drop_zeros (digit ∷ next ∷ digits) =
-    elim (digit == 48) [ true ↦ drop_zeros (next ∷ digits) | false ↦ digit ∷ next ∷ digits ]
+    elim (digit == digit_0) [ true ↦ drop_zeros (next ∷ digits) | false ↦ digit ∷ next ∷ digits ]
 
 abbrev pub depth_bytes : List ℕ → Depth → List ℕ
 depth_bytes text Minus = codes "-1"
@@ -28,8 +30,8 @@ pub record Added : Type 0 where
 -- behind a digit to which one is carried: a nine is a zero then, and carries it on
 abbrev pub carry_to : ℕ → List ℕ → Added
 carry_to digit digits =
-    if nat_lt digit 57 then record { carried = false; digits = (digit + 1) ∷ digits }
-    else record { carried = true; digits = 48 ∷ digits }
+    if nat_lt digit (byte_of "9") then record { carried = false; digits = (digit + 1) ∷ digits }
+    else record { carried = true; digits = digit_0 ∷ digits }
 
 abbrev pub add_behind : ℕ → Added → Added
 add_behind digit rest =
@@ -40,7 +42,7 @@ with_one [] = record { carried = true; digits = [] }
 with_one (digit ∷ digits) = add_behind digit (with_one digits)
 
 abbrev pub one_if_carried : Added → List ℕ
-one_if_carried added = if added.carried then 49 ∷ added.digits else added.digits
+one_if_carried added = if added.carried then byte_of "1" ∷ added.digits else added.digits
 
 -- the digits of a number that is one higher
 abbrev pub successor : List ℕ → List ℕ

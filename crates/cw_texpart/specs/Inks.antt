@@ -6,6 +6,7 @@
 use Rattle.std.specs.Prelude.{ℕ, ◌+◌, ◌-◌, ◌==◌, ◌||◌, Bool, false, not, List, [], ◌∷◌, ◌++◌, map, codes}
 use Rattle.std.specs.Prelude.{slice_index, slice_range, if◌then◌else◌}
 use Rattle.std.specs.List.{flat_map}
+use Rattle.cw_base.specs.Bytes.{newline}
 use Rattle.cw_rules.specs.declared.codes.Code.{Code}
 use Rattle.cw_rules.specs.declared.codes.Code.TheVariants as at
 use Rattle.cw_rules.specs.declared.tokens.TokKind.{TokKind}
@@ -29,7 +30,7 @@ prints bytes = map (λ byte. Print byte) bytes
 
 -- the line of the web that ends at this place is empty
 abbrev pub ends_empty_line : List ℕ → ℕ → Bool
-ends_empty_line text place = place == 0 || slice_index text (place - 1) == 10
+ends_empty_line text place = place == 0 || slice_index text (place - 1) == newline
 
 abbrev pub ink_by : Bool → List ℕ → ℕ → ℕ → Ink
 ink_by ends text place byte = if ends then LineEnd (ends_empty_line text place) else Print byte
@@ -37,7 +38,7 @@ ink_by ends text place byte = if ends then LineEnd (ends_empty_line text place) 
 -- copied bytes of the web's text, from a place on
 abbrev pub copied : List ℕ → ℕ → List ℕ → List Ink
 copied text place [] = []
-copied text place (byte ∷ bytes) = ink_by (byte == 10) text place byte ∷ copied text (place + 1) bytes
+copied text place (byte ∷ bytes) = ink_by (byte == newline) text place byte ∷ copied text (place + 1) bytes
 
 -- What a token of limbo or of TeX text prints: a piece of text is copied, `@@` is one `@`, and `@l` in limbo is `\ATL`;
 -- no other code prints anything.
@@ -68,11 +69,11 @@ inks text answers = flat_map (answer_inks text) answers
 
 -- a line's end where it is printed
 abbrev pub end_if : Bool → List ℕ
-end_if holds = list_if holds (10 ∷ [])
+end_if holds = list_if holds (newline ∷ [])
 
 -- The bytes, where the line of the book holds bytes or not; at their end a line that holds bytes is ended. Behind a
 -- byte that is printed a line holds bytes, unless that byte ends it, as one in a C text may.
 abbrev pub laid : Bool → List Ink → List ℕ
 laid holds [] = end_if holds
-laid holds (Print byte ∷ inks) = byte ∷ laid (not (byte == 10)) inks
+laid holds (Print byte ∷ inks) = byte ∷ laid (not (byte == newline)) inks
 laid holds (LineEnd empty ∷ inks) = end_if (holds || empty) ++ laid false inks

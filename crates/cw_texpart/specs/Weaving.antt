@@ -4,6 +4,7 @@ use Rattle.cw_desk.specs.Told.{Told}
 use Rattle.cw_lines.specs.Line.{LineState}
 use Rattle.cw_lines.specs.Writes.{Puts}
 use Rattle.cw_lines.specs.declared.put_error.PutError.{PutError}
+use Rattle.cw_lines.specs.declared.sheet.Sheet.{Sheet}
 use Rattle.cw_names.specs.declared.entry.NameId.{NameId}
 use Rattle.cw_names.specs.declared.xrefs.Occurrence.{Occurrence}
 use Rattle.cw_phase1.specs.declared.book.Book.{Book}
@@ -18,6 +19,11 @@ pub record Press : Type 1 where
   pub line : LineState
   pub told : Told
   pub steps : ℕ
+
+-- the book, a sheet with what its desk tells, and the number of steps
+abbrev pub press : {D : Type 0} → (D → Told) → Book → Sheet D → ℕ → Press
+press told book sheet steps =
+    record { book = book; line = sheet.line.now; told = told sheet.desk.now; steps = steps }
 
 -- Each mark is an underlined occurrence in the present section. The section list has none.
 abbrev pub mark : ℕ → NameId → Occurrence

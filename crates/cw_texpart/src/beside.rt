@@ -1,7 +1,7 @@
 //! What stands beside the number of a section, on its line.
 ghost use Rattle.std.specs.Prelude.{◌≡◌, IfOk};
 ghost use Rattle.cw_rules.specs.Answers.{seen};
-ghost use Rattle.cw_texpart.specs.Beside.{code_beside, has_definition, has_prose, is_nothing, is_prose};
+ghost use Rattle.cw_texpart.specs.Beside.{code_beside, has_definition, has_prose, is_nothing, is_prose, ranged_code};
 ghost use Rattle.cw_texts.specs.PieceForms.{piece_is};
 
 use crate::inks::prints_nothing;
@@ -64,7 +64,26 @@ fn has_definition(text: &[u8], part: Span) -> bool
     Definitions::over(text, part).next_printed().is_some()
 }
 
+// The first code that a section prints, where it has no prose.
+#[cold]
+#[inline(never)]
+fn ranged_code(text: &[u8], book: &Book, section: &Section) -> Result<Beside, Memory>
+    ensures { IfOk result (λ b. b ≡ ranged_code text.now book.now.name_uses section.now) }
+{
+    if has_prose(text, section.tex)? {
+        return Ok(Beside::Nothing);
+    }
+    if has_definition(text, section.definitions) {
+        return Ok(Beside::Definition);
+    }
+    if is_printed(text, &book.name_uses, section)? {
+        return Ok(Beside::CPart);
+    }
+    Ok(Beside::Nothing)
+}
+
 /// What stands beside the number of a section: with flag r, where it has no prose, the first code that it prints.
+#[inline(always)]
 pub fn code_beside(
     text: &[u8],
     flags: &Flags,
@@ -76,14 +95,7 @@ pub fn code_beside(
     if !flags.ranged {
         return Ok(Beside::Nothing);
     }
-    if has_prose(text, section.tex)? {
-        return Ok(Beside::Nothing);
-    }
-    if has_definition(text, section.definitions) {
-        return Ok(Beside::Definition);
-    }
-    if is_printed(text, &book.name_uses, section)? {
-        return Ok(Beside::CPart);
-    }
-    Ok(Beside::Nothing)
+    // A copy, so that no section needs a place in memory without the flag.
+    let copy = *section;
+    ranged_code(text, book, &copy)
 }

@@ -1,35 +1,31 @@
 //! The copying of a web's text: line by line, but not each line's end.
 ghost use Rattle.std.specs.Prelude.{◌≡◌, ◌==◌, ◌<◌, ◌≤◌, ◌||◌, [], ◌∷◌, length, slice_index, take};
 ghost use Rattle.cw_lines.specs.Line.{HasNoLineEnd};
-ghost use Rattle.cw_lines.specs.Writes.{CanWrite, Puts};
+ghost use Rattle.cw_lines.specs.Sheets.{CanPrint, Prints};
 ghost use Rattle.cw_texpart.specs.Inks.{bytes_of, copied, end_if, ends_empty_line, ink_by};
 ghost use Rattle.cw_texpart.specs.Laying.{holds_bytes, inked};
 
 use cw_base::Span;
 use cw_desk::Desk;
-use cw_lines::{LineOut, PutError};
+use cw_lines::{LineOut, PutError, Sheet};
 use memchr::memchr;
 
 /// Copies the bytes of a span of the web's text, as far as they are there.
-pub(crate) fn copy<D: Desk>(
-    text: &[u8],
-    span: Span,
-    out: &mut LineOut,
-    desk: &mut D,
-) -> Result<(), PutError>
-    requires can { CanWrite (D.told desk.old) out.old }
-    ensures { Puts (inked (holds_bytes out.old) (copied text.now span.start (bytes_of text.now span))) out.old out.new
-        (D.told desk.old) (D.told desk.new) result }
+pub(crate) fn copy<D: Desk>(text: &[u8], span: Span, sheet: &mut Sheet<D>) -> Result<(), PutError>
+    requires can { CanPrint D.told sheet.old }
+    ensures { Prints D.told
+        (inked (holds_bytes sheet.old.line.now) (copied text.now span.start (bytes_of text.now span)))
+        sheet.old sheet.new result }
 {
     let end = span.end.min(text.len());
     let mut at = span.start;
     while at < end {
         let stop = at + line_size(&text[at..end]);
-        out.put_all(&text[at..stop], desk)?;
+        sheet.put_all(&text[at..stop])?;
         if stop == end {
             return Ok(());
         }
-        copy_byte(text, stop, out, desk)?;
+        copy_byte(text, stop, sheet)?;
         at = stop + 1;
     }
     Ok(())
@@ -48,24 +44,19 @@ fn line_size(bytes: &[u8]) -> usize
 
 // Copies one byte. A line's end is printed where the line of the book holds bytes, or where its line of the web is
 // empty.
-fn copy_byte<D: Desk>(
-    text: &[u8],
-    place: usize,
-    out: &mut LineOut,
-    desk: &mut D,
-) -> Result<(), PutError>
+fn copy_byte<D: Desk>(text: &[u8], place: usize, sheet: &mut Sheet<D>) -> Result<(), PutError>
     requires within { place < length text.now }
-    requires can { CanWrite (D.told desk.old) out.old }
-    ensures { Puts (inked (holds_bytes out.old)
+    requires can { CanPrint D.told sheet.old }
+    ensures { Prints D.told (inked (holds_bytes sheet.old.line.now)
         (ink_by (slice_index text.now place == 10) text.now place (slice_index text.now place) ∷ []))
-        out.old out.new (D.told desk.old) (D.told desk.new) result }
+        sheet.old sheet.new result }
 {
     let byte = text[place];
     if byte == b'\n' {
-        let ends = ends_line(text, place, out);
-        return end_line_if(ends, out, desk);
+        let ends = ends_line(text, place, sheet.line);
+        return end_line_if(ends, sheet);
     }
-    out.put(byte, desk)
+    sheet.put(byte)
 }
 
 // Whether the line's end at a place of the web's text is printed.
@@ -84,16 +75,12 @@ pub(crate) fn holds_bytes(out: &LineOut) -> bool
 }
 
 /// Ends the line of the book, or leaves it as it is.
-pub(crate) fn end_line_if<D: Desk>(
-    ends: bool,
-    out: &mut LineOut,
-    desk: &mut D,
-) -> Result<(), PutError>
-    requires can { CanWrite (D.told desk.old) out.old }
-    ensures { Puts (end_if ends) out.old out.new (D.told desk.old) (D.told desk.new) result }
+pub(crate) fn end_line_if<D: Desk>(ends: bool, sheet: &mut Sheet<D>) -> Result<(), PutError>
+    requires can { CanPrint D.told sheet.old }
+    ensures { Prints D.told (end_if ends) sheet.old sheet.new result }
 {
     if ends {
-        return out.end_line(desk);
+        return sheet.end_line();
     }
     Ok(())
 }

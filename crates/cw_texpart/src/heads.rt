@@ -1,5 +1,6 @@
 //! The heads of sections.
 ghost use Rattle.std.specs.Prelude.{◌≡◌, ◌++◌, true, IfOk, codes};
+ghost use Rattle.cw_lines.specs.Sheets.{CanPrint, Prints};
 ghost use Rattle.cw_lines.specs.Writes.{CanWrite, Puts};
 ghost use Rattle.cw_print.specs.Walk.{changed_mark, section_number};
 ghost use Rattle.cw_texpart.specs.Heads.{depth_bytes, drop_zeros, head, head_by, printed_depth};
@@ -8,7 +9,7 @@ ghost use Rattle.cw_texpart.specs.Heads.{raised_depth, successor};
 use crate::spans::part_of;
 use cw_base::{Bytes, Memory};
 use cw_desk::Desk;
-use cw_lines::{LineOut, PutError};
+use cw_lines::{LineOut, PutError, Sheet};
 use cw_phase1::{Depth, Section};
 use itoa::Buffer;
 use std::alloc::Global;
@@ -19,41 +20,40 @@ use std::alloc::Global;
 pub(crate) struct Head<'a> {
     pub(crate) alloc: Global,
     pub(crate) text: &'a [u8],
-    pub(crate) section: Section,
+    pub(crate) section: &'a Section,
     pub(crate) number: u32,
     pub(crate) ranged: bool,
 }
 
 /// Puts the head of a section.
-pub(crate) fn put_head<D: Desk>(h: Head, out: &mut LineOut, desk: &mut D) -> Result<(), PutError>
-    requires can { CanWrite (D.told desk.old) out.old }
-    ensures { Puts (head h.entry.ranged h.entry.text.now h.entry.number h.entry.section) out.old out.new
-        (D.told desk.old) (D.told desk.new) result }
+pub(crate) fn put_head<D: Desk>(h: Head, sheet: &mut Sheet<D>) -> Result<(), PutError>
+    requires can { CanPrint D.told sheet.old }
+    ensures { Prints D.told (head h.entry.ranged h.entry.text.now h.entry.number h.entry.section.now)
+        sheet.old sheet.new result }
 {
     if h.section.starred {
-        return put_deep(h, out, desk);
+        return put_deep(h, sheet);
     }
-    put_plain(h.number, h.section.changed, out, desk)
+    put_plain(h.number, h.section.changed, sheet)
 }
 
 // Puts the head of a starred section with its depth as it is printed.
-fn put_deep<D: Desk>(h: Head, out: &mut LineOut, desk: &mut D) -> Result<(), PutError>
-    requires can { CanWrite (D.told desk.old) out.old }
-    ensures { Puts (head_by true (printed_depth h.entry.ranged h.entry.text.now h.entry.section.depth)
-        (section_number h.entry.number h.entry.section.changed)) out.old out.new
-        (D.told desk.old) (D.told desk.new) result }
+fn put_deep<D: Desk>(h: Head, sheet: &mut Sheet<D>) -> Result<(), PutError>
+    requires can { CanPrint D.told sheet.old }
+    ensures { Prints D.told (head_by true (printed_depth h.entry.ranged h.entry.text.now h.entry.section.now.depth)
+        (section_number h.entry.number h.entry.section.now.changed)) sheet.old sheet.new result }
 {
     if h.ranged {
         let depth = raised_depth(h)?;
-        return put_starred(depth.as_slice(), h.number, h.section.changed, out, desk);
+        return put_starred(depth.as_slice(), h.number, h.section.changed, sheet);
     }
     let depth = depth_of(h.text, h.section.depth);
-    put_starred(depth, h.number, h.section.changed, out, desk)
+    put_starred(depth, h.number, h.section.changed, sheet)
 }
 
 // The depth of a section in digits, as the macros count it.
 fn raised_depth(h: Head) -> Result<Bytes, Memory>
-    ensures { IfOk result (λ digits. digits ≡ raised_depth h.entry.text.now h.entry.section.depth) }
+    ensures { IfOk result (λ digits. digits ≡ raised_depth h.entry.text.now h.entry.section.now.depth) }
 {
     match h.section.depth {
         Depth::Minus => Bytes::from_slice(h.alloc, b"0"),
@@ -82,19 +82,14 @@ fn successor(alloc: Global, number: &[u8]) -> Result<Bytes, Memory>
 }
 
 // Puts the head of a section that isn't starred.
-fn put_plain<D: Desk>(
-    number: u32,
-    changed: bool,
-    out: &mut LineOut,
-    desk: &mut D,
-) -> Result<(), PutError>
-    requires can { CanWrite (D.told desk.old) out.old }
-    ensures { Puts (codes "\\M{" ++ section_number number changed ++ codes "}")
-        out.old out.new (D.told desk.old) (D.told desk.new) result }
+fn put_plain<D: Desk>(number: u32, changed: bool, sheet: &mut Sheet<D>) -> Result<(), PutError>
+    requires can { CanPrint D.told sheet.old }
+    ensures { Prints D.told (codes "\\M{" ++ section_number number changed ++ codes "}")
+        sheet.old sheet.new result }
 {
-    out.put_all(b"\\M{", desk)?;
-    put_number(number, changed, out, desk)?;
-    out.put_all(b"}", desk)
+    sheet.put_all(b"\\M{")?;
+    put_digits(number, changed, sheet)?;
+    sheet.put_all(b"}")
 }
 
 // Puts the head of a starred section.
@@ -102,18 +97,17 @@ fn put_starred<D: Desk>(
     depth: &[u8],
     number: u32,
     changed: bool,
-    out: &mut LineOut,
-    desk: &mut D,
+    sheet: &mut Sheet<D>,
 ) -> Result<(), PutError>
-    requires can { CanWrite (D.told desk.old) out.old }
-    ensures { Puts (codes "\\N{" ++ depth.now ++ codes "}{" ++ section_number number changed ++ codes "}")
-        out.old out.new (D.told desk.old) (D.told desk.new) result }
+    requires can { CanPrint D.told sheet.old }
+    ensures { Prints D.told (codes "\\N{" ++ depth.now ++ codes "}{" ++ section_number number changed ++ codes "}")
+        sheet.old sheet.new result }
 {
-    out.put_all(b"\\N{", desk)?;
-    out.put_all(depth, desk)?;
-    out.put_all(b"}{", desk)?;
-    put_number(number, changed, out, desk)?;
-    out.put_all(b"}", desk)
+    sheet.put_all(b"\\N{")?;
+    sheet.put_all(depth)?;
+    sheet.put_all(b"}{")?;
+    put_digits(number, changed, sheet)?;
+    sheet.put_all(b"}")
 }
 
 /// Puts the number of a section, with `\*` behind it where the section holds a changed line.
@@ -126,18 +120,27 @@ pub fn put_number<D: Desk>(
     requires can { CanWrite (D.told desk.old) out.old }
     ensures { Puts (section_number number changed) out.old out.new (D.told desk.old) (D.told desk.new) result }
 {
+    let mut sheet = Sheet { line: out, desk };
+    put_digits(number, changed, &mut sheet)
+}
+
+// Puts the digits of a section's number, and what stands behind them.
+fn put_digits<D: Desk>(number: u32, changed: bool, sheet: &mut Sheet<D>) -> Result<(), PutError>
+    requires can { CanPrint D.told sheet.old }
+    ensures { Prints D.told (section_number number changed) sheet.old sheet.new result }
+{
     let mut buffer = Buffer::new();
-    out.put_all(buffer.format(number).as_bytes(), desk)?;
-    put_changed_mark(changed, out, desk)
+    sheet.put_all(buffer.format(number).as_bytes())?;
+    put_changed_mark(changed, sheet)
 }
 
 // Puts what stands behind the number of a section.
-fn put_changed_mark<D: Desk>(changed: bool, out: &mut LineOut, desk: &mut D) -> Result<(), PutError>
-    requires can { CanWrite (D.told desk.old) out.old }
-    ensures { Puts (changed_mark changed) out.old out.new (D.told desk.old) (D.told desk.new) result }
+fn put_changed_mark<D: Desk>(changed: bool, sheet: &mut Sheet<D>) -> Result<(), PutError>
+    requires can { CanPrint D.told sheet.old }
+    ensures { Prints D.told (changed_mark changed) sheet.old sheet.new result }
 {
     if changed {
-        return out.put_all(b"\\*", desk);
+        return sheet.put_all(b"\\*");
     }
     Ok(())
 }

@@ -2,7 +2,7 @@
 ghost use Rattle.std.specs.Prelude.{◌≡◌, ◌==◌, length};
 ghost use Rattle.cw_rules.specs.Answers.{seen};
 ghost use Rattle.cw_lex.specs.Nest.{is_text_kind};
-ghost use Rattle.cw_lines.specs.Writes.{CanWrite, Puts};
+ghost use Rattle.cw_lines.specs.Sheets.{CanPrint, Prints};
 ghost use Rattle.cw_texpart.specs.Inks.{kind_inks, prints, token_inks};
 ghost use Rattle.cw_texpart.specs.Laying.{holds_bytes, inked};
 
@@ -10,24 +10,24 @@ use crate::copying::copy;
 use crate::spans::part_of;
 use cw_desk::Desk;
 use cw_lex::{Code, Tok, TokKind};
-use cw_lines::{LineOut, PutError};
+use cw_lines::{PutError, Sheet};
 
 /// Puts what a token prints.
 pub(crate) fn put_token<D: Desk>(
     text: &[u8],
     token: &Tok,
-    out: &mut LineOut,
-    desk: &mut D,
+    sheet: &mut Sheet<D>,
 ) -> Result<(), PutError>
-    requires can { CanWrite (D.told desk.old) out.old }
-    ensures { Puts (inked (holds_bytes out.old) (token_inks text.now token.now.kind (seen token.now))) out.old out.new
-        (D.told desk.old) (D.told desk.new) result }
+    requires can { CanPrint D.told sheet.old }
+    ensures { Prints D.told
+        (inked (holds_bytes sheet.old.line.now) (token_inks text.now token.now.kind (seen token.now)))
+        sheet.old sheet.new result }
 {
     let copies = is_text(token.kind);
     if copies {
-        return copy(text, token.span, out, desk);
+        return copy(text, token.span, sheet);
     }
-    out.put_all(kind_bytes(token.kind), desk)
+    sheet.put_all(kind_bytes(token.kind))
 }
 
 /// Whether a token prints nothing.

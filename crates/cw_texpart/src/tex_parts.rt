@@ -3,7 +3,8 @@ ghost use Rattle.std.specs.Prelude.{◌≡◌, ◌^◌, ◌-◌, ◌<◌, ◌≤
 ghost use Rattle.cw_base.specs.Web.{text_of};
 ghost use Rattle.cw_rules.specs.Answers.{seen};
 ghost use Rattle.cw_rules.specs.declared.tokens.Mode.TheVariants.{Inner};
-ghost use Rattle.cw_lines.specs.Writes.{CanWrite, Puts};
+ghost use Rattle.cw_lines.specs.Sheets.{CanPrint, IsSameSheet, Prints};
+ghost use Rattle.cw_lines.specs.Writes.{CanWrite};
 ghost use Rattle.cw_phase1.specs.declared.sections.Section.{Section};
 ghost use Rattle.cw_translator.specs.NameParts.{AreNamesOf};
 ghost use Rattle.cw_texpart.specs.Done.{reprinted};
@@ -14,7 +15,7 @@ ghost use Rattle.cw_texts.specs.PieceForms.{piece_is};
 ghost use Rattle.cw_texpart.specs.TexParts.{IsWhole, IsWholePiece, piece_done, pieces_done, tex_done};
 ghost use Rattle.cw_texts.specs.TexPieces.{tex_pieces_of};
 ghost use Rattle.cw_texpart.specs.Texts.{lasting, name_done, setting, text_done};
-ghost use Rattle.cw_texpart.specs.Weaving.{Weaves};
+ghost use Rattle.cw_texpart.specs.Weaving.{Weaves, press};
 
 use crate::beside::code_beside;
 use crate::copying::{end_line_if, holds_bytes};
@@ -25,7 +26,7 @@ use crate::{CText, Counts};
 use cw_base::{Flags, Ledger, Span, Steps, Web};
 use cw_desk::Desk;
 use cw_lex::{Mode, Tok};
-use cw_lines::{LineOut, PutError};
+use cw_lines::{LineOut, PutError, Sheet};
 use cw_phase1::{Book, Section};
 use cw_texts::{Piece, Pieces};
 use std::alloc::Global;
@@ -52,19 +53,15 @@ impl<'a> Model for TexPart<'a> {
 }
 
 // Puts a token that is copied.
-fn put_copied<D: Desk>(
-    text: &[u8],
-    token: &Tok,
-    out: &mut LineOut,
-    desk: &mut D,
-) -> Result<Counts, PutError>
-    requires can { CanWrite (D.told desk.old) out.old }
-    ensures puts { Puts (inked (holds_bytes out.old) (token_inks text.now token.now.kind (seen token.now)))
-        out.old out.new (D.told desk.old) (D.told desk.new) result }
+fn put_copied<D: Desk>(text: &[u8], token: &Tok, sheet: &mut Sheet<D>) -> Result<Counts, PutError>
+    requires can { CanPrint D.told sheet.old }
+    ensures prints { Prints D.told
+        (inked (holds_bytes sheet.old.line.now) (token_inks text.now token.now.kind (seen token.now)))
+        sheet.old sheet.new result }
     ensures scraps { IfOk result (λ counts. counts.scraps ≡ 0) }
     ensures productions { IfOk result (λ counts. counts.productions ≡ 0) }
 {
-    put_token(text, token, out, desk)?;
+    put_token(text, token, sheet)?;
     Ok(Counts::none())
 }
 
@@ -73,18 +70,17 @@ fn put_inner<D: Desk, L: Ledger>(
     t: &mut TexPart,
     part: Span,
     book: &mut Book,
-    out: &mut LineOut,
-    desk: &mut D,
+    sheet: &mut Sheet<D>,
     steps: &mut Steps<L>,
 ) -> Result<Counts, PutError>
-    requires can { CanWrite (D.told desk.old) out.old }
+    requires can { CanPrint D.told sheet.old }
     requires short { length t.old.text ≤ 2 ^ 24 }
     requires whole { IsWhole t.old.text part }
     requires kept { AreNamesOf book.old.sec_names book.old.name_uses }
     ensures woven { Weaves (tex_setting t.old (lasting book.old))
         (text_done (tex_setting t.old (lasting book.old)) Inner true part book.old.names)
-        (record { book = book.old; line = out.old; told = D.told desk.old; steps = steps.old })
-        (record { book = book.new; line = out.new; told = D.told desk.new; steps = steps.new }) result }
+        (press D.told book.old sheet.old steps.old) (press D.told book.new sheet.new steps.new) result }
+    ensures sheet { IsSameSheet sheet.old sheet.new }
     ensures same { t.new ≡ t.old }
 {
     let c = CText {
@@ -102,7 +98,7 @@ fn put_inner<D: Desk, L: Ledger>(
         store: &t.rooms.store,
         list: translated.list,
     };
-    tree.print(t.alloc, book, out, desk)?;
+    tree.print(t.alloc, book, sheet)?;
     Ok(translated.counts)
 }
 
@@ -111,23 +107,22 @@ fn put_cited<D: Desk, L: Ledger>(
     t: &mut TexPart,
     part: Span,
     book: &mut Book,
-    out: &mut LineOut,
-    desk: &mut D,
+    sheet: &mut Sheet<D>,
     steps: &mut Steps<L>,
 ) -> Result<Counts, PutError>
-    requires can { CanWrite (D.told desk.old) out.old }
+    requires can { CanPrint D.told sheet.old }
     requires short { length t.old.text ≤ 2 ^ 24 }
     requires whole { IsWhole t.old.text part }
     requires kept { AreNamesOf book.old.sec_names book.old.name_uses }
     ensures woven { Weaves (tex_setting t.old (lasting book.old))
         (name_done (tex_setting t.old (lasting book.old)) true part book.old.names)
-        (record { book = book.old; line = out.old; told = D.told desk.old; steps = steps.old })
-        (record { book = book.new; line = out.new; told = D.told desk.new; steps = steps.new }) result }
+        (press D.told book.old sheet.old steps.old) (press D.told book.new sheet.new steps.new) result }
+    ensures sheet { IsSameSheet sheet.old sheet.new }
     ensures same { t.new ≡ t.old }
 {
     match book.name_uses.at(part.start as u32) {
         None => Ok(Counts::none()),
-        Some(_id) => put_inner(t, part, book, out, desk, steps),
+        Some(_id) => put_inner(t, part, book, sheet, steps),
     }
 }
 
@@ -136,25 +131,24 @@ fn put_piece<D: Desk, L: Ledger>(
     t: &mut TexPart,
     piece: Piece,
     book: &mut Book,
-    out: &mut LineOut,
-    desk: &mut D,
+    sheet: &mut Sheet<D>,
     steps: &mut Steps<L>,
 ) -> Result<Counts, PutError>
-    requires can { CanWrite (D.told desk.old) out.old }
+    requires can { CanPrint D.told sheet.old }
     requires short { length t.old.text ≤ 2 ^ 24 }
     requires whole { IsWholePiece t.old.text (piece_is piece) }
     requires kept { AreNamesOf book.old.sec_names book.old.name_uses }
     ensures woven { Weaves (tex_setting t.old (lasting book.old))
-        (reprinted (inked (holds_bytes out.old))
+        (reprinted (inked (holds_bytes sheet.old.line.now))
         (piece_done (tex_setting t.old (lasting book.old)) (piece_is piece.entry) book.old.names))
-        (record { book = book.old; line = out.old; told = D.told desk.old; steps = steps.old })
-        (record { book = book.new; line = out.new; told = D.told desk.new; steps = steps.new }) result }
+        (press D.told book.old sheet.old steps.old) (press D.told book.new sheet.new steps.new) result }
+    ensures sheet { IsSameSheet sheet.old sheet.new }
     ensures same { t.new ≡ t.old }
 {
     match piece {
-        Piece::Copied(token) => put_copied(t.text, &token, out, desk),
-        Piece::InnerText(part) => put_inner(t, part, book, out, desk, steps),
-        Piece::Cited(part) => put_cited(t, part, book, out, desk, steps),
+        Piece::Copied(token) => put_copied(t.text, &token, sheet),
+        Piece::InnerText(part) => put_inner(t, part, book, sheet, steps),
+        Piece::Cited(part) => put_cited(t, part, book, sheet, steps),
     }
 }
 
@@ -163,19 +157,18 @@ fn put_pieces<D: Desk, L: Ledger>(
     t: &mut TexPart,
     part: Span,
     book: &mut Book,
-    out: &mut LineOut,
-    desk: &mut D,
+    sheet: &mut Sheet<D>,
     steps: &mut Steps<L>,
 ) -> Result<Counts, PutError>
-    requires can { CanWrite (D.told desk.old) out.old }
+    requires can { CanPrint D.told sheet.old }
     requires short { length t.old.text ≤ 2 ^ 24 }
     requires whole { All (IsWholePiece t.old.text) (tex_pieces_of t.old.text part) }
     requires kept { AreNamesOf book.old.sec_names book.old.name_uses }
-    ensures { Weaves (tex_setting t.old (lasting book.old))
-        (reprinted (laid (holds_bytes out.old))
+    ensures weaves { Weaves (tex_setting t.old (lasting book.old))
+        (reprinted (laid (holds_bytes sheet.old.line.now))
         (pieces_done (tex_setting t.old (lasting book.old)) (tex_pieces_of t.old.text part) book.old.names))
-        (record { book = book.old; line = out.old; told = D.told desk.old; steps = steps.old })
-        (record { book = book.new; line = out.new; told = D.told desk.new; steps = steps.new }) result }
+        (press D.told book.old sheet.old steps.old) (press D.told book.new sheet.new steps.new) result }
+    ensures same { IsSameSheet sheet.old sheet.new }
 {
     let mut pieces = Pieces::over(t.text, part);
     let mut counts = Counts::none();
@@ -183,12 +176,12 @@ fn put_pieces<D: Desk, L: Ledger>(
         let next = pieces.next()?;
         match next {
             Some(piece) => {
-                let more = put_piece(t, piece, book, out, desk, steps)?;
+                let more = put_piece(t, piece, book, sheet, steps)?;
                 counts = counts.plus(more)?;
             }
             None => {
-                let holds = holds_bytes(out);
-                end_line_if(holds, out, desk)?;
+                let holds = holds_bytes(sheet.line);
+                end_line_if(holds, sheet)?;
                 return Ok(counts);
             }
         }
@@ -200,30 +193,29 @@ fn put_section<D: Desk, L: Ledger>(
     t: &mut TexPart,
     section: Section,
     book: &mut Book,
-    out: &mut LineOut,
-    desk: &mut D,
+    sheet: &mut Sheet<D>,
     steps: &mut Steps<L>,
 ) -> Result<Counts, PutError>
-    requires can { CanWrite (D.told desk.old) out.old }
+    requires can { CanPrint D.told sheet.old }
     requires short { length t.old.text ≤ 2 ^ 24 }
     requires whole { All (IsWholePiece t.old.text) (tex_pieces_of t.old.text section.tex) }
     requires kept { AreNamesOf book.old.sec_names book.old.name_uses }
-    ensures { Weaves (tex_setting t.old (lasting book.old))
+    ensures weaves { Weaves (tex_setting t.old (lasting book.old))
         (tex_done (tex_setting t.old (lasting book.old)) section book.old.names)
-        (record { book = book.old; line = out.old; told = D.told desk.old; steps = steps.old })
-        (record { book = book.new; line = out.new; told = D.told desk.new; steps = steps.new }) result }
+        (press D.told book.old sheet.old steps.old) (press D.told book.new sheet.new steps.new) result }
+    ensures same { IsSameSheet sheet.old sheet.new }
 {
     let code = code_beside(t.text, t.flags, book, &section)?;
     let head = Head {
         alloc: t.alloc,
         text: t.text,
-        section,
+        section: &section,
         number: t.section,
         ranged: t.flags.ranged,
     };
-    put_head(head, out, desk)?;
+    put_head(head, sheet)?;
     if code.is_nothing() {
-        return put_pieces(t, section.tex, book, out, desk, steps);
+        return put_pieces(t, section.tex, book, sheet, steps);
     }
     Ok(Counts::none())
 }
@@ -261,5 +253,6 @@ pub fn copy_tex<D: Desk, L: Ledger>(
         alloc,
         rooms: Rooms::new_in(alloc),
     };
-    put_section(&mut t, head, book, out, desk, steps)
+    let mut sheet = Sheet { line: out, desk };
+    put_section(&mut t, head, book, &mut sheet, steps)
 }

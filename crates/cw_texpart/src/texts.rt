@@ -2,6 +2,7 @@
 ghost use Rattle.std.specs.Prelude.{◌≡◌, ◌^◌, ◌<◌, ◌≤◌, ◌++◌, false, length, true, IfOk, OnErr, OnOk};
 ghost use Rattle.cw_lex.specs.Lexing.{tokens_of};
 ghost use Rattle.cw_lex.specs.Nested.{begins_section_in, is_c_mode};
+ghost use Rattle.cw_lines.specs.Sheets.{CanPrint, Prints};
 ghost use Rattle.cw_lines.specs.Writes.{CanWrite, Puts};
 ghost use Rattle.cw_translator.specs.NameParts.{AreNamesOf};
 ghost use Rattle.cw_scraps.specs.Marking.{marked_names};
@@ -17,7 +18,7 @@ use cw_answers::{Answers, Reader};
 use cw_base::{Flags, Ledger, Memory, Span, Steps};
 use cw_desk::Desk;
 use cw_lex::Mode;
-use cw_lines::{LineOut, PutError};
+use cw_lines::{LineOut, PutError, Sheet};
 use cw_names::Xrefs;
 use cw_phase1::Book;
 use cw_print::{KeptText, print_answers};
@@ -92,15 +93,14 @@ impl StoredTree<'_, '_> {
         self,
         alloc: Global,
         book: &Book,
-        out: &mut LineOut,
-        desk: &mut D,
+        sheet: &mut Sheet<D>,
     ) -> Result<(), PutError>
-        requires can { CanWrite (D.told desk.old) out.old }
+        requires can { CanPrint D.told sheet.old }
         requires kept { IsKept self.text self.answers.now self.list.index (length self.store.now.lists) }
         requires named { IsNamedBelow (length book.now.names) (unfolded self.store.now.lists self.list.index) }
-        ensures { Puts (text_bytes self.entry.text book.now
+        ensures { Prints D.told (text_bytes self.entry.text book.now
             (unfolded self.entry.store.now.lists self.entry.list.index))
-            out.old out.new (D.told desk.old) (D.told desk.new) result }
+            sheet.old sheet.new result }
     {
         let text = KeptText {
             answers: self.answers,
@@ -109,7 +109,7 @@ impl StoredTree<'_, '_> {
             flags: self.text.flags,
             inner: self.text.inner,
         };
-        print_answers(alloc, text, self.store, self.list, out, desk)
+        print_answers(alloc, text, self.store, self.list, sheet.line, sheet.desk)
     }
 }
 
@@ -151,7 +151,8 @@ impl<'a> TranslatedText<'a> {
             store: &self.store,
             list: self.list,
         };
-        tree.print(alloc, book, out, desk)
+        let mut sheet = Sheet { line: out, desk };
+        tree.print(alloc, book, &mut sheet)
     }
 }
 

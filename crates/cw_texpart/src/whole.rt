@@ -11,7 +11,8 @@ use cw_texts::{Piece, Pieces};
 
 /// Whether each C text of the TeX part at a span is whole. It scans them; who knows it from elsewhere needs no look.
 pub fn is_whole(text: &[u8], part: Span) -> Result<bool, Memory>
-    ensures { IfOk result (λ whole. whole ≡ true → All (IsWholePiece text.now) (tex_pieces_of text.now part)) }
+    ensures whole { IfOk result (λ whole. whole ≡ true → All (IsWholePiece text.now) (tex_pieces_of text.now part)) }
+    ensures only { IfOk result (λ whole. All (IsWholePiece text.now) (tex_pieces_of text.now part) → whole ≡ true) }
 {
     let mut pieces = Pieces::over(text, part);
     'all: loop {
@@ -28,7 +29,8 @@ pub fn is_whole(text: &[u8], part: Span) -> Result<bool, Memory>
 }
 
 fn is_whole_piece(text: &[u8], piece: Piece) -> bool
-    ensures { result ≡ true → IsWholePiece text.now (piece_is piece.entry) }
+    ensures whole { result ≡ true → IsWholePiece text.now (piece_is piece.entry) }
+    ensures only { IsWholePiece text.now (piece_is piece.entry) → result ≡ true }
 {
     match piece {
         Piece::Copied(_) => true,
@@ -38,7 +40,8 @@ fn is_whole_piece(text: &[u8], piece: Piece) -> bool
 }
 
 fn is_whole_text(text: &[u8], part: Span) -> bool
-    ensures { result ≡ true → IsWhole text.now part }
+    ensures whole { result ≡ true → IsWhole text.now part }
+    ensures only { IsWhole text.now part → result ≡ true }
 {
     if part.start > part.end || part.end > text.len() {
         return false;

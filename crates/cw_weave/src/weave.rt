@@ -11,7 +11,8 @@ ghost use Rattle.cw_weave.specs.Looks.{book_looks, command_looks, looks_of, web_
 ghost use Rattle.cw_run.specs.Notes.{note_events};
 ghost use Rattle.cw_weave.specs.Pressing.{IsPrintable, flags_in, text_in};
 ghost use Rattle.cw_weave.specs.Proper.{IsProper};
-ghost use Rattle.cw_weave.specs.Woven.{book_of, change_text, weave_book, weave_command_of, weave_web, weave_whole, woven};
+ghost use Rattle.cw_weave.specs.Woven.{book_of, change_text, weave_book, weave_command_of};
+ghost use Rattle.cw_weave.specs.Woven.{weave_web, weave_whole, woven};
 ghost use Rattle.cw_weave.specs.Written.{AreWritten, events_of};
 
 use crate::ending::end_run;

@@ -6,4 +6,4 @@ use Rattle.cw_book_tests.proofs.part_tests.put_rest.Goals as goal
 pub weave_section-requires-clause-whole : goal.weave_section-requires-clause-whole
 weave_section-requires-clause-whole g c = λ s there.
     whole-as c.text.ensures.lines (one-section _ c.section-found.result s c.section-found.ensures there)
-    (c.is_whole_rest-whole.ensures c.if-not-whole.false)
+    (c.is_whole_rest-whole.ensures.whole c.if-not-whole.false)

@@ -5,4 +5,4 @@ use Rattle.cw_book_tests.proofs.tex_part_tests.put_first.Goals as goal
 pub copy_tex-requires-clause-whole : goal.copy_tex-requires-clause-whole
 copy_tex-requires-clause-whole g c = λ s there.
     whole-as c.text.ensures.lines (one-section _ c.section-section.result s c.section-section.ensures there)
-    (c.in_ok-whole.ensures c.if-not-whole.false)
+    (c.in_ok-whole.ensures.whole c.if-not-whole.false)

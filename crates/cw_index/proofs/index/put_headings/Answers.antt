@@ -6,17 +6,17 @@ use Rattle.cw_index.specs.declared.heading.Heading.{Heading}
 use Rattle.cw_index.specs.Headings.{IsNamed, row_of}
 use Rattle.cw_index.specs.Index.{row_bytes}
 use Rattle.cw_index.specs.Mentions.{Row}
-use Rattle.cw_index.proofs.PuttingLaws.{putting-next, putting-stop}
-use Rattle.cw_part.proofs.PutLaws.{putting-as}
-use Rattle.cw_part.proofs.PutLaws.{putting-begun}
+use Rattle.cw_index.proofs.PrintingLaws.{printing-next, printing-stop}
+use Rattle.cw_part.proofs.PrintLaws.{printing-as}
+use Rattle.cw_part.proofs.PrintLaws.{printing-begun}
 use Rattle.cw_index.proofs.index.put_headings.Goals as goal
 
 pub loop-heading-init : goal.loop-heading-init
 loop-heading-init g c = record {
-  put = putting-as
+  put = printing-as
       (ap (λ (headings : List Heading). flat_map (row_bytes c.args.book.now.outline.sections) (map row_of headings))
       (sym c.into_iter-heading-iterator.ensures.into_iter_gives.0))
-      (putting-begun _ _ _);
+      (printing-begun _ _ _);
   named = subst (All (IsNamed c.args.book.now.names))
       (sym c.into_iter-heading-iterator.ensures.into_iter_gives.0) c.requires.named;
 }
@@ -24,8 +24,8 @@ loop-heading-init g c = record {
 pub returns-in_err-put_heading : goal.returns-in_err-put_heading
 returns-in_err-put_heading g c =
     let f : Row → List ℕ = row_bytes c.args.book.now.outline.sections in
-    putting-stop (f (row_of c.in-Some.heading)) (flat_map f (map row_of c.next.new.self))
-    (putting-as
+    printing-stop (f (row_of c.in-Some.heading)) (flat_map f (map row_of c.next.new.self))
+    (printing-as
     (ap (λ (headings : List Heading). flat_map f (map row_of headings)) c.in-Some.ensures.steps)
     c.loop-heading.invariant.put)
     c.in_err-put_heading.ensures c.from_residual.ensures.1
@@ -34,8 +34,8 @@ pub loop-heading-preserved : goal.loop-heading-preserved
 loop-heading-preserved g c =
     let f : Row → List ℕ = row_bytes c.args.book.now.outline.sections in
     record {
-      put = putting-next (f (row_of c.in-Some.heading)) (flat_map f (map row_of c.next.new.self))
-          (putting-as
+      put = printing-next (f (row_of c.in-Some.heading)) (flat_map f (map row_of c.next.new.self))
+          (printing-as
           (ap (λ (headings : List Heading). flat_map f (map row_of headings)) c.in-Some.ensures.steps)
           c.loop-heading.invariant.put)
           c.in_ok-put_heading.ensures;

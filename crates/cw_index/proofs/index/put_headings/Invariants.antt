@@ -3,14 +3,13 @@ use Rattle.std.proofs.Common.{All, map}
 use Rattle.std.specs.List.{flat_map}
 use Rattle.cw_index.specs.Headings.{IsNamed, row_of}
 use Rattle.cw_index.specs.Index.{row_bytes}
-use Rattle.cw_part.proofs.PutLaws.{Putting}
+use Rattle.cw_part.proofs.PrintLaws.{Printing}
 use Rattle.cw_index.proofs.index.put_headings.Given as goal
 
 abbrev pub invariant-loop-heading : goal.invariant-loop-heading
-invariant-loop-heading g l = let told = g.D.Desk.told in
-    let f = row_bytes l.book.outline.sections in
+invariant-loop-heading g l = let f = row_bytes l.book.outline.sections in
     record {
-      put : Putting (flat_map f (map row_of l.heading-iterator))
-          (flat_map f (map row_of l.fn.headings.keys)) l.fn.out l.out (told l.fn.desk) (told l.desk);
+      put : Printing g.D.Desk.told (flat_map f (map row_of l.heading-iterator))
+          (flat_map f (map row_of l.fn.headings.keys)) l.fn.sheet l.sheet;
       named : All (IsNamed l.book.names) l.heading-iterator;
     }

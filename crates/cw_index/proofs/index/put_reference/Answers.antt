@@ -1,6 +1,6 @@
 -- Underlined, or not.
 use Rattle.std.proofs.Common.{Bool, ap, sym}
-use Rattle.cw_lines.specs.WritesLaws.{puts-bytes}
+use Rattle.cw_lines.specs.SheetLaws.{prints-bytes}
 use Rattle.cw_print.specs.Sources.{is_changed}
 use Rattle.cw_print.specs.Walk.{section_number}
 use Rattle.cw_index.specs.Index.{number_bytes}
@@ -8,7 +8,7 @@ use Rattle.cw_index.proofs.index.put_reference.Goals as goal
 
 pub returns-then-section : goal.returns-then-section
 returns-then-section g c =
-    puts-bytes
+    prints-bytes
     (ap (λ (u : Bool). number_bytes u
     (section_number c.args.section.section (is_changed c.args.book.now.outline.sections c.args.section.section)))
     (sym c.if-section.true))
@@ -16,7 +16,7 @@ returns-then-section g c =
 
 pub returns : goal.returns
 returns g c =
-    puts-bytes
+    prints-bytes
     (ap (λ (u : Bool). number_bytes u
     (section_number c.args.section.section (is_changed c.args.book.now.outline.sections c.args.section.section)))
     (sym c.if-section.false))

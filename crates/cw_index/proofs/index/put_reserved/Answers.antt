@@ -11,11 +11,13 @@ pub push-requires-clause-come : goal.push-requires-clause-come
 push-requires-clause-come g c = record { named = c.requires.name; room = tt {0}; prints = refl }
 
 pub returns-in_err-push : goal.returns-in_err-push
-returns-in_err-push g c =
-    puts-failing
-    (added-reserved c.new-joiner.result.inner c.args.id.index
-    (word_at reserved_bytes c.args.names.now c.args.id.index) c.new-joiner.ensures.inner)
-    (c.in_err-push.ensures.puts [] c.new-joiner.ensures.stands) c.from_residual.ensures.1
+returns-in_err-push g c = record {
+  puts = puts-failing
+      (added-reserved c.new-joiner.result.inner c.args.id.index
+      (word_at reserved_bytes c.args.names.now c.args.id.index) c.new-joiner.ensures.inner)
+      (c.in_err-push.ensures.puts [] c.new-joiner.ensures.stands) c.from_residual.ensures.1;
+  same = record { line = refl; desk = refl };
+}
 
 pub finish-requires : goal.finish-requires
 finish-requires g c = record {
@@ -24,12 +26,14 @@ finish-requires g c = record {
 }
 
 pub returns : goal.returns
-returns g c =
-    let bytes : List ℕ = word_at reserved_bytes c.args.names.now c.args.id.index in
-    puts-bytes
-    ((λ i. added-reserved c.new-joiner.result.inner c.args.id.index bytes c.new-joiner.ensures.inner i
-    ++ late-reserved c.push.new.self.inner c.args.id.index bytes
-    (c.in_ok-push.ensures.inner ∙ c.new-joiner.ensures.inner) i) ∙ append-nil bytes)
-    (puts-then (c.in_ok-push.ensures.puts [] c.new-joiner.ensures.stands)
-    (c.finish.ensures.puts (reserved c.args.id.index bytes ∷ [])
-    (c.in_ok-push.ensures.stands [] c.new-joiner.ensures.stands)))
+returns g c = record {
+  puts = let bytes : List ℕ = word_at reserved_bytes c.args.names.now c.args.id.index in
+      puts-bytes
+      ((λ i. added-reserved c.new-joiner.result.inner c.args.id.index bytes c.new-joiner.ensures.inner i
+      ++ late-reserved c.push.new.self.inner c.args.id.index bytes
+      (c.in_ok-push.ensures.inner ∙ c.new-joiner.ensures.inner) i) ∙ append-nil bytes)
+      (puts-then (c.in_ok-push.ensures.puts [] c.new-joiner.ensures.stands)
+      (c.finish.ensures.puts (reserved c.args.id.index bytes ∷ [])
+      (c.in_ok-push.ensures.stands [] c.new-joiner.ensures.stands)));
+  same = record { line = refl; desk = refl };
+}

@@ -1,13 +1,13 @@
 -- A section that is listed, or none.
 use Rattle.std.proofs.Common.{sym, ◌∙◌}
-use Rattle.cw_lines.specs.WritesLaws.{puts-bytes, puts-none}
+use Rattle.cw_lines.specs.SheetLaws.{prints-bytes, prints-none}
 use Rattle.cw_index.specs.Index.{section_bytes}
 use Rattle.cw_index.proofs.SectionLaws.{printed-none, printed-one}
 use Rattle.cw_index.proofs.index.put_section.Goals as goal
 
 pub returns-then-lists : goal.returns-then-lists
 returns-then-lists g c =
-    puts-bytes
+    prints-bytes
     (sym (printed-one
     (section_bytes c.args.book.now.outline.sections) c.args.heading.now.underlined_only c.args.section
     (sym c.lists.ensures ∙ c.if-lists.true)))
@@ -15,8 +15,8 @@ returns-then-lists g c =
 
 pub returns : goal.returns
 returns g c =
-    puts-bytes
+    prints-bytes
     (sym (printed-none
     (section_bytes c.args.book.now.outline.sections) c.args.heading.now.underlined_only c.args.section
     (sym c.lists.ensures ∙ c.if-lists.false)))
-    (puts-none _ _ _)
+    (prints-none _ _ _)

@@ -1,9 +1,12 @@
 -- A section's number is put with its mark where the book has the section as changed.
-use Rattle.std.proofs.Common.{Bool, ap}
+use Rattle.std.proofs.Common.{Bool, ap, refl}
 use Rattle.cw_lines.specs.WritesLaws.{puts-bytes}
 use Rattle.cw_print.specs.Walk.{section_number}
 use Rattle.cw_index.proofs.index.put_section_number.Goals as goal
 
 pub returns : goal.returns
-returns g c =
-    puts-bytes (ap (λ (changed : Bool). section_number c.args.number changed) c.is_changed.ensures) c.put_number.ensures
+returns g c = record {
+  puts = puts-bytes (ap (λ (changed : Bool). section_number c.args.number changed) c.is_changed.ensures)
+      c.put_number.ensures;
+  same = record { line = refl; desk = refl };
+}

@@ -2,14 +2,14 @@
 use Rattle.std.proofs.Common.{ℕ, ◌+◌, Bool, drop, List}
 use Rattle.cw_names.specs.declared.xrefs.SectionRef.{SectionRef}
 use Rattle.cw_index.specs.Index.{section_bytes}
-use Rattle.cw_index.proofs.PuttingLaws.{putting-next, putting-stop}
-use Rattle.cw_part.proofs.PutLaws.{putting-as}
-use Rattle.cw_part.proofs.PutLaws.{putting-begun}
+use Rattle.cw_index.proofs.PrintingLaws.{printing-next, printing-stop}
+use Rattle.cw_part.proofs.PrintLaws.{printing-as}
+use Rattle.cw_part.proofs.PrintLaws.{printing-begun}
 use Rattle.cw_index.proofs.SectionLaws.{listed_bytes, printed-more}
 use Rattle.cw_index.proofs.index.put_sections.Goals as goal
 
 pub loop-section-init : goal.loop-section-init
-loop-section-init g c = putting-begun _ _ _
+loop-section-init g c = printing-begun _ _ _
 
 pub returns-in_err-put_section : goal.returns-in_err-put_section
 returns-in_err-put_section g c =
@@ -17,8 +17,8 @@ returns-in_err-put_section g c =
     let only : Bool = c.args.heading.now.underlined_only in
     let ms : List SectionRef = c.args.heading.now.sections.now in
     let i : ℕ = c.loop-section.section-index in
-    putting-stop _ (listed_bytes f only (drop (i + 1) ms))
-    (putting-as (printed-more f only ms i _ c.loop-section-test.true) c.loop-section.invariant)
+    printing-stop _ (listed_bytes f only (drop (i + 1) ms))
+    (printing-as (printed-more f only ms i _ c.loop-section-test.true) c.loop-section.invariant)
     c.in_err-put_section.ensures c.from_residual.ensures.1
 
 pub loop-section-preserved : goal.loop-section-preserved
@@ -27,6 +27,6 @@ loop-section-preserved g c =
     let only : Bool = c.args.heading.now.underlined_only in
     let ms : List SectionRef = c.args.heading.now.sections.now in
     let i : ℕ = c.loop-section.section-index in
-    putting-next _ (listed_bytes f only (drop (i + 1) ms))
-    (putting-as (printed-more f only ms i _ c.loop-section-test.true) c.loop-section.invariant)
+    printing-next _ (listed_bytes f only (drop (i + 1) ms))
+    (printing-as (printed-more f only ms i _ c.loop-section-test.true) c.loop-section.invariant)
     c.in_ok-put_section.ensures

@@ -12,8 +12,8 @@ use Rattle.cw_index.proofs.ListedLaws.{back-refused, front-refused, listed-woven
 use Rattle.cw_index.proofs.PlaceLaws.{whole-within}
 use Rattle.cw_index.proofs.names.put_listed.Goals as goal
 
-pub returns-in_err-put_all : goal.returns-in_err-put_all
-returns-in_err-put_all g c = front-refused _ c.in_err-put_all.ensures.puts c.from_residual.ensures.1
+pub returns-in_err-put_all-clause-weaves : goal.returns-in_err-put_all-clause-weaves
+returns-in_err-put_all-clause-weaves g c = front-refused _ c.in_err-put_all.ensures.puts c.from_residual.ensures.1
 
 pub name_span-requires : goal.name_span-requires
 name_span-requires g c = whole-within c.args.t.text.now c.args.listed c.requires.whole
@@ -32,8 +32,8 @@ print_text-requires g c =
       kept = c.requires.kept;
     }
 
-pub returns-in_err-counts : goal.returns-in_err-counts
-returns-in_err-counts g c =
+pub returns-in_err-counts-clause-weaves : goal.returns-in_err-counts-clause-weaves
+returns-in_err-counts-clause-weaves g c =
     let s : Setting = list_setting c.args.t (lasting c.args.book.now) in
     text-refused (name_ending s c.args.listed) c.in_ok-put_all.ensures.puts
     (weaves-as
@@ -41,8 +41,8 @@ returns-in_err-counts g c =
     c.in_err-counts.ensures)
     c.from_residual-in_err-counts.ensures.1
 
-pub returns-in_err-put_all-2 : goal.returns-in_err-put_all-2
-returns-in_err-put_all-2 g c =
+pub returns-in_err-put_all-2-clause-weaves : goal.returns-in_err-put_all-2-clause-weaves
+returns-in_err-put_all-2-clause-weaves g c =
     let s : Setting = list_setting c.args.t (lasting c.args.book.now) in
     back-refused (text_done s Inner false (name_span c.args.t.text.now c.args.listed.place))
     (name_ending s c.args.listed) c.in_ok-put_all.ensures.puts
@@ -52,8 +52,8 @@ returns-in_err-put_all-2 g c =
     (puts-longer (use_notes (lasting c.args.book.now) c.args.listed) c.in_err-put_all-2.ensures.puts)
     c.from_residual-in_err-put_all-2.ensures.1
 
-pub returns-in_err-put_use_footnotes : goal.returns-in_err-put_use_footnotes
-returns-in_err-put_use_footnotes g c =
+pub returns-in_err-put_use_footnotes-clause-weaves : goal.returns-in_err-put_use_footnotes-clause-weaves
+returns-in_err-put_use_footnotes-clause-weaves g c =
     let s : Setting = list_setting c.args.t (lasting c.args.book.now) in
     back-refused (text_done s Inner false (name_span c.args.t.text.now c.args.listed.place))
     (name_ending s c.args.listed) c.in_ok-put_all.ensures.puts
@@ -65,8 +65,8 @@ returns-in_err-put_use_footnotes g c =
     (ap (λ (l : Lasting). use_notes l c.args.listed) c.in_ok-counts.ensures.same) c.in_err-put_use_footnotes.ensures))
     c.from_residual-in_err-put_use_footnotes.ensures.1
 
-pub returns : goal.returns
-returns g c =
+pub returns-clause-weaves : goal.returns-clause-weaves
+returns-clause-weaves g c =
     let s : Setting = list_setting c.args.t (lasting c.args.book.now) in
     listed-woven (text_done s Inner false (name_span c.args.t.text.now c.args.listed.place))
     (name_ending s c.args.listed) c.in_ok-put_all.ensures.puts

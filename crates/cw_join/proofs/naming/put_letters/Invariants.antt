@@ -4,5 +4,4 @@ use Rattle.cw_join.proofs.MacroLaws.{LettersPut}
 use Rattle.cw_join.proofs.naming.put_letters.Given as goal
 
 abbrev pub invariant-letters : goal.invariant-letters
-invariant-letters g l = let told = g.D.Desk.told in LettersPut l.name (drop l.byte-index l.name) l.fn.out l.out
-    (told l.fn.desk) (told l.desk)
+invariant-letters g l = LettersPut g.D.Desk.told l.name (drop l.byte-index l.name) l.fn.sheet l.sheet

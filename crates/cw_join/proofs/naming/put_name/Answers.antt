@@ -1,15 +1,15 @@
 -- The bytes before the first backslash, and then the pieces behind it, are the bytes of the name.
 use Rattle.cw_trees.specs.Printing.{name_bytes}
-use Rattle.cw_lines.specs.WritesLaws.{puts-failing, puts-longer, puts-then, puts-bytes}
+use Rattle.cw_lines.specs.SheetLaws.{prints-failing, prints-longer, prints-then, prints-bytes}
 use Rattle.cw_join.proofs.NameLaws.{name-parts, name-begins}
 use Rattle.cw_join.proofs.naming.put_name.Goals as goal
 
 pub returns-in_err-put_all : goal.returns-in_err-put_all
 returns-in_err-put_all g c =
-    puts-failing
+    prints-failing
     (name-parts c.args.name.now c.split_at.result.0.now c.split_at.result.1.now c.plain_size-size.result
     c.plain_size-size.ensures.size c.split_at.ensures.front c.split_at.ensures.back)
-    (puts-longer (name_bytes c.split_at.result.1.now) c.in_err-put_all.ensures.puts) c.from_residual.ensures.1
+    (prints-longer (name_bytes c.split_at.result.1.now) c.in_err-put_all.ensures) c.from_residual.ensures.1
 
 pub put_pieces-requires-clause-begins : goal.put_pieces-requires-clause-begins
 put_pieces-requires-clause-begins g c =
@@ -18,7 +18,7 @@ put_pieces-requires-clause-begins g c =
 
 pub returns : goal.returns
 returns g c =
-    puts-bytes
+    prints-bytes
     (name-parts c.args.name.now c.split_at.result.0.now c.split_at.result.1.now c.plain_size-size.result
     c.plain_size-size.ensures.size c.split_at.ensures.front c.split_at.ensures.back)
-    (puts-then c.in_ok-put_all.ensures.puts c.put_pieces.ensures)
+    (prints-then c.in_ok-put_all.ensures c.put_pieces.ensures)

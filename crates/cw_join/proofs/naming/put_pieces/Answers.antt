@@ -3,14 +3,14 @@ use Rattle.std.proofs.Common.{◌≡◌, ◌<◌, List, ℕ, [], ◌∷◌, ◌+
 use Rattle.std.proofs.lemmas.Bool.{eqb-true}
 use Rattle.std.proofs.lemmas.List.{append-nil}
 use Rattle.cw_trees.specs.Printing.{name_bytes}
-use Rattle.cw_lines.specs.WritesLaws.{puts-failing, puts-longer, puts-none, puts-then, puts-bytes}
+use Rattle.cw_lines.specs.SheetLaws.{prints-failing, prints-longer, prints-none, prints-then, prints-bytes}
 use Rattle.cw_join.proofs.NameLaws.{nothing, some, piece-begins, pieces-more}
 use Rattle.cw_join.proofs.naming.put_pieces.Goals as goal
 
 pub pieces-init : goal.pieces-init
 pieces-init g c = record {
   done = [];
-  put = puts-none c.args.out.now (g.D.Desk.told c.args.desk.now) (tt {0});
+  put = prints-none _ _ (tt {0});
   is = refl;
   begins = c.requires.begins;
 }
@@ -19,11 +19,12 @@ pub returns-in_err-put_marked : goal.returns-in_err-put_marked
 returns-in_err-put_marked g c =
     let rest : List ℕ = c.pieces.rest.now in
     let there : 0 < length rest = some rest (sym c.is_empty.ensures ∙ c.pieces-test.true) in
-    puts-failing
+    prints-failing
     (pieces-more c.pieces.invariant.done c.args.bytes.now rest c.split_at.result.0.now c.split_at.result.1.now
     c.piece_size-size.result c.pieces.invariant.is c.pieces.invariant.begins there c.piece_size-size.ensures.size
     c.split_at.ensures.front c.split_at.ensures.back)
-    (puts-longer (name_bytes c.split_at.result.1.now) (puts-then c.pieces.invariant.put c.in_err-put_marked.ensures))
+    (prints-longer (name_bytes c.split_at.result.1.now)
+    (prints-then c.pieces.invariant.put c.in_err-put_marked.ensures))
     c.from_residual.ensures.1
 
 pub pieces-preserved : goal.pieces-preserved
@@ -32,7 +33,7 @@ pieces-preserved g c =
     let there : 0 < length rest = some rest (sym c.is_empty.ensures ∙ c.pieces-test.true) in
     record {
       done = c.pieces.invariant.done ++ (92 ∷ c.split_at.result.0.now);
-      put = puts-then c.pieces.invariant.put c.in_ok-put_marked.ensures;
+      put = prints-then c.pieces.invariant.put c.in_ok-put_marked.ensures;
       is = pieces-more c.pieces.invariant.done c.args.bytes.now rest c.split_at.result.0.now c.split_at.result.1.now
           c.piece_size-size.result c.pieces.invariant.is c.pieces.invariant.begins there c.piece_size-size.ensures.size
           c.split_at.ensures.front c.split_at.ensures.back;
@@ -44,6 +45,6 @@ pub returns : goal.returns
 returns g c =
     let rest : List ℕ = c.pieces.rest.now in
     let over : [] ≡ rest = nothing rest (eqb-true (length rest) 0 (sym c.is_empty.ensures ∙ c.pieces-test.false)) in
-    puts-bytes (sym (append-nil c.pieces.invariant.done)
+    prints-bytes (sym (append-nil c.pieces.invariant.done)
     ∙ ap (λ (l : List ℕ). c.pieces.invariant.done ++ name_bytes l) over ∙ c.pieces.invariant.is)
     c.pieces.invariant.put

@@ -4,8 +4,7 @@ use Rattle.cw_join.proofs.NameLaws.{PiecesPut}
 use Rattle.cw_join.proofs.naming.put_pieces.Given as goal
 
 abbrev pub invariant-pieces : goal.invariant-pieces
-invariant-pieces g l = let told = g.D.Desk.told in PiecesPut l.fn.bytes l.rest l.fn.out l.out (told l.fn.desk)
-    (told l.desk)
+invariant-pieces g l = PiecesPut g.D.Desk.told l.fn.bytes l.rest l.fn.sheet l.sheet
 
 abbrev pub decreases-pieces : goal.decreases-pieces
 decreases-pieces g l = length l.rest

@@ -2,11 +2,11 @@
 use Rattle.std.proofs.Common.{ℕ, ◌-◌, ◌≤◌, List, ◌++◌, drop, get_or, length, map, take, arith}
 use Rattle.cw_part.specs.Footnotes.{later_numbers, number_in}
 use Rattle.cw_part.proofs.FootnoteLaws.{later-next}
-use Rattle.cw_part.proofs.PutLaws.{putting-as, putting-begun, putting-next, putting-stopped}
+use Rattle.cw_part.proofs.PrintLaws.{printing-as, printing-begun, printing-next, printing-stopped}
 use Rattle.cw_part.proofs.footnotes.put_later.Goals as goal
 
 pub loop-rest-init : goal.loop-rest-init
-loop-rest-init g c = putting-begun _ _ _
+loop-rest-init g c = printing-begun _ _ _
 
 pub returns-in_err-put_all : goal.returns-in_err-put_all
 returns-in_err-put_all g c =
@@ -14,10 +14,10 @@ returns-in_err-put_all g c =
     let shown : ℕ → List ℕ = number_in c.args.book.now.outline.sections in
     let some : 1 ≤ length numbers = omega arith in
     let later : List ℕ = later_numbers (map shown (take (length numbers - 1) (drop 1 numbers))) in
-    putting-stopped (shown (get_or numbers 0 0) ++ later)
-    (putting-as (later-next shown numbers c.separator.result.now some (c.separator.ensures shown))
+    printing-stopped (shown (get_or numbers 0 0) ++ later)
+    (printing-as (later-next shown numbers c.separator.result.now some (c.separator.ensures shown))
     c.loop-rest.invariant)
-    c.in_err-put_all.ensures.puts c.from_residual.ensures.1
+    c.in_err-put_all.ensures c.from_residual.ensures.1
 
 pub returns-in_err-put_section : goal.returns-in_err-put_section
 returns-in_err-put_section g c =
@@ -25,11 +25,11 @@ returns-in_err-put_section g c =
     let shown : ℕ → List ℕ = number_in c.args.book.now.outline.sections in
     let some : 1 ≤ length numbers = omega arith in
     let later : List ℕ = later_numbers (map shown (take (length numbers - 1) (drop 1 numbers))) in
-    putting-stopped later
-    (putting-next {rest = shown (get_or numbers 0 0) ++ later}
-    (putting-as (later-next shown numbers c.separator.result.now some (c.separator.ensures shown))
+    printing-stopped later
+    (printing-next {rest = shown (get_or numbers 0 0) ++ later}
+    (printing-as (later-next shown numbers c.separator.result.now some (c.separator.ensures shown))
     c.loop-rest.invariant)
-    c.in_ok-put_all.ensures.puts)
+    c.in_ok-put_all.ensures)
     c.in_err-put_section.ensures c.from_residual-in_err-put_section.ensures.1
 
 pub loop-rest-preserved : goal.loop-rest-preserved
@@ -38,9 +38,9 @@ loop-rest-preserved g c =
     let shown : ℕ → List ℕ = number_in c.args.book.now.outline.sections in
     let some : 1 ≤ length numbers = omega arith in
     let later : List ℕ = later_numbers (map shown (take (length numbers - 1) (drop 1 numbers))) in
-    putting-next {rest = later}
-    (putting-next {rest = shown (get_or numbers 0 0) ++ later}
-    (putting-as (later-next shown numbers c.separator.result.now some (c.separator.ensures shown))
+    printing-next {rest = later}
+    (printing-next {rest = shown (get_or numbers 0 0) ++ later}
+    (printing-as (later-next shown numbers c.separator.result.now some (c.separator.ensures shown))
     c.loop-rest.invariant)
-    c.in_ok-put_all.ensures.puts)
+    c.in_ok-put_all.ensures)
     c.in_ok-put_section.ensures

@@ -1,19 +1,19 @@
 -- Other definitions, and then citations and uses.
 use Rattle.std.specs.Prelude.{Some}
-use Rattle.cw_lines.specs.WritesLaws.{puts-bytes, puts-stop, puts-then}
+use Rattle.cw_lines.specs.SheetLaws.{prints-bytes, prints-stop, prints-then}
 use Rattle.cw_part.specs.Footnotes.{of_name, use_footnotes}
 use Rattle.cw_part.proofs.FootnoteLaws.{defined-first}
 use Rattle.cw_part.proofs.footnotes.put_name_footnotes.Goals as goal
 
 pub returns-in_err-put_footnote : goal.returns-in_err-put_footnote
 returns-in_err-put_footnote g c =
-    puts-bytes (defined-first c.args.book.now.outline.sections c.args.book.now.sec_names c.args.id
+    prints-bytes (defined-first c.args.book.now.outline.sections c.args.book.now.sec_names c.args.id
     c.defined_in.result.now c.behind_first-others.result.now c.defined_in.ensures.value c.behind_first-others.ensures)
-    (puts-stop (of_name (use_footnotes c.args.book.now.outline.sections) c.args.book.now.sec_names (Some c.args.id))
+    (prints-stop (of_name (use_footnotes c.args.book.now.outline.sections) c.args.book.now.sec_names (Some c.args.id))
     c.in_err-put_footnote.ensures c.from_residual.ensures.1)
 
 pub returns : goal.returns
 returns g c =
-    puts-bytes (defined-first c.args.book.now.outline.sections c.args.book.now.sec_names c.args.id
+    prints-bytes (defined-first c.args.book.now.outline.sections c.args.book.now.sec_names c.args.id
     c.defined_in.result.now c.behind_first-others.result.now c.defined_in.ensures.value c.behind_first-others.ensures)
-    (puts-then c.in_ok-put_footnote.ensures c.put_use_footnotes.ensures)
+    (prints-then c.in_ok-put_footnote.ensures c.put_uses.ensures)

@@ -17,15 +17,15 @@ use Rattle.cw_part.proofs.ParagraphLaws.{
 }
 use Rattle.cw_part.proofs.paragraphs.print_paragraph.Goals as goal
 
-pub returns-in_err-translated : goal.returns-in_err-translated
-returns-in_err-translated g c =
+pub returns-in_err-translated-clause-weaves : goal.returns-in_err-translated-clause-weaves
+returns-in_err-translated-clause-weaves g c =
     let d : Done ℕ = text_of c.args.p c.args.paragraph (lasting c.args.book.now) c.args.book.now.names in
     paragraph-refused c.args.paragraph.front.now
-    (c.args.paragraph.always || nat_lt 0 (scraps_in d.ended)) c.args.out.now (g.D.Desk.told c.args.desk.now)
-    c.in_err-translated.ensures.translates c.from_residual.ensures.1
+    (c.args.paragraph.always || nat_lt 0 (scraps_in d.ended)) c.args.sheet.now.line.now
+    (g.D.Desk.told c.args.sheet.now.desk.now) c.in_err-translated.ensures.translates c.from_residual.ensures.1
 
-pub returns-then-not-printed : goal.returns-then-not-printed
-returns-then-not-printed g c =
+pub returns-then-not-printed-clause-weaves : goal.returns-then-not-printed-clause-weaves
+returns-then-not-printed-clause-weaves g c =
     let d : Done ℕ = text_of c.args.p c.args.paragraph (lasting c.args.book.now) c.args.book.now.names in
     let is : (c.args.paragraph.always || nat_lt 0 (scraps_in d.ended)) ≡ false =
     printed-is c.args.paragraph.always c.is_printed-printed.result c.counts-counts.result.scraps
@@ -34,11 +34,11 @@ returns-then-not-printed g c =
     ∙ c.if-not-printed.true in
     counted c.counts-counts.ensures
     (paragraph-kept c.args.paragraph.front.now
-    (c.args.paragraph.always || nat_lt 0 (scraps_in d.ended)) c.args.out.now
-    (g.D.Desk.told c.args.desk.now) is c.in_ok-translated.ensures.translates)
+    (c.args.paragraph.always || nat_lt 0 (scraps_in d.ended)) c.args.sheet.now.line.now
+    (g.D.Desk.told c.args.sheet.now.desk.now) is c.in_ok-translated.ensures.translates)
 
-pub returns-in_err-put_all : goal.returns-in_err-put_all
-returns-in_err-put_all g c =
+pub returns-in_err-put_all-clause-weaves : goal.returns-in_err-put_all-clause-weaves
+returns-in_err-put_all-clause-weaves g c =
     let d : Done ℕ = text_of c.args.p c.args.paragraph (lasting c.args.book.now) c.args.book.now.names in
     let is : (c.args.paragraph.always || nat_lt 0 (scraps_in d.ended)) ≡ true =
     printed-is c.args.paragraph.always c.is_printed-printed.result c.counts-counts.result.scraps
@@ -50,8 +50,8 @@ returns-in_err-put_all g c =
     (puts-longer (codes "\\par\n") (puts-longer d.out c.in_err-put_all.ensures.puts))
     c.from_residual-in_err-put_all.ensures.1
 
-pub returns-in_err-print : goal.returns-in_err-print
-returns-in_err-print g c =
+pub returns-in_err-print-clause-weaves : goal.returns-in_err-print-clause-weaves
+returns-in_err-print-clause-weaves g c =
     let d : Done ℕ = text_of c.args.p c.args.paragraph (lasting c.args.book.now) c.args.book.now.names in
     let is : (c.args.paragraph.always || nat_lt 0 (scraps_in d.ended)) ≡ true =
     printed-is c.args.paragraph.always c.is_printed-printed.result c.counts-counts.result.scraps
@@ -65,8 +65,8 @@ returns-in_err-print g c =
     (puts-bytes c.in_ok-translated.ensures.printed c.in_err-print.ensures)))
     c.from_residual-in_err-print.ensures.1
 
-pub returns-in_err-put_all-2 : goal.returns-in_err-put_all-2
-returns-in_err-put_all-2 g c =
+pub returns-in_err-put_all-2-clause-weaves : goal.returns-in_err-put_all-2-clause-weaves
+returns-in_err-put_all-2-clause-weaves g c =
     let d : Done ℕ = text_of c.args.p c.args.paragraph (lasting c.args.book.now) c.args.book.now.names in
     let is : (c.args.paragraph.always || nat_lt 0 (scraps_in d.ended)) ≡ true =
     printed-is c.args.paragraph.always c.is_printed-printed.result c.counts-counts.result.scraps
@@ -79,8 +79,8 @@ returns-in_err-put_all-2 g c =
     (puts-bytes c.in_ok-translated.ensures.printed c.in_ok-print.ensures)) c.in_err-put_all-2.ensures.puts)
     c.from_residual-in_err-put_all-2.ensures.1
 
-pub returns : goal.returns
-returns g c =
+pub returns-clause-weaves : goal.returns-clause-weaves
+returns-clause-weaves g c =
     let d : Done ℕ = text_of c.args.p c.args.paragraph (lasting c.args.book.now) c.args.book.now.names in
     let is : (c.args.paragraph.always || nat_lt 0 (scraps_in d.ended)) ≡ true =
     printed-is c.args.paragraph.always c.is_printed-printed.result c.counts-counts.result.scraps

@@ -1,10 +1,11 @@
 -- The footnotes, and what stands behind them.
 use Rattle.std.specs.Prelude.{codes}
-use Rattle.cw_lines.specs.WritesLaws.{puts-stop, puts-then}
+use Rattle.cw_lines.specs.SheetLaws.{prints-stop, prints-then}
 use Rattle.cw_part.proofs.sections.put_ending.Goals as goal
 
 pub returns-in_err-put_footnotes : goal.returns-in_err-put_footnotes
-returns-in_err-put_footnotes g c = puts-stop (codes "\\fi\n\n") c.in_err-put_footnotes.ensures c.from_residual.ensures.1
+returns-in_err-put_footnotes g c =
+    prints-stop (codes "\\fi\n\n") c.in_err-put_footnotes.ensures c.from_residual.ensures.1
 
 pub returns : goal.returns
-returns g c = puts-then c.in_ok-put_footnotes.ensures c.put_all.ensures.puts
+returns g c = prints-then c.in_ok-put_footnotes.ensures c.put_all.ensures

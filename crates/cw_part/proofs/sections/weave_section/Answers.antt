@@ -1,5 +1,6 @@
 -- The section is the one of this number, and the text is that of the web.
 use Rattle.std.proofs.Common.{ap, refl, sym, arith}
+use Rattle.std.proofs.lemmas.Grind.{common_steps}
 use Rattle.cw_lines.specs.WritesLaws.{puts-nothing}
 use Rattle.cw_lines.specs.declared.put_error.PutError.TheVariants.{Memory}
 use Rattle.cw_part.specs.Sections.{rest_by}
@@ -20,10 +21,14 @@ print_rest-requires-clause-whole g c =
 
 pub returns : goal.returns
 returns g c = λ s there.
-    woven-as c.args.flags.now c.args.section c.args.book.now c.text-text.ensures.lines
-    (one-section _ c.section-printed.result s c.section-printed.ensures there)
-    (weaves-as
-    (ap (λ (code : Beside). rest_by code
-    (setting c.text-text.result.now c.args.flags.now c.args.section c.args.book.now) c.section-printed.result
-    c.args.book.now.names) c.in_ok-beside.ensures)
-    c.print_rest.ensures)
+    grind (
+      arith,
+      common_steps,
+      woven-as c.args.flags.now c.args.section c.args.book.now c.text-text.ensures.lines
+          (one-section _ c.section-printed.result s c.section-printed.ensures there)
+          (weaves-as
+          (ap (λ (code : Beside). rest_by code
+          (setting c.text-text.result.now c.args.flags.now c.args.section c.args.book.now) c.section-printed.result
+          c.args.book.now.names) c.in_ok-beside.ensures)
+          c.print_rest.ensures.weaves),
+    )

@@ -1,10 +1,10 @@
 -- One item goes behind another, and at the end comes what is left of a run.
 use Rattle.std.proofs.Common.{length, Bool, [], ◌+◌, ap, ◌++◌, ◌∙◌, take, arith}
 use Rattle.cw_tokens.specs.FlatItems.{items_are}
-use Rattle.cw_lines.specs.WritesLaws.{can-after, puts-bytes, puts-none, puts-nothing}
+use Rattle.cw_lines.specs.SheetLaws.{can-print-after, prints-bytes, prints-none, prints-nothing}
 use Rattle.cw_join.specs.Early.{late}
 use Rattle.cw_print.specs.Printing.{shown, source_of}
-use Rattle.cw_print.proofs.PrintingLaws.{fails-waiting, midway-begun, midway-ended, puts-all}
+use Rattle.cw_print.proofs.PrintingLaws.{fails-waiting, midway-begun, midway-ended, prints-all}
 use Rattle.cw_print.proofs.PrintingLaws.{stops-waiting, waits-none, waits-on}
 use Rattle.cw_print.proofs.printing.print_items.Goals as goal
 
@@ -13,11 +13,11 @@ loop-at-init g c = record {
   within = omega arith;
   midway = midway-begun (source_of c.args.c) c.args.c.inner (items_are c.args.items.now) c.over-printer.result
       c.over-printer.ensures c.requires.come;
-  waiting = record { done = []; put = puts-none _ _ (tt {0}); all = c.in_ok-buffer.ensures };
+  waiting = record { done = []; put = prints-none _ _ (tt {0}); all = c.in_ok-buffer.ensures };
 }
 
 pub returns-in_err-buffer : goal.returns-in_err-buffer
-returns-in_err-buffer g c = puts-nothing _ _ _ c.from_residual.ensures.1
+returns-in_err-buffer g c = prints-nothing _ _ c.from_residual.ensures.1
 
 pub print-requires : goal.print-requires
 print-requires g c = record {
@@ -32,7 +32,7 @@ returns-in_err-print g c =
     c.loop-at.invariant.waiting c.from_residual-in_err-print.ensures.1
 
 pub put_all-requires : goal.put_all-requires
-put_all-requires g c = record { can = can-after c.requires.can c.loop-at.invariant.waiting.put }
+put_all-requires g c = record { can = can-print-after c.requires.can c.loop-at.invariant.waiting.put }
 
 pub returns-in_err-put_all : goal.returns-in_err-put_all
 returns-in_err-put_all g c =
@@ -41,7 +41,7 @@ returns-in_err-put_all g c =
     (waits-on c.args.c.inner (source_of c.args.c) (items_are c.args.items.now) c.loop-at.at (c.loop-at.at + 1024)
     c.loop-at.buffer c.print.new.buffer c.loop-at.invariant.waiting
     (c.in_ok-print.ensures.bytes (source_of c.args.c) c.args.c.inner c.loop-at.invariant.midway))
-    (puts-bytes c.as_slice.ensures c.in_err-put_all.ensures.puts) c.from_residual-in_err-put_all.ensures.1
+    (prints-bytes c.as_slice.ensures c.in_err-put_all.ensures) c.from_residual-in_err-put_all.ensures.1
 
 pub loop-at-preserved : goal.loop-at-preserved
 loop-at-preserved g c = record {
@@ -52,7 +52,7 @@ loop-at-preserved g c = record {
       (waits-on c.args.c.inner (source_of c.args.c) (items_are c.args.items.now) c.loop-at.at (c.loop-at.at + 1024)
       c.loop-at.buffer c.print.new.buffer c.loop-at.invariant.waiting
       (c.in_ok-print.ensures.bytes (source_of c.args.c) c.args.c.inner c.loop-at.invariant.midway))
-      (puts-bytes c.as_slice.ensures c.in_ok-put_all.ensures.puts) c.cleared-buffer.ensures;
+      (prints-bytes c.as_slice.ensures c.in_ok-put_all.ensures) c.cleared-buffer.ensures;
 }
 
 pub print-requires-2 : goal.print-requires-2
@@ -80,12 +80,12 @@ returns-in_err-append_end g c =
     c.loop-at.invariant.waiting c.from_residual-in_err-append_end.ensures.1
 
 pub put_all-requires-2 : goal.put_all-requires-2
-put_all-requires-2 g c = record { can = can-after c.requires.can c.loop-at.invariant.waiting.put }
+put_all-requires-2 g c = record { can = can-print-after c.requires.can c.loop-at.invariant.waiting.put }
 
 pub returns : goal.returns
 returns g c =
     let end = c.in_ok-print-2.ensures.midway (source_of c.args.c) c.args.c.inner c.loop-at.invariant.midway in
-    puts-all c.args.items.now (length c.args.items.now) (omega arith) c.args.c.inner (source_of c.args.c)
+    prints-all c.args.items.now (length c.args.items.now) (omega arith) c.args.c.inner (source_of c.args.c)
     c.print-2.new.buffer
     c.append_end.new.out
     (waits-on c.args.c.inner (source_of c.args.c) (items_are c.args.items.now) c.loop-at.at (length c.args.items.now)
@@ -97,4 +97,4 @@ returns g c =
     ∙ ap (λ (b : Bool). c.print-2.new.buffer
     ++ late b (shown (source_of c.args.c) (take (length c.args.items.now) (items_are c.args.items.now))))
     end.behind.same_inner)
-    (puts-bytes c.as_slice-2.ensures c.put_all-2.ensures.puts)
+    (prints-bytes c.as_slice-2.ensures c.put_all-2.ensures)

@@ -6,11 +6,10 @@ use Rattle.cw_print.proofs.PrintingLaws.{Waiting}
 use Rattle.cw_print.proofs.printing.print_items.Given as goal
 
 abbrev pub invariant-loop-at : goal.invariant-loop-at
-invariant-loop-at g l = let told = g.D.Desk.told in record {
+invariant-loop-at g l = record {
   within : l.at ≤ length l.items;
   midway : Midway (source_of l.c) l.c.inner (items_are l.items) l.at l.printer;
-  waiting : Waiting l.c.inner (source_of l.c) (items_are l.items) l.at l.buffer l.fn.out l.out (told l.fn.desk)
-      (told l.desk);
+  waiting : Waiting g.D.Desk.told l.c.inner (source_of l.c) (items_are l.items) l.at l.buffer l.fn.sheet l.sheet;
 }
 
 abbrev pub decreases-loop-at : goal.decreases-loop-at

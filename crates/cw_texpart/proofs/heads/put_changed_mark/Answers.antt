@@ -1,8 +1,8 @@
 -- A section without a changed line has no mark.
 use Rattle.std.proofs.Common.{ap, sym}
-use Rattle.cw_lines.specs.WritesLaws.{puts-bytes, puts-none}
+use Rattle.cw_lines.specs.SheetLaws.{prints-bytes, prints-none}
 use Rattle.cw_print.specs.Walk.{changed_mark}
 use Rattle.cw_texpart.proofs.heads.put_changed_mark.Goals as goal
 
 pub returns : goal.returns
-returns g c = puts-bytes (ap changed_mark (sym c.if-changed.false)) (puts-none _ _ (tt {0}))
+returns g c = prints-bytes (ap changed_mark (sym c.if-changed.false)) (prints-none _ _ (tt {0}))

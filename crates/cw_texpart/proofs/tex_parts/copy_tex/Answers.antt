@@ -1,5 +1,6 @@
 -- The section is the one of this number, and the text is that of the web.
-use Rattle.std.proofs.Common.{refl, sym}
+use Rattle.std.proofs.Common.{refl, sym, arith}
+use Rattle.std.proofs.lemmas.Grind.{common_steps}
 use Rattle.cw_texpart.proofs.SectionLaws.{one-section, whole-as, woven-as}
 use Rattle.cw_texpart.proofs.tex_parts.copy_tex.Goals as goal
 
@@ -10,5 +11,9 @@ put_section-requires-clause-whole g c =
 
 pub returns : goal.returns
 returns g c = λ s there.
-    woven-as c.args.flags.now c.args.section c.args.book.now c.text-text.ensures.lines
-    (one-section _ c.section-head.result s c.section-head.ensures there) c.put_section.ensures
+    grind (
+      arith,
+      common_steps,
+      woven-as c.args.flags.now c.args.section c.args.book.now c.text-text.ensures.lines
+          (one-section _ c.section-head.result s c.section-head.ensures there) c.put_section.ensures.weaves,
+    )

@@ -5,7 +5,7 @@ use Rattle.std.proofs.lemmas.Grind.{common_steps}
 use Rattle.cw_rules.specs.declared.tokens.Mode.TheVariants.{Inner}
 use Rattle.cw_texpart.specs.PartForms.{TexSetting, tex_setting}
 use Rattle.cw_texpart.specs.Texts.{lasting, text_done}
-use Rattle.cw_texpart.specs.Weaving.{Weaves}
+use Rattle.cw_texpart.specs.Weaving.{Weaves, press}
 use Rattle.cw_texpart.proofs.TextLaws.{untranslated-woven}
 use Rattle.cw_texpart.proofs.tex_parts.put_inner.Goals as goal
 
@@ -13,18 +13,9 @@ pub returns-in_err-translated-clause-woven : goal.returns-in_err-translated-clau
 returns-in_err-translated-clause-woven g c =
     subst (λ (t : TexSetting). Weaves (tex_setting t (lasting c.args.book.now))
     (text_done (tex_setting t (lasting c.args.book.now)) Inner true c.args.part c.args.book.now.names)
-    (record {
-      book = c.args.book.now;
-      line = c.args.out.now;
-      told = g.D.Desk.told c.args.desk.now;
-      steps = c.args.steps.now;
-    })
-    (record {
-      book = c.translate_into.new.book;
-      line = c.args.out.now;
-      told = g.D.Desk.told c.args.desk.now;
-      steps = c.translate_into.new.steps;
-    }) c.from_residual.result) c.t.view_is
+    (press g.D.Desk.told c.args.book.now c.args.sheet.now c.args.steps.now)
+    (press g.D.Desk.told c.translate_into.new.book c.args.sheet.now c.translate_into.new.steps) c.from_residual.result)
+    c.t.view_is
     (untranslated-woven c.in_err-translated.ensures.translates c.from_residual.ensures.1)
 
 pub returns-in_err-print-clause-woven : goal.returns-in_err-print-clause-woven

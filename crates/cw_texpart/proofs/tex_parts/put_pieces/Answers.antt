@@ -2,6 +2,7 @@
 use Rattle.std.proofs.Common.{◌≡◌, ◌≤◌, ◌∙◌, Bool, sym, ap, subst, All, List, length, arith, rules}
 use Rattle.std.proofs.lemmas.List.Elements.{All-head, All-tail}
 use Rattle.std.specs.Prelude.{Result}
+use Rattle.cw_lines.specs.SheetLaws.{same-sheet, same-then}
 use Rattle.cw_lines.specs.WritesLaws.{can-after, puts-bytes}
 use Rattle.cw_lines.specs.declared.put_error.PutError.{PutError}
 use Rattle.cw_names.specs.Names.{Entry}
@@ -40,11 +41,12 @@ all-init g c =
       woven = weaving-counts c.none-counts.ensures.scraps c.none-counts.ensures.productions
           (weaving-as (sym begun) (weaving-begun _ _ _));
       same = search rules;
+      sheet = same-sheet _;
       whole = subst (All (IsWholePiece c.args.t.now.text)) (sym begun) c.requires.whole;
     }
 
-pub returns-in_err-next : goal.returns-in_err-next
-returns-in_err-next g c = weaving-refused c.all.invariant.woven c.from_residual.ensures.1
+pub returns-in_err-next-clause-weaves : goal.returns-in_err-next-clause-weaves
+returns-in_err-next-clause-weaves g c = weaving-refused c.all.invariant.woven c.from_residual.ensures.1
 
 pub put_piece-requires : goal.put_piece-requires
 put_piece-requires g c = record {
@@ -57,21 +59,21 @@ put_piece-requires g c = record {
   kept = subst (λ (l : Lasting). AreNamesOf l.sec_names l.name_uses) (sym c.all.invariant.woven.same) c.requires.kept;
 }
 
-pub returns-in_err-more-in-Some : goal.returns-in_err-more-in-Some
-returns-in_err-more-in-Some g c =
+pub returns-in_err-more-in-Some-clause-weaves : goal.returns-in_err-more-in-Some-clause-weaves
+returns-in_err-more-in-Some-clause-weaves g c =
     weaving-stopped (weaving-as
     (gave _ _ c.in_ok-next.next c.in-Some.piece c.in_ok-next.ensures c.in-Some.is) c.all.invariant.woven)
-    (moved (holds_bytes c.all.out)
+    (moved (holds_bytes c.all.sheet.line.now)
     (piece_is c.in-Some.piece) c.all.book.names c.all.invariant.same c.all.invariant.woven.same
     c.in_err-more-in-Some.ensures.woven)
     c.from_residual-in_err-more-in-Some.ensures.1
 
-pub returns-in_err-counts-in-Some : goal.returns-in_err-counts-in-Some
-returns-in_err-counts-in-Some g c =
+pub returns-in_err-counts-in-Some-clause-weaves : goal.returns-in_err-counts-in-Some-clause-weaves
+returns-in_err-counts-in-Some-clause-weaves g c =
     weaving-refused
     (weaving-next (weaving-as
     (gave _ _ c.in_ok-next.next c.in-Some.piece c.in_ok-next.ensures c.in-Some.is) c.all.invariant.woven)
-    (moved (holds_bytes c.all.out)
+    (moved (holds_bytes c.all.sheet.line.now)
     (piece_is c.in-Some.piece) c.all.book.names c.all.invariant.same c.all.invariant.woven.same
     c.in_ok-more-in-Some.ensures.woven))
     c.from_residual-in_err-counts-in-Some.ensures.1
@@ -81,10 +83,11 @@ all-preserved g c = record {
   woven = weaving-counts c.in_ok-counts-in-Some.ensures.scraps c.in_ok-counts-in-Some.ensures.productions
       (weaving-next (weaving-as
       (gave _ _ c.in_ok-next.next c.in-Some.piece c.in_ok-next.ensures c.in-Some.is) c.all.invariant.woven)
-      (moved (holds_bytes c.all.out)
+      (moved (holds_bytes c.all.sheet.line.now)
       (piece_is c.in-Some.piece) c.all.book.names c.all.invariant.same c.all.invariant.woven.same
       c.in_ok-more-in-Some.ensures.woven));
   same = c.in_ok-more-in-Some.ensures.same ∙ c.all.invariant.same;
+  sheet = same-then c.all.invariant.sheet c.in_ok-more-in-Some.ensures.sheet;
   whole = All-tail (IsWholePiece c.args.t.now.text) _ _
       (subst (All (IsWholePiece c.args.t.now.text))
       (gave _ _ c.in_ok-next.next c.in-Some.piece c.in_ok-next.ensures c.in-Some.is) c.all.invariant.whole);
@@ -97,14 +100,14 @@ all-smaller g c = omega
 pub end_line_if-requires : goal.end_line_if-requires
 end_line_if-requires g c = record { can = can-after c.requires.can c.all.invariant.woven.put }
 
-pub returns-in_err-end_line_if-in-None : goal.returns-in_err-end_line_if-in-None
-returns-in_err-end_line_if-in-None g c =
+pub returns-in_err-end_line_if-in-None-clause-weaves : goal.returns-in_err-end_line_if-in-None-clause-weaves
+returns-in_err-end_line_if-in-None-clause-weaves g c =
     weaving-end-refused (weaving-as
     (ended _ _ c.in_ok-next.next c.in_ok-next.ensures c.in-None.is) c.all.invariant.woven)
-    (puts-bytes (ap end_if c.holds_bytes-holds.ensures) c.in_err-end_line_if-in-None.ensures)
+    (puts-bytes (ap end_if c.holds_bytes-holds.ensures) c.in_err-end_line_if-in-None.ensures.puts)
     c.from_residual-in_err-end_line_if-in-None.ensures.1
 
-pub returns-in-None : goal.returns-in-None
-returns-in-None g c =
+pub returns-in-None-clause-weaves : goal.returns-in-None-clause-weaves
+returns-in-None-clause-weaves g c =
     weaving-ended (weaving-as (ended _ _ c.in_ok-next.next c.in_ok-next.ensures c.in-None.is) c.all.invariant.woven)
-    (puts-bytes (ap end_if c.holds_bytes-holds.ensures) c.in_ok-end_line_if-in-None.ensures)
+    (puts-bytes (ap end_if c.holds_bytes-holds.ensures) c.in_ok-end_line_if-in-None.ensures.puts)

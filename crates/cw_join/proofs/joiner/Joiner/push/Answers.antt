@@ -1,5 +1,6 @@
 -- A control of a run goes into it and any other item ends it: what is put and kept is that of one item more.
-use Rattle.std.proofs.Common.{[], ◌∷◌, ◌++◌, sym, subst}
+use Rattle.std.proofs.Common.{[], ◌∷◌, ◌++◌, sym, subst, arith}
+use Rattle.std.proofs.lemmas.Grind.{common_steps}
 use Rattle.std.proofs.lemmas.Result.{on_ok_weaker}
 use Rattle.cw_lines.specs.WritesLaws.{puts-bytes}
 use Rattle.cw_trees.specs.Printing.{Printable}
@@ -10,8 +11,13 @@ use Rattle.cw_join.proofs.joiner.Joiner.push.Goals as goal
 
 pub returns-in-Some-clause-puts : goal.returns-in-Some-clause-puts
 returns-in-Some-clause-puts g c =
-    λ ps s. puts-bytes (control-added c.args.self.now ps s (printable c.args.names.now c.args.token) c.in-Some.control
-    (sym c.in-Some.ensures)) c.push_control.ensures.puts
+    λ ps s. grind (
+      arith,
+      common_steps,
+      puts-bytes
+          (control-added c.args.self.now ps s (printable c.args.names.now c.args.token) c.in-Some.control
+          (sym c.in-Some.ensures)) c.push_control.ensures.prints.puts,
+    )
 
 pub returns-in-Some-clause-stands : goal.returns-in-Some-clause-stands
 returns-in-Some-clause-stands g c =
@@ -22,8 +28,13 @@ returns-in-Some-clause-stands g c =
 
 pub returns-in-None-clause-puts : goal.returns-in-None-clause-puts
 returns-in-None-clause-puts g c =
-    λ ps s. puts-bytes (other-added c.args.self.now ps s (printable c.args.names.now c.args.token)
-    (sym c.in-None.ensures)) c.push_other.ensures.puts
+    λ ps s. grind (
+      arith,
+      common_steps,
+      puts-bytes
+          (other-added c.args.self.now ps s (printable c.args.names.now c.args.token)
+          (sym c.in-None.ensures)) c.push_other.ensures.prints.puts,
+    )
 
 pub returns-in-None-clause-stands : goal.returns-in-None-clause-stands
 returns-in-None-clause-stands g c =

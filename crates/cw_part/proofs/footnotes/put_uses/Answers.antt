@@ -1,30 +1,30 @@
 -- Citations, and then uses.
 use Rattle.std.proofs.Common.{◌≤◌, length, arith}
 use Rattle.std.proofs.lemmas.Option.{slice_get_past}
-use Rattle.cw_lines.specs.WritesLaws.{puts-bytes, puts-none, puts-stop, puts-then}
+use Rattle.cw_lines.specs.SheetLaws.{prints-bytes, prints-none, prints-stop, prints-then}
 use Rattle.cw_part.specs.Footnotes.{of_name, use_footnotes}
 use Rattle.std.specs.Prelude.{Some}
 use Rattle.cw_part.proofs.FootnoteLaws.{cited-first, no-name, used-last, used_by}
-use Rattle.cw_part.proofs.footnotes.put_use_footnotes.Goals as goal
+use Rattle.cw_part.proofs.footnotes.put_uses.Goals as goal
 
 pub returns-then-id-len : goal.returns-then-id-len
 returns-then-id-len g c =
     let past : length c.args.book.now.sec_names ≤ c.args.id.index = omega (arith, c.len.ensures) in
-    puts-bytes (no-name (use_footnotes c.args.book.now.outline.sections) c.args.book.now.sec_names c.args.id
+    prints-bytes (no-name (use_footnotes c.args.book.now.outline.sections) c.args.book.now.sec_names c.args.id
     (slice_get_past c.args.book.now.sec_names c.args.id.index past))
-    (puts-none _ _ _)
+    (prints-none _ _ _)
 
 pub returns-in_err-put_footnote : goal.returns-in_err-put_footnote
 returns-in_err-put_footnote g c =
-    puts-bytes (cited-first c.args.book.now.outline.sections c.args.book.now.sec_names c.args.id c.cited_in.result.now
+    prints-bytes (cited-first c.args.book.now.outline.sections c.args.book.now.sec_names c.args.id c.cited_in.result.now
     c.cited_in.ensures.value)
-    (puts-stop (of_name (used_by c.args.book.now.outline.sections) c.args.book.now.sec_names (Some c.args.id))
+    (prints-stop (of_name (used_by c.args.book.now.outline.sections) c.args.book.now.sec_names (Some c.args.id))
     c.in_err-put_footnote.ensures c.from_residual.ensures.1)
 
 pub returns : goal.returns
 returns g c =
-    puts-bytes (cited-first c.args.book.now.outline.sections c.args.book.now.sec_names c.args.id c.cited_in.result.now
+    prints-bytes (cited-first c.args.book.now.outline.sections c.args.book.now.sec_names c.args.id c.cited_in.result.now
     c.cited_in.ensures.value)
-    (puts-then c.in_ok-put_footnote.ensures
-    (puts-bytes (used-last c.args.book.now.outline.sections c.args.book.now.sec_names c.args.id c.used_in.result.now
+    (prints-then c.in_ok-put_footnote.ensures
+    (prints-bytes (used-last c.args.book.now.outline.sections c.args.book.now.sec_names c.args.id c.used_in.result.now
     c.used_in.ensures.value) c.put_footnote-2.ensures))

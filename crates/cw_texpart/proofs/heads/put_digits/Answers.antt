@@ -1,18 +1,18 @@
 -- The digits, and the mark behind them.
 use Rattle.std.proofs.Common.{rules, ◌≡◌, ap, ◌++◌, List, ℕ}
 use Rattle.std.specs.Prelude.{decimal}
-use Rattle.cw_lines.specs.WritesLaws.{puts-bytes, puts-stop, puts-then}
+use Rattle.cw_lines.specs.SheetLaws.{prints-bytes, prints-stop, prints-then}
 use Rattle.cw_print.specs.Walk.{changed_mark}
-use Rattle.cw_texpart.proofs.heads.put_number.Goals as goal
+use Rattle.cw_texpart.proofs.heads.put_digits.Goals as goal
 
 pub returns-in_err-put_all : goal.returns-in_err-put_all
 returns-in_err-put_all g c =
     let e : c.as_bytes.result.now ≡ decimal c.args.number = search rules in
-    puts-bytes (ap (λ (bytes : List ℕ). bytes ++ changed_mark c.args.changed) e)
-    (puts-stop (changed_mark c.args.changed) c.in_err-put_all.ensures.puts c.from_residual.ensures.1)
+    prints-bytes (ap (λ (bytes : List ℕ). bytes ++ changed_mark c.args.changed) e)
+    (prints-stop (changed_mark c.args.changed) c.in_err-put_all.ensures c.from_residual.ensures.1)
 
 pub returns : goal.returns
 returns g c =
     let e : c.as_bytes.result.now ≡ decimal c.args.number = search rules in
-    puts-bytes (ap (λ (bytes : List ℕ). bytes ++ changed_mark c.args.changed) e) (puts-then c.in_ok-put_all.ensures.puts
+    prints-bytes (ap (λ (bytes : List ℕ). bytes ++ changed_mark c.args.changed) e) (prints-then c.in_ok-put_all.ensures
     c.put_changed_mark.ensures)

@@ -1,0 +1,124 @@
+-- Where no bytes stand, there is no definition and no C text: nothing is printed, and nothing is left.
+use Rattle.std.proofs.Common.{◌≡◌, ℕ, ◌==◌, ◌&&◌, ◌||◌, Bool, true, false, not, List, [], ◌∷◌, ◌++◌, drop, take}
+use Rattle.std.proofs.Common.{refl, sym, ap, ◌∙◌, length-take, arith}
+use Rattle.std.specs.Prelude.{Ok, is_some, nat_lt}
+use Rattle.std.proofs.lemmas.Bool.{eqb-true}
+use Rattle.std.proofs.lemmas.List.{append-nil, drop_all}
+use Rattle.cw_base.specs.declared.flags.Flags.{Flags}
+use Rattle.cw_base.specs.declared.span.Span.{Span}
+use Rattle.cw_lex.specs.Lexing.{answers, beginning, fresh_at, last_at, tokens_of}
+use Rattle.cw_rules.specs.Answers.{Answer}
+use Rattle.cw_rules.specs.declared.tokens.Mode.{Mode}
+use Rattle.cw_rules.specs.declared.tokens.Mode.TheVariants.{CPart, Definition}
+use Rattle.cw_lines.specs.WritesLaws.{puts-none}
+use Rattle.cw_names.specs.Names.{Entry}
+use Rattle.cw_names.specs.declared.xrefs.Occurrence.{Occurrence}
+use Rattle.cw_scraps.specs.Applying.{categories}
+use Rattle.cw_table.specs.Normal.{count, log, normal}
+use Rattle.cw_table.specs.NormalWalk.{positions}
+use Rattle.cw_table.specs.WalkCounts.{looks}
+use Rattle.cw_trees.specs.Joining.{whole}
+use Rattle.cw_translator.specs.Counting.{scraps_in}
+use Rattle.cw_translator.specs.NameParts.{name_texts}
+use Rattle.cw_translator.specs.Translating.{Ended, NameTexts, begin, end_of, nothing, state_in, translated}
+use Rattle.cw_translator.specs.Translating.{with_categories}
+use Rattle.cw_texts.specs.Definitions.{definitions_of, not_silent, printed_definitions}
+use Rattle.cw_part.specs.Parts.{has_no_part, paragraph_if, part_by, part_opening}
+use Rattle.cw_phase1.specs.declared.sections.Section.{Section}
+use Rattle.cw_texpart.specs.declared.beside.Beside.{Beside}
+use Rattle.cw_texpart.specs.declared.counts.Counts.{Counts}
+use Rattle.cw_texpart.specs.Done.{Done, reprinted}
+use Rattle.cw_texpart.specs.Texts.{Setting, ended_done, text_done}
+use Rattle.cw_texpart.specs.Weaving.{Press, Weaves, underlined}
+use Rattle.cw_texpart.proofs.WeavingLaws.{underlined-none, weaves-as}
+
+-- ## No tokens
+
+no-bytes : (text : List ℕ) (n : ℕ) → drop n (take n text) ≡ []
+no-bytes text n = drop_all n (take n text) (omega (arith, length-take n text))
+
+abbrev scanned_from : Mode → List ℕ → ℕ → List ℕ → List Answer
+scanned_from mode text n bytes =
+    answers bytes (beginning mode) (fresh_at (take n text) n) (last_at (take n text) n) n 0
+
+no-tokens : (text : List ℕ) (m n : ℕ) → m ≡ n → tokens_of text m n CPart ≡ []
+no-tokens text m n same =
+    ap (λ (k : ℕ). tokens_of text m k CPart) (sym same) ∙ ap (scanned_from CPart text m) (no-bytes text m)
+
+pub no-definitions : (text : List ℕ) (part : Span) → part.start ≡ part.«end» → printed_definitions text part ≡ []
+no-definitions text part same =
+    ap (λ (found : List Answer). not_silent (definitions_of part.«end» found))
+    (ap (λ (k : ℕ). tokens_of text part.start k Definition) (sym same)
+    ∙ ap (scanned_from Definition text part.start) (no-bytes text part.start))
+
+-- ## What is left of a text without scraps
+
+own-categories : (names : List Entry) → with_categories (categories names) names ≡ names
+own-categories [] = refl
+own-categories (name ∷ names) = ap (λ ns. name ∷ ns) (own-categories names)
+
+-- where these names were there before it, and these are there behind it
+abbrev text_left : List Entry → List Entry → Ended
+text_left old new = record {
+  tree = whole [];
+  known = record { names = new; marks = []; ended = state_in [] (begin old []) ∷ [] };
+}
+
+abbrev empty_text : List Entry → Ended
+empty_text names = text_left names names
+
+end-quiet : (flags : Flags) (names : List Entry) → end_of flags (nothing (begin names [])) ≡ empty_text names
+unfolding normal
+end-quiet flags names = ap (text_left names) (own-categories names)
+
+no-answers : (flags : Flags) (named : NameTexts) (names : List Entry)
+    → translated flags named [] names [] ≡ empty_text names
+unfolding translated
+no-answers flags named names = end-quiet flags names
+
+-- ## A section without a C part
+
+abbrev empty_part : Setting → Span → List Entry → Done ℕ
+empty_part s span names = ended_done s CPart false span (empty_text names)
+
+no-text : (s : Setting) (span : Span) (names : List Entry) → span.start ≡ span.«end»
+    → text_done s CPart false span names ≡ empty_part s span names
+no-text s span names same =
+    ap (ended_done s CPart false span)
+    (ap (λ (found : List Answer).
+    translated s.flags (name_texts s.book.sec_names s.book.name_uses) found names [])
+    (no-tokens s.text span.start span.«end» same)
+    ∙ no-answers s.flags (name_texts s.book.sec_names s.book.name_uses) names)
+
+-- it prints nothing and counts nothing
+left-out : {s : Setting} {old : Press} {counts : Counts} (span : Span) → counts.scraps ≡ 0 → counts.productions ≡ 0
+    → Weaves s (reprinted (λ out. []) (empty_part s span old.book.names)) old old (Ok counts)
+unfolding count log positions looks
+left-out {s = s} {old = old} {counts = counts} span scraps prods = record {
+  puts = puts-none old.line old.told counts;
+  names = refl;
+  occurrences = sym (append-nil old.book.xrefs)
+      ∙ ap (λ (os : List Occurrence). old.book.xrefs ++ os) (sym (underlined-none s.section));
+  same = refl;
+  scraps = scraps;
+  productions = prods;
+  steps_are = omega arith;
+  bound = omega arith;
+}
+
+bare : (named : Bool) (m n : ℕ) → (not named && m == n) ≡ true → (named ≡ false) × (m ≡ n)
+bare true m n h = absurd cc
+bare false m n h = (refl, eqb-true m n h)
+
+pub no-part : (s : Setting) (code : Beside) (section : Section) {old : Press} {counts : Counts}
+    → has_no_part section ≡ true → counts.scraps ≡ 0 → counts.productions ≡ 0
+    → Weaves s (part_by code s section old.book.names) old old (Ok counts)
+no-part s code section {old = old} none scraps prods =
+    let is : (is_some section.name ≡ false) × (section.c_part.start ≡ section.c_part.«end») =
+    bare (is_some section.name) section.c_part.start section.c_part.«end» none in
+    let opening : List ℕ = part_opening code s.flags.ranged section in
+    weaves-as
+    (sym (ap (λ (e : Done ℕ). paragraph_if (is_some section.name || nat_lt 0 (scraps_in e.ended)) opening e)
+    (no-text s section.c_part old.book.names is.1)
+    ∙ ap (λ (named : Bool). paragraph_if (named || false) opening (empty_part s section.c_part old.book.names)) is.0))
+    (left-out section.c_part scraps prods)
