@@ -89,7 +89,7 @@ impl Recorder for ProductionLog {
 
     fn begin_alone(&mut self, leaf: &Leaf, store: &TokenStore) -> Result<(), Memory> {
         let line = leaf_line(self.alloc, leaf.cat, leaf.list, store)?;
-        let mut lines = Vec::new(self.alloc);
+        let mut lines = Vec::with_capacity(self.alloc, 1)?;
         lines.push(line)?;
         self.leaves = LeafLines::from_vec(lines);
         self.items.clear();

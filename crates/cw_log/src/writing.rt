@@ -1,5 +1,5 @@
 //! The log of a web, written text by text.
-ghost use Rattle.std.specs.Prelude.{◌≡◌, All, IfOk, IsTrue, OnOk};
+ghost use Rattle.std.specs.Prelude.{[], ◌≡◌, All, IfOk, IsTrue, OnOk};
 ghost use Rattle.std.specs.List.{flat_map};
 ghost use Rattle.cw_base.specs.declared.event.Out.TheVariants.{Tex};
 ghost use Rattle.cw_desk.specs.Journal.{byte_events};
@@ -169,11 +169,21 @@ fn text_blocks<L: Ledger>(
     blocks_of(alloc, work.names, &work.recorder)
 }
 
+// How many bytes the blocks of a short text have room for, so that they seldom grow.
+const ROOM: usize = 64;
+
+// No blocks yet.
+fn no_blocks(alloc: Global) -> Result<Bytes, Memory>
+    ensures { IfOk result (λ bytes. bytes ≡ []) }
+{
+    Ok(Bytes::from_vec(Vec::with_capacity(alloc, ROOM)?))
+}
+
 // The blocks of logs, as they are written.
 fn blocks_of(alloc: Global, names: &Names, log: &ProductionLog) -> Result<Bytes, Memory>
     ensures { IfOk result (λ bytes. bytes ≡ flat_map (block_bytes names.now) log.now.ended) }
 {
-    let mut blocks = Bytes::new_in(alloc);
+    let mut blocks = no_blocks(alloc)?;
     for i in 0..log.len() {
         append_block(&mut blocks, names, log.text_log(i))?;
     }

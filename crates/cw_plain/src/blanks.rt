@@ -1,6 +1,7 @@
 //! Where a blank stands between two words.
 ghost use Rattle.std.specs.Prelude.{◌≡◌, [], codes, cond};
-ghost use Rattle.cw_plain.specs.Lines.{blank_before, clash, is_joining, is_wordy, last_behind, signs_touch, words_touch};
+ghost use Rattle.cw_plain.specs.Lines.{blank_before, clash, is_joining, is_wordy, last_behind};
+ghost use Rattle.cw_plain.specs.Lines.{signs_touch, words_touch};
 
 use cw_rules::classes::{is_mark, is_word};
 

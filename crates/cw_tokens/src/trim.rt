@@ -1,7 +1,7 @@
 //! The trimming of a flat list in its own place.
 ghost use Rattle.std.specs.Prelude.{◌≡◌, ◌&&◌, ◌||◌, ◌≤◌, length, reverse, take, true};
-ghost use Rattle.cw_trees.specs.Flat.{begins_after, is_break, is_gap, is_inserted, trim_back, trim_front, trimmed_items};
-ghost use Rattle.cw_trees.specs.Flat.{without_inserted};
+ghost use Rattle.cw_trees.specs.Flat.{begins_after, is_break, is_gap, is_inserted};
+ghost use Rattle.cw_trees.specs.Flat.{trim_back, trim_front, trimmed_items, without_inserted};
 ghost use Rattle.cw_tokens.specs.FlatItems.{item_is, items_are};
 ghost use Rattle.cw_tokens.specs.Trimming.{ends_before};
 
