@@ -1,6 +1,6 @@
 -- A braced tree is braced when it is laid flat and trimmed.
 use Rattle.std.proofs.Common.{◌≡◌, ℕ, zero, suc, Bool, true, false, ◌&&◌, Option, Some, None, List, [], ◌∷◌, ◌++◌, refl}
-use Rattle.std.proofs.Common.{ap, ◌∙◌, sym, append_assoc}
+use Rattle.std.proofs.Common.{ap, ◌∙◌, sym, append_assoc, if◌then◌else◌}
 use Rattle.cw_base.proofs.TestLaws.{both-left, both-right}
 use Rattle.cw_trees.specs.Flat.{Item, SignItem, Close, begins_after}
 use Rattle.cw_trees.specs.Flat.{ends_text, flat, is_break, is_inserted, leaf_item}
@@ -92,7 +92,7 @@ inserted-out (item ∷ items) d e h = go (is_inserted item) refl (λ n k. insert
   where
     go : (b : Bool) → is_inserted item ≡ b
         → ((n : ℕ) → items_depth items n ≡ Some e → items_depth (without_inserted items) n ≡ Some e)
-        → items_depth (elim b [ true ↦ without_inserted items | false ↦ item ∷ without_inserted items ]) d ≡ Some e
+        → items_depth (if b then without_inserted items else item ∷ without_inserted items) d ≡ Some e
     go true is rec = rec d (inserted-leads item d e (items_depth items) is h)
     go false is rec = next-leads (item_depth item d) (items_depth items) (items_depth (without_inserted items)) e rec h
 
@@ -104,10 +104,8 @@ front-out begins (item ∷ items) d e h =
   where
     go : (b : Bool) → (begins && is_break item) ≡ b
         → ((more : Bool) (n : ℕ) → items_depth items n ≡ Some e → items_depth (trim_front more items) n ≡ Some e)
-        → items_depth (elim b [
-          | true ↦ trim_front begins items
-          | false ↦ item ∷ trim_front (begins_after begins item) items
-        ]) d ≡ Some e
+        → items_depth (if b then trim_front begins items
+            else item ∷ trim_front (begins_after begins item) items) d ≡ Some e
     go true is rec = rec begins d (break-leads item d e (items_depth items) (both-right _ _ is) h)
     go false is rec = next-leads (item_depth item d) (items_depth items)
         (items_depth (trim_front (begins_after begins item) items)) e (rec (begins_after begins item)) h
@@ -118,7 +116,7 @@ back-out (item ∷ items) d e h = go (is_break item && ends_text items) refl (λ
   where
     go : (b : Bool) → (is_break item && ends_text items) ≡ b
         → ((n : ℕ) → items_depth items n ≡ Some e → items_depth (trim_back items) n ≡ Some e)
-        → items_depth (elim b [ true ↦ trim_back items | false ↦ item ∷ trim_back items ]) d ≡ Some e
+        → items_depth (if b then trim_back items else item ∷ trim_back items) d ≡ Some e
     go true is rec = rec d (break-leads item d e (items_depth items) (both-left _ _ is) h)
     go false is rec = next-leads (item_depth item d) (items_depth items) (items_depth (trim_back items)) e rec h
 

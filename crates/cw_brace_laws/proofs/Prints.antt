@@ -1,6 +1,7 @@
 -- What the signs of a braced list print is braced.
 use Rattle.std.proofs.Common.{◌≡◌, ℕ, zero, suc, Bool, true, false, ◌||◌, ltb, Option, Some, None, List, [], ◌∷◌, ◌++◌}
-use Rattle.std.proofs.Common.{map, refl, ap, ◌∙◌}
+use Rattle.std.proofs.Common.{map, refl, ap, ◌∙◌, if◌then◌else◌}
+use Rattle.cw_base.specs.Conditions.{list_if}
 use Rattle.std.specs.List.{list_any}
 use Rattle.std.specs.Prelude.{codes}
 use Rattle.cw_trees.specs.Flat.{Item, SourceItem, IdentItem, ReservedItem, SignItem, Open, Close, flat, is_run_sign}
@@ -57,17 +58,14 @@ break-plain (suc (suc (suc (suc n)))) d = refl
 backup-plain : (run : List Control) → ArePlain (backup_bytes run)
 backup-plain run d = go (list_any is_backup run)
   where
-    go : (b : Bool) → bytes_depth (elim b [ true ↦ codes "\\4" | false ↦ [] ]) d ≡ Some d
+    go : (b : Bool) → bytes_depth list_if b (codes "\\4") d ≡ Some d
     go true = refl
     go false = refl
 
 part-plain : (run : List Control) → ArePlain (part_run run)
 part-plain run = plain-append (indents run) _ (indents-plain run) (λ d. go d (list_any is_cancel run))
   where
-    go : (d : ℕ) (b : Bool) → bytes_depth (elim b [
-      | true ↦ []
-      | false ↦ break_bytes (strongest run) ++ backup_bytes run
-    ]) d ≡ Some d
+    go : (d : ℕ) (b : Bool) → bytes_depth (if b then [] else break_bytes (strongest run) ++ backup_bytes run) d ≡ Some d
     go d true = refl
     go d false = plain-append (break_bytes (strongest run)) (backup_bytes run) (break-plain (strongest run))
         (backup-plain run) d
@@ -75,10 +73,7 @@ part-plain run = plain-append (indents run) _ (indents-plain run) (λ d. go d (l
 inner-plain : (run : List Control) → ArePlain (inner_run run)
 inner-plain run d = go (list_any is_cancel run) (ltb 0 (strongest run))
   where
-    go : (b c : Bool) → bytes_depth (elim b [
-      | true ↦ []
-      | false ↦ elim c [ true ↦ codes " " | false ↦ [] ]
-    ]) d ≡ Some d
+    go : (b c : Bool) → bytes_depth (if b then [] else list_if c (codes " ")) d ≡ Some d
     go true c = refl
     go false true = refl
     go false false = refl
@@ -169,7 +164,7 @@ printed-leads inner depth run (SignItem c ∷ items) d e h =
     go : (b : Bool) → is_run_sign c ≡ b
         → ((more : List Control) (n : ℕ) → items_depth items n ≡ Some e
         → bytes_depth (printed_from inner depth more (map sign_alone items)) n ≡ Some e)
-        → bytes_depth (elim (elim b as (λ _. Option Control) [ true ↦ Some c | false ↦ None ]) as (λ _. List ℕ) [
+        → bytes_depth (elim (if b then Some c else None) as (λ _. List ℕ) [
           | Some control ↦ printed_from inner depth (run ++ control ∷ []) (map sign_alone items)
           | None ↦ run_bytes (inner || ltb 0 depth) run ++ (own_sign c ++ printed_from inner depth []
               (map sign_alone items))

@@ -1,6 +1,6 @@
 -- One production keeps the braces of all scraps, and so do all of them.
 use Rattle.std.proofs.Common.{◌≡◌, ℕ, zero, suc, ◌+◌, ◌<◌, Bool, true, false, ◌&&◌, Option, Some, None, List, [], ◌∷◌}
-use Rattle.std.proofs.Common.{◌++◌, get_or, take, drop, set, refl, sym, ap, ◌∙◌, subst, arith}
+use Rattle.std.proofs.Common.{◌++◌, get_or, take, drop, set, refl, sym, ap, ◌∙◌, subst, arith, if◌then◌else◌}
 use Rattle.std.specs.List.{All, list_all}
 use Rattle.std.proofs.lemmas.List.Elements.{All-append, All-take, All-drop, All-set, All-map, All-cons}
 use Rattle.cw_base.proofs.TestLaws.{both-left, both-right}
@@ -151,7 +151,7 @@ first-passes p (x ∷ rows) cs r all h =
     go (λ k. first-passes p rows cs r (both-right (p x) _ all) k) (row_fits x cs) h
   where
     go : (first_of rows cs ≡ Some r → p r ≡ true) → (b : Bool)
-        → elim b as (λ _. Option Row) [ true ↦ Some x | false ↦ first_of rows cs ] ≡ Some r → p r ≡ true
+        → (if b then Some x else first_of rows cs) ≡ Some r → p r ≡ true
     go rec true h = let same : x ≡ r = cc in ap p (sym same) ∙ both-left (p x) _ all
     go rec false h = rec h
 

@@ -1,5 +1,5 @@
 -- Braces in the tree of a translation: those that productions put in pair, and between them stands no text.
-use Rattle.std.specs.Prelude.{◌≡◌, ℕ, zero, suc, Bool, true, false, Option, Some, None}
+use Rattle.std.specs.Prelude.{◌≡◌, ℕ, zero, suc, Bool, true, false, Option, Some, None, if◌then◌else◌}
 use Rattle.cw_base.specs.declared.mode.MathMode.{MathMode}
 use Rattle.cw_table.specs.Braces.{is_calm, is_text}
 use Rattle.cw_trees.specs.Joining.{Scrap, needs}
@@ -21,8 +21,7 @@ outside zero = Some zero
 outside (suc depth) = None
 
 abbrev pub outside_if : Bool → ℕ → Option ℕ
-outside_if true depth = outside depth
-outside_if false depth = Some depth
+outside_if is_text depth = if is_text then outside depth else Some depth
 
 -- a control is text: it needs text, or leads to text or from there
 abbrev pub is_text_sign : Control → Bool

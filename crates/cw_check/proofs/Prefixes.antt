@@ -1,7 +1,7 @@
 -- Common prefixes.
 use Rattle.std.proofs.Common.{◌≡◌, ◌≢◌, ℕ, zero, suc, ◌+◌, ◌<◌, ◌≤◌, Bool, true, false, not, ◌&&◌, eqb, List, [], ◌∷◌}
 use Rattle.std.proofs.Common.{◌++◌, length, take, slice_get, Option, Some, None, IfSome, is_some, refl, sym, ◌∙◌, ap}
-use Rattle.std.proofs.Common.{subst, arith}
+use Rattle.std.proofs.Common.{subst, arith, if◌then◌else◌}
 use Rattle.std.proofs.Math.Seq.{take-length}
 use Rattle.std.proofs.lemmas.Bool.{eq-eqb, eqb-true}
 use Rattle.std.proofs.lemmas.List.{length-take-le}
@@ -14,8 +14,9 @@ use Rattle.cw_table.specs.Rewriting.{State, rewrite}
 use Rattle.cw_table.proofs.Normals.{log-none-of, log-turn-of, steps-none, steps-turn}
 use Rattle.cw_rewrite.specs.Telling.{EndsWithin, StopsAt, Told, grown_by}
 use Rattle.cw_check.specs.declared.checking.Verdict.{Verdict}
-use Rattle.cw_check.specs.Judging.{same_item, differs_from, refused_by, same_then, common, Compared, Judges, StandsAt}
-use Rattle.cw_check.specs.Judging.{StopsWithin, told_alone, verdict_by, verdict_of}
+use Rattle.cw_check.specs.declared.checking.Verdict.TheVariants.{Accepted, Rejected}
+use Rattle.cw_check.specs.Judging.{same_item, differs_from, refused_by, common, Compared, Judges, StandsAt}
+use Rattle.cw_check.specs.Judging.{StopsWithin, told_alone, verdict_of}
 
 item-self : (p : Production) → same_item p p ≡ true
 item-self p = ap (λ b. b && eqb p.place p.place) (eq-eqb p.number p.number refl) ∙ eq-eqb p.place p.place refl
@@ -26,7 +27,7 @@ prefix-common [] zero le = refl
 prefix-common [] (suc n) le = absurd (omega arith)
 prefix-common (p ∷ ps) zero le = refl
 prefix-common (p ∷ ps) (suc n) le =
-    ap (λ b. same_then b (common ps (take n ps))) (item-self p) ∙ ap suc (prefix-common ps n (omega arith))
+    ap (λ b. if b then suc (common ps (take n ps)) else 0) (item-self p) ∙ ap suc (prefix-common ps n (omega arith))
 
 -- two that differ behind a common prefix
 pub stop-common : (ps qs : List Production) (n : ℕ) (q : Production) → n ≤ length ps → take n ps ≡ take n qs
@@ -39,13 +40,13 @@ stop-common (x ∷ ps) (y ∷ qs) zero q le e at other =
     let same : y ≡ q = cc in
     go (same_item x y) (ap (λ z. not (same_item x z)) same ∙ other)
   where
-    go : (b : Bool) → not b ≡ true → same_then b (common ps qs) ≡ zero
+    go : (b : Bool) → not b ≡ true → (if b then suc (common ps qs) else 0) ≡ zero
     go true h = absurd cc
     go false h = refl
 stop-common (x ∷ ps) (y ∷ qs) (suc n) q le e at other =
     let same : x ≡ y = cc in
-    ap (λ z. same_then (same_item x z) (common ps qs)) (sym same)
-    ∙ (ap (λ b. same_then b (common ps qs)) (item-self x)
+    ap (λ z. if same_item x z then suc (common ps qs) else 0) (sym same)
+    ∙ (ap (λ b. if b then suc (common ps qs) else 0) (item-self x)
     ∙ ap suc (stop-common ps qs n q (omega arith) (let k : take n ps ≡ take n qs = cc in k) at other))
 
 pub stop-differs : (ps qs : List Production) (n : ℕ) (q : Production) → slice_get qs n ≡ Some q
@@ -103,7 +104,7 @@ pub judged : (ps is : List Production) (at : ℕ) → at ≤ length ps → (ende
     → (ended ≡ false → Stop ps is at) → Judges ps is (verdict_of ended (record { log = ps; at = at }))
 judged ps is at le true all stop = go (eqb at (length ps)) refl
   where
-    go : (b : Bool) → eqb at (length ps) ≡ b → Judges ps is (verdict_by b at)
+    go : (b : Bool) → eqb at (length ps) ≡ b → Judges ps is (if b then Accepted else Rejected at)
     go true e = sym (take-length ps) ∙ (ap (λ n. take n ps) (sym (eqb-true at (length ps) e)) ∙ all refl)
     go false e = (
       λ k. let m : at ≡ length ps = sym (length-take-le at ps le) ∙ (ap length (all refl) ∙ ap length (sym k)) in
@@ -146,7 +147,7 @@ pub stands : (f : Flags) (start now : State) (ps : List Production) (at : ℕ) �
     → StandsAt f start now (verdict_of ended (record { log = ps; at = at }))
 stands f start now ps at le true all stop = go (eqb at (length ps))
   where
-    go : (b : Bool) → StandsAt f start now (verdict_by b at)
+    go : (b : Bool) → StandsAt f start now (if b then Accepted else Rejected at)
     go true = (all refl).1
     go false = (all refl).1 ∙ (sym (counted f start) ∙ ap (λ n. steps productions f n start)
         (ap length (sym (all refl).0) ∙ length-take-le at ps le))
@@ -213,8 +214,8 @@ common-most (p ∷ ps) (q ∷ is) (suc n) le less e =
     let more : n ≤ common ps is = common-most ps is n (omega arith) (omega arith)
     (let k : take n ps ≡ take n is = cc in k) in
     let whole : common (p ∷ ps) (q ∷ is) ≡ suc (common ps is) =
-    ap (λ z. same_then (same_item p z) (common ps is)) (sym same)
-    ∙ ap (λ b. same_then b (common ps is)) (item-self p) in
+    ap (λ z. if same_item p z then suc (common ps is) else 0) (sym same)
+    ∙ ap (λ b. if b then suc (common ps is) else 0) (item-self p) in
     omega (arith, more, whole)
 
 counts-within : (f : Flags) (start : State) (n : ℕ) → n ≤ count productions f start

@@ -1,6 +1,6 @@
 -- What is found of a log.
-use Rattle.std.specs.Prelude.{◌≡◌, ◌≢◌, ℕ, suc, ◌≤◌, Bool, true, false, not, ◌&&◌, ◌==◌, eqb, List, [], ◌∷◌, length}
-use Rattle.std.specs.Prelude.{slice_get, Option, Some, None}
+use Rattle.std.specs.Prelude.{◌≡◌, ◌≢◌, ℕ, suc, ◌≤◌, Bool, true, not, ◌&&◌, ◌==◌, eqb, List, [], ◌∷◌, length}
+use Rattle.std.specs.Prelude.{slice_get, Option, Some, None, if◌then◌else◌}
 use Rattle.cw_base.specs.declared.flags.Flags.{Flags}
 use Rattle.cw_table.specs.Normal.{Production, log as log_of, normal, steps}
 use Rattle.cw_table.specs.Productions.{productions}
@@ -14,14 +14,10 @@ abbrev pub same_item : Production → Production → Bool
 same_item p q = eqb p.number q.number && eqb p.place q.place
 
 -- the length of the longest common prefix
-abbrev pub same_then : Bool → ℕ → ℕ
-same_then true n = suc n
-same_then false n = 0
-
 abbrev pub common : List Production → List Production → ℕ
 common [] qs = 0
 common (p ∷ ps) [] = 0
-common (p ∷ ps) (q ∷ qs) = same_then (same_item p q) (common ps qs)
+common (p ∷ ps) (q ∷ qs) = if same_item p q then suc (common ps qs) else 0
 
 -- A log is accepted exactly where it is that of the productions; else the length of the longest common prefix is told.
 abbrev pub Judges : List Production → List Production → Verdict → Type 0
@@ -55,9 +51,5 @@ differs_from (Some q) p = not (same_item q p)
 abbrev pub refused_by : List Production → ℕ → Production → Bool
 refused_by log at p = differs_from (slice_get log at) p
 
-abbrev pub verdict_by : Bool → ℕ → Verdict
-verdict_by true at = Accepted
-verdict_by false at = Rejected at
-
 abbrev pub verdict_of : Bool → Compared → Verdict
-verdict_of ended c = verdict_by (ended && (c.at == length c.log)) c.at
+verdict_of ended c = if ended && (c.at == length c.log) then Accepted else Rejected c.at

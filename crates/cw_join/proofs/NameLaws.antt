@@ -1,6 +1,6 @@
 -- The pieces of a name.
 use Rattle.std.proofs.Common.{◌≡◌, ◌≢◌, ℕ, suc, ◌+◌, ◌<◌, eqb, Bool, true, false, not, cond, codes, List, [], ◌∷◌, ◌++◌}
-use Rattle.std.proofs.Common.{length, take, drop, refl, sym, ap, subst, ◌∙◌, arith}
+use Rattle.std.proofs.Common.{length, take, drop, refl, sym, ap, subst, ◌∙◌, arith, if◌then◌else◌}
 use Rattle.std.specs.List.{list_any, position_or_len}
 use Rattle.std.proofs.lemmas.Bool.{eqb-true}
 use Rattle.std.proofs.lemmas.List.{append_assoc}
@@ -40,7 +40,7 @@ plain-by x xs true is rest = refl
 plain-by x xs false is rest =
     ap (λ (n : ℕ). take n (x ∷ xs) ++ name_bytes (drop n (x ∷ xs))) (one-add (plain xs))
     ∙ ap (λ (l : List ℕ). x ∷ l) rest
-    ∙ ap (λ (b : Bool). (elim b [ true ↦ 92 ∷ x ∷ [] | false ↦ x ∷ [] ]) ++ name_bytes xs) (sym is)
+    ∙ ap (λ (b : Bool). (if b then 92 ∷ x ∷ [] else x ∷ []) ++ name_bytes xs) (sym is)
 
 -- the bytes before the first one with a backslash print as they are
 plain-front : (xs : List ℕ) → take (plain xs) xs ++ name_bytes (drop (plain xs) xs) ≡ name_bytes xs
@@ -77,7 +77,7 @@ piece-is [] size begins some is = absurd (omega arith)
 piece-is (x ∷ xs) size begins some is =
     ap (λ (n : ℕ). (92 ∷ take n (x ∷ xs)) ++ name_bytes (drop n (x ∷ xs))) (is ∙ one-add (plain xs))
     ∙ ap (λ (l : List ℕ). 92 ∷ x ∷ l) (plain-front xs)
-    ∙ ap (λ (b : Bool). (elim b [ true ↦ 92 ∷ x ∷ [] | false ↦ x ∷ [] ]) ++ name_bytes xs) (sym begins)
+    ∙ ap (λ (b : Bool). (if b then 92 ∷ x ∷ [] else x ∷ []) ++ name_bytes xs) (sym begins)
 
 pub piece-begins : (rest behind : List ℕ) (size : ℕ) → 0 < length rest
     → size ≡ 1 + position_or_len is_marked (drop 1 rest) → behind ≡ drop size rest → BeginsMarked behind
@@ -98,10 +98,8 @@ pieces-more done bytes rest piece behind size put begins some is front back =
 
 -- the fonts of longer identifiers
 long-by : (b : Bool) (name : List ℕ)
-    → (elim b [
-      | true ↦ codes "\\\\{" ++ name_bytes name ++ codes "}"
-      | false ↦ codes "\\.{" ++ name_bytes name ++ codes "}"
-    ]) ≡ font_bytes b ++ name_bytes name ++ codes "}"
+    → (if b then codes "\\\\{" ++ name_bytes name ++ codes "}"
+        else codes "\\.{" ++ name_bytes name ++ codes "}") ≡ font_bytes b ++ name_bytes name ++ codes "}"
 long-by true name = refl
 long-by false name = refl
 
@@ -109,9 +107,7 @@ pub ident-long : (name : List ℕ) → length name ≢ 1 → ident_bytes name �
     ++ name_bytes name ++ codes "}"
 ident-long name other = go (eqb (length name) 1) refl ∙ long-by (list_any is_lower name) name
   where
-    go : (b : Bool) → eqb (length name) 1 ≡ b → (elim b [
-      | true ↦ codes "\\|" ++ name_bytes name
-      | false ↦ long_ident_bytes name
-    ]) ≡ long_ident_bytes name
+    go : (b : Bool) → eqb (length name) 1 ≡ b → (if b then codes "\\|" ++ name_bytes name
+        else long_ident_bytes name) ≡ long_ident_bytes name
     go true is = absurd (other (eqb-true (length name) 1 is))
     go false is = refl

@@ -1,6 +1,7 @@
 -- What a joiner keeps is what its list leaves, and what it prints is what its list prints.
 use Rattle.std.proofs.Common.{◌≡◌, ℕ, Bool, true, false, ◌||◌, max, codes, refl, ap, sym, ◌∙◌, List, [], ◌∷◌, ◌++◌}
-use Rattle.std.proofs.Common.{Option, Some, None, arith}
+use Rattle.std.proofs.Common.{Option, Some, None, arith, if◌then◌else◌}
+use Rattle.cw_base.specs.Conditions.{list_if}
 use Rattle.std.specs.List.{list_any}
 use Rattle.std.proofs.lemmas.List.{append-nil}
 use Rattle.std.proofs.lemmas.List.Sums.{fold_push}
@@ -40,8 +41,8 @@ state-more run control = λ i. record {
 }
 
 back-by : (cancelled backed : Bool) (pause : List ℕ)
-    → (elim cancelled [ true ↦ [] | false ↦ pause ++ elim backed [ true ↦ codes "\\4" | false ↦ [] ] ])
-    ≡ (elim cancelled [ true ↦ [] | false ↦ pause ]) ++ step_bytes (elim cancelled [ true ↦ false | false ↦ backed ])
+    → (if cancelled then [] else pause ++ list_if backed (codes "\\4"))
+    ≡ (if cancelled then [] else pause) ++ step_bytes (if cancelled then false else backed)
 back-by true backed pause = refl
 back-by false true pause = refl
 back-by false false pause = refl

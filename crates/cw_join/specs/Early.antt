@@ -13,10 +13,7 @@ run_front early run = if early then [] else indents run
 -- what it prints when it has ended: its break or blank and its backup, which a Cancel takes away
 abbrev pub run_back : Bool → List Control → List ℕ
 run_back true run = inner_run run
-run_back false run = elim (list_any is_cancel run) [
-  | true ↦ []
-  | false ↦ break_bytes (strongest run) ++ backup_bytes run
-]
+run_back false run = if list_any is_cancel run then [] else break_bytes (strongest run) ++ backup_bytes run
 
 -- The bytes of stretches, but for what the run with which they end, if they end with one, prints when it has ended.
 abbrev pub early_bytes : Bool → ℕ → List Stretch → List ℕ

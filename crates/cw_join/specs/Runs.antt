@@ -1,5 +1,5 @@
 -- What is kept of a run.
-use Rattle.std.specs.Prelude.{ℕ, ◌++◌, ◌||◌, Bool, true, false, List, [], ltb, max, codes}
+use Rattle.std.specs.Prelude.{ℕ, ◌++◌, ◌||◌, Bool, true, false, List, [], ltb, max, codes, if◌then◌else◌}
 use Rattle.std.specs.List.{list_any}
 use Rattle.cw_base.specs.Conditions.{list_if}
 use Rattle.cw_trees.specs.declared.Control.{Control}
@@ -28,15 +28,14 @@ run_more run control = record {
 
 -- what a run prints when it has ended
 abbrev pub pause_bytes : Bool → RunState → List ℕ
-pause_bytes true run = elim run.cancelled [
-  | true ↦ []
-  | false ↦ elim (ltb 0 run.strength) [ true ↦ codes " " | false ↦ [] ]
-]
-pause_bytes false run = elim run.cancelled [ true ↦ [] | false ↦ break_bytes run.strength ]
+pause_bytes true run =
+    if run.cancelled then []
+    else list_if (ltb 0 run.strength) (codes " ")
+pause_bytes false run = if run.cancelled then [] else break_bytes run.strength
 
 abbrev pub backs : Bool → RunState → Bool
 backs true run = false
-backs false run = elim run.cancelled [ true ↦ false | false ↦ run.backed ]
+backs false run = if run.cancelled then false else run.backed
 
 abbrev pub step_bytes : Bool → List ℕ
 step_bytes backed = list_if backed (codes "\\4")

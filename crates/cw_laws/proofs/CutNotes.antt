@@ -1,6 +1,6 @@
 -- The notes of single tokens are about bytes of these tokens.
 use Rattle.std.proofs.Common.{◌≡◌, ℕ, ◌+◌, ◌-◌, ◌<◌, ◌≤◌, Bool, true, false, List, [], ◌∷◌, ◌++◌, Option, Some, None}
-use Rattle.std.proofs.Common.{length, drop, take, not, refl, ap, arith, length-drop}
+use Rattle.std.proofs.Common.{length, drop, take, not, refl, ap, arith, length-drop, if◌then◌else◌}
 use Rattle.cw_base.specs.declared.notes.NoteKind.{NoteKind}
 use Rattle.cw_base.specs.declared.notes.NoteKind.TheVariants as notes
 use Rattle.cw_rules.specs.declared.bodies.Body.TheVariants as bodies
@@ -66,10 +66,9 @@ noted-in low i (b ∷ bs) l =
     (noted-in low (stepped i b bs) bs (omega (arith, l))))
   where
     by : (t : Bool) → NotedIn low (i.place + length (b ∷ bs)) (noted (stepped i b bs) bs)
-        → NotedIn low (i.place + length (b ∷ bs)) (elim t as (λ _. List Noted) [
-          | true ↦ with_note (note_here i b bs) i.place (noted (stepped i b bs) bs)
-          | false ↦ []
-        ])
+        → NotedIn low (i.place + length (b ∷ bs)) (if t then
+              with_note (note_here i b bs) i.place (noted (stepped i b bs) bs)
+            else [])
     by true rest = with-in (note_here i b bs) low (i.place + length (b ∷ bs)) i.place (noted (stepped i b bs) bs) l
         (omega arith) rest
     by false rest = tt

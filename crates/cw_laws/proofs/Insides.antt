@@ -37,7 +37,7 @@ module _ (body : Body) (ends pairs : List ℕ → Bool) (r : Rules body ends pai
       → (ended i (byte ∷ bytes)).place - i.place ≡ 0
   none i byte bytes h =
       let same : ended i (byte ∷ bytes) ≡ i =
-      ap (λ t. elim t as (λ _. Inside) [ true ↦ ended (stepped i byte bytes) bytes | false ↦ i ]) h in
+      ap (λ t. if t then ended (stepped i byte bytes) bytes else i) h in
       omega (arith, ap (λ (j : Inside). j.place) same)
 
   nothing : (i : Inside) → (ended i []).place - i.place ≡ 0
@@ -141,10 +141,7 @@ with-behind kind (Some other) place ns h = inr h
 noted-step : (i : Inside) (byte : ℕ) (bytes : List ℕ) → goes_on i (byte ∷ bytes) ≡ true
     → noted i (byte ∷ bytes) ≡ with_note (note_here i byte bytes) i.place (noted (stepped i byte bytes) bytes)
 noted-step i byte bytes h =
-    ap (λ t. elim t as (λ _. List Noted) [
-      | true ↦ with_note (note_here i byte bytes) i.place (noted (stepped i byte bytes) bytes)
-      | false ↦ []
-    ]) h
+    ap (λ t. if t then with_note (note_here i byte bytes) i.place (noted (stepped i byte bytes) bytes) else []) h
 
 behind-step : (kind : NoteKind) (i : Inside) (byte : ℕ) (bytes : List ℕ) → goes_on i (byte ∷ bytes) ≡ true
     → HasNote kind (noted (stepped i byte bytes) bytes) → HasNote kind (noted i (byte ∷ bytes))

@@ -1,6 +1,6 @@
 -- The definitions and the C part of a section begin with codes of theirs, where they aren't empty.
 use Rattle.std.proofs.Common.{◌≡◌, ℕ, ◌+◌, Bool, true, false, ◌||◌, not, List, [], ◌∷◌, Some, None, drop, refl, sym, ap}
-use Rattle.std.proofs.Common.{subst, ◌∙◌, inl, inr}
+use Rattle.std.proofs.Common.{subst, ◌∙◌, inl, inr, if◌then◌else◌}
 use Rattle.cw_base.proofs.TestLaws.{both}
 use Rattle.cw_rules.specs.declared.codes.Code.{Code}
 use Rattle.cw_rules.specs.declared.tokens.Mode.TheVariants as modes
@@ -29,7 +29,7 @@ stands text opens t end s h =
     (ap opens s.code ∙ h))
 
 abbrev at_test : Bool → ℕ → ℕ → ℕ
-at_test passes here later = elim passes as (λ _. ℕ) [ true ↦ here | false ↦ later ]
+at_test passes here later = if passes then here else later
 
 -- the parts before a C part
 abbrev pub IsBefore : Part → Type 0

@@ -43,7 +43,7 @@ run-all class [] h = refl
 run-all class (byte ∷ bytes) h =
     let more : run class bytes ≡ length bytes =
     run-all class bytes (All-tail (λ b. is_in class b ≡ true) byte bytes h) in
-    ap (λ t. elim t as (λ _. ℕ) [ true ↦ 1 + run class bytes | false ↦ 0 ])
+    ap (λ t. if t then 1 + run class bytes else 0)
     (All-head (λ b. is_in class b ≡ true) byte bytes h) ∙ ap (λ n. 1 + n) more ∙ omega arith
 
 is-not : (wanted byte : ℕ) (bytes : List ℕ) → HasNo wanted (byte ∷ bytes) → (byte == wanted) ≡ false

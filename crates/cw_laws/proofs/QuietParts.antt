@@ -1,5 +1,6 @@
 -- A C part without a scrap leaves nothing.
 use Rattle.std.proofs.Common.{◌≡◌, ℕ, Bool, true, false, ◌||◌, List, [], ◌∷◌, Option, Some, None, refl, sym, ap, ◌∙◌}
+use Rattle.std.proofs.Common.{if◌then◌else◌}
 use Rattle.std.specs.Prelude.{is_some}
 use Rattle.cw_base.specs.declared.category.Cat.TheVariants as cat
 use Rattle.cw_base.specs.declared.flags.Flags.{Flags}
@@ -142,10 +143,8 @@ module _ (flags : Flags) (kept : List SecName) (uses : List NameUse) where
   -- a name, which heads the part where its sign stands behind it
   by-sign : (b : Bool) (name token : Seen) (rest : Nest) → IsWell false (Leaf name (Leaf token rest))
       → Quiet uses (Leaf name (Leaf token rest)) → is_kept uses name.span.start ≡ false → (known : Known)
-      → Rests (elim b [
-        | true ↦ record { head = Named name.span.start token.span.start; rest = rest }
-        | false ↦ headless (Leaf name (Leaf token rest))
-      ]) known
+      → Rests (if b then record { head = Named name.span.start token.span.start; rest = rest }
+          else headless (Leaf name (Leaf token rest))) known
   by-sign true name token rest w q m known =
       ap (λ (o : Option (List (List Answer))). made_before
       (texts_named flags o cat.Dead Text (sign_behind token.span.start) name.span.start known)

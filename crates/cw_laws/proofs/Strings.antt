@@ -46,7 +46,7 @@ more-stops mark last more inside size all (byte ∷ bytes) e (inr (inr h)) =
 step-ended : (i : Inside) (byte : ℕ) (bytes : List ℕ) → goes_on i (byte ∷ bytes) ≡ true
     → ended i (byte ∷ bytes) ≡ ended (stepped i byte bytes) bytes
 step-ended i byte bytes h =
-    ap (λ t. elim t as (λ _. Inside) [ true ↦ ended (stepped i byte bytes) bytes | false ↦ i ]) h
+    ap (λ t. if t then ended (stepped i byte bytes) bytes else i) h
 
 pub step-size : (i : Inside) (byte : ℕ) (bytes : List ℕ) → goes_on i (byte ∷ bytes) ≡ true
     → (ended i (byte ∷ bytes)).place - i.place
@@ -115,7 +115,7 @@ stop-here mark i byte bytes b a h = record {
     none : (ended i (byte ∷ bytes)).place - i.place ≡ 0
     none =
         let same : ended i (byte ∷ bytes) ≡ i =
-        ap (λ t. elim t as (λ _. Inside) [ true ↦ ended (stepped i byte bytes) bytes | false ↦ i ]) h in
+        ap (λ t. if t then ended (stepped i byte bytes) bytes else i) h in
         omega (arith, ap (λ (j : Inside). j.place) same)
 
     why : (m n k : Bool) → (byte == mark) ≡ m → (byte == newline) ≡ n → (i.before == backslash) ≡ k

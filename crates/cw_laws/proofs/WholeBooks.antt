@@ -1,6 +1,6 @@
 -- The pieces of a book lie end to end, and are all of its web.
 use Rattle.std.proofs.Common.{◌≡◌, ℕ, ◌+◌, ◌-◌, ◌<◌, ◌≤◌, Bool, true, false, List, [], ◌∷◌, ◌++◌, All, length, drop}
-use Rattle.std.proofs.Common.{take, refl, sym, ap, subst, ◌∙◌, arith, ◌⊎◌, inl, inr}
+use Rattle.std.proofs.Common.{take, refl, sym, ap, subst, ◌∙◌, arith, ◌⊎◌, inl, inr, if◌then◌else◌}
 use Rattle.std.specs.Prelude.{cond, slice_range}
 use Rattle.std.proofs.lemmas.Bool.{cases_lt}
 use Rattle.std.proofs.lemmas.List.Sums.{sum_by-cons}
@@ -34,11 +34,11 @@ use Rattle.cw_laws.proofs.SectionCodes.{IsCodeAt, AreCoded, coded}
 -- ## Pieces lie end to end
 
 lie-by : (b : Bool) (start later size : ℕ) (s : Section) (rest : List Section) → start ≤ s.tex.start
-    → s.c_part.end ≡ later → All (LiesIn size) (elim b as (λ _. List Section) [ true ↦ s ∷ rest | false ↦ rest ])
+    → s.c_part.end ≡ later → All (LiesIn size) (if b then s ∷ rest else rest)
     → EndToEnd later size (pieces_from later rest)
-    → EndToEnd (elim b as (λ _. ℕ) [ true ↦ start | false ↦ later ]) size
-    (pieces_from (elim b as (λ _. ℕ) [ true ↦ start | false ↦ later ])
-    (elim b as (λ _. List Section) [ true ↦ s ∷ rest | false ↦ rest ]))
+    → EndToEnd (if b then start else later) size
+    (pieces_from (if b then start else later)
+    (if b then s ∷ rest else rest))
 lie-by true start later size s rest h e a k =
     let l : LiesIn size s = a 0 s (omega arith) in (
       refl,
@@ -68,8 +68,8 @@ lie lines from size (p ∷ ps) f =
 
 begun-by : (text : List ℕ) (b : Bool) (start later : ℕ) (s : Section) (rest : List Section)
     → (b ≡ true → BeginsAt text start s) → s.c_part.end ≡ later → AreBegun text later rest
-    → AreBegun text (elim b as (λ _. ℕ) [ true ↦ start | false ↦ later ])
-    (elim b as (λ _. List Section) [ true ↦ s ∷ rest | false ↦ rest ])
+    → AreBegun text (if b then start else later)
+    (if b then s ∷ rest else rest)
 begun-by text true start later s rest h e k = (h refl, subst (λ n. AreBegun text n rest) (sym e) k)
 begun-by text false start later s rest h e k = k
 

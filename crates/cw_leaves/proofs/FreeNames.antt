@@ -1,6 +1,6 @@
 -- Other names leave the log as it is, where no two become one.
 use Rattle.std.proofs.Common.{◌≡◌, ℕ, zero, suc, ◌+◌, Bool, true, false, ◌&&◌, Option, Some, None, List, [], ◌∷◌}
-use Rattle.std.proofs.Common.{◌++◌, refl, sym, ◌∙◌, ap, map, take, drop, set, get_or}
+use Rattle.std.proofs.Common.{◌++◌, refl, sym, ◌∙◌, ap, map, take, drop, set, get_or, if◌then◌else◌}
 use Rattle.std.proofs.lemmas.List.{map-append, map-set}
 use Rattle.std.specs.List.{take-map, drop-map}
 use Rattle.std.proofs.Math.ListN.{get_or-map}
@@ -16,7 +16,7 @@ use Rattle.cw_table.specs.Rewriting.{row_pieces, alone}
 use Rattle.cw_table.specs.Normal.{Place, Nowhere, At, least_place, Production}
 use Rattle.cw_leaves.specs.Sights.{Heard, behind, followed, Sight, no_sight, seen_cats, heard_in}
 use Rattle.cw_leaves.specs.Sights.{heard_all, seen_as, seen_from, seen_new, seen_reserved, seen_reserved_at, is_same}
-use Rattle.cw_leaves.specs.Sights.{turned_if, seen_named, seen_named_by, names_at, seen_rewritten_from, seen_rewritten}
+use Rattle.cw_leaves.specs.Sights.{seen_named, seen_named_by, names_at, seen_rewritten_from, seen_rewritten}
 use Rattle.cw_leaves.specs.Sights.{seen_rank, seen_weight, seen_log_of, seen_log, renamed_heard, renamed_bare, renamed}
 use Rattle.cw_leaves.specs.Sights.{without_first}
 
@@ -85,7 +85,8 @@ is-renamed same other f free n None = refl
 is-renamed same other f free n (Some b) = sym (free b n)
 
 turned-renamed : {M N : Type 0} (f : M → N) (b : Bool) (s : Sight M)
-    → renamed f (turned_if b s) ≡ turned_if b (renamed f s)
+    → renamed f (if b then seen_as RawInt (seen_reserved s) else s)
+    ≡ (if b then seen_as RawInt (seen_reserved (renamed f s)) else renamed f s)
 turned-renamed f true s = ap (seen_as RawInt) (reserved-renamed f s)
 turned-renamed f false s = refl
 
@@ -93,7 +94,8 @@ named-renamed : {M N : Type 0} (same : M → M → Bool) (other : N → N → Bo
     → ((a b : M) → other (f a) (f b) ≡ same a b) → (n : M) (s : Sight M)
     → renamed f (seen_named same n s) ≡ seen_named other (f n) (renamed f s)
 named-renamed same other f free n s = turned-renamed f (is_exp s.cat && is_same same n s.bare) s
-    ∙ ap (λ b. turned_if (is_exp s.cat && b) (renamed f s)) (is-renamed same other f free n s.bare)
+    ∙ ap (λ b. if is_exp s.cat && b then seen_as RawInt (seen_reserved (renamed f s)) else renamed f s)
+    (is-renamed same other f free n s.bare)
 
 all-named-renamed : {M N : Type 0} (same : M → M → Bool) (other : N → N → Bool) (f : M → N)
     → ((a b : M) → other (f a) (f b) ≡ same a b) → (n : M) (ss : List (Sight M))

@@ -1,6 +1,6 @@
 -- A production changes what is seen of scraps as it changes the scraps, and so the two have the same log.
 use Rattle.std.proofs.Common.{◌≡◌, ℕ, zero, suc, ◌+◌, Bool, true, false, ◌&&◌, eqb, Option, Some, None, List, [], ◌∷◌}
-use Rattle.std.proofs.Common.{◌++◌, refl, sym, ◌∙◌, ap, map, take, drop, set, get_or}
+use Rattle.std.proofs.Common.{◌++◌, refl, sym, ◌∙◌, ap, map, take, drop, set, get_or, if◌then◌else◌}
 use Rattle.std.proofs.lemmas.List.{map-append, map-set}
 use Rattle.std.specs.List.{take-map, drop-map}
 use Rattle.std.proofs.Math.ListN.{get_or-map}
@@ -24,7 +24,7 @@ use Rattle.cw_table.specs.Rewriting.{State, rewrite}
 use Rattle.cw_table.specs.Normal.{Place, Nowhere, At, least_place, rank_with, weight, Production, log_of, log}
 use Rattle.cw_leaves.specs.Sights.{Heard, silence, followed, told_by, heard, Sight, sight, no_sight}
 use Rattle.cw_leaves.specs.Sights.{seen_cats, heard_in, heard_all, seen_as, seen_from, seen_new, seen_reserved}
-use Rattle.cw_leaves.specs.Sights.{seen_reserved_at, is_same, turned_if, seen_named, seen_named_by, names_at}
+use Rattle.cw_leaves.specs.Sights.{seen_reserved_at, is_same, seen_named, seen_named_by, names_at}
 use Rattle.cw_leaves.specs.Sights.{seen_rewritten_from, seen_rewritten, seen_rank, seen_weight, seen_log_of, seen_log}
 use Rattle.cw_leaves.proofs.SightFacts.{found_in, first-heard, heard-reserved, heard-toggled}
 
@@ -156,16 +156,15 @@ name-same : (n : ℕ) (o : Option ℕ) → is_bare_name n o ≡ is_same eqb n o
 name-same n None = refl
 name-same n (Some b) = refl
 
-turned-seen : (b : Bool) (s : Scrap) → sight (elim b [
-  | true ↦ with_cat RawInt (reserved_in s)
-  | false ↦ s
-]) ≡ turned_if b (sight s)
+turned-seen : (b : Bool) (s : Scrap) → sight (if b then with_cat RawInt (reserved_in s) else s)
+    ≡ (if b then seen_as RawInt (seen_reserved (sight s)) else sight s)
 turned-seen true s = ap (seen_as RawInt) (reserved-seen s)
 turned-seen false s = refl
 
 named-seen : (n : ℕ) (s : Scrap) → sight (named_scrap n s) ≡ seen_named eqb n (sight s)
 named-seen n s = turned-seen (is_exp s.cat && is_bare_name n (bare_name s.tree)) s
-    ∙ ap (λ b. turned_if (is_exp s.cat && b) (sight s)) (name-same n (bare_name s.tree))
+    ∙ ap (λ b. if is_exp s.cat && b then seen_as RawInt (seen_reserved (sight s)) else sight s)
+    (name-same n (bare_name s.tree))
 
 all-named : (n : ℕ) (ss : List Scrap) → map sight (map (named_scrap n) ss) ≡ map (seen_named eqb n) (map sight ss)
 all-named n [] = refl

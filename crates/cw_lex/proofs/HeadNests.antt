@@ -1,5 +1,6 @@
 -- The answers behind a head are nested, and their nest is what stands behind the head.
 use Rattle.std.proofs.Common.{◌≡◌, Bool, true, false, Option, Some, None, List, [], ◌∷◌, refl, sym, ◌∙◌, ap, subst}
+use Rattle.std.proofs.Common.{if◌then◌else◌}
 use Rattle.cw_rules.specs.declared.codes.Code.TheVariants as code
 use Rattle.cw_lex.specs.declared.heads.Wanted.{Wanted}
 use Rattle.cw_lex.specs.declared.heads.Wanted.TheVariants as wants
@@ -95,24 +96,20 @@ Signed name answers None = (named_headed name (nest answers)).rest ≡ Leaf name
 Signed name answers (Some rest) = Leaves rest (named_headed name (nest answers)).rest
 
 named-rest : (name t : Seen) (rest : Nest) (b : Bool) → is_head_sign t.kind ≡ b → (named_headed name (Leaf t rest)).rest
-    ≡ (elim b as (λ b. Nest) [ true ↦ rest | false ↦ Leaf name (Leaf t rest) ])
-named-rest name t rest true e = ap (λ b. (elim b as (λ b. Headed) [
-  | true ↦
+    ≡ (if b then rest else Leaf name (Leaf t rest))
+named-rest name t rest true e = ap (λ b. (if b then
       record { head = Named name.span.start t.span.start; rest = rest }
-  | false ↦ headless (Leaf name (Leaf t rest))
-]).rest) e
-named-rest name t rest false e = ap (λ b. (elim b as (λ b. Headed) [
-  | true ↦
+    else headless (Leaf name (Leaf t rest))).rest) e
+named-rest name t rest false e = ap (λ b. (if b then
       record { head = Named name.span.start t.span.start; rest = rest }
-  | false ↦ headless (Leaf name (Leaf t rest))
-]).rest) e
+    else headless (Leaf name (Leaf t rest))).rest) e
 
 sign-leaves : (name : Seen) (answers : List Answer) → IsNested answers → Signed name answers (behind_sign answers)
 sign-leaves name [] h = refl
 sign-leaves name (Token t ∷ answers) h = by (is_head_sign t.kind) refl
   where
     by : (b : Bool) → is_head_sign t.kind ≡ b → Signed name (Token t ∷ answers)
-        (elim b as (λ b. Option (List Answer)) [ true ↦ Some answers | false ↦ None ])
+        (if b then Some answers else None)
     by true e = (
       nested-behind t answers h,
       sym (ap (λ n. (named_headed name n).rest) (nest-token t answers h)

@@ -36,7 +36,7 @@ run-some class (b ∷ bs) h = by (is_in class b) refl
     by : (t : Bool) → is_in class b ≡ t → (0 < length (b ∷ bs)) × (is_in class b ≡ true)
     by true e = (omega arith, e)
     by false e =
-        let none : run class (b ∷ bs) ≡ 0 = ap (λ t. elim t [ true ↦ 1 + run class bs | false ↦ 0 ]) e in
+        let none : run class (b ∷ bs) ≡ 0 = ap (λ t. if t then 1 + run class bs else 0) e in
         absurd (omega arith)
 
 run-none : (class : Class) (bytes : List ℕ) → run class bytes ≡ 0 → 0 < length bytes → is_in class (slice_index bytes 0)
@@ -46,7 +46,7 @@ run-none class (b ∷ bs) h g = by (is_in class b) refl
   where
     by : (t : Bool) → is_in class b ≡ t → is_in class b ≡ false
     by true e =
-        let some : run class (b ∷ bs) ≡ 1 + run class bs = ap (λ t. elim t [ true ↦ 1 + run class bs | false ↦ 0 ]) e in
+        let some : run class (b ∷ bs) ≡ 1 + run class bs = ap (λ t. if t then 1 + run class bs else 0) e in
         absurd (omega arith)
     by false e = e
 

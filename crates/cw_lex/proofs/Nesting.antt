@@ -644,7 +644,7 @@ cut-uncut part (c ∷ cs) place about =
 until-append : (xs ys : List Answer) → begins_section_in xs ≡ false → until_section (xs ++ ys) ≡ xs ++ until_section ys
 until-append [] ys h = refl
 until-append (x ∷ xs) ys h =
-    ap (λ t. elim t [ true ↦ [] | false ↦ x ∷ until_section (xs ++ ys) ])
+    ap (λ t. if t then [] else x ∷ until_section (xs ++ ys))
     (or-first (is_section_answer x) (begins_section_in xs) h)
     ∙ ap (λ l. x ∷ l) (until-append xs ys (or-second (is_section_answer x) (begins_section_in xs) h))
 
@@ -667,7 +667,7 @@ until-cut w place bytes ys =
     let t = token_of false code.kind place code.size (at_sign ∷ bytes) in
     ap until_section (append_assoc cut (Token t ∷ note_answers code.notes) ys)
     ∙ until-append cut (Token t ∷ (note_answers code.notes ++ ys)) (cut-uncut w.part w.comments place place)
-    ∙ ap (λ b. cut ++ (elim b [ true ↦ [] | false ↦ Token t ∷ until_section (note_answers code.notes ++ ys) ]))
+    ∙ ap (λ b. cut ++ (if b then [] else Token t ∷ until_section (note_answers code.notes ++ ys)))
     (section-kind (at_sign ∷ bytes)).is
     ∙ append-nil cut
 

@@ -198,7 +198,7 @@ word-short text part comments place size calm within letter none e =
     let bs = drop (place + 1) text in
     let here : drop place text ≡ bytes_at text place = bytes-here text place within in
     let more : run classes.Word (b ∷ bs) ≡ 1 + run classes.Word bs =
-    ap (λ t. elim (t || is_digit b) [ true ↦ 1 + run classes.Word bs | false ↦ 0 ]) letter in
+    ap (λ t. if t || is_digit b then 1 + run classes.Word bs else 0) letter in
     let same : size ≡ run classes.Word (b ∷ bs) = e ∙ ap (run classes.Word) here in
     record {
       some = omega arith;

@@ -1,6 +1,6 @@
 -- TeX text goes on up to the first `@` or bar.
 use Rattle.std.proofs.Common.{◌≡◌, ℕ, zero, suc, ◌+◌, ◌<◌, ◌≤◌, Bool, true, false, not, List, [], ◌∷◌, length}
-use Rattle.std.proofs.Common.{slice_index, refl, ap, arith}
+use Rattle.std.proofs.Common.{slice_index, refl, ap, arith, if◌then◌else◌}
 use Rattle.memchr.specs.Find.{Nowhere, NoneBefore, Passes, is_byte2}
 use Rattle.cw_rules.specs.declared.classes.Class.{Class}
 use Rattle.cw_rules.specs.declared.classes.Class.TheVariants.{TexText}
@@ -12,12 +12,12 @@ run-first : (class : Class) (bytes : List ℕ) (n : ℕ) → n ≤ length bytes
     → (n < length bytes → is_in class (slice_index bytes n) ≡ false) → run class bytes ≡ n
 run-first class [] zero h inside stop = refl
 run-first class [] (suc n) h inside stop = absurd (omega arith)
-run-first class (b ∷ bs) zero h inside stop = ap (λ t. elim t [ true ↦ 1 + run class bs | false ↦ 0 ])
+run-first class (b ∷ bs) zero h inside stop = ap (λ t. if t then 1 + run class bs else 0)
     (stop (omega arith))
 run-first class (b ∷ bs) (suc n) h inside stop =
     let rest : run class bs ≡ n = run-first class bs n (omega arith) (λ k low. inside (suc k) (omega arith))
     (λ within. stop (omega arith)) in
-    let more : run class (b ∷ bs) ≡ 1 + run class bs = ap (λ t. elim t [ true ↦ 1 + run class bs | false ↦ 0 ])
+    let more : run class (b ∷ bs) ≡ 1 + run class bs = ap (λ t. if t then 1 + run class bs else 0)
     (inside 0 (omega arith)) in
     omega arith
 

@@ -102,7 +102,7 @@ signed (b ∷ bs) fresh last place h = by (is_in classes.Blank b) refl (signed b
         code false k =
             let one-more : suc (run classes.Blank bs) ≡ 1 + run classes.Blank bs = omega arith in
             let next : is_signed bs ≡ true = ap (λ n. nat_lt 0 (head_sign_size (drop n (b ∷ bs)))) one-more
-            ∙ sym (ap (λ t. nat_lt 0 (head_sign_size (drop (elim t [ true ↦ 1 + run classes.Blank bs | false ↦ 0 ])
+            ∙ sym (ap (λ t. nat_lt 0 (head_sign_size (drop (if t then 1 + run classes.Blank bs else 0)
             (b ∷ bs)))) e) ∙ h in
             (λ i. has_sign (joined (if k i && begins_section bs then section head place bs else
             (if e i then record { answers = []; more = 0; next = head } else one false

@@ -1,5 +1,5 @@
 -- The heads with which definitions and named C parts begin.
-use Rattle.std.specs.Prelude.{ℕ, true, false, ◌==◌, Option, Some, None, List, [], ◌∷◌}
+use Rattle.std.specs.Prelude.{ℕ, true, false, ◌==◌, Option, Some, None, List, [], ◌∷◌, if◌then◌else◌}
 use Rattle.cw_base.specs.declared.span.Span.{Span}
 use Rattle.cw_rules.specs.Answers.{Answer, Token, Begin, Finish, Note, Seen, is_head_sign}
 use Rattle.cw_rules.specs.declared.codes.Code.TheVariants as code
@@ -22,7 +22,7 @@ word_behind wanted end = None
 
 -- A `(` directly behind the name of a macro opens its parameters.
 abbrev pub opening_behind : Wanted → ℕ → Option Wanted
-opening_behind (wants.Parenthesis place) start = elim (place == start) [ true ↦ Some wants.Parameters | false ↦ None ]
+opening_behind (wants.Parenthesis place) start = if place == start then Some wants.Parameters else None
 opening_behind wanted start = None
 
 -- Commas and `...` stand among parameters, and `)` ends them.
@@ -55,7 +55,7 @@ wanted_by k = wants.Nothing
 -- The answers behind the sign, where it stands.
 abbrev pub behind_sign : List Answer → Option (List Answer)
 behind_sign [] = None
-behind_sign (Token token ∷ answers) = elim (is_head_sign token.kind) [ true ↦ Some answers | false ↦ None ]
+behind_sign (Token token ∷ answers) = if is_head_sign token.kind then Some answers else None
 behind_sign (Begin token ∷ answers) = None
 behind_sign (Finish token ∷ answers) = None
 behind_sign (Note note place ∷ answers) = behind_sign answers
@@ -109,10 +109,9 @@ headless rest = record { head = Headless; rest = rest }
 
 -- a name, which heads a C part where its sign stands behind it
 abbrev pub named_headed : Seen → Nest → Headed
-named_headed name (Leaf token rest) = elim (is_head_sign token.kind) [
-  | true ↦ record { head = Named name.span.start token.span.start; rest = rest }
-  | false ↦ headless (Leaf name (Leaf token rest))
-]
+named_headed name (Leaf token rest) =
+    if is_head_sign token.kind then record { head = Named name.span.start token.span.start; rest = rest }
+    else headless (Leaf name (Leaf token rest))
 named_headed name rest = headless (Leaf name rest)
 
 abbrev pub headed_by : TokKind → Seen → Nest → Headed

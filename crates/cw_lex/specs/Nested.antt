@@ -1,5 +1,5 @@
 -- How the answers over C text are nested.
-use Rattle.std.specs.Prelude.{◌≡◌, ℕ, Bool, true, false, Option, Some, None, List, [], ◌∷◌}
+use Rattle.std.specs.Prelude.{◌≡◌, ℕ, Bool, true, false, Option, Some, None, List, [], ◌∷◌, if◌then◌else◌}
 use Rattle.std.specs.List.{list_any}
 use Rattle.cw_rules.specs.declared.codes.Code.TheVariants as code
 use Rattle.cw_rules.specs.declared.tokens.Mode.{Mode}
@@ -69,10 +69,7 @@ begins_section_in answers = list_any is_section_answer answers
 -- the answers before the first section code
 abbrev pub until_section : List Answer → List Answer
 until_section [] = []
-until_section (answer ∷ answers) = elim (is_section_answer answer) [
-  | true ↦ []
-  | false ↦ answer ∷ until_section answers
-]
+until_section (answer ∷ answers) = if is_section_answer answer then [] else answer ∷ until_section answers
 
 -- the modes of C texts
 abbrev pub is_c_mode : Mode → Bool
@@ -90,7 +87,7 @@ is_plain_c_mode _ = false
 -- TeX text: inner C texts stand in it, each of them nested. It has no level of its own.
 abbrev pub tex_levels_after : Answer → List Level → Option (List Level)
 tex_levels_after (Token token) [] = Some []
-tex_levels_after (Begin token) [] = elim (is_inner_kind token.kind) [ true ↦ Some (InCode ∷ []) | false ↦ None ]
+tex_levels_after (Begin token) [] = if is_inner_kind token.kind then Some (InCode ∷ []) else None
 tex_levels_after (Finish token) (InCode ∷ []) = Some []
 tex_levels_after answer levels = levels_after answer levels
 

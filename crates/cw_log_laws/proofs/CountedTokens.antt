@@ -1,6 +1,6 @@
 -- There are at most as many tokens and comments as bytes, and a nest has no more of them.
 use Rattle.std.proofs.Common.{◌≡◌, ℕ, zero, suc, ◌+◌, ◌-◌, ◌≤◌, Bool, true, false, List, [], ◌∷◌, ◌++◌, length, drop}
-use Rattle.std.proofs.Common.{take, refl, sym, ap, ◌∙◌, arith, append_assoc, append-nil, length-drop}
+use Rattle.std.proofs.Common.{take, refl, sym, ap, ◌∙◌, arith, append_assoc, append-nil, length-drop, if◌then◌else◌}
 use Rattle.std.proofs.lemmas.List.{length-take}
 use Rattle.cw_rules.specs.declared.tokens.Mode.{Mode}
 use Rattle.cw_rules.specs.Answers.{Answer, Token, Begin, Finish, Note, Seen, Where, Found}
@@ -85,7 +85,7 @@ until-count [] = omega arith
 until-count (x ∷ xs) = by (is_section_answer x) x (until-count xs)
   where
     by : (b : Bool) (x : Answer) → tokens_in (until_section xs) ≤ tokens_in xs
-        → tokens_in (elim b as (λ b. List Answer) [ true ↦ [] | false ↦ x ∷ until_section xs ]) ≤ tokens_in (x ∷ xs)
+        → tokens_in (if b then [] else x ∷ until_section xs) ≤ tokens_in (x ∷ xs)
     by true x h = omega arith
     by false (Token t) h = omega (arith, h)
     by false (Begin t) h = omega (arith, h)

@@ -1,6 +1,6 @@
 -- The productions of a log are those of the table, at places below the number of scraps.
 use Rattle.std.proofs.Common.{◌≡◌, ℕ, zero, suc, ◌<◌, ◌≤◌, Bool, true, false, ◌&&◌, nat_le, Option, Some, List, [], ◌∷◌}
-use Rattle.std.proofs.Common.{length, drop, refl, sym, ap, ◌∙◌, subst, arith}
+use Rattle.std.proofs.Common.{length, drop, refl, sym, ap, ◌∙◌, subst, arith, if◌then◌else◌}
 use Rattle.std.specs.List.{All, list_all}
 use Rattle.std.proofs.lemmas.Bool.{leb-true}
 use Rattle.std.proofs.lemmas.List.Elements.{All-cons, All-nil}
@@ -32,7 +32,7 @@ first-numbered [] cats row all e = absurd cc
 first-numbered (r ∷ rows) cats row all e = go (row_fits r cats) refl e
     (λ f. first-numbered rows cats row (both-right (has_number r) _ all) f)
   where
-    go : (b : Bool) → row_fits r cats ≡ b → elim b as (λ b. Option Row) [ true ↦ Some r | false ↦ first_of rows cats ]
+    go : (b : Bool) → row_fits r cats ≡ b → (if b then Some r else first_of rows cats)
         ≡ Some row → (first_of rows cats ≡ Some row → has_number row ≡ true) → has_number row ≡ true
     go true f e rest =
         let same : r ≡ row = cc in

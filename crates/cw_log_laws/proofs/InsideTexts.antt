@@ -1,6 +1,6 @@
 -- The C texts of a book lie in its text, behind the code of a section.
 use Rattle.std.proofs.Common.{ℕ, zero, suc, ◌<◌, ◌≤◌, ◌^◌, Bool, true, false, not, List, [], ◌∷◌, ◌++◌, Option, Some}
-use Rattle.std.proofs.Common.{None, length, All, sym, subst, arith}
+use Rattle.std.proofs.Common.{None, length, All, sym, subst, arith, if◌then◌else◌}
 use Rattle.std.proofs.lemmas.List.Concat.{flat_map-cons}
 use Rattle.std.proofs.lemmas.List.Elements.{All-append, All-cons, All-filter, All-head, All-map, All-nil, All-tail}
 use Rattle.std.proofs.lemmas.List.Elements.{All-weaker}
@@ -194,7 +194,7 @@ AreBehind [] = Unit {0}
 AreBehind (s ∷ sections) = (0 < s.tex.start) × AreBehind sections
 
 behind-by : (b : Bool) (s : Section) (rest : List Section) → 0 < s.tex.start → AreBehind rest
-    → AreBehind (elim b as (λ _. List Section) [ true ↦ s ∷ rest | false ↦ rest ])
+    → AreBehind (if b then s ∷ rest else rest)
 behind-by true s rest h all = (h, all)
 behind-by false s rest h all = all
 

@@ -1,6 +1,7 @@
 -- The text of an identifier is a letter, and letters and digits behind it, in all answers of the scanner.
 use Rattle.std.proofs.Common.{◌≡◌, ℕ, zero, suc, ◌+◌, ◌-◌, Bool, true, false, ◌&&◌, ◌||◌, not, ◌==◌, nat_lt, List, []}
 use Rattle.std.proofs.Common.{◌∷◌, ◌++◌, Option, Some, None, slice_index, drop, take, refl, sym, ap, ◌∙◌, arith}
+use Rattle.std.proofs.Common.{if◌then◌else◌}
 use Rattle.std.specs.List.{list_all}
 use Rattle.cw_base.proofs.TestLaws.{both}
 use Rattle.cw_rules.specs.declared.bodies.Noted.{Noted}
@@ -60,10 +61,10 @@ AreSpelt (Note kind place ∷ answers) = AreSpelt answers
 run-on : (b : ℕ) (bs : List ℕ) → is_in classes.Word b ≡ true → run classes.Word (b ∷ bs) ≡ suc (run classes.Word bs)
 run-on b bs h =
     let one : 1 + run classes.Word bs ≡ suc (run classes.Word bs) = omega arith in
-    ap (λ t. elim t as (λ t. ℕ) [ true ↦ 1 + run classes.Word bs | false ↦ 0 ]) h ∙ one
+    ap (λ t. if t then 1 + run classes.Word bs else 0) h ∙ one
 
 run-none : (b : ℕ) (bs : List ℕ) → is_in classes.Word b ≡ false → run classes.Word (b ∷ bs) ≡ 0
-run-none b bs h = ap (λ t. elim t as (λ t. ℕ) [ true ↦ 1 + run classes.Word bs | false ↦ 0 ]) h
+run-none b bs h = ap (λ t. if t then 1 + run classes.Word bs else 0) h
 
 run-words : (bs : List ℕ) → list_all (is_in classes.Word) (take (run classes.Word bs) bs) ≡ true
 run-words [] = refl
@@ -231,7 +232,7 @@ tex-text-spelt w place byte bytes =
 
 -- a name that follows at a byte which isn't white begins there
 not-white : (byte : ℕ) (bytes : List ℕ) → is_in classes.White byte ≡ false → behind_white (byte ∷ bytes) ≡ byte ∷ bytes
-not-white byte bytes h = ap (λ t. drop (elim t as (λ t. ℕ) [ true ↦ 1 + run classes.White bytes | false ↦ 0 ])
+not-white byte bytes h = ap (λ t. drop (if t then 1 + run classes.White bytes else 0)
     (byte ∷ bytes)) h
 
 name-here : (byte : ℕ) (bytes : List ℕ) → name_follows (byte ∷ bytes) ≡ true → is_in classes.White byte ≡ false
@@ -333,7 +334,7 @@ until-spelt [] h = tt
 until-spelt (x ∷ xs) h = by (is_section_answer x) x h (λ g. until-spelt xs g)
   where
     by : (b : Bool) (x : Answer) → AreSpelt (x ∷ xs) → (AreSpelt xs → AreSpelt (until_section xs))
-        → AreSpelt (elim b as (λ b. List Answer) [ true ↦ [] | false ↦ x ∷ until_section xs ])
+        → AreSpelt (if b then [] else x ∷ until_section xs)
     by true x h rest = tt
     by false (Token t) h rest = (h.0, rest h.1)
     by false (Begin t) h rest = rest h

@@ -1,5 +1,5 @@
 -- The lines of a log tell its blocks.
-use Rattle.std.proofs.Common.{◌≡◌, ℕ, suc, true, false, not, List, [], ◌∷◌, ◌++◌}
+use Rattle.std.proofs.Common.{◌≡◌, ℕ, suc, true, false, not, List, [], ◌∷◌, ◌++◌, if◌then◌else◌}
 use Rattle.std.proofs.Common.{length}
 use Rattle.std.proofs.Common.{eqb, nat_eq, map, All, refl, sym, ◌∙◌, ap, arith}
 use Rattle.std.specs.List.{flat_map}
@@ -32,7 +32,7 @@ tail-of a b xs ys e = cc
 -- a category by its name
 cat_in : List Cat → List ℕ → Cat
 cat_in [] text = cats.End
-cat_in (c ∷ cs) text = elim (pointwise nat_eq (cat_text c) text) [ true ↦ c | false ↦ cat_in cs text ]
+cat_in (c ∷ cs) text = if pointwise nat_eq (cat_text c) text then c else cat_in cs text
 
 cat-back : (c : Cat) → cat_in all_cats (cat_text c) ≡ c
 unfolding cat_in
@@ -43,11 +43,7 @@ pub cat-injective : (c d : Cat) → cat_text c ≡ cat_text d → c ≡ d
 cat-injective c d e = sym (cat-back c) ∙ (ap (cat_in all_cats) e ∙ cat-back d)
 
 letter_in : ℕ → LeafKind
-letter_in n = elim (eqb n 98) [
-  | true ↦ leaf.B
-  | false ↦ elim
-      (eqb n 99) [ true ↦ leaf.C | false ↦ elim (eqb n 105) [ true ↦ leaf.I | false ↦ leaf.S ] ]
-]
+letter_in n = if eqb n 98 then leaf.B else (if eqb n 99 then leaf.C else (if eqb n 105 then leaf.I else leaf.S))
 
 letter-back : (k : LeafKind) → letter_in (letter k) ≡ k
 unfolding letter_in

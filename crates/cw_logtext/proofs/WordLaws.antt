@@ -1,7 +1,7 @@
 -- Where a word, a line and a name end.
 use Rattle.std.proofs.Common.{◌≡◌, ◌≢◌, ℕ, zero, suc, ◌+◌, ◌<◌, ◌≤◌, Bool, true, false, not, ◌==◌, eqb, List, []}
 use Rattle.std.proofs.Common.{◌∷◌, ◌++◌, length, take, drop, get_or, refl, sym, ◌∙◌, ap, arith, subst, drop-cons}
-use Rattle.std.proofs.Common.{length-drop}
+use Rattle.std.proofs.Common.{length-drop, if◌then◌else◌}
 use Rattle.std.specs.List.{list_all}
 use Rattle.std.proofs.lemmas.List.{take-append-drop}
 use Rattle.std.proofs.Math.Seq.{drop-append_seam}
@@ -115,7 +115,7 @@ run-name [] rest h (something bytes) = refl
 run-name (c ∷ cs) rest h b =
     let k : is_in classes.Word c ≡ true = both-left (is_in classes.Word c) _ h in
     let next : 1 + length cs ≡ suc (length cs) = omega arith in
-    ap (λ w. elim w [ true ↦ 1 + run classes.Word (cs ++ rest) | false ↦ 0 ]) k
+    ap (λ w. if w then 1 + run classes.Word (cs ++ rest) else 0) k
     ∙ (ap (λ n. 1 + n) (run-name cs rest (both-right (is_in classes.Word c) _ h) b) ∙ next)
 
 run-all : (bytes : List ℕ) → list_all (is_in classes.Word) (take (run classes.Word bytes) bytes) ≡ true
@@ -123,7 +123,7 @@ run-all [] = refl
 run-all (c ∷ cs) = go (is_in classes.Word c) refl (run-all cs)
   where
     go : (b : Bool) → is_in classes.Word c ≡ b → list_all (is_in classes.Word) (take (run classes.Word cs) cs) ≡ true
-        → list_all (is_in classes.Word) (take (elim b [ true ↦ 1 + run classes.Word cs | false ↦ 0 ]) (c ∷ cs)) ≡ true
+        → list_all (is_in classes.Word) (take (if b then 1 + run classes.Word cs else 0) (c ∷ cs)) ≡ true
     go true e more =
         let next : 1 + run classes.Word cs ≡ suc (run classes.Word cs) = omega arith in
         subst (λ n. list_all (is_in classes.Word) (take n (c ∷ cs)) ≡ true) (sym next)
@@ -140,7 +140,7 @@ first-fine : (first : ℕ) (more : List ℕ) → is_letter first ≡ true
 first-fine first more h =
     let next : 1 + run classes.Word more ≡ suc (run classes.Word more) = omega arith in
     let many : run classes.Word (first ∷ more) ≡ suc (run classes.Word more) =
-    ap (λ b. elim b [ true ↦ 1 + run classes.Word more | false ↦ 0 ]) (letter-word first h) ∙ next in
+    ap (λ b. if b then 1 + run classes.Word more else 0) (letter-word first h) ∙ next in
     subst (λ n. is_identifier (take n (first ∷ more)) ≡ true) (sym many) (and-both (is_letter first) _ h (run-all more))
 
 tail-of : (a b : ℕ) (xs ys : List ℕ) → ◌≡◌ {A = List ℕ} (a ∷ xs) (b ∷ ys) → xs ≡ ys

@@ -1,5 +1,6 @@
 -- Definitions and C parts, as they are printed.
-use Rattle.std.specs.Prelude.{ℕ, ◌==◌, ◌&&◌, ◌||◌, Bool, true, false, not, is_some, nat_lt, List, [], ◌∷◌, ◌++◌, codes}
+use Rattle.std.specs.Prelude.{ℕ, ◌==◌, ◌&&◌, ◌||◌, Bool, false, not, is_some, nat_lt, List, [], ◌∷◌, ◌++◌, codes}
+use Rattle.std.specs.Prelude.{if◌then◌else◌}
 use Rattle.cw_base.specs.Conditions.{list_if}
 use Rattle.cw_rules.specs.declared.tokens.Mode.TheVariants as modes
 use Rattle.cw_names.specs.Names.{Entry}
@@ -40,8 +41,7 @@ definitions_done s opening (d ∷ ds) names =
 
 -- a paragraph that is printed or not; it is translated in any case
 abbrev pub paragraph_if : Bool → List ℕ → Done ℕ → Done ℕ
-paragraph_if true front d = paragraph front d
-paragraph_if false front d = reprinted (λ out. []) d
+paragraph_if printed front d = if printed then paragraph front d else reprinted (λ out. []) d
 
 -- The C part is printed where it is named or has a scrap.
 abbrev pub prints_code : Section → Done ℕ → Bool

@@ -1,6 +1,6 @@
 -- An ignored name is one whose reduced text is empty or `...`.
 use Rattle.std.proofs.Common.{◌≡◌, ℕ, zero, suc, ◌+◌, ◌==◌, ◌&&◌, ◌||◌, Bool, true, false, nat_eq, List, [], ◌∷◌}
-use Rattle.std.proofs.Common.{length, drop, refl, ap, sym, ◌∙◌, arith, true≢false, ne_eqb}
+use Rattle.std.proofs.Common.{length, drop, refl, ap, sym, ◌∙◌, arith, true≢false, ne_eqb, if◌then◌else◌}
 use Rattle.std.proofs.lemmas.Bool.{eq-eqb, eqb-true}
 use Rattle.std.specs.Cmp.Lexicographic.{pointwise}
 use Rattle.cw_rules.specs.declared.classes.Class.TheVariants.{White}
@@ -35,17 +35,17 @@ first-blank [] = refl
 first-blank (b ∷ bs) = by (b == 32) refl
   where
     by : (t : Bool) → (b == 32) ≡ t
-        → without_first_blank (elim t as (λ _. List ℕ) [ true ↦ b ∷ bs | false ↦ 32 ∷ (b ∷ bs) ])
-        ≡ elim (b == 32) as (λ _. List ℕ) [ true ↦ bs | false ↦ b ∷ bs ]
+        → without_first_blank (if t then b ∷ bs else 32 ∷ (b ∷ bs))
+        ≡ (if b == 32 then bs else b ∷ bs)
     by true e = refl
-    by false e = sym (ap (λ t. elim t as (λ _. List ℕ) [ true ↦ bs | false ↦ b ∷ bs ]) e)
+    by false e = sym (ap (λ t. if t then bs else b ∷ bs) e)
 
 skipped : (b : ℕ) (bs : List ℕ) → drop (run White (b ∷ bs)) (b ∷ bs)
-    ≡ elim (is_in White b) as (λ _. List ℕ) [ true ↦ drop (run White bs) bs | false ↦ b ∷ bs ]
+    ≡ (if is_in White b then drop (run White bs) bs else b ∷ bs)
 skipped b bs = by (is_in White b)
   where
-    by : (t : Bool) → drop (elim t as (λ _. ℕ) [ true ↦ 1 + run White bs | false ↦ 0 ]) (b ∷ bs)
-        ≡ elim t as (λ _. List ℕ) [ true ↦ drop (run White bs) bs | false ↦ b ∷ bs ]
+    by : (t : Bool) → drop (if t then 1 + run White bs else 0) (b ∷ bs)
+        ≡ (if t then drop (run White bs) bs else b ∷ bs)
     by true = let one : 1 + run White bs ≡ suc (run White bs) = omega arith in ap (λ k. drop k (b ∷ bs)) one
     by false = refl
 
@@ -56,7 +56,7 @@ blank-empty [] = refl
 blank-empty (b ∷ bs) = by (b == 32)
   where
     by : (t : Bool)
-        → pointwise nat_eq (elim t as (λ _. List ℕ) [ true ↦ b ∷ bs | false ↦ 32 ∷ (b ∷ bs) ]) [] ≡ false
+        → pointwise nat_eq (if t then b ∷ bs else 32 ∷ (b ∷ bs)) [] ≡ false
     by true = refl
     by false = refl
 
@@ -65,7 +65,7 @@ blank-dots [] dots = refl
 blank-dots (b ∷ bs) dots = by (b == 32) refl
   where
     by : (t : Bool) → (b == 32) ≡ t
-        → pointwise nat_eq (elim t as (λ _. List ℕ) [ true ↦ b ∷ bs | false ↦ 32 ∷ (b ∷ bs) ]) (46 ∷ dots) ≡ false
+        → pointwise nat_eq (if t then b ∷ bs else 32 ∷ (b ∷ bs)) (46 ∷ dots) ≡ false
     by true e = ap (λ (k : ℕ). (k == 46) && pointwise nat_eq bs dots) (eqb-true b 32 e)
     by false e = refl
 
@@ -81,9 +81,8 @@ all-white [] = refl
 all-white (b ∷ bs) = by (is_in White b) (all-white bs)
   where
     by : (t : Bool) → pointwise nat_eq (single_blanks bs) [] ≡ is_white bs
-        → pointwise nat_eq (elim t as (λ _. List ℕ)
-        [ true ↦ blank_before (single_blanks bs) | false ↦ b ∷ single_blanks bs ]) []
-        ≡ ((elim t as (λ _. ℕ) [ true ↦ 1 + run White bs | false ↦ 0 ]) == suc (length bs))
+        → pointwise nat_eq (if t then blank_before (single_blanks bs) else b ∷ single_blanks bs) []
+        ≡ ((if t then 1 + run White bs else 0) == suc (length bs))
     by true more = blank-empty (single_blanks bs) ∙ more ∙ one-more (run White bs) (length bs)
     by false more = sym (ne_eqb 0 (suc (length bs)) (λ h. omega (arith, h)))
 
@@ -100,8 +99,7 @@ dots-white (suc n) (b ∷ bs) = by (is_in White b) refl (dots-white n bs)
   where
     by : (t : Bool) → is_in White b ≡ t
         → pointwise nat_eq (single_blanks bs) (dots_of n) ≡ (begins_with (dots_of n) bs && is_white (drop n bs))
-        → pointwise nat_eq (elim t as (λ _. List ℕ)
-        [ true ↦ blank_before (single_blanks bs) | false ↦ b ∷ single_blanks bs ]) (46 ∷ dots_of n)
+        → pointwise nat_eq (if t then blank_before (single_blanks bs) else b ∷ single_blanks bs) (46 ∷ dots_of n)
         ≡ (((b == 46) && begins_with (dots_of n) bs) && is_white (drop n bs))
     by true e more = blank-dots (single_blanks bs) (dots_of n)
         ∙ sym (ap (λ t. (t && begins_with (dots_of n) bs) && is_white (drop n bs)) (not-dot b e))
@@ -123,9 +121,8 @@ ignored-text [] = refl
 ignored-text (b ∷ bs) = ap is_void_from (skipped b bs) ∙ by (is_in White b) refl (ignored-text bs)
   where
     by : (t : Bool) → is_in White b ≡ t → is_void_text bs ≡ is_reduced_void (reduced bs)
-        → is_void_from (elim t as (λ _. List ℕ) [ true ↦ drop (run White bs) bs | false ↦ b ∷ bs ])
-        ≡ is_reduced_void (without_first_blank (elim t as (λ _. List ℕ)
-        [ true ↦ blank_before (single_blanks bs) | false ↦ b ∷ single_blanks bs ]))
+        → is_void_from (if t then drop (run White bs) bs else b ∷ bs)
+        ≡ is_reduced_void (without_first_blank (if t then blank_before (single_blanks bs) else b ∷ single_blanks bs))
     by true e more = more ∙ ap is_reduced_void (sym (first-blank (single_blanks bs)))
     by false e more =
         ap (λ t. t || (((b == 46) && begins_with (46 ∷ 46 ∷ []) bs) && is_white (drop 2 bs))) (some (length bs))
@@ -133,8 +130,7 @@ ignored-text (b ∷ bs) = ap is_void_from (skipped b bs) ∙ by (is_in White b) 
         ∙ ap (λ t. (b == 46) && t) (sym (dots-behind bs))
         ∙ sym (ap (λ t. t || ((b == 46) && pointwise nat_eq (single_blanks bs) (46 ∷ 46 ∷ [])))
         (some (length (single_blanks bs))))
-        ∙ sym (ap (λ t. is_reduced_void (elim t as (λ _. List ℕ)
-        [ true ↦ single_blanks bs | false ↦ b ∷ single_blanks bs ])) (not-blank b e))
+        ∙ sym (ap (λ t. is_reduced_void (if t then single_blanks bs else b ∷ single_blanks bs)) (not-blank b e))
 
 -- the name of a token, by its reduced text
 pub naming-reduced : (kind : TokKind) (token text : List ℕ) → text ≡ name_text token

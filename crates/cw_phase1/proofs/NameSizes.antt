@@ -27,7 +27,7 @@ use Rattle.cw_phase1.proofs.Underway.{covers-end, text-length}
 -- ## The text of a token
 
 size-by : (t : Bool) (n : ℕ) (xs ys : List ℕ) → length xs ≤ n → length ys ≤ n
-    → length (elim t as (λ _. List ℕ) [ true ↦ xs | false ↦ ys ]) ≤ n
+    → length (if t then xs else ys) ≤ n
 size-by true n xs ys h k = h
 size-by false n xs ys h k = k
 
@@ -78,7 +78,7 @@ IsShort n (Full kind text) = length text ≤ n
 IsShort n (Prefix text) = length text ≤ n
 
 short-by : (t : Bool) (n : ℕ) (x y : Naming) → IsShort n x → IsShort n y
-    → IsShort n (elim t as (λ _. Naming) [ true ↦ x | false ↦ y ])
+    → IsShort n (if t then x else y)
 short-by true n x y h k = h
 short-by false n x y h k = k
 
@@ -116,7 +116,7 @@ short-text n (suc i) text complete (name ∷ names) t h = (h.0, short-text n i t
 
 grown-by : (b : Bool) (n : ℕ) (prefix : List ℕ) (name : SecName) (names : List SecName) → length prefix ≤ n
     → AreShort n (name ∷ names)
-    → AreShort n (elim b as (λ _. List SecName) [ true ↦ record name { text = prefix } ∷ names | false ↦ name ∷ names ])
+    → AreShort n (if b then record name { text = prefix } ∷ names else name ∷ names)
 grown-by true n prefix name names t h = (t, h.1)
 grown-by false n prefix name names t h = h
 

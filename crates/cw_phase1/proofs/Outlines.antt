@@ -1,6 +1,6 @@
 -- The sections that are told are those of the whole list.
 use Rattle.std.proofs.Common.{◌≡◌, ℕ, ◌||◌, Bool, true, false, not, List, [], ◌∷◌, ◌++◌, Option, Some, None, refl, ap}
-use Rattle.std.proofs.Common.{sym, ◌∙◌, append_assoc}
+use Rattle.std.proofs.Common.{sym, ◌∙◌, append_assoc, if◌then◌else◌}
 use Rattle.std.proofs.lemmas.List.{append-nil}
 use Rattle.cw_base.specs.Web.{MergedLine}
 use Rattle.cw_secnames.specs.declared.kinds.SecId.{SecId}
@@ -49,7 +49,7 @@ IsNamed o = o.definitions_end ≡ None → o.name ≡ None
 -- ## One token more
 
 first-by : (t : Bool) (here later : ℕ)
-    → elim t as (λ _. ℕ) [ true ↦ here | false ↦ later ] ≡ unwrap_or (or_here None t here) later
+    → (if t then here else later) ≡ unwrap_or (or_here None t here) later
 first-by true here later = refl
 first-by false here later = refl
 
@@ -60,7 +60,7 @@ first-here (Some first) test size p ps = refl
 first-here None test size p ps = first-by (test p) p.token.span.start (first_start test size ps)
 
 name-by : (t : Bool) (place : ℕ) (before here later : Option SecId)
-    → elim t as (λ _. Option SecId) [ true ↦ here | false ↦ later ]
+    → (if t then here else later)
     ≡ name_or (or_here None t place) (name_here None t before here) later
 name-by true place before here later = refl
 name-by false place before here later = refl
@@ -71,20 +71,14 @@ named-here : (o : Option ℕ) (before : Option SecId) (p : Placed) (ps : List Pl
     (c_part_name ps)
 named-here (Some first) before p ps h = refl
 named-here None before p ps h =
-    ap (λ (t : Bool). elim t as (λ _. Option SecId) [
-      | true ↦ None
-      | false ↦ elim (is_program p.part) as (λ _. Option SecId) [ true ↦ p.name | false ↦ c_part_name ps ]
-    ]) h ∙
+    ap (λ (t : Bool). if t then None else if is_program p.part then p.name else c_part_name ps) h ∙
     (name-by (is_program p.part) p.token.span.start before p.name (c_part_name ps) ∙
     ap (λ (t : Bool). name_or (or_here None (t || is_program p.part) p.token.span.start)
     (name_here None (t || is_program p.part) before p.name) (c_part_name ps)) (sym h))
 
 no-end : (size : ℕ) (p : Placed) (ps : List Placed) → is_section_code p.role ≡ false
     → first_start ends_section size (p ∷ ps) ≡ first_start ends_section size ps
-no-end size p ps h = ap (λ (t : Bool). elim t as (λ _. ℕ) [
-  | true ↦ p.token.span.start
-  | false ↦ first_start ends_section size ps
-]) h
+no-end size p ps h = ap (λ (t : Bool). if t then p.token.span.start else first_start ends_section size ps) h
 
 goes-on : (lines : List MergedLine) (size : ℕ) (o : Open) (p : Placed) (ps : List Placed) → is_section_code p.role
     ≡ false
@@ -103,11 +97,8 @@ goes-on lines size o p ps h = λ i. record {
 none-here : (lines : List MergedLine) (size : ℕ) (p : Placed) (ps : List Placed) → is_section_code p.role ≡ false
     → sections_of lines size (p ∷ ps) ≡ sections_of lines size ps
 none-here lines size p ps h =
-    ap (λ (t : Bool). elim t as (λ _. List Section) [
-      | true ↦ section_at lines size p.token ps
-          ∷ sections_of lines size ps
-      | false ↦ sections_of lines size ps
-    ]) h
+    ap (λ (t : Bool). if t then section_at lines size p.token ps ∷ sections_of lines size ps
+        else sections_of lines size ps) h
 
 goes-by : (o : Option Open) (lines : List MergedLine) (size : ℕ) (p : Placed) (ps : List Placed)
     → is_section_code p.role ≡ false
@@ -148,41 +139,26 @@ ends-now lines size o p ps n h =
     ap (λ (t : Bool). record {
       starred = o.starred;
       depth = o.depth;
-      tex = span o.behind (unwrap_or o.tex_end (elim (t || not (is_tex p.part)) as (λ _. ℕ) [
-        | true ↦ p.token.span.start
-        | false ↦ first_start ends_tex size ps
-      ]));
-      definitions = span (unwrap_or o.tex_end (elim (t || not (is_tex p.part)) as (λ _. ℕ) [
-        | true ↦ p.token.span.start
-        | false ↦ first_start ends_tex size ps
-      ]))
-          (unwrap_or o.definitions_end (elim (t || is_program p.part) as (λ _. ℕ) [
-            | true ↦ p.token.span.start
-            | false ↦ first_start ends_definitions size ps
-          ]));
-      c_part = span (unwrap_or o.definitions_end (elim (t || is_program p.part) as (λ _. ℕ) [
-        | true ↦ p.token.span.start
-        | false ↦ first_start ends_definitions size ps
-      ]))
-          (elim t as (λ _. ℕ) [ true ↦ p.token.span.start | false ↦ first_start ends_section size ps ]);
-      name = name_or o.definitions_end o.name (elim t as (λ _. Option SecId) [
-        | true ↦ None
-        | false ↦ elim (is_program p.part) as (λ _. Option SecId) [ true ↦ p.name | false ↦ c_part_name ps ]
-      ]);
-      changed = holds_changed lines 0 o.start (elim t as (λ _. ℕ) [
-        | true ↦ p.token.span.start
-        | false ↦ first_start ends_section size ps
-      ]);
+      tex = span o.behind (unwrap_or o.tex_end (if t || not (is_tex p.part) then p.token.span.start
+          else first_start ends_tex size ps));
+      definitions = span (unwrap_or o.tex_end (if t || not (is_tex p.part) then p.token.span.start
+          else first_start ends_tex size ps))
+          (unwrap_or o.definitions_end (if t || is_program p.part then p.token.span.start
+              else first_start ends_definitions size ps));
+      c_part = span (unwrap_or o.definitions_end (if t || is_program p.part then p.token.span.start
+          else first_start ends_definitions size ps))
+          (if t then p.token.span.start else first_start ends_section size ps);
+      name = name_or o.definitions_end o.name (if t then None
+          else if is_program p.part then p.name
+          else c_part_name ps);
+      changed = holds_changed lines 0 o.start (if t then p.token.span.start else first_start ends_section size ps);
     }) (sym h)
 
 one-here : (lines : List MergedLine) (size : ℕ) (p : Placed) (ps : List Placed) → is_section_code p.role ≡ true
     → open_section lines size (opened p.token) ps ∷ sections_of lines size ps ≡ sections_of lines size (p ∷ ps)
 one-here lines size p ps h =
-    ap (λ (t : Bool). elim t as (λ _. List Section) [
-      | true ↦ section_at lines size p.token ps
-          ∷ sections_of lines size ps
-      | false ↦ sections_of lines size ps
-    ]) (sym h)
+    ap (λ (t : Bool). if t then section_at lines size p.token ps ∷ sections_of lines size ps
+        else sections_of lines size ps) (sym h)
 
 closes-by : (o : Option Open) (lines : List MergedLine) (size : ℕ) (closed : List Section) (p : Placed)
     (ps : List Placed) → AreNamed o → is_section_code p.role ≡ true

@@ -1,6 +1,6 @@
 -- The first token of a list of answers at which a part of a section ends.
 use Rattle.std.proofs.Common.{◌≡◌, ℕ, Bool, true, false, not, ◌||◌, List, [], ◌∷◌, ◌++◌, Option, Some, None, append-nil}
-use Rattle.std.proofs.Common.{refl, sym, ap, subst, ◌∙◌, ◌⊎◌, inl, inr}
+use Rattle.std.proofs.Common.{refl, sym, ap, subst, ◌∙◌, ◌⊎◌, inl, inr, if◌then◌else◌}
 use Rattle.std.specs.List.{list_any}
 use Rattle.cw_base.proofs.TestLaws.{one-failed-left, one-failed-right}
 use Rattle.cw_base.specs.declared.span.Span.{Span}
@@ -188,7 +188,7 @@ pub first-none : (test : Placed → Bool) (size : ℕ) (ps : List Placed) → li
     → first_start test size ps ≡ size
 first-none test size [] h = refl
 first-none test size (p ∷ ps) h =
-    ap (λ (t : Bool). elim t as (λ _. ℕ) [ true ↦ p.token.span.start | false ↦ first_start test size ps ])
+    ap (λ (t : Bool). if t then p.token.span.start else first_start test size ps)
     (one-failed-left (test p) (list_any test ps) h)
     ∙ first-none test size ps (one-failed-right (test p) (list_any test ps) h)
 
@@ -196,16 +196,13 @@ pub first-behind : (test : Placed → Bool) (size : ℕ) (front ps : List Placed
     → first_start test size (front ++ ps) ≡ first_start test size ps
 first-behind test size [] ps h = refl
 first-behind test size (p ∷ front) ps h =
-    ap (λ (t : Bool). elim t as (λ _. ℕ) [ true ↦ p.token.span.start | false ↦ first_start test size (front ++ ps) ])
+    ap (λ (t : Bool). if t then p.token.span.start else first_start test size (front ++ ps))
     (one-failed-left (test p) (list_any test front) h)
     ∙ first-behind test size front ps (one-failed-right (test p) (list_any test front) h)
 
 first-is : (test : Placed → Bool) (size : ℕ) (p : Placed) (ps : List Placed) → test p ≡ true
     → first_start test size (p ∷ ps) ≡ p.token.span.start
-first-is test size p ps h = ap (λ (t : Bool). elim t as (λ _. ℕ) [
-  | true ↦ p.token.span.start
-  | false ↦ first_start test size ps
-]) h
+first-is test size p ps h = ap (λ (t : Bool). if t then p.token.span.start else first_start test size ps) h
 
 -- what passes no test passes no stricter one
 no-stricter : (a b : Bool) → (a ≡ true → b ≡ true) → b ≡ false → a ≡ false

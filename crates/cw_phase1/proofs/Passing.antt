@@ -1,6 +1,6 @@
 -- The tokens that one answer settles, and those that are still to come.
 use Rattle.std.proofs.Common.{◌≡◌, ℕ, Bool, true, false, List, [], ◌∷◌, ◌++◌, Option, Some, None, refl, ap, sym, ◌∙◌}
-use Rattle.std.proofs.Common.{append_assoc, drop}
+use Rattle.std.proofs.Common.{append_assoc, drop, if◌then◌else◌}
 use Rattle.cw_base.specs.Web.{MergedLine}
 use Rattle.cw_rules.specs.declared.codes.Code.TheVariants as at
 use Rattle.cw_lex.specs.declared.heads.Wanted.{Wanted}
@@ -187,14 +187,9 @@ notes-token false lines t h answers e r =
 
 note-by : (b : Bool) (lines : List MergedLine) (note : Answer) (kind : NoteKind) (place : ℕ) (answers : List Answer)
     → is_unended kind ≡ b
-    → scanned_notes lines (elim b as (λ _. List Answer) [
-      | true ↦ Note kind place ∷ note ∷ answers
-      | false ↦ note ∷ Note kind place ∷ answers
-    ])
-    ≡ elim b as (λ _. List NoteRecord) [
-      | true ↦ scanned_note lines (Note kind place) ++ scanned_note lines note
-      | false ↦ scanned_note lines note ++ scanned_note lines (Note kind place)
-    ] ++ scanned_notes lines answers
+    → scanned_notes lines (if b then Note kind place ∷ note ∷ answers else note ∷ Note kind place ∷ answers)
+    ≡ (if b then scanned_note lines (Note kind place) ++ scanned_note lines note
+        else scanned_note lines note ++ scanned_note lines (Note kind place)) ++ scanned_notes lines answers
 note-by true lines note kind place answers e = sym (append_assoc (scanned_note lines (Note kind place))
     (scanned_note lines note) (scanned_notes lines answers))
 note-by false lines note kind place answers e =

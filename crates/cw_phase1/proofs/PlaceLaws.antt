@@ -1,6 +1,6 @@
 -- Lines and the places where they begin in the merged text.
 use Rattle.std.proofs.Common.{◌≡◌, ℕ, zero, suc, ◌+◌, ◌<◌, ◌≤◌, ◌&&◌, ◌||◌, Bool, true, false, refl, sym, ap, ◌∙◌, List}
-use Rattle.std.proofs.Common.{[], ◌∷◌, length, take, drop, get_or, nat_lt, arith, length-append}
+use Rattle.std.proofs.Common.{[], ◌∷◌, length, take, drop, get_or, nat_lt, arith, length-append, if◌then◌else◌}
 use Rattle.std.proofs.lemmas.Bool.{lt-ltb, le-ltb, and_right, and_left, and_from, or_left}
 use Rattle.std.proofs.lemmas.List.{drop_more, take_more}
 use Rattle.cw_base.specs.WebLaws.{length-text_of-more}
@@ -28,17 +28,14 @@ first-place : (line : MergedLine) (lines : List MergedLine) (at byte : ℕ) (las
     → (0 < length lines → byte < at + length line.text + 1)
     → place_from (line ∷ lines) at byte last ≡ line.place
 first-place line [] at byte last inside =
-    elim (nat_lt byte (at + length line.text + 1)) as (λ b. elim b [ true ↦ line.place | false ↦ line.place ]
+    elim (nat_lt byte (at + length line.text + 1)) as (λ b. (if b then line.place else line.place)
     ≡ line.place) [ true ↦ refl | false ↦ refl ]
 first-place line (next ∷ lines) at byte last inside =
     let short : 0 < length (next ∷ lines) = omega arith in
     let test : nat_lt byte (at + length line.text + 1) ≡ true =
     lt-ltb byte (at + length line.text + 1) (inside short) in
-    ap (λ (b : Bool). elim b [
-      | true ↦ line.place
-      | false ↦ place_from (next ∷ lines) (at + length line.text + 1) byte
-          line.place
-    ]) test
+    ap (λ (b : Bool). if b then line.place
+        else place_from (next ∷ lines) (at + length line.text + 1) byte line.place) test
 
 -- The place of a byte is that of the line that has it.
 pub place-at : (lines : List MergedLine) (at byte i : ℕ) (last : Place) (none : MergedLine) → i < length lines
@@ -52,10 +49,7 @@ place-at (line ∷ lines) at byte zero last none h from to =
 place-at (line ∷ lines) at byte (suc i) last none h from to =
     let test : nat_lt byte (at + length line.text + 1) ≡ false =
     le-ltb byte (at + length line.text + 1) (omega (arith, offset-suc line lines i)) in
-    ap (λ (b : Bool). elim b [
-      | true ↦ line.place
-      | false ↦ place_from lines (at + length line.text + 1) byte line.place
-    ]) test ∙
+    ap (λ (b : Bool). if b then line.place else place_from lines (at + length line.text + 1) byte line.place) test ∙
     place-at lines (at + length line.text + 1) byte i line.place none (omega arith)
     (omega (arith, offset-suc line lines i))
     (λ more. let below : byte < at + offset (line ∷ lines) (suc i + 1) = to (omega arith) in

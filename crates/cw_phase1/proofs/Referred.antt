@@ -1,6 +1,7 @@
 -- References that are added one by one, and the notes on names one by one.
 use Rattle.std.proofs.Common.{◌≡◌, ℕ, zero, suc, ◌+◌, ◌<◌, Bool, true, false, List, [], ◌∷◌, ◌++◌, Option, Some, None}
 use Rattle.std.proofs.Common.{All, map, drop, length, get_or, refl, ap, sym, ◌∙◌, append_assoc, zero-add, arith}
+use Rattle.std.proofs.Common.{if◌then◌else◌}
 use Rattle.std.specs.Prelude.{slice_get}
 use Rattle.std.specs.List.{position}
 use Rattle.std.proofs.lemmas.List.{append-nil}
@@ -47,7 +48,7 @@ bare-text zero text complete (n ∷ names) h = h
 bare-text (suc i) text complete (n ∷ names) h = (h.0, bare-text i text complete names h.1)
 
 bare-by : (t : Bool) (prefix : List ℕ) (n : SecName) (names : List SecName) → AreBare (n ∷ names)
-    → AreBare (elim t as (λ _. List SecName) [ true ↦ record n { text = prefix } ∷ names | false ↦ n ∷ names ])
+    → AreBare (if t then record n { text = prefix } ∷ names else n ∷ names)
 bare-by true prefix n names h = h
 bare-by false prefix n names h = h
 

@@ -1,7 +1,7 @@
 -- Which tokens have names, and which section each stands in.
 use Rattle.std.proofs.Common.{◌≡◌, ℕ, zero, suc, ◌+◌, ◌<◌, ◌≤◌, ◌==◌, Bool, true, false, List, [], ◌∷◌, ◌++◌, Option}
 use Rattle.std.proofs.Common.{Some, None, All, map, length, refl, ap, sym, subst, ◌∙◌, ◌||◌, add-zero, zero-add, arith}
-use Rattle.std.proofs.Common.{nat_lt, true≢false}
+use Rattle.std.proofs.Common.{nat_lt, true≢false, if◌then◌else◌}
 use Rattle.std.specs.List.{filter}
 use Rattle.std.proofs.lemmas.Bool.{eqb-true, ltb-false, ltb-true}
 use Rattle.std.proofs.lemmas.List.Elements.{All-nil, All-cons}
@@ -179,7 +179,7 @@ codes [] = 0
 codes (p ∷ ps) = count_by (is_section_code p.role) + codes ps
 
 count-section : (b : Bool) (s : Section) (rest : List Section)
-    → length (elim b as (λ _. List Section) [ true ↦ s ∷ rest | false ↦ rest ]) ≡ count_by b + length rest
+    → length (if b then s ∷ rest else rest) ≡ count_by b + length rest
 count-section true s rest = omega arith
 count-section false s rest = sym (zero-add (length rest))
 

@@ -1,6 +1,7 @@
 -- The tokens of a web stand one behind another, and so do the parts of its sections.
 use Rattle.std.proofs.Common.{◌≡◌, ℕ, ◌<◌, ◌≤◌, ◌||◌, ◌==◌, Bool, true, false, not, List, [], ◌∷◌, ◌++◌, Option, Some}
 use Rattle.std.proofs.Common.{None, All, IfSome, suc, zero, refl, ap, sym, subst, ◌∙◌, append_assoc, arith}
+use Rattle.std.proofs.Common.{if◌then◌else◌}
 use Rattle.std.proofs.lemmas.Bool.{eq-eqb}
 use Rattle.std.proofs.lemmas.List.Elements.{All-nil, All-cons, All-weaker}
 use Rattle.std.specs.Option.{option_map}
@@ -53,15 +54,12 @@ follow-end from size (p ∷ ps) f = omega (arith, f.0, f.1, follow-end p.token.s
 
 -- ## The first token that passes a test
 
-from-by : (t : Bool) (from here later : ℕ) → from ≤ here → from ≤ later → from ≤ elim t as (λ _. ℕ) [
-  | true ↦ here
-  | false ↦ later
-]
+from-by : (t : Bool) (from here later : ℕ) → from ≤ here → from ≤ later → from ≤ (if t then here else later)
 from-by true from here later h l = h
 from-by false from here later h l = l
 
 to-by : (t : Bool) (here later size : ℕ) → here ≤ size → later ≤ size
-    → elim t as (λ _. ℕ) [ true ↦ here | false ↦ later ] ≤ size
+    → (if t then here else later) ≤ size
 to-by true here later size h l = h
 to-by false here later size h l = l
 
@@ -81,7 +79,7 @@ first-to test from size (p ∷ ps) f =
     (first-to test p.token.span.«end» size ps f.2)
 
 earlier-by : (t other : Bool) (here a b : ℕ) → (t ≡ true → other ≡ true) → here ≤ b → a ≤ b
-    → elim other as (λ _. ℕ) [ true ↦ here | false ↦ a ] ≤ elim t as (λ _. ℕ) [ true ↦ here | false ↦ b ]
+    → (if other then here else a) ≤ (if t then here else b)
 earlier-by true true here a b h l k = omega arith
 earlier-by true false here a b h l k = let wrong : false ≡ true = h refl in absurd (cc)
 earlier-by false true here a b h l k = l
@@ -112,7 +110,7 @@ definitions-end-tex p h = tex-by (is_section_code p.role) p.part h
 -- ## Sections
 
 all-by : (P : Section → Type 0) (t : Bool) (s : Section) (rest : List Section) → P s → All P rest
-    → All P (elim t as (λ _. List Section) [ true ↦ s ∷ rest | false ↦ rest ])
+    → All P (if t then s ∷ rest else rest)
 all-by P true s rest h a = All-cons P s rest h a
 all-by P false s rest h a = a
 
@@ -149,16 +147,13 @@ not-same-behind a b h = grind arith
 not-here : (name : Option SecId) (here place : ℕ) (uses : List NameUse) → (here == place) ≡ false
     → name_at place (use_by name here ++ uses) ≡ name_at place uses
 not-here None here place uses h = refl
-not-here (Some n) here place uses h = ap (λ (t : Bool). elim t as (λ _. Option ℕ) [
-  | true ↦ Some n.index
-  | false ↦ name_at place uses
-]) h
+not-here (Some n) here place uses h = ap (λ (t : Bool). if t then Some n.index else name_at place uses) h
 
 here : (name : Option SecId) (place : ℕ) (uses : List NameUse) → name_at place uses ≡ None
     → option_map id (name_at place (use_by name place ++ uses)) ≡ name
 here None place uses h = ap (option_map id) h
 here (Some n) place uses h =
-    ap (λ (t : Bool). option_map id (elim t as (λ _. Option ℕ) [ true ↦ Some n.index | false ↦ name_at place uses ]))
+    ap (λ (t : Bool). option_map id (if t then Some n.index else name_at place uses))
     (eq-eqb place place refl)
 
 -- no name stands before the first token
@@ -173,15 +168,9 @@ none-before place from size (p ∷ ps) f h =
 name-by : (code program : Bool) (start later : ℕ) (name rest : Option SecId) (uses : List NameUse)
     → (code ≡ true → name ≡ None)
     → name_at start uses ≡ None → (start == later) ≡ false → option_map id (name_at later uses) ≡ rest
-    → option_map id (name_at (elim (code || program) as (λ _. ℕ) [ true ↦ start | false ↦ later ])
+    → option_map id (name_at (if code || program then start else later)
     (use_by name start ++ uses))
-    ≡ elim code as (λ _. Option SecId) [
-      | true ↦ None
-      | false ↦ elim program as (λ _. Option SecId) [
-        | true ↦ name
-        | false ↦ rest
-      ]
-    ]
+    ≡ (if code then None else (if program then name else rest))
 name-by true program start later name rest uses n none apart e = here name start uses none ∙ n refl
 name-by false true start later name rest uses n none apart e = here name start uses none
 name-by false false start later name rest uses n none apart e =
@@ -203,7 +192,7 @@ skip-before : (from place : ℕ) (uses later : List NameUse) → from ≤ place 
     → name_at place (uses ++ later) ≡ name_at place later
 skip-before from place [] later h b = refl
 skip-before from place (u ∷ uses) later h b =
-    ap (λ (t : Bool). elim t as (λ _. Option ℕ) [ true ↦ Some u.name | false ↦ name_at place (uses ++ later) ])
+    ap (λ (t : Bool). if t then Some u.name else name_at place (uses ++ later))
     (not-same u.place place (let first : u.place < from = b zero u (omega arith) in omega arith)) ∙
     skip-before from place uses later h (λ k d l. b (suc k) d (omega arith))
 
@@ -236,7 +225,7 @@ all-named lines uses from size (p ∷ ps) b f fit =
 
 -- A name that stands at a place is kept.
 at-by : (t : Bool) (name n : ℕ) (rest : Option ℕ) → name < n → IfSome (option_map id rest) (λ i. i.index < n)
-    → IfSome (option_map id (elim t as (λ _. Option ℕ) [ true ↦ Some name | false ↦ rest ])) (λ i. i.index < n)
+    → IfSome (option_map id (if t then Some name else rest)) (λ i. i.index < n)
 at-by true name n rest h k = h
 at-by false name n rest h k = k
 

@@ -1,6 +1,7 @@
 -- The parts of a section are whole.
 use Rattle.std.proofs.Common.{◌≡◌, ℕ, Bool, true, false, not, ◌||◌, List, [], ◌∷◌, ◌++◌, Some, None, All, length, drop}
 use Rattle.std.proofs.Common.{take, get_or, refl, sym, ap, subst, ◌∙◌, arith, append_assoc, ◌⊎◌, inl, inr}
+use Rattle.std.proofs.Common.{if◌then◌else◌}
 use Rattle.std.proofs.lemmas.List.{take_all, drop_all, length-take}
 use Rattle.std.proofs.lemmas.List.Elements.{All-nil, All-cons}
 use Rattle.cw_base.proofs.TestLaws.{one-right, not-both, or-false, one-left}
@@ -371,7 +372,7 @@ module _ (sections : TextsEndAtSections) (openings : TextsEndAtOpenings) (text :
     c_part : IsUncut text modes.CPart s.c_part
 
   sections-by : (b : Bool) (s : Section) (rest : List Section) → (b ≡ true → Uncut s) → All Uncut rest
-      → All Uncut (elim b as (λ _. List Section) [ true ↦ s ∷ rest | false ↦ rest ])
+      → All Uncut (if b then s ∷ rest else rest)
   sections-by true s rest h a = All-cons Uncut s rest (h refl) a
   sections-by false s rest h a = a
 

@@ -1,5 +1,5 @@
 -- Which section names are kept, and what is noted of them.
-use Rattle.std.specs.Prelude.{ℕ, Bool, true, false, List, [], ◌∷◌, Option, Some, None}
+use Rattle.std.specs.Prelude.{ℕ, Bool, true, false, List, [], ◌∷◌, Option, Some, None, if◌then◌else◌}
 use Rattle.cw_base.specs.declared.notes.NoteKind.{NoteKind}
 use Rattle.cw_base.specs.declared.notes.NoteKind.TheVariants as notes
 use Rattle.cw_rules.specs.Answers.{Seen, Answer, Token, Begin, Finish, Note}
@@ -76,7 +76,7 @@ behind_end note (Token token ∷ answers) = note ∷ Token token ∷ answers
 behind_end note (Begin token ∷ answers) = note ∷ Begin token ∷ answers
 behind_end note (Finish token ∷ answers) = note ∷ Finish token ∷ answers
 behind_end note (Note kind place ∷ answers) =
-    elim (is_unended kind) [ true ↦ Note kind place ∷ note ∷ answers | false ↦ note ∷ Note kind place ∷ answers ]
+    if is_unended kind then Note kind place ∷ note ∷ answers else note ∷ Note kind place ∷ answers
 
 abbrev pub note_behind_end : Option Answer → List Answer → List Answer
 note_behind_end None answers = answers

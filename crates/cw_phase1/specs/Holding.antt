@@ -84,10 +84,9 @@ remark_put lines h = record h { remark = None; notes = h.notes ++ remark_notes l
 
 abbrev pub notes_by : Option Answer → List MergedLine → NoteKind → ℕ → List NoteRecord
 notes_by None lines kind place = scanned_note lines (Note kind place)
-notes_by (Some note) lines kind place = elim (is_unended kind) [
-  | true ↦ scanned_note lines (Note kind place) ++ scanned_note lines note
-  | false ↦ scanned_note lines note ++ scanned_note lines (Note kind place)
-]
+notes_by (Some note) lines kind place =
+    if is_unended kind then scanned_note lines (Note kind place) ++ scanned_note lines note
+    else scanned_note lines note ++ scanned_note lines (Note kind place)
 
 abbrev pub noted_held : List MergedLine → NoteKind → ℕ → HeldState → HeldState
 noted_held lines kind place h = record h { remark = None; notes = h.notes ++ notes_by h.remark lines kind place }

@@ -1,5 +1,5 @@
 -- The notes of the first phase, in order.
-use Rattle.std.specs.Prelude.{ℕ, ◌+◌, true, false, List, [], ◌∷◌, ◌++◌}
+use Rattle.std.specs.Prelude.{ℕ, ◌+◌, List, [], ◌∷◌, ◌++◌, if◌then◌else◌}
 use Rattle.std.specs.List.{flat_map}
 use Rattle.cw_base.specs.declared.notes.Note.{Note}
 use Rattle.cw_base.specs.declared.notes.NoteKind.{NoteKind}
@@ -33,10 +33,8 @@ unused k kind sections = []
 
 abbrev pub notes_on : ℕ → SecName → List Note
 notes_on k n =
-    elim n.complete [
-      | true ↦ undefined k n.defined ++ unused k n.kind n.used
-      | false ↦ name_note kinds.NameIncomplete k ∷ []
-    ]
+    if n.complete then undefined k n.defined ++ unused k n.kind n.used
+    else name_note kinds.NameIncomplete k ∷ []
 
 abbrev pub name_notes_from : ℕ → List SecName → List Note
 name_notes_from k [] = []

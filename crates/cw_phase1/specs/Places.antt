@@ -1,5 +1,5 @@
 -- The places of bytes, and the changed lines.
-use Rattle.std.specs.Prelude.{ℕ, ◌+◌, ◌&&◌, ◌||◌, Bool, true, false, nat_lt, List, [], ◌∷◌, length}
+use Rattle.std.specs.Prelude.{ℕ, ◌+◌, ◌&&◌, ◌||◌, Bool, false, nat_lt, List, [], ◌∷◌, length, if◌then◌else◌}
 use Rattle.cw_base.specs.declared.notes.Place.{Place}
 use Rattle.cw_base.specs.Web.{MergedLine}
 
@@ -7,10 +7,8 @@ use Rattle.cw_base.specs.Web.{MergedLine}
 abbrev pub place_from : List MergedLine → ℕ → ℕ → Place → Place
 place_from [] at byte last = last
 place_from (line ∷ lines) at byte last =
-    elim (nat_lt byte (at + length line.text + 1)) [
-      | true ↦ line.place
-      | false ↦ place_from lines (at + length line.text + 1) byte line.place
-    ]
+    if nat_lt byte (at + length line.text + 1) then line.place
+    else place_from lines (at + length line.text + 1) byte line.place
 
 abbrev pub nowhere : Place
 nowhere = record { file = 0; line = 0 }

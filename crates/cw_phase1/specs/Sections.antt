@@ -1,5 +1,6 @@
 -- The sections of a web: their heads, and the spans of their parts.
 use Rattle.std.specs.Prelude.{ℕ, ◌+◌, ◌==◌, ◌||◌, Bool, true, false, not, List, [], ◌∷◌, Option, None, length, drop}
+use Rattle.std.specs.Prelude.{if◌then◌else◌}
 use Rattle.std.specs.Prelude.{take_while}
 use Rattle.cw_base.specs.Web.{MergedLine}
 use Rattle.cw_base.specs.declared.span.Span.{Span}
@@ -30,11 +31,11 @@ is_starred kind = false
 
 -- The depth stands directly behind `@*`.
 abbrev pub depth_by_digits : ℕ → ℕ → Depth
-depth_by_digits place count = elim (count == 0) [ true ↦ Zero | false ↦ Digits (span place (place + count)) ]
+depth_by_digits place count = if count == 0 then Zero else Digits (span place (place + count))
 
 abbrev pub depth_at : ℕ → List ℕ → Depth
 depth_at place bytes =
-    elim (begins star bytes) [ true ↦ Minus | false ↦ depth_by_digits place (length (take_while is_digit bytes)) ]
+    if begins star bytes then Minus else depth_by_digits place (length (take_while is_digit bytes))
 
 abbrev pub depth_of : Seen → Depth
 depth_of token = depth_at (token.span.start + 2) (drop 2 token.text)
@@ -44,7 +45,7 @@ depth_of token = depth_at (token.span.start + 2) (drop 2 token.text)
 -- where the first token stands that passes a test, or the end of the text
 abbrev pub first_start : (Placed → Bool) → ℕ → List Placed → ℕ
 first_start test size [] = size
-first_start test size (p ∷ ps) = elim (test p) [ true ↦ p.token.span.start | false ↦ first_start test size ps ]
+first_start test size (p ∷ ps) = if test p then p.token.span.start else first_start test size ps
 
 abbrev pub is_section_code : Role → Bool
 is_section_code roles.SectionCode = true
@@ -72,10 +73,10 @@ ends_tex p = is_section_code p.role || not (is_tex p.part)
 -- the name that is kept for the token with which the C part of a section begins
 abbrev pub c_part_name : List Placed → Option SecId
 c_part_name [] = None
-c_part_name (p ∷ ps) = elim (is_section_code p.role) [
-  | true ↦ None
-  | false ↦ elim (is_program p.part) [ true ↦ p.name | false ↦ c_part_name ps ]
-]
+c_part_name (p ∷ ps) =
+    if is_section_code p.role then None
+    else if is_program p.part then p.name
+    else c_part_name ps
 
 abbrev pub section_by : List MergedLine → Seen → ℕ → ℕ → ℕ → Option SecId → Section
 section_by lines head tex_end definitions_end end name = record {
@@ -97,10 +98,8 @@ section_at lines size head ps =
 abbrev pub sections_of : List MergedLine → ℕ → List Placed → List Section
 sections_of lines size [] = []
 sections_of lines size (p ∷ ps) =
-    elim (is_section_code p.role) [
-      | true ↦ section_at lines size p.token ps ∷ sections_of lines size ps
-      | false ↦ sections_of lines size ps
-    ]
+    if is_section_code p.role then section_at lines size p.token ps ∷ sections_of lines size ps
+    else sections_of lines size ps
 
 abbrev pub limbo_of : ℕ → List Placed → Span
 limbo_of size ps = span 0 (first_start ends_section size ps)

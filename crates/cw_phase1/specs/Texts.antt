@@ -1,5 +1,6 @@
 -- The texts of index entries and of section names, as their tokens have them.
 use Rattle.std.specs.Prelude.{ℕ, ◌-◌, Bool, true, false, ◌==◌, ◌||◌, List, [], ◌∷◌, Option, Some, None, length, drop}
+use Rattle.std.specs.Prelude.{◌&&◌}
 use Rattle.std.specs.Prelude.{take, codes, nat_eq, if◌then◌else◌}
 use Rattle.std.specs.List.{ends_with}
 use Rattle.std.specs.Cmp.Lexicographic.{pointwise}
@@ -18,16 +19,9 @@ abbrev pub indexed_text : List ℕ → List ℕ
 indexed_text [] = []
 indexed_text (byte ∷ []) = byte ∷ []
 indexed_text (byte ∷ next ∷ bytes) =
-    elim (byte == at_sign) [
-      | true ↦ elim (next == greater) [
-        | true ↦ []
-        | false ↦ elim (next == at_sign) [
-          | true ↦ at_sign ∷ indexed_text bytes
-          | false ↦ at_sign ∷ indexed_text (next ∷ bytes)
-        ]
-      ]
-      | false ↦ byte ∷ indexed_text (next ∷ bytes)
-    ]
+    if byte == at_sign && next == greater then []
+    else if byte == at_sign && next == at_sign then at_sign ∷ indexed_text bytes
+    else byte ∷ indexed_text (next ∷ bytes)
 
 abbrev pub entry_text : List ℕ → List ℕ
 entry_text token = indexed_text (drop 2 token)
@@ -35,16 +29,16 @@ entry_text token = indexed_text (drop 2 token)
 -- White space is reduced to single blanks and dropped at both ends.
 abbrev pub blank_before : List ℕ → List ℕ
 blank_before [] = []
-blank_before (byte ∷ bytes) = elim (byte == space) [ true ↦ byte ∷ bytes | false ↦ space ∷ byte ∷ bytes ]
+blank_before (byte ∷ bytes) = if byte == space then byte ∷ bytes else space ∷ byte ∷ bytes
 
 abbrev pub single_blanks : List ℕ → List ℕ
 single_blanks [] = []
 single_blanks (byte ∷ bytes) =
-    elim (is_in White byte) [ true ↦ blank_before (single_blanks bytes) | false ↦ byte ∷ single_blanks bytes ]
+    if is_in White byte then blank_before (single_blanks bytes) else byte ∷ single_blanks bytes
 
 abbrev pub without_first_blank : List ℕ → List ℕ
 without_first_blank [] = []
-without_first_blank (byte ∷ bytes) = elim (byte == space) [ true ↦ bytes | false ↦ byte ∷ bytes ]
+without_first_blank (byte ∷ bytes) = if byte == space then bytes else byte ∷ bytes
 
 abbrev pub reduced : List ℕ → List ℕ
 reduced bytes = without_first_blank (single_blanks bytes)
@@ -62,7 +56,7 @@ abbrev pub ends_in_dots : List ℕ → Bool
 ends_in_dots text = ends_with nat_eq text dots
 
 abbrev pub named_text : List ℕ → Naming
-named_text text = elim (ends_in_dots text) [ true ↦ Prefix (take (length text - 3) text) | false ↦ Full Named text ]
+named_text text = if ends_in_dots text then Prefix (take (length text - 3) text) else Full Named text
 
 abbrev pub unless_void : Bool → Naming → Naming
 unless_void void name = if void then Void else name

@@ -1,6 +1,6 @@
 -- Plain text that is made piece by piece is that of its pieces, laid out.
 use Rattle.std.proofs.Common.{◌≡◌, ℕ, zero, suc, Bool, true, false, List, [], ◌∷◌, ◌++◌, Option, None, refl, sym, ap}
-use Rattle.std.proofs.Common.{◌∙◌, arith}
+use Rattle.std.proofs.Common.{◌∙◌, arith, if◌then◌else◌}
 use Rattle.std.specs.Prelude.{nat_lt}
 use Rattle.std.specs.List.{list_any}
 use Rattle.std.proofs.lemmas.Grind.{flat_map-append}
@@ -68,11 +68,8 @@ run-text l run = by (list_any is_cancel run) l.depth
 
     by : (t : Bool) (depth : ℕ)
         → break_text (nat_lt 0 depth) (backed back (level_in depth l.level run))
-        (elim t [ true ↦ 0 | false ↦ strongest run ])
-        ≡ (elim t [
-          | true ↦ []
-          | false ↦ break_text (nat_lt 0 depth) (backed back (level_behind l.level run)) (strongest run)
-        ])
+        (if t then 0 else strongest run)
+        ≡ (if t then [] else break_text (nat_lt 0 depth) (backed back (level_behind l.level run)) (strongest run))
     by true depth = refl
     by false zero = refl
     by false (suc depth) =

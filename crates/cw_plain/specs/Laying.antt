@@ -1,5 +1,5 @@
 -- Plain text made piece by piece: what is kept between two pieces, and what is still to come.
-use Rattle.std.specs.Prelude.{◌≡◌, ℕ, true, false, nat_lt, List, [], ◌∷◌, ◌++◌}
+use Rattle.std.specs.Prelude.{◌≡◌, ℕ, nat_lt, List, [], ◌∷◌, ◌++◌, if◌then◌else◌}
 use Rattle.cw_trees.specs.declared.Control.{Control}
 use Rattle.cw_join.specs.Runs.{RunState, run_more, run_state}
 use Rattle.cw_plain.specs.Lines.{Layout, at_start, backed, behind_piece, break_text, cut_off, ink_text, level_in}
@@ -19,7 +19,7 @@ begun = record { layout = at_start; run = no_run }
 
 -- with a Cancel a run prints nothing
 abbrev pub ended_strength : RunState → ℕ
-ended_strength run = elim run.cancelled [ true ↦ 0 | false ↦ run.strength ]
+ended_strength run = if run.cancelled then 0 else run.strength
 
 -- what the run prints when it has ended
 abbrev pub ended_text : Laying → List ℕ

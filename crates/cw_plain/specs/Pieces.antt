@@ -1,5 +1,6 @@
 -- What the items of a flat list are to plain text.
 use Rattle.std.specs.Prelude.{ℕ, zero, suc, Bool, true, false, List, [], ◌∷◌, ◌++◌, Option, Some, None, codes, drop}
+use Rattle.std.specs.Prelude.{if◌then◌else◌}
 use Rattle.cw_rules.specs.Answers.{Answer, Seen}
 use Rattle.cw_rules.specs.declared.codes.Code.{Code}
 use Rattle.cw_rules.specs.declared.codes.Code.TheVariants as code
@@ -91,8 +92,7 @@ comment_end (true ∷ outer) = codes "*/"
 comment_end _ = []
 
 abbrev pub run_or_nothing : Bool → Control → Piece
-run_or_nothing true control = Move control
-run_or_nothing false control = Nothing
+run_or_nothing is_run control = if is_run then Move control else Nothing
 
 abbrev pub control_placed : Control → Stand → Placed
 control_placed CommentEnd stand = placed (Ending (comment_end stand.comments)) (behind_comment stand)

@@ -38,15 +38,15 @@ use Rattle.cw_plain_laws.specs.PlainLaws.{all_unplaced, is_hash}
 
 -- a run that is all of a text ends where a byte of another class follows
 run-step : (class : Class) (b n m : ℕ) → is_in class b ≡ true
-    → (elim (is_in class b) [ true ↦ 1 + n | false ↦ 0 ]) ≡ suc n
-run-step class b n m i = ap (λ t. elim t [ true ↦ 1 + n | false ↦ 0 ]) i ∙ omega arith
+    → (if is_in class b then 1 + n else 0) ≡ suc n
+run-step class b n m i = ap (λ t. if t then 1 + n else 0) i ∙ omega arith
 
 pub in-class : (class : Class) (b : ℕ) (bs : List ℕ) → run class (b ∷ bs) ≡ suc (length bs) → is_in class b ≡ true
 in-class class b bs e = by (is_in class b) refl
   where
     by : (t : Bool) → is_in class b ≡ t → is_in class b ≡ true
     by true i = i
-    by false i = absurd (none (sym e ∙ ap (λ t. elim t [ true ↦ 1 + run class bs | false ↦ 0 ]) i))
+    by false i = absurd (none (sym e ∙ ap (λ t. if t then 1 + run class bs else 0) i))
       where
         none : suc (length bs) ≡ 0 → ⊥
         none h = omega arith
@@ -59,7 +59,7 @@ run-rest class b bs e =
 
 pub run-all : (class : Class) (bs : List ℕ) (z : ℕ) (more : List ℕ) → run class bs ≡ length bs → is_in class z ≡ false
     → run class (bs ++ z ∷ more) ≡ length bs
-run-all class [] z more e h = ap (λ t. elim t [ true ↦ 1 + run class more | false ↦ 0 ]) h
+run-all class [] z more e h = ap (λ t. if t then 1 + run class more else 0) h
 run-all class (b ∷ bs) z more e h =
     run-step class b (run class (bs ++ z ∷ more)) 0 (in-class class b bs e)
     ∙ ap suc (run-all class bs z more (run-rest class b bs e) h)

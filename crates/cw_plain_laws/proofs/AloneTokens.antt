@@ -1,8 +1,8 @@
 -- What begins at a place of a C part: white space, one token, or what is none of the tokens that are scanned again.
 -- These are tokens by themselves.
 use Rattle.std.proofs.Common.{◌≡◌, ℕ, zero, suc, ◌+◌, ◌-◌, ◌<◌, ◌≤◌, Bool, true, false, ◌&&◌, ◌||◌, ◌==◌, nat_lt, List}
-use Rattle.std.proofs.Common.{[], ◌∷◌, ◌++◌, codes, inl, inr, length, take, drop, refl, sym, ap, subst, ◌∙◌, arith}
-use Rattle.std.proofs.Common.{Option, Some, None, slice_index}
+use Rattle.std.proofs.Common.{[], ◌∷◌, ◌++◌, codes, inl, inr, length, take, drop, refl, sym, ap, subst, ◌∙◌, arith, not}
+use Rattle.std.proofs.Common.{Option, Some, None, slice_index, if◌then◌else◌}
 use Rattle.std.proofs.lemmas.Bool.{eqb-true}
 use Rattle.std.proofs.lemmas.Bool.Decides.{nat_tests}
 use Rattle.std.proofs.lemmas.List.{length-take, take-append-drop}
@@ -66,7 +66,7 @@ identifier-alone : (b : ℕ) (bs : List ℕ) → is_letter b ≡ true → IsCutA
 identifier-alone b bs letter =
     let word : is_in classes.Word b ≡ true = ap (λ t. t || is_in classes.Digit b) letter in
     let m = run classes.Word bs in
-    let e : run classes.Word (b ∷ bs) ≡ suc m = ap (λ t. elim t [ true ↦ 1 + m | false ↦ 0 ]) word ∙ omega arith in
+    let e : run classes.Word (b ∷ bs) ≡ suc m = ap (λ t. if t then 1 + m else 0) word ∙ omega arith in
     let whole : run classes.Word (take (suc m) (b ∷ bs)) ≡ length (take (suc m) (b ∷ bs)) =
     subst (λ n. run classes.Word (take n (b ∷ bs)) ≡ length (take n (b ∷ bs))) e
     (whole-cut (run classes.Word) (λ t r all. run-cut classes.Word t r (omega arith) ∙ all) (b ∷ bs)
@@ -352,9 +352,9 @@ start-says b bytes =
     sign-says b bytes (longest all_signs (b ∷ bytes)) refl))))))))
   where
     not-bar : Bool
-    not-bar = elim (begins 124 bytes) [ true ↦ false | false ↦ true ]
+    not-bar = not (begins 124 bytes)
 
-hash-none : (h : Bool) → (elim h [ true ↦ false | false ↦ true ]) ≡ true → h ≡ false
+hash-none : (h : Bool) → (not h) ≡ true → h ≡ false
 hash-none true e = absurd cc
 hash-none false e = refl
 

@@ -1,5 +1,5 @@
 -- Trees without comments and inner texts: what stands in them, and the translation of simple tokens as one.
-use Rattle.std.proofs.Common.{◌≡◌, ℕ, zero, suc, Bool, true, false, ◌&&◌, List, [], ◌∷◌, ◌++◌, refl, sym}
+use Rattle.std.proofs.Common.{◌≡◌, ℕ, zero, suc, Bool, true, false, ◌&&◌, List, [], ◌∷◌, ◌++◌, refl, sym, if◌then◌else◌}
 use Rattle.std.proofs.Common.{ap, subst, ◌∙◌}
 use Rattle.std.specs.List.{All}
 use Rattle.std.proofs.lemmas.List.Elements.{All-append, All-cons, All-nil}
@@ -103,7 +103,7 @@ flat-bare (Sub tree rest) h = items-append (flat tree) (flat rest) (flat-bare tr
 flat-bare (Inner tree rest) h = absurd h
 
 either-bare : (taken : Bool) (item : Item) (gone kept : List Item) → BareItem item → BareItems gone → BareItems kept
-    → BareItems (elim taken [ true ↦ gone | false ↦ item ∷ kept ])
+    → BareItems (if taken then gone else item ∷ kept)
 either-bare true item gone kept is a b = a
 either-bare false item gone kept is a b = (is, b)
 

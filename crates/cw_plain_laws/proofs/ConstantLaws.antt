@@ -70,8 +70,8 @@ module _ (z : ℕ) (more : List ℕ) (beyond : IsBeyond z) where
   digit-none = or-second (is_letter z) (is_in classes.Digit z) beyond.word
 
   run-same : (class : Class) (bs : List ℕ) → is_in class z ≡ false → run class (bs ++ z ∷ more) ≡ run class bs
-  run-same class [] h = ap (λ t. elim t [ true ↦ 1 + run class more | false ↦ 0 ]) h
-  run-same class (b ∷ bs) h = ap (λ n. elim (is_in class b) [ true ↦ 1 + n | false ↦ 0 ]) (run-same class bs h)
+  run-same class [] h = ap (λ t. if t then 1 + run class more else 0) h
+  run-same class (b ∷ bs) h = ap (λ n. if is_in class b then 1 + n else 0) (run-same class bs h)
 
   begins-same : (class : Class) (bs : List ℕ) → is_in class z ≡ false
       → begins_by (is_in class) (bs ++ z ∷ more) ≡ begins_by (is_in class) bs
@@ -88,11 +88,11 @@ module _ (z : ℕ) (more : List ℕ) (beyond : IsBeyond z) where
 
   more_digits-same : (class : Class) (bs : List ℕ) → is_in class z ≡ false
       → more_digits class (bs ++ z ∷ more) ≡ more_digits class bs
-  more_digits-same class [] h = ap (λ t. elim t [ true ↦ 1 + more_digits class more | false ↦ 0 ]) (stops class h)
+  more_digits-same class [] h = ap (λ t. if t then 1 + more_digits class more else 0) (stops class h)
   more_digits-same class (b ∷ bs) h =
       let test = begins-same class bs h in
       let rest = more_digits-same class bs h in
-      λ i. elim (is_in class b || (b == apostrophe && test i)) [ true ↦ 1 + rest i | false ↦ 0 ]
+      λ i. if is_in class b || (b == apostrophe && test i) then 1 + rest i else 0
 
   digits-same : (class : Class) (bs : List ℕ) → is_in class z ≡ false → digits class (bs ++ z ∷ more) ≡ digits class bs
   digits-same class [] h = ap (λ t. if t then more_digits class (z ∷ more) else 0) h
@@ -208,7 +208,7 @@ lone-exponent letter b e = ap (λ t. if t && nat_lt 0 (digits classes.Digit (dro
     + digits classes.Digit (drop (1 + 0) (b ∷ [])) else 0) e
 
 lone-suffix : (b : ℕ) → is_suffix b ≡ false → run classes.Suffix (b ∷ []) ≡ 0
-lone-suffix b e = ap (λ t. elim t [ true ↦ 1 + 0 | false ↦ 0 ]) e
+lone-suffix b e = ap (λ t. if t then 1 + 0 else 0) e
 
 -- no exponent is there
 none-more : (m : ℕ) → (if nat_lt 0 m then m + 0 else 0) ≡ m

@@ -96,16 +96,16 @@ run-cut class (b ∷ t) r h = by (is_in class b) refl (run-cut class t r)
         → run class (b ∷ t) ≡ run class (b ∷ (t ++ r))
     by true e cut =
         let most : 1 + run class (t ++ r) ≤ suc (length t) =
-        subst (λ (x : Bool). (elim x [ true ↦ 1 + run class (t ++ r) | false ↦ 0 ]) ≤ suc (length t)) e h in
-        ap (λ n. elim (is_in class b) [ true ↦ 1 + n | false ↦ 0 ]) (cut (omega arith))
-    by false e cut = ap (λ x. elim x [ true ↦ 1 + run class t | false ↦ 0 ]) e
-        ∙ sym (ap (λ x. elim x [ true ↦ 1 + run class (t ++ r) | false ↦ 0 ]) e)
+        subst (λ (x : Bool). (if x then 1 + run class (t ++ r) else 0) ≤ suc (length t)) e h in
+        ap (λ n. if is_in class b then 1 + n else 0) (cut (omega arith))
+    by false e cut = ap (λ x. if x then 1 + run class t else 0) e
+        ∙ sym (ap (λ x. if x then 1 + run class (t ++ r) else 0) e)
 
 -- ## Digits
 
 -- a byte that a test takes, and what stands behind it
 abbrev counted : Bool → ℕ → ℕ
-counted t n = elim t [ true ↦ 1 + n | false ↦ 0 ]
+counted t n = if t then 1 + n else 0
 
 -- where a digit begins the bytes, a run goes on with it
 more-some : (class : Class) (r : List ℕ) → begins_by (is_in class) r ≡ true → 1 ≤ more_digits class r

@@ -1,6 +1,7 @@
 -- Each token of a text is found by its number.
 use Rattle.std.proofs.Common.{◌≡◌, ℕ, zero, suc, ◌+◌, ◌<◌, ◌≤◌, Bool, true, false, ◌==◌, List, [], ◌∷◌, ◌++◌}
 use Rattle.std.proofs.Common.{Some, append-nil, append_assoc, ap, arith, drop, refl, subst, sym, take, ◌∙◌}
+use Rattle.std.proofs.Common.{if◌then◌else◌}
 use Rattle.std.proofs.lemmas.Bool.Decides.{nat_tests}
 use Rattle.cw_lex.specs.Lexing.{answers, beginning, fresh_at, last_at, still_fresh, tokens_of}
 use Rattle.cw_lex.specs.Nest.{Nest, End, Leaf, Group, first_nest, group, leaf, nest, nests}
@@ -83,11 +84,11 @@ IsFound all t = numbered t.span.start all ≡ Some t
 abbrev GoesOn : List Answer → ℕ → List Answer → Type 0
 GoesOn all from answers = (number : ℕ) → from ≤ number → numbered number answers ≡ numbered number all
 
-chosen : {A : Type 0} (t : Bool) (x y : A) → t ≡ true → (elim t [ true ↦ x | false ↦ y ]) ≡ x
-chosen t x y e = ap (λ b. elim b [ true ↦ x | false ↦ y ]) e
+chosen : {A : Type 0} (t : Bool) (x y : A) → t ≡ true → (if t then x else y) ≡ x
+chosen t x y e = ap (λ b. if b then x else y) e
 
-passed : {A : Type 0} (t : Bool) (x y : A) → t ≡ false → (elim t [ true ↦ x | false ↦ y ]) ≡ y
-passed t x y e = ap (λ b. elim b [ true ↦ x | false ↦ y ]) e
+passed : {A : Type 0} (t : Bool) (x y : A) → t ≡ false → (if t then x else y) ≡ y
+passed t x y e = ap (λ b. if b then x else y) e
 
 same-number : (n : ℕ) → (n == n) ≡ true
 same-number n = grind (arith, nat_tests)

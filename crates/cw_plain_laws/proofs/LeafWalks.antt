@@ -1,6 +1,6 @@
 -- The leaves of tokens, of comments and of section names have the bytes of their tokens.
 use Rattle.std.proofs.Common.{◌≡◌, ℕ, Bool, true, false, List, [], ◌∷◌, ◌++◌, Option, Some, None, refl, sym, ap, subst}
-use Rattle.std.proofs.Common.{◌∙◌}
+use Rattle.std.proofs.Common.{◌∙◌, if◌then◌else◌}
 use Rattle.std.specs.List.{All}
 use Rattle.std.specs.Prelude.{codes}
 use Rattle.std.proofs.lemmas.List.{append_assoc}
@@ -193,10 +193,9 @@ rest-walks s (InnerText tree ∷ items) all long comments rest =
     ∙ ap (λ l. struck tree ++ l)
     (rest-walks s items (All-tail (ItemWalks s) (InnerText tree) items all) long comments rest)
     ∙ sym (append_assoc (struck tree) (struck (comment_rest items)) (owners (pieces_from s rest (among comments))))
-    ∙ ap (λ l. l ++ owners (pieces_from s rest (among comments))) (sym (ap (λ (b : Bool). elim b [
-      | true ↦ struck (comment_rest items)
-      | false ↦ struck tree ++ struck (comment_rest items)
-    ]) (goes-on items)))
+    ∙ ap (λ l. l ++ owners (pieces_from s rest (among comments))) (sym (ap (λ (b : Bool). if b then
+          struck (comment_rest items)
+        else struck tree ++ struck (comment_rest items)) (goes-on items)))
 
 abbrev is_long : TokKind → Bool
 is_long kind.LongComment = true

@@ -1,6 +1,6 @@
 -- What is made of the tokens of a text has the bytes of its tokens, and so has its whole translation.
 use Rattle.std.proofs.Common.{◌≡◌, ℕ, Bool, true, false, not, is_some, Option, Some, None, List, [], ◌∷◌, ◌++◌, refl}
-use Rattle.std.proofs.Common.{sym}
+use Rattle.std.proofs.Common.{sym, if◌then◌else◌}
 use Rattle.std.proofs.Common.{ap, subst, ◌∙◌}
 use Rattle.std.specs.List.{All, list_all}
 use Rattle.std.proofs.lemmas.List.{append-nil, append_assoc}
@@ -203,10 +203,8 @@ sign-stays _ e = absurd cc
 
 named-found-if : (s : Source) (b : Bool) (t u : Seen) (rest : Nest) → is_name t.kind ≡ true
     → is_head_sign u.kind ≡ b → AllOf (IsFound s.answers) (Leaf t (Leaf u rest))
-    → HeadedFound s (elim b [
-      | true ↦ record { head = Named t.span.start u.span.start; rest = rest }
-      | false ↦ headless (Leaf t (Leaf u rest))
-    ])
+    → HeadedFound s (if b then record { head = Named t.span.start u.span.start; rest = rest }
+        else headless (Leaf t (Leaf u rest)))
 named-found-if s true t u rest is sign all = record {
   head = ((t, (refl, (all.0, is))), (u, (refl, (all.1.0, sign-stays u.kind sign))));
   rest = all.1.1;

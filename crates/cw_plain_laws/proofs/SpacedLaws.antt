@@ -1,6 +1,6 @@
 -- Plain text of simple tokens is these tokens with white space between them, where they would touch.
 use Rattle.std.proofs.Common.{◌≡◌, ℕ, zero, suc, Bool, true, false, ◌&&◌, ◌||◌, List, [], ◌∷◌, ◌++◌, Option, Some, None}
-use Rattle.std.proofs.Common.{refl, sym, ap, ◌∙◌, arith, cond, length, subst, inl, inr, ◌==◌}
+use Rattle.std.proofs.Common.{refl, sym, ap, ◌∙◌, arith, cond, length, subst, inl, inr, ◌==◌, if◌then◌else◌}
 use Rattle.std.specs.List.{list_any}
 use Rattle.std.specs.Prelude.{codes, nat_lt}
 use Rattle.std.proofs.lemmas.List.{append-nil, append_assoc, take_all}
@@ -51,7 +51,7 @@ white-run l run = by (list_any is_cancel run)
     text : List ℕ
     text = break_text (nat_lt 0 l.depth) (backed (list_any is_backup run) (level_behind l.level run)) (strongest run)
 
-    by : (t : Bool) → AreWhite (elim t [ true ↦ [] | false ↦ text ])
+    by : (t : Bool) → AreWhite (if t then [] else text)
     by true = tt
     by false = white-break (nat_lt 0 l.depth) (backed (list_any is_backup run) (level_behind l.level run))
         (strongest run)

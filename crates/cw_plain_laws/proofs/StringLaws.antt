@@ -51,15 +51,12 @@ ends q braces place last along (b ∷ []) k rest size closed =
     (subst (λ k. Ends q place k (inside q braces place last along) (q ∷ rest)) (sym none)
     (subst (λ a. Ends q place 0 (inside q braces place last a) (q ∷ rest)) (sym closed.0)
     (record {
-      stop = ap (λ t. (let i : Inside = elim t [
-        | true ↦ ended (stepped (inside q braces place last false) q rest) rest
-        | false ↦ inside q braces place last false
-      ] in i).place) (stops-there q last rest) ∙ omega arith;
-      quiet = ap (λ t. elim t [
-        | true ↦ with_note (note_here (inside q braces place last false) q rest) place
+      stop = ap (λ t. (let i : Inside = if t then ended (stepped (inside q braces place last false) q rest) rest
+          else inside q braces place last false in i).place) (stops-there q last rest) ∙ omega arith;
+      quiet = ap (λ t. if t then
+            with_note (note_here (inside q braces place last false) q rest) place
             (noted (stepped (inside q braces place last false) q rest) rest)
-        | false ↦ []
-      ]) (stops-there q last rest);
+          else []) (stops-there q last rest);
       closing = ap (λ t. t && true) (same-byte q);
     })))
 ends q braces place last along (b ∷ c ∷ bs) k rest size closed =
@@ -71,12 +68,11 @@ ends q braces place last along (b ∷ c ∷ bs) k rest size closed =
     ends q next.braces (place + 1) b (not along && takes_next (bodies.Quoted q) b (c ∷ bs)) (c ∷ bs) (k - 1) rest less
     closed.2 in
     record {
-      stop = ap (λ t. (let j : Inside = elim t [ true ↦ ended next (c ∷ (bs ++ rest)) | false ↦ i ] in j).place)
+      stop = ap (λ t. (let j : Inside = if t then ended next (c ∷ (bs ++ rest)) else i in j).place)
           closed.0 ∙ later.stop ∙ omega arith;
-      quiet = ap (λ t. elim t [
-        | true ↦ with_note (note_here i b (c ∷ (bs ++ rest))) place (noted next (c ∷ (bs ++ rest)))
-        | false ↦ []
-      ]) closed.0
+      quiet = ap (λ t. if t then
+            with_note (note_here i b (c ∷ (bs ++ rest))) place (noted next (c ∷ (bs ++ rest)))
+          else []) closed.0
           ∙ ap (λ l. with_note (note_here i b (c ∷ (bs ++ rest))) place l) later.quiet
           ∙ quiet-here along q braces place last b c bs closed.1 rest;
       closing = subst (λ n. begins_with (q ∷ []) (drop n (b ∷ c ∷ (bs ++ rest))) ≡ true) (sym one) later.closing;

@@ -1,5 +1,6 @@
 -- Trimming takes no token's bytes away.
 use Rattle.std.proofs.Common.{◌≡◌, ℕ, zero, suc, Bool, true, false, ◌&&◌, List, [], ◌∷◌, refl, sym, ap, ◌∙◌}
+use Rattle.std.proofs.Common.{if◌then◌else◌}
 use Rattle.cw_base.proofs.TestLaws.{both-left, both-right}
 use Rattle.cw_trees.specs.declared.Control.{Control}
 use Rattle.cw_trees.specs.declared.Control.TheVariants as control
@@ -88,7 +89,7 @@ inserted-quiet s Close items e = absurd cc
 -- an item is kept or taken away, and what follows has the same bytes
 either : (s : Source) (taken : Bool) (item : Item) (thin items : List Item)
     → (taken ≡ true → OwnsSame s (item ∷ items) items) → OwnsSame s thin items
-    → OwnsSame s (elim taken [ true ↦ thin | false ↦ item ∷ thin ]) (item ∷ items)
+    → OwnsSame s (if taken then thin else item ∷ thin) (item ∷ items)
 either s true item thin items gone same stand = same stand ∙ sym (gone refl stand)
 either s false item thin items gone same stand =
     next-owners s stand.name item stand (pieces_from s thin) (pieces_from s items) same
@@ -101,10 +102,8 @@ without-owns s (item ∷ items) stand = either s (is_inserted item) item (withou
 front-by : (s : Source) (begins : Bool) (item : Item) (items : List Item) (t : Bool) → (begins && is_break item) ≡ t
     → OwnsSame s (trim_front begins items) items
     → OwnsSame s (trim_front (begins_after begins item) items) items
-    → OwnsSame s (elim t [
-      | true ↦ trim_front begins items
-      | false ↦ item ∷ trim_front (begins_after begins item) items
-    ]) (item ∷ items)
+    → OwnsSame s (if t then trim_front begins items
+        else item ∷ trim_front (begins_after begins item) items) (item ∷ items)
 front-by s begins item items true e gone kept stand = gone stand
     ∙ sym (break-quiet s item items (both-right begins (is_break item) e) stand)
 front-by s begins item items false e gone kept stand =

@@ -1,6 +1,6 @@
 -- The items of a flat tree may come one behind another, and so may those of its trimmed list.
 use Rattle.std.proofs.Common.{◌≡◌, ℕ, zero, suc, ◌<◌, ◌≤◌, Bool, true, false, ◌&&◌, List, [], ◌∷◌, ◌++◌, refl, sym}
-use Rattle.std.proofs.Common.{subst, arith}
+use Rattle.std.proofs.Common.{subst, arith, if◌then◌else◌}
 use Rattle.std.proofs.lemmas.List.{append-nil, append_assoc}
 use Rattle.cw_base.proofs.TestLaws.{both-left, both-right}
 use Rattle.cw_trees.specs.declared.Control.{Control}
@@ -63,7 +63,7 @@ sign-depth test Close depth is = absurd (cc)
 without-step : (count : ℕ) (item : Item) (items : List Item) (depth : ℕ) (b : Bool) → is_inserted item ≡ b
     → ((d : ℕ) → AllMay (MayStand count) d items → AllMay (MayCome count) d (without_inserted items))
     → AllMay (MayStand count) depth (item ∷ items)
-    → AllMay (MayCome count) depth (elim b [ true ↦ without_inserted items | false ↦ item ∷ without_inserted items ])
+    → AllMay (MayCome count) depth (if b then without_inserted items else item ∷ without_inserted items)
 without-step count item items depth true is rest may =
     rest depth (subst (λ (d : ℕ). AllMay (MayStand count) d items) (sign-depth is_inserted_sign item depth is) may.1)
 without-step count item items depth false is rest may =
@@ -79,10 +79,7 @@ module _ (may : ℕ → Item → Type 0) where
   front-step : (begins : Bool) (item : Item) (items : List Item) (depth : ℕ) (b : Bool) → (begins && is_break item) ≡ b
       → ((begun : Bool) (d : ℕ) → AllMay may d items → AllMay may d (trim_front begun items))
       → AllMay may depth (item ∷ items)
-      → AllMay may depth (elim b [
-        | true ↦ trim_front begins items
-        | false ↦ item ∷ trim_front (begins_after begins item) items
-      ])
+      → AllMay may depth (if b then trim_front begins items else item ∷ trim_front (begins_after begins item) items)
   front-step begins item items depth true is rest all =
       rest begins depth
       (subst (λ (d : ℕ). AllMay may d items) (sign-depth is_break_sign item depth
@@ -98,10 +95,7 @@ module _ (may : ℕ → Item → Type 0) where
 
   back-step : (item : Item) (items : List Item) (depth : ℕ) (b : Bool) → (is_break item && ends_text items) ≡ b
       → ((d : ℕ) → AllMay may d items → AllMay may d (trim_back items))
-      → AllMay may depth (item ∷ items) → AllMay may depth (elim b [
-        | true ↦ trim_back items
-        | false ↦ item ∷ trim_back items
-      ])
+      → AllMay may depth (item ∷ items) → AllMay may depth (if b then trim_back items else item ∷ trim_back items)
   back-step item items depth true is rest all =
       rest depth
       (subst (λ (d : ℕ). AllMay may d items) (sign-depth is_break_sign item depth

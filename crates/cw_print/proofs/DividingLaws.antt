@@ -1,6 +1,6 @@
 -- A text that is printed byte by byte is divided between its units.
 use Rattle.std.proofs.Common.{◌≡◌, ℕ, ◌+◌, ◌-◌, ◌==◌, nat_le, Bool, true, false, List, [], ◌∷◌, ◌++◌, refl, ap, sym}
-use Rattle.std.proofs.Common.{◌∙◌, arith}
+use Rattle.std.proofs.Common.{◌∙◌, arith, if◌then◌else◌}
 use Rattle.std.proofs.lemmas.Bool.Decides.{nat_tests}
 use Rattle.std.proofs.lemmas.List.{append-nil, append_assoc}
 use Rattle.cw_print.specs.declared.dividing.Portion.{Portion}
@@ -21,19 +21,17 @@ two-less come = omega arith
 module _ (come : ℕ) (first others : List ℕ) (size : ℕ) (rest : List (List ℕ)) (tail : Portion → List ℕ)
     (behind : (c : ℕ) → tail (portion_behind c) ≡ others ++ divided_units (c + size) rest) where
   abbrev before : Bool → List ℕ
-  before full = elim full [ true ↦ division ++ first | false ↦ first ]
+  before full = if full then division ++ first else first
 
   abbrev for_next : Bool → Portion
-  for_next full = elim full [ true ↦ portion_behind 0 | false ↦ portion_behind come ]
+  for_next full = if full then portion_behind 0 else portion_behind come
 
   abbrev text_behind : Bool → List ℕ
   text_behind full = before full ++ tail (for_next full)
 
   abbrev unit_behind : Bool → List ℕ
-  unit_behind full = elim full [
-    | true ↦ division ++ ((first ++ others) ++ divided_units (0 + size) rest)
-    | false ↦ (first ++ others) ++ divided_units (come + size) rest
-  ]
+  unit_behind full = if full then division ++ ((first ++ others) ++ divided_units (0 + size) rest)
+      else (first ++ others) ++ divided_units (come + size) rest
 
   joined : (begun : List ℕ) (c : ℕ) → (begun ++ first) ++ tail (portion_behind c)
       ≡ begun ++ ((first ++ others) ++ divided_units (c + size) rest)
@@ -88,10 +86,9 @@ by-first : (byte next : ℕ) (bytes : List ℕ) (come : ℕ)
     → ((c : ℕ) → rest_bytes (portion_behind c) bytes ≡ divided_units c (units bytes))
     → ((c : ℕ) → rest_bytes (portion_behind c) (next ∷ bytes) ≡ divided_units c (units (next ∷ bytes)))
     → (escapes : Bool) → (byte == 92) ≡ escapes
-    → rest_bytes (portion_behind come) (byte ∷ next ∷ bytes) ≡ divided_units come (elim escapes [
-      | true ↦ (byte ∷ next ∷ []) ∷ units bytes
-      | false ↦ (byte ∷ []) ∷ units (next ∷ bytes)
-    ])
+    → rest_bytes (portion_behind come) (byte ∷ next ∷ bytes) ≡ divided_units come (if escapes then
+          (byte ∷ next ∷ []) ∷ units bytes
+        else (byte ∷ []) ∷ units (next ∷ bytes))
 by-first byte next bytes come behind others true is = pair-shown byte next bytes come is behind
 by-first byte next bytes come behind others false is =
     one-shown byte (next ∷ bytes) (units (next ∷ bytes)) come

@@ -1,6 +1,6 @@
 -- Of the pieces of a comment: what was printed, with what is to come.
 use Rattle.std.proofs.Common.{◌≡◌, ℕ, suc, ◌+◌, ◌||◌, ◌&&◌, Bool, true, false, not, cond, List, [], ◌∷◌, ◌++◌, take}
-use Rattle.std.proofs.Common.{drop, refl, ap, sym, ◌∙◌, ◌==◌, arith}
+use Rattle.std.proofs.Common.{drop, refl, ap, sym, ◌∙◌, ◌==◌, arith, if◌then◌else◌}
 use Rattle.std.specs.List.{position_or_len}
 use Rattle.std.proofs.lemmas.List.{append_assoc}
 use Rattle.cw_print.specs.Comments.{CommentPiece, Prints, blank_for, byte_piece, closed, comment_piece, is_special}
@@ -34,31 +34,22 @@ all-other false false false false true is = absurd (cc)
 byte-plain : (byte braces : ℕ) → is_special byte ≡ false → byte_piece byte braces ≡ piece_of (byte ∷ []) braces
 byte-plain byte braces is =
     let o = all-other (byte == 10) (byte == 64) (byte == 92) (byte == 123) (byte == 125) is in
-    λ i. elim (o.second i) [
-      | true ↦ piece_of [] braces
-      | false ↦ elim (o.fourth i) [
-        | true ↦ piece_of (byte ∷ []) (suc braces)
-        | false ↦ elim (o.fifth i) [
-          | true ↦ closed braces
-          | false ↦ piece_of (elim (o.first i) [ true ↦ 32 | false ↦ byte ] ∷ []) braces
-        ]
-      ]
-    ]
+    λ i. if o.second i then piece_of [] braces
+        else (if o.fourth i then piece_of (byte ∷ []) (suc braces)
+        else (if o.fifth i then closed braces
+        else piece_of ((if o.first i then 32 else byte) ∷ []) braces))
 
 one-plain : (byte : ℕ) (bytes : List ℕ) (braces : ℕ) → is_special byte ≡ false
     → comment_piece (byte ∷ bytes) braces ≡ joined_pieces (piece_of (byte ∷ []) braces) (comment_piece bytes braces)
 one-plain byte [] braces is =
     let o = all-other (byte == 10) (byte == 64) (byte == 92) (byte == 123) (byte == 125) is in
-    λ i. elim (o.third i) [ true ↦ piece_of (byte ∷ 32 ∷ []) braces | false ↦ byte-plain byte braces is i ]
+    λ i. (if o.third i then piece_of (byte ∷ 32 ∷ []) braces else byte-plain byte braces is i)
 one-plain byte (next ∷ bytes) braces is =
     let o = all-other (byte == 10) (byte == 64) (byte == 92) (byte == 123) (byte == 125) is in
-    λ i. elim (o.third i && not (next == 64)) [
-      | true ↦ piece_then (piece_of (byte ∷ blank_for next ∷ []) braces) (comment_piece bytes)
-      | false ↦ elim (o.second i && next == 64) [
-        | true ↦ piece_then (piece_of (byte ∷ []) braces) (comment_piece bytes)
-        | false ↦ piece_then (byte-plain byte braces is i) (comment_piece (next ∷ bytes))
-      ]
-    ]
+    λ i. if o.third i && not (next == 64) then
+          piece_then (piece_of (byte ∷ blank_for next ∷ []) braces) (comment_piece bytes)
+        else (if o.second i && next == 64 then piece_then (piece_of (byte ∷ []) braces) (comment_piece bytes)
+        else piece_then (byte-plain byte braces is i) (comment_piece (next ∷ bytes)))
 
 abbrev plain : List ℕ → ℕ
 plain text = position_or_len is_special text

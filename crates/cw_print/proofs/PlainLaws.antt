@@ -1,6 +1,6 @@
 -- The bytes of a string that print themselves.
 use Rattle.std.proofs.Common.{◌≡◌, ℕ, ◌-◌, ◌||◌, ◌&&◌, ◌==◌, nat_lt, Bool, true, false, not, List, [], ◌∷◌, ◌++◌}
-use Rattle.std.proofs.Common.{refl, ap, sym, ◌∙◌, arith}
+use Rattle.std.proofs.Common.{refl, ap, sym, ◌∙◌, arith, if◌then◌else◌}
 use Rattle.std.proofs.lemmas.Bool.{eqb-true}
 use Rattle.std.proofs.lemmas.Bool.Decides.{nat_tests}
 use Rattle.std.proofs.lemmas.List.{append_assoc}
@@ -32,16 +32,10 @@ one-said byte [] plain = refl
 one-said byte (next ∷ bytes) plain =
     let backslash : (byte == 92) ≡ false = other-than byte 92 refl plain in
     let at : (byte == 64) ≡ false = other-than byte 64 refl plain in
-    λ i. elim (backslash i && next == 10) [
-      | true ↦ string_bytes bytes
-      | false ↦ elim (backslash i && elim (next == 92 && begins 10 bytes) [ true ↦ false | false ↦ true ]) [
-        | true ↦ byte ∷ next ∷ string_bytes bytes
-        | false ↦ elim (at i && next == 64) [
-          | true ↦ byte ∷ string_bytes bytes
-          | false ↦ byte ∷ string_bytes (next ∷ bytes)
-        ]
-      ]
-    ]
+    λ i. if backslash i && next == 10 then string_bytes bytes
+        else (if backslash i && not (next == 92 && begins 10 bytes) then byte ∷ next ∷ string_bytes bytes
+        else (if at i && next == 64 then byte ∷ string_bytes bytes
+        else byte ∷ string_bytes (next ∷ bytes)))
 
 -- and it prints itself where there is room for it
 one-printed : (room byte : ℕ) (bytes : List ℕ) → (room == 0) ≡ false → is_special byte ≡ false
@@ -49,16 +43,16 @@ one-printed : (room byte : ℕ) (bytes : List ℕ) → (room == 0) ≡ false →
 one-printed room byte bytes full plain =
     let itself : is_escaped byte ≡ false = or-left (is_escaped byte) (byte == 64) plain in
     let backslash : (byte == 92) ≡ false = other-than byte 92 refl plain in
-    (λ i. (elim (full i) [ true ↦ division ++ escaped_byte byte | false ↦ escaped_byte byte ])
+    (λ i. (if full i then division ++ escaped_byte byte else escaped_byte byte)
     ++ rest_bytes (record {
       room = (portion_in (full i)).room - 1;
       takes_next = not (portion_in (full i)).takes_next && byte == 92;
     }) bytes)
-    ∙ (λ i. (elim (itself i) [ true ↦ 92 ∷ byte ∷ [] | false ↦ byte ∷ [] ])
+    ∙ (λ i. (if itself i then 92 ∷ byte ∷ [] else byte ∷ [])
     ++ rest_bytes (record { room = room - 1; takes_next = backslash i }) bytes)
   where
     portion_in : Bool → Portion
-    portion_in full = elim full [ true ↦ portion_behind 0 | false ↦ with_room room ]
+    portion_in full = if full then portion_behind 0 else with_room room
 
 none-there : (room : ℕ) (taken : Bool) → (not taken && nat_lt 0 room) ≡ true → taken ≡ false
 none-there room false some = refl

@@ -1,5 +1,5 @@
 -- What is shown of a list with more behind it, and what the joiner prints of an item that is shown.
-use Rattle.std.proofs.Common.{◌≡◌, Bool, true, false, List, [], ◌∷◌, ◌++◌, Option, Some, None, refl, ap}
+use Rattle.std.proofs.Common.{◌≡◌, Bool, true, false, List, [], ◌∷◌, ◌++◌, Option, Some, None, refl, ap, if◌then◌else◌}
 use Rattle.cw_trees.specs.declared.Control.{Control}
 use Rattle.cw_trees.specs.declared.Control.TheVariants as sign
 use Rattle.cw_trees.specs.Flat.{Item, is_run_sign}
@@ -84,7 +84,7 @@ control-run sign.ToText stand is = refl
 control-run sign.Dollar stand is = refl
 
 sign-by : (control found : Control) (b : Bool) → is_run_sign control ≡ b
-    → (elim b [ true ↦ Some control | false ↦ None ]) ≡ Some found
+    → (if b then Some control else None) ≡ Some found
     → is_run_sign control ≡ true
 sign-by control found true is some = is
 sign-by control found false is some = absurd (cc)

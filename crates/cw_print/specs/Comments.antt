@@ -1,5 +1,5 @@
 -- The text of a comment, which is printed in pieces, between its inner texts.
-use Rattle.std.specs.Prelude.{◌≡◌, ℕ, zero, suc, ◌&&◌, ◌||◌, ◌==◌, Bool, true, false, not, List, [], ◌∷◌, ◌++◌}
+use Rattle.std.specs.Prelude.{◌≡◌, ℕ, zero, suc, ◌&&◌, ◌||◌, ◌==◌, Bool, not, List, [], ◌∷◌, ◌++◌, if◌then◌else◌}
 use Rattle.cw_base.specs.Bytes.{newline, space, backslash}
 use Rattle.cw_rules.specs.Bytes.{at_sign, left_brace, right_brace}
 use Rattle.cw_print.specs.Texts.{is_at_pair}
@@ -20,7 +20,7 @@ piece_then first rest = joined_pieces first (rest first.braces)
 
 -- a line's end is a blank
 abbrev pub blank_for : ℕ → ℕ
-blank_for byte = elim (byte == newline) [ true ↦ space | false ↦ byte ]
+blank_for byte = if byte == newline then space else byte
 
 -- One byte. An `@` and a `}` without its `{` are dropped.
 abbrev pub closed : ℕ → CommentPiece
@@ -28,20 +28,17 @@ closed zero = piece_of [] 0
 closed (suc braces) = piece_of (right_brace ∷ []) braces
 
 abbrev pub byte_piece : ℕ → ℕ → CommentPiece
-byte_piece byte braces = elim (byte == at_sign) [
-  | true ↦ piece_of [] braces
-  | false ↦ elim (byte == left_brace) [
-    | true ↦ piece_of (byte ∷ []) (suc braces)
-    | false ↦ elim (byte == right_brace) [ true ↦ closed braces | false ↦ piece_of (blank_for byte ∷ []) braces ]
-  ]
-]
+byte_piece byte braces =
+    if byte == at_sign then piece_of [] braces
+    else if byte == left_brace then piece_of (byte ∷ []) (suc braces)
+    else if byte == right_brace then closed braces
+    else piece_of (blank_for byte ∷ []) braces
 
 -- A backslash that is the last byte takes nothing along: a blank keeps it from the brace that closes the comment.
 abbrev pub last_byte_piece : ℕ → ℕ → CommentPiece
-last_byte_piece byte braces = elim (byte == backslash) [
-  | true ↦ piece_of (byte ∷ space ∷ []) braces
-  | false ↦ byte_piece byte braces
-]
+last_byte_piece byte braces =
+    if byte == backslash then piece_of (byte ∷ space ∷ []) braces
+    else byte_piece byte braces
 
 -- A backslash takes the next byte along, unless it is `@`; and `@@` is one `@`.
 abbrev pub takes_along : ℕ → ℕ → Bool
@@ -50,13 +47,10 @@ takes_along byte next = byte == backslash && not (next == at_sign)
 abbrev pub comment_piece : List ℕ → ℕ → CommentPiece
 comment_piece [] braces = piece_of [] braces
 comment_piece (byte ∷ []) braces = last_byte_piece byte braces
-comment_piece (byte ∷ next ∷ bytes) braces = elim (takes_along byte next) [
-  | true ↦ piece_then (piece_of (byte ∷ blank_for next ∷ []) braces) (comment_piece bytes)
-  | false ↦ elim (is_at_pair byte next) [
-    | true ↦ piece_then (piece_of (byte ∷ []) braces) (comment_piece bytes)
-    | false ↦ piece_then (byte_piece byte braces) (comment_piece (next ∷ bytes))
-  ]
-]
+comment_piece (byte ∷ next ∷ bytes) braces =
+    if takes_along byte next then piece_then (piece_of (byte ∷ blank_for next ∷ []) braces) (comment_piece bytes)
+    else if is_at_pair byte next then piece_then (piece_of (byte ∷ []) braces) (comment_piece bytes)
+    else piece_then (byte_piece byte braces) (comment_piece (next ∷ bytes))
 
 -- At a comment's end the `}` that are missing are printed, and then its own.
 abbrev pub closing_braces : ℕ → List ℕ

@@ -1,5 +1,5 @@
 -- A text that is printed byte by byte, and divided on the way.
-use Rattle.std.specs.Prelude.{ℕ, ◌-◌, ◌&&◌, ◌||◌, ◌==◌, nat_lt, Bool, true, false, not, List, [], ◌∷◌, ◌++◌}
+use Rattle.std.specs.Prelude.{ℕ, ◌-◌, ◌&&◌, ◌||◌, ◌==◌, nat_lt, Bool, false, not, List, [], ◌∷◌, ◌++◌, if◌then◌else◌}
 use Rattle.cw_base.specs.Bytes.{backslash}
 use Rattle.cw_rules.specs.Bytes.{at_sign}
 use Rattle.cw_print.specs.declared.dividing.Portion.{Portion}
@@ -19,7 +19,7 @@ has_room portion = not portion.takes_next && nat_lt 0 portion.room
 
 -- the portion in which the next byte stands
 abbrev pub portion_for_next : Portion → Portion
-portion_for_next portion = elim (is_full portion) [ true ↦ portion_behind 0 | false ↦ portion ]
+portion_for_next portion = if is_full portion then portion_behind 0 else portion
 
 abbrev pub with_byte : Portion → ℕ → Portion
 with_byte portion byte = record {
@@ -29,7 +29,7 @@ with_byte portion byte = record {
 
 -- what the next byte prints
 abbrev pub next_byte : Portion → ℕ → List ℕ
-next_byte portion byte = elim (is_full portion) [ true ↦ division ++ escaped_byte byte | false ↦ escaped_byte byte ]
+next_byte portion byte = if is_full portion then division ++ escaped_byte byte else escaped_byte byte
 
 -- what the rest of a text prints
 abbrev pub rest_bytes : Portion → List ℕ → List ℕ

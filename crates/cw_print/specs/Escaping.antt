@@ -1,5 +1,5 @@
 -- Bytes that TeX would take for its own, and texts in typewriter type.
-use Rattle.std.specs.Prelude.{ℕ, ◌||◌, ◌==◌, Bool, true, false, List, [], ◌∷◌, ◌++◌, codes}
+use Rattle.std.specs.Prelude.{ℕ, ◌||◌, ◌==◌, Bool, List, [], ◌∷◌, ◌++◌, codes, if◌then◌else◌}
 use Rattle.cw_base.specs.Bytes.{byte_of, backslash}
 use Rattle.cw_base.specs.Text.{is_blank}
 
@@ -14,7 +14,7 @@ abbrev pub is_escaped : ℕ → Bool
 is_escaped byte = is_blank byte || is_tex_sign byte
 
 abbrev pub escaped_byte : ℕ → List ℕ
-escaped_byte byte = elim (is_escaped byte) [ true ↦ backslash ∷ byte ∷ [] | false ↦ byte ∷ [] ]
+escaped_byte byte = if is_escaped byte then backslash ∷ byte ∷ [] else byte ∷ []
 
 abbrev pub escaped : List ℕ → List ℕ
 escaped [] = []

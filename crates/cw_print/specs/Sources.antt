@@ -1,5 +1,6 @@
 -- What a C text of a book is printed from.
 use Rattle.std.specs.Prelude.{ℕ, ◌-◌, ◌==◌, ◌&&◌, Bool, true, false, List, [], ◌∷◌, Option, Some, None, option_map}
+use Rattle.std.specs.Prelude.{if◌then◌else◌}
 use Rattle.std.specs.Prelude.{drop, map, slice_get, unwrap_or}
 use Rattle.cw_base.specs.declared.flags.Flags.{Flags}
 use Rattle.cw_base.specs.declared.span.Span.{Span}
@@ -17,7 +18,7 @@ use Rattle.cw_print.specs.Walk.{Numbered, Source, Title}
 
 -- the section of a number; they are counted from 1
 abbrev pub section_of : List Section → ℕ → Option Section
-section_of sections number = elim (number == 0) [ true ↦ None | false ↦ slice_get sections (number - 1) ]
+section_of sections number = if number == 0 then None else slice_get sections (number - 1)
 
 abbrev pub is_changed : List Section → ℕ → Bool
 is_changed sections number = unwrap_or (option_map (λ s. s.changed) (section_of sections number)) false

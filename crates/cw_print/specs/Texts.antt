@@ -1,5 +1,6 @@
 -- The bytes that strings, include names and control texts say, and how long ones are divided.
-use Rattle.std.specs.Prelude.{ℕ, ◌+◌, ◌&&◌, ◌==◌, nat_le, Bool, true, false, List, [], ◌∷◌, ◌++◌, codes, drop, length}
+use Rattle.std.specs.Prelude.{ℕ, ◌+◌, ◌&&◌, ◌==◌, nat_le, Bool, List, [], ◌∷◌, ◌++◌, codes, drop, length, if◌then◌else◌}
+use Rattle.std.specs.Prelude.{not}
 use Rattle.cw_base.specs.Bytes.{backslash, newline}
 use Rattle.cw_rules.specs.Bytes.{begins, greater, at_sign}
 use Rattle.cw_print.specs.Escaping.{braced, escaped}
@@ -12,7 +13,7 @@ is_continued byte next = byte == backslash && next == newline
 
 abbrev pub is_pair : ℕ → ℕ → List ℕ → Bool
 is_pair byte next bytes =
-    byte == backslash && elim (next == backslash && begins newline bytes) [ true ↦ false | false ↦ true ]
+    byte == backslash && not (next == backslash && begins newline bytes)
 
 abbrev pub is_at_pair : ℕ → ℕ → Bool
 is_at_pair byte next = byte == at_sign && next == at_sign
@@ -20,23 +21,18 @@ is_at_pair byte next = byte == at_sign && next == at_sign
 abbrev pub string_bytes : List ℕ → List ℕ
 string_bytes [] = []
 string_bytes (byte ∷ []) = byte ∷ []
-string_bytes (byte ∷ next ∷ bytes) = elim (is_continued byte next) [
-  | true ↦ string_bytes bytes
-  | false ↦ elim (is_pair byte next bytes) [
-    | true ↦ byte ∷ next ∷ string_bytes bytes
-    | false ↦ elim (is_at_pair byte next) [
-      | true ↦ byte ∷ string_bytes bytes
-      | false ↦ byte ∷ string_bytes (next ∷ bytes)
-    ]
-  ]
-]
+string_bytes (byte ∷ next ∷ bytes) =
+    if is_continued byte next then string_bytes bytes
+    else if is_pair byte next bytes then byte ∷ next ∷ string_bytes bytes
+    else if is_at_pair byte next then byte ∷ string_bytes bytes
+    else byte ∷ string_bytes (next ∷ bytes)
 
 -- in the name of a file that a `#` line includes `@@` is one `@`
 abbrev pub include_bytes : List ℕ → List ℕ
 include_bytes [] = []
 include_bytes (byte ∷ []) = byte ∷ []
 include_bytes (byte ∷ next ∷ bytes) =
-    elim (is_at_pair byte next) [ true ↦ byte ∷ include_bytes bytes | false ↦ byte ∷ include_bytes (next ∷ bytes) ]
+    if is_at_pair byte next then byte ∷ include_bytes bytes else byte ∷ include_bytes (next ∷ bytes)
 
 -- ## Long texts
 
@@ -44,10 +40,9 @@ include_bytes (byte ∷ next ∷ bytes) =
 abbrev pub units : List ℕ → List (List ℕ)
 units [] = []
 units (byte ∷ []) = (byte ∷ []) ∷ []
-units (byte ∷ next ∷ bytes) = elim (byte == backslash) [
-  | true ↦ (byte ∷ next ∷ []) ∷ units bytes
-  | false ↦ (byte ∷ []) ∷ units (next ∷ bytes)
-]
+units (byte ∷ next ∷ bytes) =
+    if byte == backslash then (byte ∷ next ∷ []) ∷ units bytes
+    else (byte ∷ []) ∷ units (next ∷ bytes)
 
 -- The text is divided before each unit before which 20 bytes or more of it have come, since the last division or the
 -- beginning.
@@ -59,10 +54,9 @@ division = codes "}\\)\\.{"
 
 abbrev pub divided_units : ℕ → List (List ℕ) → List ℕ
 divided_units come [] = []
-divided_units come (unit ∷ rest) = elim (nat_le portion_size come) [
-  | true ↦ division ++ (escaped unit ++ divided_units (length unit) rest)
-  | false ↦ escaped unit ++ divided_units (come + length unit) rest
-]
+divided_units come (unit ∷ rest) =
+    if nat_le portion_size come then division ++ (escaped unit ++ divided_units (length unit) rest)
+    else escaped unit ++ divided_units (come + length unit) rest
 
 abbrev pub divided : List ℕ → List ℕ
 divided text = divided_units 0 (units text)
@@ -80,10 +74,10 @@ is_text_end byte next = byte == at_sign && next == greater
 abbrev pub text_to_end : List ℕ → List ℕ
 text_to_end [] = []
 text_to_end (byte ∷ []) = byte ∷ []
-text_to_end (byte ∷ next ∷ bytes) = elim (is_text_end byte next) [
-  | true ↦ []
-  | false ↦ elim (is_at_pair byte next) [ true ↦ byte ∷ text_to_end bytes | false ↦ byte ∷ text_to_end (next ∷ bytes) ]
-]
+text_to_end (byte ∷ next ∷ bytes) =
+    if is_text_end byte next then []
+    else if is_at_pair byte next then byte ∷ text_to_end bytes
+    else byte ∷ text_to_end (next ∷ bytes)
 
 -- the text behind a code's two bytes
 abbrev pub control_bytes : List ℕ → List ℕ

@@ -1,5 +1,5 @@
 -- The bytes that the items of a flat list print, each by itself, in their order; and those of the whole list.
-use Rattle.std.specs.Prelude.{◌≡◌, ℕ, ◌+◌, ◌-◌, ◌&&◌, Bool, true, false, List, [], ◌∷◌, ◌++◌, Option, Some, None, codes}
+use Rattle.std.specs.Prelude.{◌≡◌, ℕ, ◌+◌, ◌-◌, ◌&&◌, Bool, false, List, [], ◌∷◌, ◌++◌, Option, Some, None, codes}
 use Rattle.std.specs.Prelude.{decimal, drop, slice_range, if◌then◌else◌}
 use Rattle.std.specs.List.{flat_map}
 use Rattle.cw_base.specs.declared.span.Span.{Span}
@@ -162,10 +162,9 @@ is_name_token None = false
 is_name_token (Some token) = is_name_kind token.kind
 
 abbrev pub seen_shown : Bool → Bool → Option Title → Option Seen → Stand → Shown
-seen_shown first lists title token stand = elim (is_name_token token) [
-  | true ↦ named_shown lists title stand
-  | false ↦ found_shown first token stand
-]
+seen_shown first lists title token stand =
+    if is_name_token token then named_shown lists title stand
+    else found_shown first token stand
 
 -- A token prints as a sign, wherever it stands.
 abbrev pub PrintsSign : Sign → Option Seen → Type 0

@@ -1,5 +1,6 @@
 -- The words of heads stand in the tree of a translation as well, and read from text, they end in text. So do whole
 -- texts; their steps are at most the limit.
+use Rattle.std.proofs.Common.{if◌then◌else◌}
 use Rattle.cw_reduce.proofs.Terms.{◌≡◌, ℕ, Bool, true, false, Option, Some, List, [], ◌∷◌, ◌++◌, refl, sym, ap, ◌∙◌}
 use Rattle.cw_reduce.proofs.Terms.{list_all, append-nil, Cat, Exp, TexLike, Flags, MathMode, Text, Math, Span, Answer}
 use Rattle.cw_reduce.proofs.Terms.{Seen, is_head_sign, Wanted, TokKind, Head, Headless, Macro, Format, Silent, Named}
@@ -181,10 +182,8 @@ HeadFits (Format number words) = list_all (name_kind) words ≡ true
 HeadFits h = Unit {0}
 
 abbrev pub sign_headed : Seen → Seen → Nest → Bool → Headed
-sign_headed t s rest b = elim b [
-  | true ↦ record { head = Named t.span.start s.span.start; rest = rest }
-  | false ↦ headless (Leaf t (Leaf s rest))
-]
+sign_headed t s rest b = if b then record { head = Named t.span.start s.span.start; rest = rest }
+    else headless (Leaf t (Leaf s rest))
 
 -- The words of a head fit it, and what stands behind it is well.
 pub record IsFit (n : Nest) (h : Headed) : Type 0 where

@@ -1,4 +1,5 @@
 -- A section name, its inner texts, a text with section names, and one with its head, one call after the other.
+use Rattle.std.proofs.Common.{if◌then◌else◌}
 use Rattle.cw_reduce.proofs.Terms.{◌^◌, Bool, false, nat_eq, Result, Ok, Span, Token, Gives, seen, is_name_kind}
 use Rattle.cw_reduce.proofs.Terms.{tokens_of, until_section, Lexed, inner_mode, parts_at, IsNextPart, NameUse, name_at}
 use Rattle.cw_reduce.proofs.Terms.{SecKind, Holder, Translator, Work, held_answers, is_name_answer, name_answers}
@@ -119,7 +120,7 @@ among-at count (u ∷ uses) place k all h = by (nat_eq u.place place)
     (λ e. among-at count uses place k (All-tail (λ (v : NameUse). v.name < count) u uses all) e) h
   where
     by : (b : Bool) → (name_at place uses ≡ Some k → k < count)
-        → ◌≡◌ {A = Option ℕ} (elim b [ true ↦ Some u.name | false ↦ name_at place uses ]) (Some k) → k < count
+        → ◌≡◌ {A = Option ℕ} (if b then Some u.name else name_at place uses) (Some k) → k < count
     by true next e =
         let same : u.name ≡ k = cc in
         rw same at (All-head (λ (v : NameUse). v.name < count) u uses all)

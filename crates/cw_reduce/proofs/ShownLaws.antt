@@ -1,5 +1,6 @@
 -- What the trees of translations show, each token once and in order, and how they are read: from text they end in text,
 -- and so does each inner text in them. The texts that end began with fine scraps.
+use Rattle.std.proofs.Common.{if◌then◌else◌}
 use Rattle.cw_reduce.proofs.Terms.{Bool, false, not, is_some, list_all, both, Cat, Exp, SectionScrap, MathMode, Math}
 use Rattle.cw_reduce.proofs.Terms.{Code, NameId, continues_name, struck, productions-sound, code_form, word_form}
 use Rattle.cw_reduce.proofs.Terms.{list_if, InnersRead, zero, get_or_past, All-map, cases_lt, Dead, Ident as ident_kind}
@@ -102,10 +103,8 @@ continues-comment _ = refl
 struck-rest : (items : List CommentItem) → struck (comment_rest items) ≡ item_numbers items
 struck-rest [] = refl
 struck-rest (Piece n ∷ items) = ap (λ ns. n ∷ ns) (struck-rest items)
-struck-rest (InnerText tree ∷ items) = ap (λ (b : Bool). elim b [
-  | true ↦ struck (comment_rest items)
-  | false ↦ struck tree ++ struck (comment_rest items)
-]) (continues-comment items)
+struck-rest (InnerText tree ∷ items) = ap (λ (b : Bool). if b then struck (comment_rest items)
+    else struck tree ++ struck (comment_rest items)) (continues-comment items)
     ∙ ap (λ ns. struck tree ++ ns) (struck-rest items)
 
 items-append : (items more : List CommentItem) → item_numbers (items ++ more) ≡ item_numbers items ++ item_numbers more

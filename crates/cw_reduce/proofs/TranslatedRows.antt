@@ -1,4 +1,5 @@
 -- Worked rows of translation: the counts, the productions, the visible tokens and the bytes of some C texts.
+use Rattle.std.proofs.Common.{if◌then◌else◌}
 use Rattle.cw_reduce.proofs.Terms.{Option, MathMode, ◌≡◌, ℕ, false, true, List, [], ◌∷◌, map, codes, get_or, length}
 use Rattle.cw_reduce.proofs.Terms.{eqb, refl, Some, None, is_some, Text, CPart, Definition, inner_mode as InnerMode}
 use Rattle.cw_reduce.proofs.Terms.{Answer, tokens_of, Entry, Item, SourceItem, IdentItem, ReservedItem, SignItem, Open}
@@ -37,7 +38,7 @@ in_definition text = ended unnamed (definition_answers text)
 
 -- a name at this place alone, with these inner texts
 abbrev named_at : ℕ → List (List Answer) → NameTexts
-named_at place texts number = elim (eqb number place) [ true ↦ Some texts | false ↦ None ]
+named_at place texts number = if eqb number place then Some texts else None
 
 abbrev name_at_three : NameTexts
 name_at_three = named_at 3 (tokens_of (codes "A |x+1| b") 3 6 InnerMode ∷ [])
@@ -50,10 +51,7 @@ name_at_zero = named_at 0 (tokens_of (codes "A |x| b") 3 4 InnerMode ∷ [])
 -- the bytes of a source token, by its number: these, or its first byte
 abbrev bytes_at : List ℕ → List (ℕ × String) → ℕ → List ℕ
 bytes_at text [] number = get_or text number 0 ∷ []
-bytes_at text (pair ∷ pairs) number = elim (eqb pair.0 number) [
-  | true ↦ codes pair.1
-  | false ↦ bytes_at text pairs number
-]
+bytes_at text (pair ∷ pairs) number = if eqb pair.0 number then codes pair.1 else bytes_at text pairs number
 
 abbrev text_of : List Entry → ℕ → List ℕ
 text_of names name = (get_or names name (record { kind = ident_kind; text = []; category = cat.Exp })).text

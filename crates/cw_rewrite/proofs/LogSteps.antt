@@ -1,6 +1,6 @@
 -- The log of the productions, one production after another.
 use Rattle.std.proofs.Common.{◌≡◌, ℕ, zero, suc, ◌+◌, ◌<◌, Bool, true, false, eqb, Option, Some, None, List, [], ◌∷◌}
-use Rattle.std.proofs.Common.{◌++◌, take, slice_get, refl, sym, ◌∙◌, ap, arith}
+use Rattle.std.proofs.Common.{◌++◌, take, slice_get, refl, sym, ◌∙◌, ap, arith, if◌then◌else◌}
 use Rattle.std.specs.Prelude.{Result, Ok, Err, OnErr}
 use Rattle.std.proofs.Math.Seq.{take-length}
 use Rattle.std.proofs.lemmas.Bool.{eqb-true}
@@ -20,7 +20,7 @@ numbered-own [] n row e = absurd cc
 numbered-own (r ∷ rows) n row e = go (λ k. numbered-own rows n row k) (eqb r.number.number n) refl e
   where
     go : (row_numbered rows n ≡ Some row → row.number.number ≡ n) → (b : Bool) → eqb r.number.number n ≡ b
-        → elim b [ true ↦ Some r | false ↦ row_numbered rows n ] ≡ Some row → row.number.number ≡ n
+        → (if b then Some r else row_numbered rows n) ≡ Some row → row.number.number ≡ n
     go rec true h k =
         let same : r ≡ row = cc in
         ap (λ (x : Row). x.number.number) (sym same) ∙ eqb-true r.number.number n h

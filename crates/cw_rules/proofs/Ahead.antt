@@ -80,8 +80,8 @@ module _ (stop : ℕ) (more : List ℕ) where
 
   pub run-before : (class : Class) (bs : List ℕ) → is_in class stop ≡ false → run class (bs ++ stop ∷ more)
       ≡ run class bs
-  run-before class [] h = ap (λ t. elim t [ true ↦ 1 + run class more | false ↦ 0 ]) h
-  run-before class (b ∷ bs) h = ap (λ n. elim (is_in class b) [ true ↦ 1 + n | false ↦ 0 ]) (run-before class bs h)
+  run-before class [] h = ap (λ t. if t then 1 + run class more else 0) h
+  run-before class (b ∷ bs) h = ap (λ n. if is_in class b then 1 + n else 0) (run-before class bs h)
 
 -- ## The first byte of a rule is the stop
 
@@ -149,15 +149,11 @@ module _ (s : Stop) (more : List ℕ) where
   more_digits-same class [] g h =
       let digit = of-both (is_in class) false s g h in
       let mark = of-both (λ b. b == apostrophe) false s refl refl in
-      λ i. elim (digit i || (mark i && begins_by (is_in class) more)) [
-        | true ↦ 1 + more_digits class more
-        | false ↦ 0
-      ]
+      λ i. (if digit i || (mark i && begins_by (is_in class) more) then 1 + more_digits class more else 0)
   more_digits-same class (b ∷ bs) g h =
-      λ i. elim (is_in class b || (b == apostrophe && begins_by-same (is_in class) bs g h i)) [
-        | true ↦ 1 + more_digits-same class bs g h i
-        | false ↦ 0
-      ]
+      λ i. if is_in class b || (b == apostrophe && begins_by-same (is_in class) bs g h i) then
+            1 + more_digits-same class bs g h i
+          else 0
 
   digits-same : (class : Class) (bs : List ℕ) → is_in class 64 ≡ false → is_in class 124 ≡ false
       → digits class (bs ++ byte_of s ∷ more) ≡ digits class bs

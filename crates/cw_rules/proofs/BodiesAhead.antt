@@ -117,26 +117,18 @@ still i bs h = by (goes_on i bs) refl
     by false e = e
 
 pub ended-here : (i : Inside) (b : ℕ) (bs : List ℕ) → goes_on i (b ∷ bs) ≡ false → ended i (b ∷ bs) ≡ i
-ended-here i b bs h = ap (λ t. elim t as (λ t. Inside) [ true ↦ ended (stepped i b bs) bs | false ↦ i ]) h
+ended-here i b bs h = ap (λ t. if t then ended (stepped i b bs) bs else i) h
 
 pub ended-on : (i : Inside) (b : ℕ) (bs : List ℕ) → goes_on i (b ∷ bs) ≡ true → ended i (b ∷ bs)
     ≡ ended (stepped i b bs) bs
-ended-on i b bs h = ap (λ t. elim t as (λ t. Inside) [ true ↦ ended (stepped i b bs) bs | false ↦ i ]) h
+ended-on i b bs h = ap (λ t. if t then ended (stepped i b bs) bs else i) h
 
 pub noted-here : (i : Inside) (b : ℕ) (bs : List ℕ) → goes_on i (b ∷ bs) ≡ false → noted i (b ∷ bs) ≡ []
-noted-here i b bs h = ap (λ t. elim t as (λ t. List Noted) [
-  | true ↦
-      with_note (note_here i b bs) i.place (noted (stepped i b bs) bs)
-  | false ↦ []
-]) h
+noted-here i b bs h = ap (λ t. if t then with_note (note_here i b bs) i.place (noted (stepped i b bs) bs) else []) h
 
 pub noted-on : (i : Inside) (b : ℕ) (bs : List ℕ) → goes_on i (b ∷ bs) ≡ true → noted i (b ∷ bs)
     ≡ with_note (note_here i b bs) i.place (noted (stepped i b bs) bs)
-noted-on i b bs h = ap (λ t. elim t as (λ t. List Noted) [
-  | true ↦
-      with_note (note_here i b bs) i.place (noted (stepped i b bs) bs)
-  | false ↦ []
-]) h
+noted-on i b bs h = ap (λ t. if t then with_note (note_here i b bs) i.place (noted (stepped i b bs) bs) else []) h
 
 goes-same : (s : Stop) (more : List ℕ) (i : Inside) (b : ℕ) (bs : List ℕ)
     → goes_on i (b ∷ (bs ++ byte_of s ∷ more)) ≡ goes_on i (b ∷ bs)

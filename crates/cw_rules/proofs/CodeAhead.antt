@@ -407,16 +407,16 @@ module _ (s : Stop) (more : List ℕ) (free : IsFree s more) where
           × (suc (length bs) < run classes.IncludeName (b ∷ (bs ++ byte_of s ∷ more))))
       by false e rec =
           let full : run classes.IncludeName (b ∷ (bs ++ byte_of s ∷ more)) ≡ 0 =
-          ap (λ t. elim t [ true ↦ 1 + run classes.IncludeName (bs ++ byte_of s ∷ more) | false ↦ 0 ]) e in
+          ap (λ t. if t then 1 + run classes.IncludeName (bs ++ byte_of s ∷ more) else 0) e in
           let cut : run classes.IncludeName (b ∷ bs) ≡ 0 =
-          ap (λ t. elim t [ true ↦ 1 + run classes.IncludeName bs | false ↦ 0 ]) e in
+          ap (λ t. if t then 1 + run classes.IncludeName bs else 0) e in
           inl (full ∙ sym cut, omega arith)
       by true e rec =
           let full : run classes.IncludeName (b ∷ (bs ++ byte_of s ∷ more))
           ≡ 1 + run classes.IncludeName (bs ++ byte_of s ∷ more) =
-          ap (λ t. elim t [ true ↦ 1 + run classes.IncludeName (bs ++ byte_of s ∷ more) | false ↦ 0 ]) e in
+          ap (λ t. if t then 1 + run classes.IncludeName (bs ++ byte_of s ∷ more) else 0) e in
           let cut : run classes.IncludeName (b ∷ bs) ≡ 1 + run classes.IncludeName bs =
-          ap (λ t. elim t [ true ↦ 1 + run classes.IncludeName bs | false ↦ 0 ]) e in
+          ap (λ t. if t then 1 + run classes.IncludeName bs else 0) e in
           on full cut rec
         where
           on : run classes.IncludeName (b ∷ (bs ++ byte_of s ∷ more))

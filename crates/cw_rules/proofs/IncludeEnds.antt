@@ -1,5 +1,5 @@
 -- The inside of an include name ends before its sign, which no byte takes along.
-use Rattle.std.proofs.Common.{◌≡◌, ℕ, zero, suc, ◌+◌, ◌≤◌, Bool, true, false, ◌&&◌, ◌||◌, not, ◌==◌}
+use Rattle.std.proofs.Common.{◌≡◌, ℕ, zero, suc, ◌+◌, ◌≤◌, Bool, true, false, ◌&&◌, ◌||◌, not, ◌==◌, if◌then◌else◌}
 use Rattle.std.proofs.Common.{List, [], ◌∷◌, drop, refl, sym, ap, ◌∙◌}
 use Rattle.std.proofs.Common.{arith}
 use Rattle.std.proofs.lemmas.Bool.{eqb-true}
@@ -24,10 +24,7 @@ greater-stops i (b ∷ bs) zero body along h = by i.along refl
         let stop : goes_on i (b ∷ bs) ≡ false = (λ j. e j || not (stops (body j) i.before b bs)) ∙ ap not h in
         omega (
           arith,
-          ap (λ (j : Inside). j.place) (ap (λ t. elim t as (λ t. Inside) [
-            | true ↦ ended (stepped i b bs) bs
-            | false ↦ i
-          ]) stop),
+          ap (λ (j : Inside). j.place) (ap (λ t. if t then ended (stepped i b bs) bs else i) stop),
         )
 greater-stops i (b ∷ bs) (suc n) body along h = by (goes_on i (b ∷ bs)) refl
     (greater-stops (stepped i b bs) bs n body takes h)
@@ -46,10 +43,10 @@ greater-stops i (b ∷ bs) (suc n) body along h = by (goes_on i (b ∷ bs)) refl
     by true e rec = omega (
       arith,
       ap (λ (j : Inside). j.place)
-          (ap (λ t. elim t as (λ t. Inside) [ true ↦ ended (stepped i b bs) bs | false ↦ i ]) e),
+          (ap (λ t. if t then ended (stepped i b bs) bs else i) e),
     )
     by false e rec = omega (
       arith,
       ap (λ (j : Inside). j.place)
-          (ap (λ t. elim t as (λ t. Inside) [ true ↦ ended (stepped i b bs) bs | false ↦ i ]) e),
+          (ap (λ t. if t then ended (stepped i b bs) bs else i) e),
     )

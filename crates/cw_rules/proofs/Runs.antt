@@ -1,6 +1,6 @@
 -- Bytes of a class in a row, and texts at the beginning of others.
 use Rattle.std.proofs.Common.{◌≡◌, ℕ, zero, suc, ◌+◌, ◌-◌, ◌<◌, ◌≤◌, Bool, true, false, List, [], ◌∷◌, length}
-use Rattle.std.proofs.Common.{slice_index, drop, refl, sym, ap, ◌∙◌, arith, add-one, drop-cons}
+use Rattle.std.proofs.Common.{slice_index, drop, refl, sym, ap, ◌∙◌, arith, add-one, drop-cons, if◌then◌else◌}
 use Rattle.std.proofs.lemmas.List.{drop-drop, drop_all}
 use Rattle.cw_rules.specs.declared.classes.Class.{Class}
 use Rattle.cw_rules.specs.Bytes.{is_in, run, begins_with}
@@ -19,12 +19,12 @@ run-drop class (b ∷ bs) (suc n) h = by (is_in class b) refl (run-drop class bs
     by : (t : Bool) → is_in class b ≡ t → (n ≤ run class bs → run class (drop n bs) ≡ run class bs - n)
         → run class (drop (suc n) (b ∷ bs)) ≡ run class (b ∷ bs) - suc n
     by true e rest =
-        let more : run class (b ∷ bs) ≡ 1 + run class bs = ap (λ t. elim t [ true ↦ 1 + run class bs | false ↦ 0 ]) e in
+        let more : run class (b ∷ bs) ≡ 1 + run class bs = ap (λ t. if t then 1 + run class bs else 0) e in
         let inner : n ≤ run class bs = omega arith in
         let same = rest inner in
         omega arith
     by false e rest =
-        let none : run class (b ∷ bs) ≡ 0 = ap (λ t. elim t [ true ↦ 1 + run class bs | false ↦ 0 ]) e in
+        let none : run class (b ∷ bs) ≡ 0 = ap (λ t. if t then 1 + run class bs else 0) e in
         absurd (omega arith)
 
 -- a place inside the run

@@ -217,7 +217,7 @@ line_end-takes part (c ∷ comments) last place bytes =
 
 run-some : (class : Class) (byte : ℕ) (bytes : List ℕ) → is_in class byte ≡ true → 0 < run class (byte ∷ bytes)
 run-some class byte bytes h =
-    let e : run class (byte ∷ bytes) ≡ 1 + run class bytes = ap (λ t. elim t [ true ↦ 1 + run class bytes | false ↦ 0 ])
+    let e : run class (byte ∷ bytes) ≡ 1 + run class bytes = ap (λ t. if t then 1 + run class bytes else 0)
     h in
     omega arith
 
@@ -486,7 +486,7 @@ head_text-takes w place byte bytes =
 
 -- behind no white space, what follows begins here
 not-white : (byte : ℕ) (bytes : List ℕ) → is_in classes.White byte ≡ false → behind_white (byte ∷ bytes) ≡ byte ∷ bytes
-not-white byte bytes h = ap (λ t. drop (elim t as (λ t. ℕ) [ true ↦ 1 + run classes.White bytes | false ↦ 0 ])
+not-white byte bytes h = ap (λ t. drop (if t then 1 + run classes.White bytes else 0)
     (byte ∷ bytes)) h
 
 letter-here : (byte : ℕ) (bytes : List ℕ) → name_follows (byte ∷ bytes) ≡ true → is_in classes.White byte ≡ false

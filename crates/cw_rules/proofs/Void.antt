@@ -14,7 +14,7 @@ may_be_white (suc (suc zero)) = false
 may_be_white (suc (suc (suc n))) = true
 
 run-white : (b : ℕ) (bs : List ℕ) → is_in White b ≡ true → run White (b ∷ bs) ≡ 1 + run White bs
-run-white b bs h = ap (λ t. elim t [ true ↦ 1 + run White bs | false ↦ 0 ]) h
+run-white b bs h = ap (λ t. if t then 1 + run White bs else 0) h
 
 suc-eq : (m n : ℕ) → (suc m == suc n) ≡ (m == n)
 suc-eq m n = grind (arith, nat_tests)

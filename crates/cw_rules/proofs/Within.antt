@@ -391,7 +391,7 @@ dots-follow : (letter : Bool) (is_comma is_paren dots : Bool) → (letter || (is
 dots-follow letter is_comma is_paren dots h l c p = cc
 
 not-white : (byte : ℕ) (bytes : List ℕ) → is_in classes.White byte ≡ false → behind_white (byte ∷ bytes) ≡ byte ∷ bytes
-not-white byte bytes h = ap (λ t. drop (elim t as (λ t. ℕ) [ true ↦ 1 + run classes.White bytes | false ↦ 0 ])
+not-white byte bytes h = ap (λ t. drop (if t then 1 + run classes.White bytes else 0)
     (byte ∷ bytes)) h
 
 parameter-fits : (w : Where) (place byte : ℕ) (bytes : List ℕ) → parameter_follows (byte ∷ bytes) ≡ true

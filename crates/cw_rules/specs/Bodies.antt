@@ -89,7 +89,7 @@ is_idle body byte = is_plain byte
 -- where it stops
 abbrev pub ended : Inside → List ℕ → Inside
 ended i [] = i
-ended i (byte ∷ bytes) = elim (goes_on i (byte ∷ bytes)) [ true ↦ ended (stepped i byte bytes) bytes | false ↦ i ]
+ended i (byte ∷ bytes) = if goes_on i (byte ∷ bytes) then ended (stepped i byte bytes) bytes else i
 
 abbrev pub note_here : Inside → ℕ → List ℕ → Option NoteKind
 note_here i byte bytes = if i.along then None else note_on i.body i.braces byte bytes
@@ -101,10 +101,9 @@ with_note (Some kind) place notes = record { kind = kind; place = place } ∷ no
 -- its notes, up to where it stops
 abbrev pub noted : Inside → List ℕ → List Noted
 noted i [] = []
-noted i (byte ∷ bytes) = elim (goes_on i (byte ∷ bytes)) [
-  | true ↦ with_note (note_here i byte bytes) i.place (noted (stepped i byte bytes) bytes)
-  | false ↦ []
-]
+noted i (byte ∷ bytes) =
+    if goes_on i (byte ∷ bytes) then with_note (note_here i byte bytes) i.place (noted (stepped i byte bytes) bytes)
+    else []
 
 -- the beginning of a body
 abbrev pub at_start : Body → ℕ → Inside

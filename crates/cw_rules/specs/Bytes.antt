@@ -1,5 +1,5 @@
 -- The bytes and sets of bytes that the rules of the scanner name.
-use Rattle.std.specs.Prelude.{ℕ, ◌+◌, Bool, true, false, ◌&&◌, ◌||◌, not, ◌==◌, nat_le, List, [], ◌∷◌}
+use Rattle.std.specs.Prelude.{ℕ, ◌+◌, Bool, true, false, ◌&&◌, ◌||◌, not, ◌==◌, nat_le, List, [], ◌∷◌, if◌then◌else◌}
 use Rattle.cw_base.specs.Bytes.{byte_of, newline}
 use Rattle.cw_base.specs.Text.{is_blank, bar}
 use Rattle.cw_rules.specs.declared.classes.Class.{Class}
@@ -104,7 +104,7 @@ is_in IncludeName byte = not (byte == greater || byte == newline)
 -- How many bytes of the class stand in a row at the beginning.
 abbrev pub run : Class → List ℕ → ℕ
 run class [] = 0
-run class (byte ∷ bytes) = elim (is_in class byte) [ true ↦ 1 + run class bytes | false ↦ 0 ]
+run class (byte ∷ bytes) = if is_in class byte then 1 + run class bytes else 0
 
 -- the bytes begin with this byte
 abbrev pub begins : ℕ → List ℕ → Bool

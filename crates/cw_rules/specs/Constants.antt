@@ -1,5 +1,5 @@
 -- How many bytes a constant takes at the beginning of these bytes, or 0 where none begins.
-use Rattle.std.specs.Prelude.{ℕ, ◌+◌, Bool, true, false, ◌&&◌, ◌||◌, not, ◌==◌, nat_lt, List, [], ◌∷◌, drop}
+use Rattle.std.specs.Prelude.{ℕ, ◌+◌, Bool, ◌&&◌, ◌||◌, not, ◌==◌, nat_lt, List, [], ◌∷◌, drop, if◌then◌else◌}
 use Rattle.std.specs.Prelude.{if◌then◌else◌}
 use Rattle.cw_base.specs.Bytes.{byte_of}
 use Rattle.cw_rules.specs.declared.classes.Class.{Class}
@@ -13,10 +13,7 @@ digits_go_on class byte bytes = is_in class byte || (byte == apostrophe && begin
 -- how many bytes go on with a run behind one of its digits
 abbrev pub more_digits : Class → List ℕ → ℕ
 more_digits class [] = 0
-more_digits class (byte ∷ bytes) = elim (digits_go_on class byte bytes) [
-  | true ↦ 1 + more_digits class bytes
-  | false ↦ 0
-]
+more_digits class (byte ∷ bytes) = if digits_go_on class byte bytes then 1 + more_digits class bytes else 0
 
 -- how many bytes a run of digits has, which begins with a digit
 abbrev pub digits : Class → List ℕ → ℕ

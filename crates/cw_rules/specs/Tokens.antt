@@ -527,8 +527,7 @@ parameter w place byte bytes =
 
 -- The two names of a format definition. Behind them, in limbo, limbo goes on.
 abbrev pub behind_format : Bool → Where → Where
-behind_format true w = moved w parts.Limbo
-behind_format false w = moved w parts.Definition
+behind_format limbo w = moved w (if limbo then parts.Limbo else parts.Definition)
 
 abbrev pub format_name : ℕ → Bool → Bool → Where → ℕ → ℕ → List ℕ → Found
 format_name code second limbo w place byte bytes =
@@ -538,8 +537,9 @@ format_name code second limbo w place byte bytes =
 
 -- An improper head ends before this place, in limbo or in a section.
 abbrev pub behind_head : Bool → Spot → ℕ → List ℕ → Found
-behind_head true here byte bytes = limbo_text (moved here.stands parts.Limbo) here.place byte bytes
-behind_head false here byte bytes = code_text (record here { stands = moved here.stands parts.Definition }) byte bytes
+behind_head limbo here byte bytes =
+    if limbo then limbo_text (moved here.stands parts.Limbo) here.place byte bytes
+    else code_text (record here { stands = moved here.stands parts.Definition }) byte bytes
 
 abbrev pub part_text : Part → Spot → ℕ → List ℕ → Found
 part_text parts.Limbo here byte bytes = limbo_text here.stands here.place byte bytes

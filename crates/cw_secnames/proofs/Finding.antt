@@ -1,6 +1,6 @@
 -- Names in memory, and the first that pass a test.
 use Rattle.std.proofs.Common.{◌≡◌, ℕ, zero, suc, ◌+◌, ◌<◌, ◌≤◌, ◌&&◌, Bool, true, false, not, nat_lt, List, [], ◌∷◌}
-use Rattle.std.proofs.Common.{Option, Some, None, map, length, drop, cond, refl, ap, ◌∙◌, sym}
+use Rattle.std.proofs.Common.{Option, Some, None, map, length, drop, cond, refl, ap, ◌∙◌, sym, if◌then◌else◌}
 use Rattle.std.proofs.Common.{subst, get_or, add-zero, zero-add, arith}
 use borrow.Author.Tests.{lt-ltb, ltb-true}
 use Rattle.cw_secnames.specs.declared.kinds.Earliest.TheVariants.{Nobody, One, Several}
@@ -63,10 +63,7 @@ shorter-by false x prefix rest f e h =
     ap (λ (c : Bool). record (name_of x) { text = prefix; complete = c } ∷ rest) (sym e) ∙
     sym (let test : is_shorter prefix (name_of x) ≡ true = rw (e, lt-ltb (length x.text.items) (length prefix) h)
     refl in
-    ap (λ (t : Bool). elim t as (λ _. List SecName) [
-      | true ↦ record (name_of x) { text = prefix } ∷ rest
-      | false ↦ name_of x ∷ rest
-    ]) test)
+    ap (λ (t : Bool). if t then record (name_of x) { text = prefix } ∷ rest else name_of x ∷ rest) test)
 
 pub grown-shorter : (prefix : List ℕ) (xs : List Kept) (i : ℕ) (d : Kept)
     → (get_or xs i d).complete ≡ false → length (get_or xs i d).text.items < length prefix

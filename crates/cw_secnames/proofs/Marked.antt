@@ -1,6 +1,6 @@
 -- The positions that are found by marks hold those of all names near a text.
 use Rattle.std.proofs.Common.{nat_lt, ◌≡◌, ℕ, zero, suc, ◌+◌, ◌<◌, ◌≤◌, ◌&&◌, ◌||◌, ◌==◌, ◌⊎◌, inl, inr, Bool}
-use Rattle.std.proofs.Common.{true, false, nat_eq, List, [], ◌∷◌, ◌++◌, length, take, get_or, refl, ap}
+use Rattle.std.proofs.Common.{true, false, nat_eq, List, [], ◌∷◌, ◌++◌, length, take, get_or, refl, ap, if◌then◌else◌}
 use Rattle.std.proofs.Common.{◌∙◌, sym, subst, arith, min, length-take, take_all, take-take}
 use Rattle.std.proofs.lemmas.Bool.{ltb-true}
 use Rattle.std.specs.Cmp.Lexicographic.{same_text, pointwise}
@@ -75,7 +75,7 @@ below-or a b h = grind arith
 found-here : (short : Bool) (marks : Marks) (kind : SecKind) (text : List ℕ) (count k mark : ℕ)
     → nat_lt count marks.shortest ≡ short
     → mark ≡ mark_of kind (take count text) → IsMarked marks kind (take count text) k
-    → is_one_of k (elim short as (λ _. List ℕ) [ true ↦ [] | false ↦ positions_at mark marks.wholes ]) ≡ true
+    → is_one_of k (if short then [] else positions_at mark marks.wholes) ≡ true
 found-here true marks kind text count k mark below is m =
     let low : count < marks.shortest = ltb-true count marks.shortest below in
     let size : length (take count text) ≡ min count (length text) = length-take count text in
@@ -114,7 +114,7 @@ found-more marks kind text count mark start d near f h = record {
 kept-by : (b : Bool) (marks : Marks) (kind : SecKind) (text : List ℕ) (count mark start : ℕ) (near : List ℕ)
     → is_kept_length count ≡ b
     → Found marks kind text count mark start near
-    → Found marks kind text count mark (elim b as (λ _. ℕ) [ true ↦ mark | false ↦ start ]) near
+    → Found marks kind text count mark (if b then mark else start) near
 kept-by true marks kind text count mark start near kept f = record {
   mark_is = f.mark_is;
   at = count;

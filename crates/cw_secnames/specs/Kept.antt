@@ -1,5 +1,6 @@
 -- The section names that are kept: a list, in order of entry.
 use Rattle.std.specs.Prelude.{ℕ, zero, suc, ◌+◌, ◌<◌, Bool, true, false, not, ◌&&◌, ◌||◌, nat_lt, List, [], ◌∷◌, ◌++◌}
+use Rattle.std.specs.Prelude.{if◌then◌else◌}
 use Rattle.std.specs.Prelude.{Option, Some, None, length, nat_eq}
 use Rattle.std.specs.Cmp.Lexicographic.{pointwise}
 use Rattle.std.specs.List.{position, starts_with, slice_get}
@@ -92,14 +93,14 @@ is_shorter prefix n = not n.complete && nat_lt (length n.text) (length prefix)
 abbrev pub grown : List ℕ → ℕ → List SecName → List SecName
 grown prefix k [] = []
 grown prefix zero (n ∷ names) =
-    elim (is_shorter prefix n) [ true ↦ record n { text = prefix } ∷ names | false ↦ n ∷ names ]
+    if is_shorter prefix n then record n { text = prefix } ∷ names else n ∷ names
 grown prefix (suc k) (n ∷ names) = n ∷ grown prefix k names
 
 -- the positions of the names that pass a test, from this one on
 abbrev pub positions_from : ℕ → (SecName → Bool) → List SecName → List ℕ
 positions_from k test [] = []
 positions_from k test (n ∷ names) =
-    elim (test n) [ true ↦ k ∷ positions_from (k + 1) test names | false ↦ positions_from (k + 1) test names ]
+    if test n then k ∷ positions_from (k + 1) test names else positions_from (k + 1) test names
 
 -- The two earliest of some names, where there are so many.
 abbrev pub earliest : List ℕ → Earliest

@@ -1,5 +1,6 @@
 -- Marks: numbers by which the names near a text are found.
-use Rattle.std.specs.Prelude.{◌≡◌, ℕ, zero, suc, ◌+◌, ◌*◌, ◌/◌, ◌^◌, ◌%◌, ◌≤◌, Bool, true, false, ◌&&◌, ◌||◌, ◌==◌}
+use Rattle.std.specs.Prelude.{◌≡◌, ℕ, zero, suc, ◌+◌, ◌*◌, ◌/◌, ◌^◌, ◌%◌, ◌≤◌, Bool, true, ◌&&◌, ◌||◌, ◌==◌}
+use Rattle.std.specs.Prelude.{if◌then◌else◌}
 use Rattle.std.specs.Prelude.{nat_lt, List, [], ◌∷◌, ◌++◌, length, take, Option, Some, None, slice_get, slice_index_or}
 use Rattle.std.specs.Prelude.{if◌then◌else◌}
 use Rattle.std.specs.List.{flat_map, list_any}
@@ -36,7 +37,7 @@ is_kept_length count = count % step_at count == 0
 
 -- The last kept mark, after the mark of so many bytes.
 abbrev pub last_kept : ℕ → ℕ → ℕ → ℕ
-last_kept count mark start = elim (is_kept_length count) [ true ↦ mark | false ↦ start ]
+last_kept count mark start = if is_kept_length count then mark else start
 
 -- Where a mark stands in a table: half of it tells the row among so many, and the links of a row have the other half.
 abbrev pub row_of : ℕ → ℕ → ℕ
@@ -87,7 +88,7 @@ HasAll tables more = (mark k : ℕ) → Has tables mark k → Has more mark k
 
 -- those of whole texts of so many bytes, where some name is as short
 abbrev pub wholes_at : Marks → ℕ → ℕ → List ℕ
-wholes_at marks count mark = elim (nat_lt count marks.shortest) [ true ↦ [] | false ↦ positions_at mark marks.wholes ]
+wholes_at marks count mark = if nat_lt count marks.shortest then [] else positions_at mark marks.wholes
 
 -- A name of this kind and text is found by its marks.
 pub record IsMarked (marks : Marks) (kind : SecKind) (text : List ℕ) (k : ℕ) : Type 0 where

@@ -1,7 +1,7 @@
 -- Each production of a sound row lowers the weight, and keeps every scrap fine.
 use Rattle.std.proofs.Common.{◌≡◌, ℕ, zero, suc, ◌+◌, ◌-◌, ◌<◌, ◌≤◌, ◌⊎◌, inl, inr, Bool, true, false, Option, Some}
 use Rattle.std.proofs.Common.{None, List, [], ◌∷◌, map, length, get_or, take, drop, leb, refl, sym, ◌∙◌, ap, arith}
-use Rattle.std.proofs.Common.{true≢false, leb-true, leb-false, length-append, length-drop, drop-drop}
+use Rattle.std.proofs.Common.{true≢false, leb-true, leb-false, length-append, length-drop, drop-drop, ◌&&◌}
 use Rattle.std.proofs.lemmas.List.{length-take-le, get_or_past}
 use Rattle.std.specs.List.{list_all}
 use Rattle.cw_base.proofs.TestLaws.{both}
@@ -36,7 +36,7 @@ hold-at [] cs q h k = absurd (omega arith)
 hold-at (t ∷ ts) [] q h k = go (λ n. hold-at ts [] n) (in_set t End) refl q k h
   where
     go : ((n : ℕ) → all_hold ts [] ≡ true → n < length ts → in_set (get_or ts n empty) End ≡ true) → (b : Bool)
-        → in_set t End ≡ b → (n : ℕ) → n < length (t ∷ ts) → elim b [ true ↦ all_hold ts [] | false ↦ false ] ≡ true
+        → in_set t End ≡ b → (n : ℕ) → n < length (t ∷ ts) → (b && all_hold ts []) ≡ true
         → in_set (get_or (t ∷ ts) n empty) End ≡ true
     go rec true e zero k h = e
     go rec true e (suc n) k h = rec n h (omega arith)
@@ -44,7 +44,7 @@ hold-at (t ∷ ts) [] q h k = go (λ n. hold-at ts [] n) (in_set t End) refl q k
 hold-at (t ∷ ts) (c ∷ cs) q h k = go (λ n. hold-at ts cs n) (in_set t c) refl q k h
   where
     go : ((n : ℕ) → all_hold ts cs ≡ true → n < length ts → in_set (get_or ts n empty) (get_or cs n End) ≡ true)
-        → (b : Bool) → in_set t c ≡ b → (n : ℕ) → n < length (t ∷ ts) → elim b [ true ↦ all_hold ts cs | false ↦ false ]
+        → (b : Bool) → in_set t c ≡ b → (n : ℕ) → n < length (t ∷ ts) → (b && all_hold ts cs)
         ≡ true → in_set (get_or (t ∷ ts) n empty) (get_or (c ∷ cs) n End) ≡ true
     go rec true e zero k h = e
     go rec true e (suc n) k h = rec n h (omega arith)

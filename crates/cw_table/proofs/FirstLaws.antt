@@ -1,6 +1,6 @@
 -- Laws of the first row that fits.
 use Rattle.std.proofs.Common.{◌≡◌, ◌≤◌, ◌∙◌, sym, ap, ℕ, zero, suc, Bool, true, false, List, [], ◌∷◌, length, Some}
-use Rattle.std.proofs.Common.{refl, arith, length-take-le}
+use Rattle.std.proofs.Common.{refl, arith, length-take-le, ◌&&◌}
 use Rattle.std.specs.List.{list_all}
 use Rattle.cw_base.specs.declared.category.Cat.{Cat}
 use Rattle.cw_base.specs.declared.category.Cat.TheVariants.{End}
@@ -27,9 +27,9 @@ hold-seen : (tests : List CatSet) (count : ℕ) (cats : List Cat) → length tes
 hold-seen [] count cats h = refl
 hold-seen (test ∷ tests) zero cats h = absurd (omega arith)
 hold-seen (test ∷ tests) (suc count) [] h =
-    ap (λ b. elim (in_set test End) [ true ↦ b | false ↦ false ]) (hold-seen tests count [] (omega arith))
+    ap (λ b. in_set test End && b) (hold-seen tests count [] (omega arith))
 hold-seen (test ∷ tests) (suc count) (cat ∷ cats) h =
-    ap (λ b. elim (in_set test cat) [ true ↦ b | false ↦ false ]) (hold-seen tests count cats (omega arith))
+    ap (λ b. in_set test cat && b) (hold-seen tests count cats (omega arith))
 
 pub length-tests_of : (row : Row) → IsSound row → length (tests_of row) ≡ row.test_count
 length-tests_of row sound = length-take-le row.test_count row.tests sound.counted_tests

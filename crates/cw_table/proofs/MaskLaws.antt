@@ -88,38 +88,26 @@ four-tests : (tests : List CatSet) (a b c e : Cat) → length tests ≤ 4 → al
 four-tests [] a b c e h = refl
 four-tests (t ∷ []) a b c e h = one (in_set t a)
   where
-    one : (x : Bool) → elim x [ true ↦ true | false ↦ false ] ≡ (((x && true) && true) && true)
+    one : (x : Bool) → (x && true) ≡ (((x && true) && true) && true)
     one true = refl
     one false = refl
 four-tests (t ∷ u ∷ []) a b c e h = two (in_set t a) (in_set u b)
   where
-    two : (x y : Bool) → elim x [ true ↦ elim y [ true ↦ true | false ↦ false ] | false ↦ false ]
+    two : (x y : Bool) → (x && (y && true))
         ≡ (((x && y) && true) && true)
     two true true = refl
     two true false = refl
     two false y = refl
 four-tests (t ∷ u ∷ v ∷ []) a b c e h = three (in_set t a) (in_set u b) (in_set v c)
   where
-    three : (x y z : Bool) → elim x [
-      | true ↦ elim y [ true ↦ elim z [ true ↦ true | false ↦ false ] | false ↦ false ]
-      | false ↦ false
-    ] ≡ (((x && y) && z) && true)
+    three : (x y z : Bool) → (x && (y && (z && true))) ≡ (((x && y) && z) && true)
     three true true true = refl
     three true true false = refl
     three true false z = refl
     three false y z = refl
 four-tests (t ∷ u ∷ v ∷ w ∷ []) a b c e h = four (in_set t a) (in_set u b) (in_set v c) (in_set w e)
   where
-    four : (x y z s : Bool) → elim x [
-      | true ↦ elim y [
-        | true ↦ elim z [
-          | true ↦ elim s [ true ↦ true | false ↦ false ]
-          | false ↦ false
-        ]
-        | false ↦ false
-      ]
-      | false ↦ false
-    ] ≡ (((x && y) && z) && s)
+    four : (x y z s : Bool) → (x && (y && (z && (s && true)))) ≡ (((x && y) && z) && s)
     four true true true true = refl
     four true true true false = refl
     four true true false s = refl

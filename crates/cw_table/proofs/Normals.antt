@@ -1,6 +1,6 @@
 -- Laws of the normal form, its log and its count.
 use Rattle.std.proofs.Common.{◌≡◌, ℕ, zero, suc, ◌+◌, ◌*◌, ◌<◌, ◌≤◌, Bool, true, false, Option, Some, None, List, []}
-use Rattle.std.proofs.Common.{◌∷◌, length, drop, refl, sym, ◌∙◌, ap, arith}
+use Rattle.std.proofs.Common.{◌∷◌, length, drop, refl, sym, ◌∙◌, ap, arith, if◌then◌else◌}
 use Rattle.std.specs.List.{list_all}
 use Rattle.cw_base.proofs.TestLaws.{both-left, both-right}
 use Rattle.cw_base.specs.declared.category.Cat.{Cat}
@@ -27,7 +27,7 @@ first-found (x ∷ rows) cs r all h = go (λ k. first-found rows cs r (both-righ
     (row_fits x cs) refl h
   where
     go : (first_of rows cs ≡ Some r → Found rows cs r) → (b : Bool) → row_fits x cs ≡ b
-        → elim b [ true ↦ Some x | false ↦ first_of rows cs ] ≡ Some r → Found (x ∷ rows) cs r
+        → (if b then Some x else first_of rows cs) ≡ Some r → Found (x ∷ rows) cs r
     go rec true e h =
         let same : x ≡ r = cc in
         record {

@@ -1,6 +1,6 @@
 -- Productions keep the numbers of the source tokens, in order.
 use Rattle.std.proofs.Common.{◌≡◌, ℕ, zero, suc, ◌+◌, Bool, true, false, ◌&&◌, Option, Some, None, List, [], ◌∷◌, ◌++◌}
-use Rattle.std.proofs.Common.{map, get_or, take, drop, set, refl, sym, ◌∙◌, ap, drop-drop}
+use Rattle.std.proofs.Common.{map, get_or, take, drop, set, refl, sym, ◌∙◌, ap, drop-drop, if◌then◌else◌}
 use Rattle.std.proofs.lemmas.List.{append_assoc, take-append-drop}
 use Rattle.std.specs.List.{list_all}
 use Rattle.cw_base.specs.declared.category.Cat.{Cat}
@@ -95,11 +95,9 @@ struck-reserved (Sub tree rest) = go (first_ident tree) (struck-reserved tree) (
     go Stopped a b = refl
     go Nothing a b = ap (λ ns. struck tree ++ ns) b
 struck-reserved (Inner tree rest) =
-    ap (λ (b : Bool). elim b [
-      | true ↦ struck (reserve_first rest)
-      | false ↦ struck tree ++ struck (reserve_first rest)
-    ]) (continues-reserved rest)
-    ∙ ap (λ (ns : List ℕ). elim (continues_name rest) [ true ↦ ns | false ↦ struck tree ++ ns ]) (struck-reserved rest)
+    ap (λ (b : Bool). if b then struck (reserve_first rest)
+        else struck tree ++ struck (reserve_first rest)) (continues-reserved rest)
+    ∙ ap (λ (ns : List ℕ). if continues_name rest then ns else struck tree ++ ns) (struck-reserved rest)
 
 numbers-set : (xs : List Scrap) (k : ℕ) → numbers_of (set xs k (reserved_in (get_or xs k no_scrap))) ≡ numbers_of xs
 numbers-set [] k = refl
@@ -113,7 +111,7 @@ numbers-at (Some k) xs = numbers-set xs k
 numbers-named : (name : ℕ) (s : Scrap) → struck (named_scrap name s).tree ≡ struck s.tree
 numbers-named name s = go (is_exp s.cat && is_bare_name name (bare_name s.tree))
   where
-    go : (b : Bool) → struck (elim b as (λ _. Scrap) [ true ↦ with_cat RawInt (reserved_in s) | false ↦ s ]).tree
+    go : (b : Bool) → struck (if b then with_cat RawInt (reserved_in s) else s).tree
         ≡ struck s.tree
     go true = struck-reserved s.tree
     go false = refl

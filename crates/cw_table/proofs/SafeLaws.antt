@@ -30,15 +30,15 @@ use Rattle.cw_table.proofs.Soundness.{sound-row}
 
 -- Lists and tests.
 
-first-true : (b x : Bool) → elim b [ true ↦ x | false ↦ false ] ≡ true → b ≡ true
+first-true : (b x : Bool) → (b && x) ≡ true → b ≡ true
 first-true true x h = refl
 first-true false x h = h
 
-rest-true : (b x : Bool) → elim b [ true ↦ x | false ↦ false ] ≡ true → x ≡ true
+rest-true : (b x : Bool) → (b && x) ≡ true → x ≡ true
 rest-true true x h = h
 rest-true false x h = absurd cc
 
-both-true : (b x : Bool) → b ≡ true → x ≡ true → elim b [ true ↦ x | false ↦ false ] ≡ true
+both-true : (b x : Bool) → b ≡ true → x ≡ true → (b && x) ≡ true
 both-true true x h k = k
 both-true false x h k = h
 

@@ -1,7 +1,7 @@
 -- Facts on lists of scraps: their weights, their categories, and whether each is fine.
 use Rattle.std.proofs.Common.{◌≡◌, ℕ, zero, suc, ◌+◌, ◌*◌, ◌<◌, ◌≤◌, Bool, true, false, ◌&&◌, Option, Some, None, List}
 use Rattle.std.proofs.Common.{[], ◌∷◌, ◌++◌, map, length, get_or, take, drop, set, refl, sym, ◌∙◌, ap, arith, add_assoc}
-use Rattle.std.proofs.Common.{zero-add, take-append-drop}
+use Rattle.std.proofs.Common.{zero-add, take-append-drop, if◌then◌else◌}
 use Rattle.std.specs.List.{list_all}
 use Rattle.cw_base.proofs.TestLaws.{both, both-left, both-right}
 use Rattle.cw_base.specs.declared.category.Cat.{Cat}
@@ -207,14 +207,14 @@ named-weight : (name : ℕ) (s : Scrap) → weight_of (named_scrap name s) ≤ w
 named-weight name s = go (is_exp s.cat && is_bare_name name (bare_name s.tree)) refl
   where
     go : (t : Bool) → (is_exp s.cat && is_bare_name name (bare_name s.tree)) ≡ t
-        → weight_of (elim t [ true ↦ with_cat RawInt (reserved_in s) | false ↦ s ]) ≤ weight_of s
+        → weight_of (if t then with_cat RawInt (reserved_in s) else s) ≤ weight_of s
     go true e = omega (arith, exp-named s.cat (bare_name s.tree) name e)
     go false e = omega arith
 
 named-fine : (name : ℕ) (s : Scrap) → is_fine s ≡ true → is_fine (named_scrap name s) ≡ true
 named-fine name s h = go (is_exp s.cat && is_bare_name name (bare_name s.tree))
   where
-    go : (t : Bool) → is_fine (elim t [ true ↦ with_cat RawInt (reserved_in s) | false ↦ s ]) ≡ true
+    go : (t : Bool) → is_fine (if t then with_cat RawInt (reserved_in s) else s) ≡ true
     go true = ap (λ b. fine_with RawInt b) (reserve-bare s.tree)
     go false = h
 

@@ -1,6 +1,7 @@
 -- The walk with a pointer makes the productions of the leftmost-first rewriting.
 use Rattle.std.proofs.Common.{◌≡◌, ℕ, zero, suc, ◌+◌, ◌-◌, ◌<◌, ◌≤◌, ◌⊎◌, inl, inr, Bool, true, false, ltb, Option}
 use Rattle.std.proofs.Common.{Some, None, List, [], ◌∷◌, length, drop, refl, sym, ◌∙◌, ap, arith, ltb-true, ltb-false}
+use Rattle.std.proofs.Common.{if◌then◌else◌}
 use Rattle.std.specs.List.{list_all}
 use Rattle.cw_base.specs.declared.category.Cat.{Cat}
 use Rattle.cw_base.specs.declared.flags.Flags.{Flags}
@@ -84,10 +85,8 @@ lt-or-is k n h = elim (ltb k n) as (λ b. ltb k n ≡ b → (k < n) ⊎ (k ≡ n
 
 -- one step of the two recursions
 abbrev pub step_of : {A : Type 0} → Bool → Option Row → A → A → (Row → A) → A
-step_of inside found ended passed turned = elim inside [
-  | false ↦ ended
-  | true ↦ elim found [ None ↦ passed | Some row ↦ turned row ]
-]
+step_of inside found ended passed turned = if inside then elim found [ None ↦ passed | Some row ↦ turned row ]
+    else ended
 
 pub step-is : {A : Type 0} (inside : Bool) (found : Option Row) (b : Bool) (o : Option Row) (ended passed : A)
     (turned : Row → A) → inside ≡ b → found ≡ o → step_of inside found ended passed turned

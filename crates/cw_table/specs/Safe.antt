@@ -1,6 +1,7 @@
 -- How far a reducer must step back after a production: which rows may fit before the new scrap that didn't
 -- fit there before.
 use Rattle.std.specs.Prelude.{ℕ, suc, ◌+◌, ◌-◌, ◌<◌, ◌≡◌, Bool, true, false, not, ◌&&◌, ◌||◌, eqb, leb, ltb, List, []}
+use Rattle.std.specs.Prelude.{if◌then◌else◌}
 use Rattle.std.specs.Prelude.{is_some}
 use Rattle.std.specs.Prelude.{◌∷◌, ◌++◌, drop, filter, map, take, Some, None}
 use Rattle.std.specs.List.{flat_map, list_all, list_any}
@@ -25,10 +26,9 @@ Pair = Cat × Cat
 -- the pairs that a result can give, where the replaced scraps begin with one of the first set
 abbrev pub pairs_by : RowResult → Row → List Pair
 pairs_by (Is new) row = map (λ old. (old, new)) (members (test row row.offset))
-pairs_by (SameAs k) row = elim (eqb k row.offset) [
-  | true ↦ map (λ old. (old, old)) (members (test row row.offset))
-  | false ↦ flat_map (λ old. map (λ new. (old, new)) (members (test row k))) (members (test row row.offset))
-]
+pairs_by (SameAs k) row =
+    if eqb k row.offset then map (λ old. (old, old)) (members (test row row.offset))
+    else flat_map (λ old. map (λ new. (old, new)) (members (test row k))) (members (test row row.offset))
 
 abbrev pub pairs_of : Row → List Pair
 pairs_of row = pairs_by row.result row
@@ -65,13 +65,10 @@ suits_after row other places =
 
 -- the row may bring the other row to fit so many places before, where it didn't fit
 abbrev pub is_hazard : Row → Row → ℕ → Bool
-is_hazard row other places = elim (ltb (places + row.offset) other.test_count) [
-  | false ↦ false
-  | true ↦ elim (list_any (brings row other (places + row.offset)) (pairs_of row)) [
-    | false ↦ false
-    | true ↦ suits_before row other places && (reserves row || suits_after row other places)
-  ]
-]
+is_hazard row other places =
+    ltb (places + row.offset) other.test_count
+    && (list_any (brings row other (places + row.offset)) (pairs_of row)
+      && (suits_before row other places && (reserves row || suits_after row other places)))
 
 unfoldable pub endangers : List Row → Row → ℕ → Bool
 endangers rows row places = list_any (λ other. is_hazard row other places) rows
@@ -82,13 +79,11 @@ safe rows row distance = list_all (λ places. leb places distance || not (endang
 
 -- the least distance that is safe; 3 always is
 abbrev pub least : List Row → Row → ℕ
-least rows row = elim (safe rows row 0) [
-  | true ↦ 0
-  | false ↦ elim (safe rows row 1) [
-    | true ↦ 1
-    | false ↦ elim (safe rows row 2) [ true ↦ 2 | false ↦ 3 ]
-  ]
-]
+least rows row =
+    if safe rows row 0 then 0
+    else if safe rows row 1 then 1
+    else if safe rows row 2 then 2
+    else 3
 
 -- the row is the first that fits at this place, and no row fits at a lower one
 pub record IsLeast (rows : List Row) (cats : List Cat) (place : ℕ) (row : Row) : Type 0 where

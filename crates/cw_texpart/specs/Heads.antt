@@ -13,7 +13,7 @@ abbrev pub drop_zeros : List ℕ → List ℕ
 drop_zeros [] = codes "0"
 drop_zeros (digit ∷ []) = digit ∷ []
 drop_zeros (digit ∷ next ∷ digits) =
-    elim (digit == digit_0) [ true ↦ drop_zeros (next ∷ digits) | false ↦ digit ∷ next ∷ digits ]
+    if digit == digit_0 then drop_zeros (next ∷ digits) else digit ∷ next ∷ digits
 
 abbrev pub depth_bytes : List ℕ → Depth → List ℕ
 depth_bytes text Minus = codes "-1"

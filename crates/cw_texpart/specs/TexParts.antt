@@ -1,5 +1,5 @@
 -- The head of a section, and its TeX part as it is printed.
-use Rattle.std.specs.Prelude.{◌≡◌, ℕ, ◌≤◌, Bool, true, false, List, [], ◌∷◌, length}
+use Rattle.std.specs.Prelude.{◌≡◌, ℕ, ◌≤◌, Bool, true, false, List, [], ◌∷◌, length, if◌then◌else◌}
 use Rattle.cw_base.specs.declared.span.Span.{Span}
 use Rattle.cw_rules.specs.declared.tokens.Mode.TheVariants as modes
 use Rattle.cw_lex.specs.Nested.{begins_section_in}
@@ -27,9 +27,9 @@ pieces_done s (piece ∷ pieces) names = then (piece_done s piece names) (pieces
 
 -- the head, and the TeX part directly behind it, which prints nothing where code stands beside the number
 abbrev pub head_and_tex : Bool → List ℕ → Setting → Section → List Entry → Done ℕ
-head_and_tex true front s section names =
-    done_behind front (reprinted (laid true) (pieces_done s (tex_pieces_of s.text section.tex) names))
-head_and_tex false front s section names = as_it_is front names
+head_and_tex goes_on front s section names =
+    if goes_on then done_behind front (reprinted (laid true) (pieces_done s (tex_pieces_of s.text section.tex) names))
+    else as_it_is front names
 
 abbrev pub beside_in : Setting → Section → Beside
 beside_in s section = code_beside s.text s.flags s.book.name_uses section

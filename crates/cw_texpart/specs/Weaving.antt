@@ -1,5 +1,6 @@
 -- What a call that prints pieces of a book has done.
-use Rattle.std.specs.Prelude.{◌≡◌, ℕ, ◌+◌, ◌≤◌, ◌==◌, true, false, List, [], ◌++◌, Result, IfOk, OnOk, map, take}
+use Rattle.std.specs.Prelude.{◌≡◌, ℕ, ◌+◌, ◌≤◌, ◌==◌, true, List, [], ◌++◌, Result, IfOk, OnOk, map, take}
+use Rattle.std.specs.Prelude.{if◌then◌else◌}
 use Rattle.cw_desk.specs.Told.{Told}
 use Rattle.cw_lines.specs.Line.{LineState}
 use Rattle.cw_lines.specs.Writes.{Puts}
@@ -36,7 +37,7 @@ abbrev pub marked : ℕ → List ℕ → List Occurrence
 marked section marks = map (mark_at section) marks
 
 abbrev pub underlined : ℕ → List ℕ → List Occurrence
-underlined section marks = elim (section == 0) [ true ↦ [] | false ↦ marked section marks ]
+underlined section marks = if section == 0 then [] else marked section marks
 
 -- Behind the occurrences stand the first of these, or none.
 pub record NotesFirst (noted old new : List Occurrence) : Type 0 where

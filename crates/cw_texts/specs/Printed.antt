@@ -1,5 +1,5 @@
 -- Whether the C part of a section is printed.
-use Rattle.std.specs.Prelude.{ℕ, Bool, true, false, ◌||◌, is_some, List, []}
+use Rattle.std.specs.Prelude.{ℕ, Bool, true, false, ◌||◌, is_some, List, [], if◌then◌else◌}
 use Rattle.std.specs.List.{list_any}
 use Rattle.cw_rules.specs.Answers.{Answer, Token, Begin, Finish, Note}
 use Rattle.cw_rules.specs.declared.tokens.Mode.TheVariants.{CPart}
@@ -23,10 +23,9 @@ has_form kind = is_some (token_form kind [] false 0 [])
 -- A section name makes a scrap where the book has a name for it, and another token where it has a form. Codes of
 -- definitions don't stand in a C part; they would begin a head.
 abbrev pub token_makes : List NameUse → TokKind → ℕ → Bool
-token_makes uses kind place = elim (is_name_kind kind) [
-  | true ↦ is_kept uses place
-  | false ↦ is_some (begun_by kind place) || has_form kind
-]
+token_makes uses kind place =
+    if is_name_kind kind then is_kept uses place
+    else is_some (begun_by kind place) || has_form kind
 
 -- A comment makes one, whatever stands in it.
 abbrev pub group_makes : TokKind → Bool

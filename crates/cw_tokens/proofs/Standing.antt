@@ -1,6 +1,6 @@
 -- The laws of a flat list that is trimmed as its items come.
 use Rattle.std.proofs.Common.{◌≡◌, ℕ, ◌+◌, ◌<◌, ◌≤◌, Bool, true, false, ◌&&◌, ◌||◌, List, [], ◌∷◌, ◌++◌, length, get_or}
-use Rattle.std.proofs.Common.{set, take, drop, refl, sym, ap, ◌∙◌, subst, arith, eqb}
+use Rattle.std.proofs.Common.{set, take, drop, refl, sym, ap, ◌∙◌, subst, arith, eqb, if◌then◌else◌}
 use Rattle.std.proofs.lemmas.List.{append_assoc, append-nil, map-append, map_push, take-append-drop, drop-append-le}
 use Rattle.std.proofs.lemmas.List.{take-append-le, take_all, drop_all, drop-set-lt, length-append}
 use Rattle.std.proofs.lemmas.Bool.{eq-eqb, eqb-true}
@@ -145,7 +145,7 @@ ends-gap Open items e = cc
 ends-gap (SourceItem number) items e = cc
 ends-gap (IdentItem name number) items e = cc
 ends-gap (ReservedItem name number) items e = cc
-ends-gap (SignItem control) items e = ap (λ (b : Bool). elim b [ true ↦ ends_text items | false ↦ false ]) e
+ends-gap (SignItem control) items e = ap (λ (b : Bool). b && ends_text items) e
 
 ends-gaps : (gaps items : List Item) → AllGaps gaps → ends_text (gaps ++ items) ≡ ends_text items
 ends-gaps [] items all = refl
@@ -156,21 +156,15 @@ gaps-end : (gaps items : List Item) → AllGaps gaps → ends_text items ≡ tru
     ≡ unbroken gaps ++ trim_back items
 gaps-end [] items all ends = refl
 gaps-end (gap ∷ gaps) items all ends =
-    ap (λ (b : Bool). elim (is_break gap && b) [
-      | true ↦ trim_back (gaps ++ items)
-      | false ↦ gap ∷ trim_back (gaps ++ items)
-    ]) (ends-gaps gaps items all.1 ∙ ends)
-    ∙ ap (λ (l : List Item). elim (is_break gap && true) [ true ↦ l | false ↦ gap ∷ l ])
+    ap (λ (b : Bool). if is_break gap && b then trim_back (gaps ++ items)
+        else gap ∷ trim_back (gaps ++ items)) (ends-gaps gaps items all.1 ∙ ends)
+    ∙ ap (λ (l : List Item). if is_break gap && true then l else gap ∷ l)
     (gaps-end gaps items all.1 ends)
     ∙ go (is_break gap)
   where
-    go : (b : Bool) → elim (b && true) [
-      | true ↦ unbroken gaps ++ trim_back items
-      | false ↦ gap ∷ (unbroken gaps ++ trim_back items)
-    ] ≡ elim b [
-      | true ↦ unbroken gaps
-      | false ↦ gap ∷ unbroken gaps
-    ] ++ trim_back items
+    go : (b : Bool) → (if b && true then unbroken gaps ++ trim_back items
+        else gap ∷ (unbroken gaps ++ trim_back items))
+        ≡ (if b then unbroken gaps else gap ∷ unbroken gaps) ++ trim_back items
     go true = refl
     go false = refl
 
@@ -178,14 +172,12 @@ gaps-stay : (gaps items : List Item) → AllGaps gaps → ends_text items ≡ fa
     ≡ gaps ++ trim_back items
 gaps-stay [] items all ends = refl
 gaps-stay (gap ∷ gaps) items all ends =
-    ap (λ (b : Bool). elim (is_break gap && b) [
-      | true ↦ trim_back (gaps ++ items)
-      | false ↦ gap ∷ trim_back (gaps ++ items)
-    ]) (ends-gaps gaps items all.1 ∙ ends)
+    ap (λ (b : Bool). if is_break gap && b then trim_back (gaps ++ items)
+        else gap ∷ trim_back (gaps ++ items)) (ends-gaps gaps items all.1 ∙ ends)
     ∙ go (is_break gap)
     ∙ ap (λ (l : List Item). gap ∷ l) (gaps-stay gaps items all.1 ends)
   where
-    go : (b : Bool) → elim (b && false) [ true ↦ trim_back (gaps ++ items) | false ↦ gap ∷ trim_back (gaps ++ items) ]
+    go : (b : Bool) → (if b && false then trim_back (gaps ++ items) else gap ∷ trim_back (gaps ++ items))
         ≡ gap ∷ trim_back (gaps ++ items)
     go true = refl
     go false = refl
@@ -199,12 +191,10 @@ gap-and-item gaps (SourceItem number) items all e = gaps-stay gaps (SourceItem n
 gap-and-item gaps (IdentItem name number) items all e = gaps-stay gaps (IdentItem name number ∷ items) all refl
 gap-and-item gaps (ReservedItem name number) items all e = gaps-stay gaps (ReservedItem name number ∷ items) all refl
 gap-and-item gaps (SignItem control) items all e =
-    gaps-stay gaps (SignItem control ∷ items) all (ap (λ (b : Bool). elim b [ true ↦ ends_text items | false ↦ false ])
+    gaps-stay gaps (SignItem control ∷ items) all (ap (λ (b : Bool). b && ends_text items)
     e)
-    ∙ ap (λ (b : Bool). gaps ++ elim (b && ends_text items) [
-      | true ↦ trim_back items
-      | false ↦ SignItem control ∷ trim_back items
-    ]) (sign-in-none control e)
+    ∙ ap (λ (b : Bool). gaps ++ (if b && ends_text items then trim_back items
+        else SignItem control ∷ trim_back items)) (sign-in-none control e)
 
 all-push : (gaps : List Item) (item : Item) → AllGaps gaps → is_gap item ≡ true → AllGaps (gaps ++ item ∷ [])
 all-push [] item all e = (e, tt)
@@ -344,16 +334,11 @@ module _ (old items : List FlatItem) (gap i kept : ℕ) (d : FlatItem) (within :
   here = item_is (get_or items i d)
 
   next : (b : Bool) → is_break here ≡ b → unbroken (items_are (drop i old))
-      ≡ elim b [
-        | true ↦ unbroken (items_are (drop (i + 1) old))
-        | false ↦ here ∷ unbroken (items_are (drop (i + 1) old))
-      ]
+      ≡ (if b then unbroken (items_are (drop (i + 1) old)) else here ∷ unbroken (items_are (drop (i + 1) old)))
   next b is =
       ap unbroken (item-and-rest old items i d within k.rest)
-      ∙ ap (λ (c : Bool). elim c [
-        | true ↦ unbroken (items_are (drop (i + 1) old))
-        | false ↦ here ∷ unbroken (items_are (drop (i + 1) old))
-      ]) is
+      ∙ ap (λ (c : Bool). if c then unbroken (items_are (drop (i + 1) old))
+          else here ∷ unbroken (items_are (drop (i + 1) old))) is
 
   pub unbroken-kept : is_break here ≡ false → KeepsUnbroken old (set items kept (get_or items i d)) gap (i + 1)
       (kept + 1)

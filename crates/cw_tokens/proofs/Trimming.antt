@@ -1,6 +1,6 @@
 -- The steps of the trimming of a flat list in its own place: what stays is moved to the front of the list.
 use Rattle.std.proofs.Common.{◌≡◌, ℕ, ◌+◌, ◌<◌, ◌≤◌, Bool, true, false, ◌&&◌, ◌||◌, List, [], ◌∷◌, ◌++◌, length, get_or}
-use Rattle.std.proofs.Common.{set, take, drop, reverse, refl, sym, ap, ◌∙◌, arith, length-drop}
+use Rattle.std.proofs.Common.{set, take, drop, reverse, refl, sym, ap, ◌∙◌, arith, length-drop, if◌then◌else◌}
 use Rattle.std.proofs.lemmas.List.{append_assoc, drop_more, drop-set-lt, map_push, reverse-append, reverse-reverse}
 use Rattle.std.proofs.lemmas.List.{take_more, take_more_set, take_all, drop_all, append-nil}
 use Rattle.cw_trees.specs.Flat.{Item, SourceItem, IdentItem, ReservedItem, SignItem, Open, Close, is_break, is_gap}
@@ -58,24 +58,16 @@ stored items kept item low = ap items_are (take_more_set items kept item low) �
 
 pub front_step : (begins : Bool) (item : Item) (items : List Item) (b : Bool)
     → (is_inserted item || (begins && is_break item)) ≡ b
-    → trim_front begins (without_inserted (item ∷ items)) ≡ elim b [
-      | true ↦ trim_front begins (without_inserted items)
-      | false ↦ item ∷ trim_front (begins_after begins item) (without_inserted items)
-    ]
+    → trim_front begins (without_inserted (item ∷ items)) ≡ (if b then
+          trim_front begins (without_inserted items)
+        else item ∷ trim_front (begins_after begins item) (without_inserted items))
 front_step begins item items b is =
-    go (is_inserted item) ∙ ap (λ (c : Bool). elim c [
-      | true ↦ trim_front begins (without_inserted items)
-      | false ↦ item ∷ trim_front (begins_after begins item) (without_inserted items)
-    ]) is
+    go (is_inserted item) ∙ ap (λ (c : Bool). if c then trim_front begins (without_inserted items)
+        else item ∷ trim_front (begins_after begins item) (without_inserted items)) is
   where
-    go : (c : Bool) → trim_front begins (elim c [
-      | true ↦ without_inserted items
-      | false ↦ item ∷ without_inserted items
-    ])
-        ≡ elim (c || (begins && is_break item)) [
-          | true ↦ trim_front begins (without_inserted items)
-          | false ↦ item ∷ trim_front (begins_after begins item) (without_inserted items)
-        ]
+    go : (c : Bool) → trim_front begins (if c then without_inserted items else item ∷ without_inserted items)
+        ≡ (if c || (begins && is_break item) then trim_front begins (without_inserted items)
+            else item ∷ trim_front (begins_after begins item) (without_inserted items))
     go true = refl
     go false = refl
 
@@ -85,10 +77,9 @@ module _ (old items : List FlatItem) (i kept : ℕ) (begins : Bool) (d : FlatIte
   item = item_is (get_or items i d)
 
   next-front : (b : Bool) → (is_inserted item || (begins && is_break item)) ≡ b
-      → trim_front begins (without_inserted (items_are (drop i old))) ≡ elim b [
-        | true ↦ trim_front begins (without_inserted (items_are (drop (i + 1) old)))
-        | false ↦ item ∷ trim_front (begins_after begins item) (without_inserted (items_are (drop (i + 1) old)))
-      ]
+      → trim_front begins (without_inserted (items_are (drop i old))) ≡ (if b then
+            trim_front begins (without_inserted (items_are (drop (i + 1) old)))
+          else item ∷ trim_front (begins_after begins item) (without_inserted (items_are (drop (i + 1) old))))
   next-front b is =
       ap (λ l. trim_front begins (without_inserted l)) (item-and-rest old items i d within k.rest)
       ∙ front_step begins item (items_are (drop (i + 1) old)) b is
@@ -116,7 +107,7 @@ module _ (old items : List FlatItem) (i kept : ℕ) (begins : Bool) (d : FlatIte
         front = ap (λ (l : List Item). items_are (take kept items) ++ l) (sym (next-front true is)) ∙ k.front;
       }
 
-and-elim : (b e : Bool) → (b && e) ≡ elim b [ true ↦ e | false ↦ false ]
+and-elim : (b e : Bool) → (b && e) ≡ (b && e)
 and-elim true e = refl
 and-elim false e = refl
 
@@ -139,10 +130,10 @@ module _ (old items : List FlatItem) (i kept : ℕ) (ends : Bool) (d : FlatItem)
   before = reverse (items_are (take i old))
 
   next-back : (b : Bool) → (is_break here && ends) ≡ b → trim_back (reverse (items_are (take (i + 1) old)))
-      ≡ elim b [ true ↦ trim_back before | false ↦ here ∷ trim_back before ]
+      ≡ (if b then trim_back before else here ∷ trim_back before)
   next-back b is =
       ap trim_back (item-and-front old items i d within k.rest)
-      ∙ ap (λ (c : Bool). elim c [ true ↦ trim_back before | false ↦ here ∷ trim_back before ])
+      ∙ ap (λ (c : Bool). if c then trim_back before else here ∷ trim_back before)
       (sym (ap (λ (e : Bool). is_break here && e) k.ending) ∙ is)
 
   next-ending : ends_before ends here ≡ ends_text (reverse (items_are (take (i + 1) old)))

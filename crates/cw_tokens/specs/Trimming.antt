@@ -1,5 +1,5 @@
 -- How far the trimming of a flat list has come.
-use Rattle.std.specs.Prelude.{◌≡◌, ℕ, Bool, true, false, ◌&&◌, List, [], ◌∷◌, ◌++◌, take, drop}
+use Rattle.std.specs.Prelude.{◌≡◌, ℕ, Bool, true, ◌&&◌, List, [], ◌∷◌, ◌++◌, take, drop, if◌then◌else◌}
 use Rattle.cw_trees.specs.Flat.{Item, Close, is_break, is_gap, trim_back, trim_front, trimmed_items, without_inserted}
 use Rattle.cw_tokens.specs.declared.flat.FlatItem.{FlatItem}
 use Rattle.cw_tokens.specs.FlatItems.{items_are}
@@ -12,7 +12,7 @@ ends_before ends item = is_gap item && ends
 -- a list without its breaks
 abbrev pub unbroken : List Item → List Item
 unbroken [] = []
-unbroken (item ∷ items) = elim (is_break item) [ true ↦ unbroken items | false ↦ item ∷ unbroken items ]
+unbroken (item ∷ items) = if is_break item then unbroken items else item ∷ unbroken items
 
 -- what stays of a gap before an item that is in none
 abbrev pub gap_before : Item → List Item → List Item

@@ -1,6 +1,6 @@
 -- A tree laid flat, and the trimming of a flat list: the breaks and blanks with which a text begins or ends
 -- are taken away.
-use Rattle.std.specs.Prelude.{ℕ, Bool, true, false, ◌&&◌, ◌||◌, List, [], ◌∷◌, ◌++◌}
+use Rattle.std.specs.Prelude.{ℕ, Bool, true, false, ◌&&◌, ◌||◌, List, [], ◌∷◌, ◌++◌, if◌then◌else◌}
 use Rattle.cw_trees.specs.declared.Control.{Control}
 use Rattle.cw_trees.specs.declared.Control.TheVariants.{Blank, OptionalBreak, Break, BigBreak, Cancel, Backup, Wall}
 use Rattle.cw_trees.specs.declared.Control.TheVariants.{Indent, Outdent, Inserted, NameText}
@@ -72,10 +72,9 @@ is_inserted item = sign_is is_inserted_sign item
 
 abbrev pub without_inserted : List Item → List Item
 without_inserted [] = []
-without_inserted (item ∷ items) = elim (is_inserted item) [
-  | true ↦ without_inserted items
-  | false ↦ item ∷ without_inserted items
-]
+without_inserted (item ∷ items) =
+    if is_inserted item then without_inserted items
+    else item ∷ without_inserted items
 
 -- whether the place behind an item is in a gap with which a text begins
 abbrev pub begins_after : Bool → Item → Bool
@@ -85,24 +84,22 @@ begins_after begins item = begins && is_gap item
 -- the list without the breaks of the gaps with which its texts begin
 abbrev pub trim_front : Bool → List Item → List Item
 trim_front begins [] = []
-trim_front begins (item ∷ items) = elim (begins && is_break item) [
-  | true ↦ trim_front begins items
-  | false ↦ item ∷ trim_front (begins_after begins item) items
-]
+trim_front begins (item ∷ items) =
+    if begins && is_break item then trim_front begins items
+    else item ∷ trim_front (begins_after begins item) items
 
 -- whether only a gap stands before the end of the text
 abbrev pub ends_text : List Item → Bool
 ends_text [] = true
 ends_text (Close ∷ items) = true
-ends_text (item ∷ items) = elim (is_gap item) [ true ↦ ends_text items | false ↦ false ]
+ends_text (item ∷ items) = is_gap item && ends_text items
 
 -- the list without the breaks of the gaps with which its texts end
 abbrev pub trim_back : List Item → List Item
 trim_back [] = []
-trim_back (item ∷ items) = elim (is_break item && ends_text items) [
-  | true ↦ trim_back items
-  | false ↦ item ∷ trim_back items
-]
+trim_back (item ∷ items) =
+    if is_break item && ends_text items then trim_back items
+    else item ∷ trim_back items
 
 -- Marks that print nothing are left out, and then the breaks and blanks with which the text and each text
 -- between brackets begins or ends.
@@ -130,4 +127,4 @@ abbrev pub struck : Tree → List ℕ
 struck Empty = []
 struck (Then leaf rest) = leaf_numbers leaf ++ struck rest
 struck (Sub tree rest) = struck tree ++ struck rest
-struck (Inner tree rest) = elim (continues_name rest) [ true ↦ struck rest | false ↦ struck tree ++ struck rest ]
+struck (Inner tree rest) = if continues_name rest then struck rest else struck tree ++ struck rest

@@ -1,8 +1,10 @@
 -- The bytes that a flat list prints. Breaks, blanks, indents and the like that follow one another are a run,
 -- and print as one; every other item prints its own bytes.
 use Rattle.std.specs.Prelude.{ℕ, zero, suc, pred, max, Bool, true, false, ◌&&◌, ◌||◌, eqb, ltb, leb, Option, Some, None}
+use Rattle.std.specs.Prelude.{if◌then◌else◌}
 use Rattle.std.specs.Prelude.{List, [], ◌∷◌, ◌++◌, length, codes}
 use Rattle.std.specs.List.{list_any}
+use Rattle.cw_base.specs.Conditions.{list_if}
 use Rattle.cw_base.specs.Bytes.{byte_of, backslash}
 use Rattle.cw_trees.specs.declared.Control.{Control}
 use Rattle.cw_trees.specs.declared.Control.TheVariants.{Blank, OptionalBreak, Break, BigBreak, Cancel, Backup, Indent}
@@ -32,10 +34,7 @@ sign_bytes _ = []
 
 -- Names. In a name `_` and `$` have a backslash.
 abbrev pub name_byte : ℕ → List ℕ
-name_byte byte = elim (eqb byte (byte_of "_") || eqb byte (byte_of "$")) [
-  | true ↦ backslash ∷ byte ∷ []
-  | false ↦ byte ∷ []
-]
+name_byte byte = if eqb byte (byte_of "_") || eqb byte (byte_of "$") then backslash ∷ byte ∷ [] else byte ∷ []
 
 abbrev pub name_bytes : List ℕ → List ℕ
 name_bytes [] = []
@@ -46,17 +45,13 @@ abbrev pub is_lower : ℕ → Bool
 is_lower byte = (leb (byte_of "a") byte && leb byte (byte_of "z")) || leb 128 byte
 
 abbrev pub long_ident_bytes : List ℕ → List ℕ
-long_ident_bytes name = elim (list_any is_lower name) [
-  | true ↦ codes "\\\\{" ++ name_bytes name ++ codes "}"
-  | false ↦ codes "\\.{" ++ name_bytes name ++ codes "}"
-]
+long_ident_bytes name =
+    if list_any is_lower name then codes "\\\\{" ++ name_bytes name ++ codes "}"
+    else codes "\\.{" ++ name_bytes name ++ codes "}"
 
 -- an identifier: one byte, a name with lower case letters, or a name of capitals
 abbrev pub ident_bytes : List ℕ → List ℕ
-ident_bytes name = elim (eqb (length name) 1) [
-  | true ↦ codes "\\|" ++ name_bytes name
-  | false ↦ long_ident_bytes name
-]
+ident_bytes name = if eqb (length name) 1 then codes "\\|" ++ name_bytes name else long_ident_bytes name
 
 abbrev pub reserved_bytes : List ℕ → List ℕ
 reserved_bytes name = codes "\\&{" ++ name_bytes name ++ codes "}"
@@ -98,24 +93,17 @@ is_backup Backup = true
 is_backup _ = false
 
 abbrev pub backup_bytes : List Control → List ℕ
-backup_bytes run = elim (list_any is_backup run) [ true ↦ codes "\\4" | false ↦ [] ]
+backup_bytes run = list_if (list_any is_backup run) (codes "\\4")
 
 -- a run in the C text of a part or a definition: its indents, and without a Cancel its break and its backup
 abbrev pub part_run : List Control → List ℕ
-part_run run = indents run ++ elim (list_any is_cancel run) [
-  | true ↦ []
-  | false ↦ break_bytes (strongest run) ++ backup_bytes run
-]
+part_run run = indents run ++ (if list_any is_cancel run then [] else break_bytes (strongest run) ++ backup_bytes run)
 
 -- a run in inner C text: a blank if it has a break or blank, and no Cancel
 abbrev pub inner_run : List Control → List ℕ
-inner_run run = elim (list_any is_cancel run) [
-  | true ↦ []
-  | false ↦ elim (ltb 0 (strongest run)) [
-    | true ↦ codes " "
-    | false ↦ []
-  ]
-]
+inner_run run =
+    if list_any is_cancel run then []
+    else list_if (ltb 0 (strongest run)) (codes " ")
 
 abbrev pub run_bytes : Bool → List Control → List ℕ
 run_bytes true run = inner_run run
@@ -123,7 +111,7 @@ run_bytes false run = part_run run
 
 -- an item that goes into a run
 abbrev pub run_sign : Item → Option Control
-run_sign (SignItem control) = elim (is_run_sign control) [ true ↦ Some control | false ↦ None ]
+run_sign (SignItem control) = if is_run_sign control then Some control else None
 run_sign _ = None
 
 -- how many inner texts are open behind an item
