@@ -537,9 +537,8 @@ format_name code second limbo w place byte bytes =
 
 -- An improper head ends before this place, in limbo or in a section.
 abbrev pub behind_head : Bool → Spot → ℕ → List ℕ → Found
-behind_head limbo here byte bytes =
-    if limbo then limbo_text (moved here.stands parts.Limbo) here.place byte bytes
-    else code_text (record here { stands = moved here.stands parts.Definition }) byte bytes
+behind_head true here byte bytes = limbo_text (moved here.stands parts.Limbo) here.place byte bytes
+behind_head false here byte bytes = code_text (record here { stands = moved here.stands parts.Definition }) byte bytes
 
 abbrev pub part_text : Part → Spot → ℕ → List ℕ → Found
 part_text parts.Limbo here byte bytes = limbo_text here.stands here.place byte bytes
