@@ -22,7 +22,7 @@ all_cats =
     Insert ∷ BeginArg ∷ EndArg ∷ Dead ∷ Dot ∷ Dots ∷ Box ∷ TypeofLike ∷ TexLike ∷ Colcol ∷ AttrHead ∷ Attr ∷
     AlignasLike ∷ End ∷ []
 
--- the place of a category in that list, and its bit in a set
+-- the place of a category in the list of all, and its bit in a set
 abbrev pub number_of : Cat → ℕ
 number_of RawInt = 0
 number_of ConstLike = 1

@@ -1,6 +1,7 @@
 -- The lines with which the TeX file of a book closes.
 use Rattle.std.specs.Prelude.{ℕ, ◌+◌, ◌&&◌, Bool, true, false, List, [], ◌∷◌, ◌++◌, codes, if◌then◌else◌}
 use Rattle.std.specs.List.{flat_map, list_any}
+use Rattle.cw_base.specs.Conditions.{list_if}
 use Rattle.cw_base.specs.declared.flags.Flags.{Flags}
 use Rattle.cw_phase1.specs.declared.sections.Section.{Section}
 use Rattle.cw_print.specs.Walk.{section_number}
@@ -35,7 +36,7 @@ printed_changes (n ∷ later) = change true n ++ (flat_map (change false) later 
 
 -- With flag r they are listed before the index.
 abbrev pub changes_line : Flags → List Section → List ℕ
-changes_line flags sections = if flags.ranged && flags.index then printed_changes (changed_from 1 sections) else []
+changes_line flags sections = list_if (flags.ranged && flags.index) (printed_changes (changed_from 1 sections))
 
 abbrev pub closing_lines : Flags → List Section → List ℕ
 closing_lines flags sections =

@@ -24,7 +24,7 @@ formula bytes = codes "$" ++ (bytes ++ codes "$")
 abbrev pub word_bytes : Cat → List ℕ → List ℕ
 word_bytes category text =
     if is_tex_like category then formula (macro_bytes text)
-    else (if is_exp category then ident_bytes text else reserved_bytes text)
+    else if is_exp category then ident_bytes text else reserved_bytes text
 
 abbrev pub kind_bytes : EntryKind → Cat → List ℕ → List ℕ
 kind_bytes Ident category text = word_bytes category text

@@ -26,7 +26,7 @@ module _ (names : List Entry) (name : ℕ) (entry : Entry) (there : slice_get na
   abbrev bytes_by : Bool → Bool → List ℕ
   bytes_by tex_like exp =
       if tex_like then formula (macro_bytes entry.text)
-      else (if exp then ident_bytes entry.text else reserved_bytes entry.text)
+      else if exp then ident_bytes entry.text else reserved_bytes entry.text
 
   pub tex-word : is_tex_like entry.category ≡ true
       → formula (word_at reserved_bytes names name) ≡ word_bytes entry.category entry.text

@@ -42,7 +42,7 @@ is_tex_like category = false
 -- A macro prints a backslash and its name, in which `x` stands for `_` and `X` for `$`.
 abbrev pub macro_letter : ℕ → ℕ
 macro_letter byte =
-    if eqb byte (byte_of "_") then byte_of "x" else (if eqb byte (byte_of "$") then byte_of "X" else byte)
+    if eqb byte (byte_of "_") then byte_of "x" else if eqb byte (byte_of "$") then byte_of "X" else byte
 
 abbrev pub macro_bytes : List ℕ → List ℕ
 macro_bytes name = backslash ∷ map macro_letter name

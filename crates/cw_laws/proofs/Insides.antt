@@ -69,7 +69,7 @@ module _ (body : Body) (ends pairs : List ℕ → Bool) (r : Rules body ends pai
           → ((stepped one y ys).along ≡ false
           → (ended (stepped one y ys) ys).place - (stepped one y ys).place ≡ before_end ends pairs ys)
           → (ended i (x ∷ y ∷ ys)).place - i.place
-          ≡ (if e then 0 else (if p then 2 + before_end ends pairs ys else 1 + before_end ends pairs (y ∷ ys)))
+          ≡ (if e then 0 else if p then 2 + before_end ends pairs ys else 1 + before_end ends pairs (y ∷ ys))
       by true p k l rest behind = none i x (y ∷ ys) (goes i x (y ∷ ys) b a ∙ ap not k)
       by false true k l rest behind =
           let al : one.along ≡ true = along i x (y ∷ ys) b a ∙ l in
@@ -185,8 +185,8 @@ single-noted i (x ∷ y ∷ ys) b a less =
 
     by : (e s p : Bool) → ends_control (x ∷ y ∷ ys) ≡ e → is_single_at (x ∷ y ∷ ys) ≡ s
         → is_double_at (x ∷ y ∷ ys) ≡ p
-        → (if e || s then 0 else (if p then 2 + single_place ys else 1 + single_place (y ∷ ys)))
-        < (if e then 0 else (if p then 2 + control_size ys else 1 + control_size (y ∷ ys)))
+        → (if e || s then 0 else if p then 2 + single_place ys else 1 + single_place (y ∷ ys))
+        < (if e then 0 else if p then 2 + control_size ys else 1 + control_size (y ∷ ys))
         → (one.along ≡ false → single_place (y ∷ ys) < control_size (y ∷ ys)
         → HasNote NoteKind.CodeInControlText (noted one (y ∷ ys)))
         → ((stepped one y ys).along ≡ false → single_place ys < control_size ys

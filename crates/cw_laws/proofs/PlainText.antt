@@ -98,8 +98,8 @@ limbo-answers (byte ∷ bytes) fresh last place h =
     let w : Where = beginning modes.Limbo in
     one-token classes.LimboText w (λ p a. refl) fresh last place byte bytes (all-limbo (byte ∷ bytes) h)
     (ap (λ t. if t && begins_section bytes then section w place bytes
-    else (if t then limbo_by (effect_in_limbo (code_at bytes)) (code_at bytes) w place (byte ∷ bytes)
-    else one false w place (byte ∷ bytes) (cut_plain kinds.Text (run classes.LimboText (byte ∷ bytes)))))
+    else if t then limbo_by (effect_in_limbo (code_at bytes)) (code_at bytes) w place (byte ∷ bytes)
+    else one false w place (byte ∷ bytes) (cut_plain kinds.Text (run classes.LimboText (byte ∷ bytes))))
     (is-not at_sign byte bytes h))
 
 tex-answers : (bytes : List ℕ) (fresh : Bool) (last place : ℕ) → HasNo at_sign bytes → HasNo bar bytes
@@ -109,9 +109,9 @@ tex-answers (byte ∷ bytes) fresh last place h g =
     let w : Where = beginning modes.TexText in
     one-token classes.TexText w (λ p a. refl) fresh last place byte bytes (all-tex (byte ∷ bytes) h g)
     (ap (λ t. if t && begins_section bytes then section w place bytes
-    else (if t then tex_by (effect_in_tex (code_at bytes)) (code_at bytes) w place (byte ∷ bytes)
-    else (if byte == bar then inner_begin false (moved w parts.TexInner) place (byte ∷ bytes)
-    else one false w place (byte ∷ bytes) (cut_plain kinds.Text (run classes.TexText (byte ∷ bytes))))))
+    else if t then tex_by (effect_in_tex (code_at bytes)) (code_at bytes) w place (byte ∷ bytes)
+    else if byte == bar then inner_begin false (moved w parts.TexInner) place (byte ∷ bytes)
+    else one false w place (byte ∷ bytes) (cut_plain kinds.Text (run classes.TexText (byte ∷ bytes))))
     (is-not at_sign byte bytes h)
     ∙ ap (λ u. if u then inner_begin false (moved w parts.TexInner) place (byte ∷ bytes)
     else one false w place (byte ∷ bytes) (cut_plain kinds.Text (run classes.TexText (byte ∷ bytes))))
@@ -251,7 +251,7 @@ laid-limbo text start (byte ∷ bytes) at = by (ends_empty_line text start) (byt
 
     by : (t u : Bool) → ends_empty_line text start ≡ t → (byte == newline) ≡ u
         → laid false (ink_by u text start byte ∷ copied text (start + 1) bytes)
-        ≡ last_line_ended (if t then byte ∷ bytes else (if u then bytes else byte ∷ bytes))
+        ≡ last_line_ended (if t then byte ∷ bytes else if u then bytes else byte ∷ bytes)
     by true u e f =
         ap (λ k. laid false (ink_by k text start byte ∷ copied text (start + 1) bytes)) (sym f)
         ∙ one-laid text false byte bytes (bytes ++ end_if (not (last_after byte bytes == newline))) start e rest

@@ -343,8 +343,8 @@ prefixed-is place byte bytes =
     (λ h. two-is place byte bytes (both-left eight two h) (both-right eight two h))
   where
     by : (one two : Bool) → (one ≡ true → Prefixed place (byte ∷ bytes) 1)
-        → (two ≡ true → Prefixed place (byte ∷ bytes) 2) → nat_lt 0 (if one then 1 else (if two then 2 else 0)) ≡ true
-        → Prefixed place (byte ∷ bytes) (if one then 1 else (if two then 2 else 0))
+        → (two ≡ true → Prefixed place (byte ∷ bytes) 2) → nat_lt 0 (if one then 1 else if two then 2 else 0) ≡ true
+        → Prefixed place (byte ∷ bytes) (if one then 1 else if two then 2 else 0)
     by true two f g h = f refl
     by false true f g h = g refl
     by false false f g h = absurd cc

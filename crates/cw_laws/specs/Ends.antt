@@ -27,8 +27,8 @@ before_end ends pairs [] = 0
 before_end ends pairs (byte ∷ []) = if ends (byte ∷ []) then 0 else 1
 before_end ends pairs (byte ∷ next ∷ bytes) =
     if ends (byte ∷ next ∷ bytes) then 0
-    else (if pairs (byte ∷ next ∷ bytes) then 2 + before_end ends pairs bytes
-    else 1 + before_end ends pairs (next ∷ bytes))
+    else if pairs (byte ∷ next ∷ bytes) then 2 + before_end ends pairs bytes
+    else 1 + before_end ends pairs (next ∷ bytes)
 
 -- This note stands among those directly behind an answer.
 abbrev pub IsNoted : NoteKind → List Answer → Type 0

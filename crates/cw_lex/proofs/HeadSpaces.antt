@@ -186,13 +186,13 @@ parameter-skipped text place size code run-is follows =
     let here = run-byte classes.White text place size p run-is low high in (
       here.0,
       parameter-found text place size code p run-is follows low (omega arith) here.0
-          ∙ ap (λ t. if t then skipped_byte w else (if is_letter (slice_index text p) then one false w p
+          ∙ ap (λ t. if t then skipped_byte w else if is_letter (slice_index text p) then one false w p
           (slice_index text p ∷ drop (p + 1) text) (identifier (slice_index text p ∷ drop (p + 1) text)) else
           (if slice_index text p == 44 then one false w p (slice_index text p ∷ drop (p + 1) text)
-          (plain (kinds.Sign signs.Comma) 1) else (if slice_index text p == 41 then one false (moved w parts.Definition)
+          (plain (kinds.Sign signs.Comma) 1) else if slice_index text p == 41 then one false (moved w parts.Definition)
           p
           (slice_index text p ∷ drop (p + 1) text) (plain (kinds.Sign signs.RightParen) 1) else one false w p
-          (slice_index text p ∷ drop (p + 1) text) (plain (kinds.Sign signs.Ellipsis) 3))))) here.1,
+          (slice_index text p ∷ drop (p + 1) text) (plain (kinds.Sign signs.Ellipsis) 3))) here.1,
     ))
 
 -- Format heads.

@@ -207,7 +207,7 @@ to-end end (byte ∷ bytes) cs fresh last place zero e n u =
         leaves true k =
             let g = found_apart (tex_inner cs) fresh last place byte bytes in
             absurd (none-is place (sym (λ i. if h i then closing_bar bytes g.next (still_fresh fresh byte) byte
-            (place + 1) g.more else (if k i then Some place else None)) ∙ n))
+            (place + 1) g.more else if k i then Some place else None) ∙ n))
         leaves false k =
             let stays : is_tex_inner (found_apart (tex_inner cs) fresh last place byte bytes).next.part ≡ true =
             ap (λ t. is_tex_inner (if t then section (tex_inner cs) place bytes else in_text_apart parts.TexInner cs

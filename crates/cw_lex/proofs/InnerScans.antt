@@ -156,9 +156,9 @@ goes-on byte bytes cs fresh last place end f is h = by (is_tex_inner f.next.part
     some-is a b e = cc
 
     opened : (if is_tex_inner f.next.part then closing_bar bytes f.next (still_fresh fresh byte) byte (place + 1) f.more
-        else (if byte == bar then Some place else None)) ≡ Some end
+        else if byte == bar then Some place else None) ≡ Some end
     opened = sym (ap (λ (f : Found). if is_tex_inner f.next.part then closing_bar bytes f.next (still_fresh fresh byte)
-        byte (place + 1) f.more else (if byte == bar then Some place else None)) is) ∙ h
+        byte (place + 1) f.more else if byte == bar then Some place else None) is) ∙ h
 
     by : (inner is_bar : Bool) → is_tex_inner f.next.part ≡ inner → (byte == bar) ≡ is_bar
         → ((is_tex_inner f.next.part ≡ true) × (closing_bar bytes f.next (still_fresh fresh byte) byte (place + 1)
@@ -173,7 +173,7 @@ goes-on byte bytes cs fresh last place end f is h = by (is_tex_inner f.next.part
         inr (
           e,
           some-is place end (sym (λ i. if e i then closing_bar bytes f.next (still_fresh fresh byte) byte
-              (place + 1) f.more else (if b i then Some place else None)) ∙ opened),
+              (place + 1) f.more else if b i then Some place else None) ∙ opened),
         )
     by false false e b =
         let none : ◌≡◌ {A = Option ℕ} None (Some end) =

@@ -1,6 +1,5 @@
 -- Nested answers are those of one nest, in which pieces of text stand in comments alone, comments in C text and inner
--- texts
--- in comments.
+-- texts in comments.
 use Rattle.std.proofs.Common.{◌≡◌, Bool, true, false, not, Option, Some, None, List, [], ◌∷◌, refl, sym, ◌∙◌, ap, subst}
 use Rattle.cw_rules.specs.declared.tokens.TokKind.{TokKind}
 use Rattle.cw_rules.specs.declared.tokens.TokKind.TheVariants as kind

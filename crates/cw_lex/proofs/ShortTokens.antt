@@ -339,8 +339,8 @@ bar-kind : (bars : Bool) (bs : List ℕ)
     → start_of bars 124 bs ≡ (if bars && not (begins 124 bs) then start.EndOfInner else sign_or_other
     (longest all_signs (124 ∷ bs)))
 bar-kind bars bs =
-    ap (λ n. if nat_lt 0 n then start.Constant else (if bars && not (begins 124 bs) then start.EndOfInner else
-    sign_or_other (longest all_signs (124 ∷ bs))))
+    ap (λ n. if nat_lt 0 n then start.Constant else if bars && not (begins 124 bs) then start.EndOfInner else
+    sign_or_other (longest all_signs (124 ∷ bs)))
     (no-constant 124 bs refl refl refl)
 
 bar-is : (text : List ℕ) (place : ℕ) (bars ends : Bool) → slice_index text place ≡ 124

@@ -392,8 +392,8 @@ module _ (text : List ℕ) (place : ℕ) (within : place < length text) (quiet :
       is =
           here-is ∙ ap (λ t. if t then tex_by (effect_in_tex (code_at behind)) (code_at behind) tex place
           (byte ∷ behind)
-          else (if byte == bar then inner_begin false (moved tex parts.TexInner) place (byte ∷ behind) else one false
-          tex place (byte ∷ behind) (plain kinds.Text (run classes.TexText (byte ∷ behind))))) e
+          else if byte == bar then inner_begin false (moved tex parts.TexInner) place (byte ∷ behind) else one false
+          tex place (byte ∷ behind) (plain kinds.Text (run classes.TexText (byte ∷ behind)))) e
 
       name-goes : (c : Code) (ls : List ℕ) → behind ≡ ls → code_at behind ≡ c → is_name c ≡ true
           → begins_section_in (tokens_of text place (place + (section_name c place (byte ∷ behind)).size) modes.Inner)
@@ -506,8 +506,8 @@ module _ (text : List ℕ) (place : ℕ) (within : place < length text) (quiet :
           inl (token-goes (plain kinds.Text (run classes.TexText (byte ∷ behind)))
           (here-is ∙ (λ i. if e i then tex_by (effect_in_tex (code_at behind)) (code_at behind) tex place
           (byte ∷ behind)
-          else (if k i then inner_begin false (moved tex parts.TexInner) place (byte ∷ behind) else one false tex place
-          (byte ∷ behind) (plain kinds.Text (run classes.TexText (byte ∷ behind)))))) (λ h. absurd cc))
+          else if k i then inner_begin false (moved tex parts.TexInner) place (byte ∷ behind) else one false tex place
+          (byte ∷ behind) (plain kinds.Text (run classes.TexText (byte ∷ behind))))) (λ h. absurd cc))
 
 pub tex-texts-go-on : (text : List ℕ) (place : ℕ) → place < length text → opens_part_in (tex_at text place) ≡ false
     → GoesOn text place ⊎ HoldsInner text place

@@ -50,8 +50,7 @@ IsGroupOf false kind.ShortComment = Unit {0}
 IsGroupOf in_comment k = ⊥
 
 -- Pieces of text stand in the text of a comment, and nothing else does but inner texts. In C text stand the other
--- tokens
--- and comments.
+-- tokens and comments.
 abbrev pub IsWell : (in_comment : Bool) → Nest → Type 0
 IsWell in_comment End = Unit {0}
 IsWell in_comment (Leaf token rest) = (is_text_kind token.kind ≡ in_comment) × IsWell in_comment rest

@@ -120,8 +120,7 @@ abbrev pub begins_part_in : List Answer → Bool
 begins_part_in answers = list_any is_part_answer answers
 
 -- The answers over a C part, over definitions and over inner C text are nested up to the first section code: what is
--- open
--- there ends before it.
+-- open there ends before it.
 abbrev pub CTextsNestUpToSections : Type 0
 CTextsNestUpToSections = (text : List ℕ) (start end : ℕ) (mode : Mode) → is_c_mode mode ≡ true
     → IsNested (until_section (tokens_of text start end mode))

@@ -90,7 +90,7 @@ closing_bar [] w fresh last place taken = None
 closing_bar (byte ∷ bytes) w fresh last place zero =
     let f = found (record { stands = w; fresh = fresh; last = last; place = place }) byte bytes in
     if is_tex_inner f.next.part then closing_bar bytes f.next (still_fresh fresh byte) byte (place + 1) f.more
-    else (if byte == bar then Some place else None)
+    else if byte == bar then Some place else None
 closing_bar (byte ∷ bytes) w fresh last place (suc taken) =
     closing_bar bytes w (still_fresh fresh byte) byte (place + 1) taken
 

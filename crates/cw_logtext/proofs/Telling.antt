@@ -43,7 +43,7 @@ pub cat-injective : (c d : Cat) → cat_text c ≡ cat_text d → c ≡ d
 cat-injective c d e = sym (cat-back c) ∙ (ap (cat_in all_cats) e ∙ cat-back d)
 
 letter_in : ℕ → LeafKind
-letter_in n = if eqb n 98 then leaf.B else (if eqb n 99 then leaf.C else (if eqb n 105 then leaf.I else leaf.S))
+letter_in n = if eqb n 98 then leaf.B else if eqb n 99 then leaf.C else if eqb n 105 then leaf.I else leaf.S
 
 letter-back : (k : LeafKind) → letter_in (letter k) ≡ k
 unfolding letter_in

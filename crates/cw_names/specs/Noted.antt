@@ -8,8 +8,8 @@ abbrev pub with_mention : ℕ → Bool → List SectionRef → List SectionRef
 with_mention section underlined [] = record { section = section; underlined = underlined } ∷ []
 with_mention section underlined (m ∷ ms) =
     if nat_lt m.section section then m ∷ with_mention section underlined ms
-    else (if m.section == section then record m { underlined = m.underlined || underlined } ∷ ms
-    else record { section = section; underlined = underlined } ∷ m ∷ ms)
+    else if m.section == section then record m { underlined = m.underlined || underlined } ∷ ms
+    else record { section = section; underlined = underlined } ∷ m ∷ ms
 
 -- How the sections lie: a list for each name up to the last that occurs.
 abbrev pub sections_at : ℕ → List (Vec SectionRef Global) → List SectionRef

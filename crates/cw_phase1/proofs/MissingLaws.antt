@@ -5,6 +5,7 @@ use Rattle.std.proofs.Common.{if◌then◌else◌}
 use Rattle.std.proofs.lemmas.List.{at_drop_more}
 use Rattle.std.proofs.lemmas.Option.{get_or_from_slice_get, slice_get_within}
 use Rattle.std.specs.List.{list_any, slice_get}
+use Rattle.cw_base.specs.Conditions.{list_if}
 use Rattle.cw_base.specs.Web.{MergedLine, text_of}
 use Rattle.cw_base.specs.declared.notes.Note.{Note}
 use Rattle.cw_base.specs.declared.span.Span.{Span}
@@ -53,7 +54,7 @@ none-lack text uses names tex [] e = refl
 none-lack text uses names tex (token ∷ tokens) e =
     rw (not-lacking text uses names tex token e) (none-lack text uses names tex tokens e)
 
-empty-if : {X : Type 0} (test : Bool) (xs : List X) → xs ≡ [] → (if test then xs else []) ≡ []
+empty-if : {X : Type 0} (test : Bool) (xs : List X) → xs ≡ [] → list_if test xs ≡ []
 empty-if true xs e = e
 empty-if false xs e = refl
 

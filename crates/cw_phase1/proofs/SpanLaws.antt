@@ -170,7 +170,7 @@ name-by : (code program : Bool) (start later : ℕ) (name rest : Option SecId) (
     → name_at start uses ≡ None → (start == later) ≡ false → option_map id (name_at later uses) ≡ rest
     → option_map id (name_at (if code || program then start else later)
     (use_by name start ++ uses))
-    ≡ (if code then None else (if program then name else rest))
+    ≡ (if code then None else if program then name else rest)
 name-by true program start later name rest uses n none apart e = here name start uses none ∙ n refl
 name-by false true start later name rest uses n none apart e = here name start uses none
 name-by false false start later name rest uses n none apart e =

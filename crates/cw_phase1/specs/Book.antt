@@ -18,7 +18,8 @@ use Rattle.cw_phase1.specs.Notes.{scanned_notes, name_notes}
 abbrev pub answers_of : List MergedLine → List Answer
 answers_of lines = tokens_of (text_of lines) 0 (length (text_of lines)) modes.Limbo
 
--- All of it comes from these answers, and from what each token is where it stands.
+-- The book of a web: its sections, its names with their occurrences, its section names with their uses, and its notes.
+-- All of it comes from the scanner's answers for the whole web, and from what each token is where it stands.
 abbrev pub book : List MergedLine → Book
 book lines =
     let size = length (text_of lines) in

@@ -2,6 +2,7 @@
 use Rattle.std.specs.Prelude.{ℕ, ◌+◌, ◌-◌, ◌==◌, ◌&&◌, ◌||◌, Bool, true, false, List, [], ◌∷◌, Option, Some, None, map}
 use Rattle.std.specs.Prelude.{filter, length, reverse, slice_get, slice_range, if◌then◌else◌}
 use Rattle.std.specs.List.{flat_map}
+use Rattle.cw_base.specs.Conditions.{list_if}
 use Rattle.cw_base.specs.Bytes.{newline}
 use Rattle.cw_base.specs.Text.{is_blank}
 use Rattle.cw_base.specs.Web.{MergedLine, text_of}
@@ -69,9 +70,8 @@ missing_among lines uses names tex depth answers =
 -- A section that has a C part lacks no `=`.
 abbrev pub missing_in : List MergedLine → List NameUse → List SecName → Section → List Note
 missing_in lines uses names s =
-    if s.c_part.start == s.c_part.«end»
-    then missing_among lines uses names s.tex 0 (tokens_of (text_of lines) s.tex.start s.tex.«end» TexText)
-    else []
+    list_if (s.c_part.start == s.c_part.«end»)
+    (missing_among lines uses names s.tex 0 (tokens_of (text_of lines) s.tex.start s.tex.«end» TexText))
 
 abbrev pub missing_equals : List MergedLine → List NameUse → List SecName → List Section → List Note
 missing_equals lines uses names sections = flat_map (missing_in lines uses names) sections

@@ -260,7 +260,7 @@ whole-ends bs whole = record {
   decimal_end = λ hex two. ends-unless 101 (behind_mantissa classes.Digit bs) (λ b behind letter.
       let m = mantissa classes.Digit bs in
       let size : number bs ≡ m =
-      ap (λ t. if t then hexadecimal bs else (if nat_lt 0 (binary bs) then binary bs else decimal bs)) hex
+      ap (λ t. if t then hexadecimal bs else if nat_lt 0 (binary bs) then binary bs else decimal bs) hex
       ∙ ap (λ t. if t then binary bs else decimal bs) two
       ∙ lone-scaled classes.Digit 101 bs b behind letter in
       lone-byte bs m b size behind (e-suffix b letter) whole);
@@ -268,7 +268,7 @@ whole-ends bs whole = record {
   where
     there : (m : ℕ) → (if nat_lt 0 (2 + m) then 2 + m else
         (if nat_lt 0 (binary bs) then binary bs else decimal bs)) ≡ 2 + m
-    there m = ap (λ t. if t then 2 + m else (if nat_lt 0 (binary bs) then binary bs else decimal bs)) (some m)
+    there m = ap (λ t. if t then 2 + m else if nat_lt 0 (binary bs) then binary bs else decimal bs) (some m)
       where
         some : (m : ℕ) → nat_lt 0 (2 + m) ≡ true
         some m = grind (arith, nat_tests)

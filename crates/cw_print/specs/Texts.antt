@@ -6,8 +6,7 @@ use Rattle.cw_rules.specs.Bytes.{begins, greater, at_sign}
 use Rattle.cw_print.specs.Escaping.{braced, escaped}
 
 -- In a string `@@` is one `@`, and a backslash and a line's end print nothing. Any other byte behind a backslash is
--- taken
--- along with it.
+-- taken along with it.
 abbrev pub is_continued : ℕ → ℕ → Bool
 is_continued byte next = byte == backslash && next == newline
 

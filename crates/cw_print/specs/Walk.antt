@@ -57,8 +57,7 @@ front lists title =
     ++ (list_if lists (flat_map later_number title.later) ++ codes ":"))
 
 -- What a name prints up to an inner text or to its end, and the scanner's answers for that inner text, whose numbers
--- are
--- places in the name's own text. A section code ends it.
+-- are places in the name's own text. A section code ends it.
 pub record NamePiece : Type 0 where
   pub bytes : List ℕ
   pub answers : List Answer

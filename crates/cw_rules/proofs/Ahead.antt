@@ -249,7 +249,7 @@ module _ (s : Stop) (more : List ℕ) where
   number-same : (bs : List ℕ) → number (bs ++ byte_of s ∷ more) ≡ number bs
   number-same bs =
       λ i. if nat_lt 0 (hexadecimal-same bs i) then hexadecimal-same bs i
-      else (if nat_lt 0 (binary-same bs i) then binary-same bs i else decimal-same bs i)
+      else if nat_lt 0 (binary-same bs i) then binary-same bs i else decimal-same bs i
 
   pub constant-same : (bs : List ℕ) → constant (bs ++ byte_of s ∷ more) ≡ constant bs
   constant-same bs =
@@ -267,13 +267,13 @@ module _ (s : Stop) (more : List ℕ) where
       let eight = of-both (λ b. b == 56) false s refl refl in
       let none = and-none (byte == 117) in
       (λ i. if is_prefix_letter byte && mark i then 1
-      else (if (byte == 117 && (eight i && true)) && begins_by is_mark more then 2 else 0))
+      else if (byte == 117 && (eight i && true)) && begins_by is_mark more then 2 else 0)
       ∙ (λ i. if is_prefix_letter byte && false then 1
-      else (if none i && begins_by is_mark more then 2 else 0))
-      ∙ sym (λ i. if is_prefix_letter byte && false then 1 else (if none i && false then 2 else 0))
+      else if none i && begins_by is_mark more then 2 else 0)
+      ∙ sym (λ i. if is_prefix_letter byte && false then 1 else if none i && false then 2 else 0)
   prefix-same byte (b ∷ bs) =
       ap (λ t. if is_prefix_letter byte && is_mark b then 1
-      else (if (byte == 117 && (b == 56 && true)) && t then 2 else 0)) (begins_by-same is_mark bs refl refl)
+      else if (byte == 117 && (b == 56 && true)) && t then 2 else 0) (begins_by-same is_mark bs refl refl)
 
   -- the byte behind the prefix
   mark-same : (byte : ℕ) (bs : List ℕ)
@@ -315,7 +315,7 @@ module _ (s : Stop) (more : List ℕ) where
       let plus_two = with-same (codes "+=") rest refl refl in
       ap (λ k. nat_lt 0 (head_sign_size (drop k (bs ++ byte_of s ∷ more)))) (run-same classes.Blank bs refl refl)
       ∙ ap (λ l. nat_lt 0 (head_sign_size l)) (drop-same n bs (byte_of s ∷ more) (run-le classes.Blank bs))
-      ∙ (λ i. nat_lt 0 (if two i || plus_two i then 2 else (if begins-same equals rest refl refl i then 1 else 0)))
+      ∙ (λ i. nat_lt 0 (if two i || plus_two i then 2 else if begins-same equals rest refl refl i then 1 else 0))
 
   white-same : (bs : List ℕ) → behind_white (bs ++ byte_of s ∷ more) ≡ behind_white bs ++ byte_of s ∷ more
   white-same bs =

@@ -88,7 +88,7 @@ note-bar more bodies.SectionName braces b bs = ap (λ t. if b == at_sign && not 
     (begins-before 124 more at_sign bs refl)
 note-bar more (bodies.Piece long deep) braces b bs =
     ap (λ t. if b == at_sign && not t then Some notes.AtInComment else
-    (if b == 125 && braces == 0 then Some notes.ExtraBrace else (if b == bar then Some notes.TooDeep else None)))
+    (if b == 125 && braces == 0 then Some notes.ExtraBrace else if b == bar then Some notes.TooDeep else None))
     (begins-before 124 more at_sign bs refl)
 
 stops-same : (s : Stop) (more : List ℕ) (body : Body) (before b : ℕ) (bs : List ℕ)

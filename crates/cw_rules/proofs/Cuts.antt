@@ -38,8 +38,8 @@ name-cut text code at cut h e =
     e
     ∙ ap (section_name_of code at (at_start bodies.SectionName (at + 2))) (sym (drop-two text at))
     ∙ sym (ap (λ t. if t then section_name code at (bytes_at text at)
-    else (if is_quote code then string (kinds.Code code) 2 apostrophe at (bytes_at text at) else control_or_plain code
-    at (bytes_at text at))) h)
+    else if is_quote code then string (kinds.Code code) 2 apostrophe at (bytes_at text at) else control_or_plain code
+    at (bytes_at text at)) h)
 
 -- a token that is dropped
 pub dropped-cut : (text : List ℕ) (cut : Cutting) (note : NoteKind) (at : ℕ) (expected : Cut) → cut.pending.first ≡ None

@@ -56,8 +56,8 @@ prefix-mark byte bytes =
   where
     by : (one two : Bool) → (one ≡ true → is_mark (slice_index (byte ∷ bytes) 1) ≡ true)
         → (two ≡ true → is_mark (slice_index (byte ∷ bytes) 2) ≡ true)
-        → nat_lt 0 (if one then 1 else (if two then 2 else 0)) ≡ true
-        → is_mark (slice_index (byte ∷ bytes) (if one then 1 else (if two then 2 else 0))) ≡ true
+        → nat_lt 0 (if one then 1 else if two then 2 else 0) ≡ true
+        → is_mark (slice_index (byte ∷ bytes) (if one then 1 else if two then 2 else 0)) ≡ true
     by true two f g h = f refl
     by false true f g h = g refl
     by false false f g h = absurd cc
@@ -78,7 +78,7 @@ prefix-below byte bytes =
     (both-right (begins_with (codes "u8") (byte ∷ bytes)) (begins_by is_mark (drop 1 bytes)) h))
   where
     by : (one two : Bool) → (one ≡ true → 1 ≤ length bytes) → (two ≡ true → 2 ≤ length bytes)
-        → (if one then 1 else (if two then 2 else 0)) ≤ length bytes
+        → (if one then 1 else if two then 2 else 0) ≤ length bytes
     by true two f g = f refl
     by false true f g = g refl
     by false false f g = omega arith

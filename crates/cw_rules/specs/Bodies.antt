@@ -53,13 +53,13 @@ note_on ControlText braces byte bytes = if is_single byte bytes then Some CodeIn
 note_on SectionName braces byte bytes = if is_single byte bytes then Some CodeInName else None
 note_on (Piece long deep) braces byte bytes =
     if is_single byte bytes then Some AtInComment
-    else (if byte == right_brace && braces == 0 then Some ExtraBrace
-    else (if byte == bar then Some TooDeep else None))
+    else if byte == right_brace && braces == 0 then Some ExtraBrace
+    else if byte == bar then Some TooDeep else None
 
 -- How many braces are open behind the byte. A `}` without its `{` closes none.
 abbrev pub braces_after : ℕ → ℕ → ℕ
 braces_after braces byte =
-    if byte == left_brace then braces + 1 else (if byte == right_brace then braces - 1 else braces)
+    if byte == left_brace then braces + 1 else if byte == right_brace then braces - 1 else braces
 
 -- One byte on. What is taken along opens and closes no brace, takes nothing along and has no note.
 abbrev pub stepped : Inside → ℕ → List ℕ → Inside
@@ -136,8 +136,7 @@ extent i bytes = extent_of i bytes ((ended i bytes).place - i.place)
 
 -- a note where something doesn't hold
 abbrev pub note_unless : Bool → NoteKind → ℕ → Option Noted
-note_unless true note place = None
-note_unless false note place = Some (record { kind = note; place = place })
+note_unless holds note place = if holds then None else Some (record { kind = note; place = place })
 
 abbrev pub one_note : Option Noted → List Noted
 one_note None = []

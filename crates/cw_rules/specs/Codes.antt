@@ -18,35 +18,35 @@ use Rattle.cw_rules.specs.Bytes.{is_between, is_letter_of}
 abbrev pub code_of : ℕ → Code
 code_of byte =
     if byte == byte_of "@" then At
-    else (if byte == newline || is_blank byte then Section
-    else (if byte == byte_of "*" then StarredSection
-    else (if is_letter_of (byte_of "d") byte then Define
-    else (if is_letter_of (byte_of "f") byte then Format
-    else (if is_letter_of (byte_of "s") byte then SilentFormat
-    else (if is_letter_of (byte_of "c") byte || is_letter_of (byte_of "p") byte then Program
-    else (if byte == byte_of "<" then SectionName
-    else (if byte == byte_of "(" then FileName
-    else (if byte == byte_of "^" then Roman
-    else (if byte == byte_of "." then Typewriter
-    else (if byte == byte_of ":" then UserEntry
-    else (if byte == byte_of "!" then Underline
-    else (if is_letter_of (byte_of "q") byte then Ignored
-    else (if is_letter_of (byte_of "t") byte then TexBox
-    else (if byte == byte_of "=" then Verbatim
-    else (if byte == byte_of "," then ThinSpace
-    else (if byte == byte_of "/" then LineBreak
-    else (if byte == byte_of "|" then OptionalBreak
-    else (if byte == byte_of "#" then BigBreak
-    else (if byte == byte_of "+" then NoBreak
-    else (if byte == byte_of ";" then InvisibleSemicolon
-    else (if byte == byte_of "[" then BeginArgument
-    else (if byte == byte_of "]" then EndArgument
-    else (if is_letter_of (byte_of "h") byte then HeaderFile
-    else (if byte == byte_of "&" then Join
-    else (if byte == byte_of "'" then Quote
-    else (if is_between (byte_of "0") (byte_of "2") byte then Trace
-    else (if is_letter_of (byte_of "l") byte then Letters
-    else Unknown))))))))))))))))))))))))))))
+    else if byte == newline || is_blank byte then Section
+    else if byte == byte_of "*" then StarredSection
+    else if is_letter_of (byte_of "d") byte then Define
+    else if is_letter_of (byte_of "f") byte then Format
+    else if is_letter_of (byte_of "s") byte then SilentFormat
+    else if is_letter_of (byte_of "c") byte || is_letter_of (byte_of "p") byte then Program
+    else if byte == byte_of "<" then SectionName
+    else if byte == byte_of "(" then FileName
+    else if byte == byte_of "^" then Roman
+    else if byte == byte_of "." then Typewriter
+    else if byte == byte_of ":" then UserEntry
+    else if byte == byte_of "!" then Underline
+    else if is_letter_of (byte_of "q") byte then Ignored
+    else if is_letter_of (byte_of "t") byte then TexBox
+    else if byte == byte_of "=" then Verbatim
+    else if byte == byte_of "," then ThinSpace
+    else if byte == byte_of "/" then LineBreak
+    else if byte == byte_of "|" then OptionalBreak
+    else if byte == byte_of "#" then BigBreak
+    else if byte == byte_of "+" then NoBreak
+    else if byte == byte_of ";" then InvisibleSemicolon
+    else if byte == byte_of "[" then BeginArgument
+    else if byte == byte_of "]" then EndArgument
+    else if is_letter_of (byte_of "h") byte then HeaderFile
+    else if byte == byte_of "&" then Join
+    else if byte == byte_of "'" then Quote
+    else if is_between (byte_of "0") (byte_of "2") byte then Trace
+    else if is_letter_of (byte_of "l") byte then Letters
+    else Unknown
 
 -- the code of the bytes behind an `@`
 abbrev pub code_at : List ℕ → Code

@@ -69,7 +69,7 @@ decimal bytes = scaled Digit (byte_of "e") bytes
 abbrev pub number : List ℕ → ℕ
 number bytes =
     if nat_lt 0 (hexadecimal bytes) then hexadecimal bytes
-    else (if nat_lt 0 (binary bytes) then binary bytes else decimal bytes)
+    else if nat_lt 0 (binary bytes) then binary bytes else decimal bytes
 
 -- a number and any number of suffix letters
 abbrev pub constant : List ℕ → ℕ

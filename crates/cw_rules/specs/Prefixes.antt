@@ -11,4 +11,4 @@ is_prefix_letter byte = byte == byte_of "L" || byte == byte_of "u" || byte == by
 abbrev pub prefix_size : List ℕ → ℕ
 prefix_size bytes =
     if begins_by is_prefix_letter bytes && begins_by is_mark (drop 1 bytes) then 1
-    else (if begins_with (codes "u8") bytes && begins_by is_mark (drop 2 bytes) then 2 else 0)
+    else if begins_with (codes "u8") bytes && begins_by is_mark (drop 2 bytes) then 2 else 0

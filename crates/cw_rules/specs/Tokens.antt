@@ -1,9 +1,8 @@
 -- The tokens of a web: one rule for each class of token, and one for each kind of text in which tokens stand.
 --
 -- Each rule says what begins at a place: which answers it gives, how many bytes belong to it, and where the text goes
--- on.
--- `place` is the number of the byte, `byte` the byte itself, and `bytes` are the bytes behind it. `here` is the place
--- with what is known of it.
+-- on. `place` is the number of the byte, `byte` the byte itself, and `bytes` are the bytes behind it. `here` is the
+-- place with what is known of it.
 use Rattle.std.specs.Prelude.{ℕ, ◌+◌, ◌-◌, Bool, true, false, ◌&&◌, ◌||◌, not, ◌==◌, nat_lt, List, [], ◌∷◌, ◌++◌}
 use Rattle.std.specs.Prelude.{Option, Some, None, codes, drop, take, length, slice_index, if◌then◌else◌}
 use Rattle.cw_base.specs.declared.notes.NoteKind.{NoteKind}
@@ -117,8 +116,8 @@ control_or_plain code place bytes =
 abbrev pub code_token : Code → ℕ → List ℕ → Cut
 code_token code place bytes =
     if is_name code then section_name code place bytes
-    else (if is_quote code then string (kinds.Code code) 2 apostrophe place bytes
-    else control_or_plain code place bytes)
+    else if is_quote code then string (kinds.Code code) 2 apostrophe place bytes
+    else control_or_plain code place bytes
 
 -- A code that may not stand here is dropped with its control text.
 abbrev pub dropped_code : NoteKind → Code → ℕ → List ℕ → Cut
@@ -139,7 +138,7 @@ section_code bytes =
 abbrev pub head_sign_size : List ℕ → ℕ
 head_sign_size bytes =
     if begins_with (codes "==") bytes || begins_with (codes "+=") bytes then 2
-    else (if begins equals bytes then 1 else 0)
+    else if begins equals bytes then 1 else 0
 
 abbrev pub is_signed : List ℕ → Bool
 is_signed bytes = nat_lt 0 (head_sign_size (drop (run classes.Blank bytes) bytes))
@@ -273,8 +272,7 @@ section w place bytes =
 
 -- A line's end in C text ends the short comments around it, up to the innermost long one. Where no comment is left it
 -- ends a `#` line, unless a backslash stands before it. Else it is white space. A comment is one token of the text
--- around
--- it, so behind one that ends here the word `include` in it lets nothing follow.
+-- around it, so behind one that ends here the word `include` in it lets nothing follow.
 abbrev pub part_line_end : Part → ℕ → ℕ → Found
 part_line_end part last place =
     if in_hash_line part && not (last == backslash)
@@ -300,14 +298,14 @@ abbrev pub start_of : Bool → ℕ → List ℕ → Start
 start_of bar_ends byte bytes =
     if nat_lt 0 (prefix_size (byte ∷ bytes))
     then start.Quoted (slice_index (byte ∷ bytes) (prefix_size (byte ∷ bytes)))
-    else (if is_letter byte then start.Identifier
-    else (if nat_lt 0 (constant (byte ∷ bytes)) then start.Constant
-    else (if is_mark byte then start.Quoted byte
-    else (if byte == slash && begins star bytes then start.LongComment
-    else (if byte == slash && begins slash bytes then start.ShortComment
-    else (if byte == at_sign then start.Code (code_at bytes)
-    else (if byte == bar && (bar_ends && not (begins bar bytes)) then start.EndOfInner
-    else sign_or_other (longest all_signs (byte ∷ bytes)))))))))
+    else if is_letter byte then start.Identifier
+    else if nat_lt 0 (constant (byte ∷ bytes)) then start.Constant
+    else if is_mark byte then start.Quoted byte
+    else if byte == slash && begins star bytes then start.LongComment
+    else if byte == slash && begins slash bytes then start.ShortComment
+    else if byte == at_sign then start.Code (code_at bytes)
+    else if byte == bar && (bar_ends && not (begins bar bytes)) then start.EndOfInner
+    else sign_or_other (longest all_signs (byte ∷ bytes))
 
 -- In a `#` line the word `include` lets an include name follow.
 abbrev pub is_include : List ℕ → Bool
@@ -405,13 +403,13 @@ abbrev pub code_text : Spot → ℕ → List ℕ → Found
 code_text here byte bytes =
     let w = here.stands in
     if byte == newline then line_end w.part w.comments here.last here.place
-    else (if is_space w.part byte bytes then skipped_byte w
-    else (if byte == hash && (takes_hash_line w.part w.comments && here.fresh)
+    else if is_space w.part byte bytes then skipped_byte w
+    else if byte == hash && (takes_hash_line w.part w.comments && here.fresh)
     then one true (moved w (parts.Plain true false)) here.place (byte ∷ bytes) (plain kinds.HashLine 1)
-    else (if byte == less && (behind_include w.part && closes_on_line bytes)
+    else if byte == less && (behind_include w.part && closes_on_line bytes)
     then one (in_hash_line w.part) (moved w (passed w.part)) here.place (byte ∷ bytes)
     (include_name here.place (byte ∷ bytes))
-    else in_code (start_of (ends_at_bar w.part w.comments) byte bytes) w here.place (byte ∷ bytes))))
+    else in_code (start_of (ends_at_bar w.part w.comments) byte bytes) w here.place (byte ∷ bytes)
 
 -- ## The text of a comment
 
@@ -444,12 +442,12 @@ abbrev pub comment_text : Opened → List Opened → Spot → ℕ → List ℕ �
 comment_text c comments here byte bytes =
     let part = here.stands.part in
     if c.long && (byte == star && begins slash bytes) then comment_closed part c comments here.place (byte ∷ bytes)
-    else (if not c.long && byte == newline
+    else if not c.long && byte == newline
     then before (comment_end (in_hash_line part) c here.place 0 []) (line_end part comments here.last here.place)
-    else (if byte == bar && not (is_deep part (c ∷ comments))
+    else if byte == bar && not (is_deep part (c ∷ comments))
     then inner_begin (in_hash_line part) (record { part = part; comments = with_inner c true ∷ comments }) here.place
     (byte ∷ bytes)
-    else piece part comments c here.place (byte ∷ bytes)))
+    else piece part comments c here.place (byte ∷ bytes)
 
 -- ## Limbo, TeX text, and the heads of definitions and C parts
 
@@ -481,8 +479,8 @@ tex_by effects.BeginsC code w place bytes = one false (moved w (parts.Plain fals
 abbrev pub tex_text : Where → ℕ → ℕ → List ℕ → Found
 tex_text w place byte bytes =
     if byte == at_sign then tex_by (effect_in_tex (code_at bytes)) (code_at bytes) w place (byte ∷ bytes)
-    else (if byte == bar then inner_begin false (moved w parts.TexInner) place (byte ∷ bytes)
-    else one false w place (byte ∷ bytes) (plain kinds.Text (run classes.TexText (byte ∷ bytes))))
+    else if byte == bar then inner_begin false (moved w parts.TexInner) place (byte ∷ bytes)
+    else one false w place (byte ∷ bytes) (plain kinds.Text (run classes.TexText (byte ∷ bytes)))
 
 -- The head of a C part: its name has been read, and blanks and its sign follow.
 abbrev pub head_text : Where → ℕ → ℕ → List ℕ → Found
@@ -519,11 +517,11 @@ parameter_follows bytes = is_parameter (behind_white bytes)
 abbrev pub parameter : Where → ℕ → ℕ → List ℕ → Found
 parameter w place byte bytes =
     if is_in classes.White byte then skipped_byte w
-    else (if is_letter byte then one false w place (byte ∷ bytes) (identifier (byte ∷ bytes))
-    else (if byte == comma then one false w place (byte ∷ bytes) (plain (kinds.Sign signs.Comma) 1)
-    else (if byte == right_paren then one false (moved w parts.Definition) place (byte ∷ bytes)
+    else if is_letter byte then one false w place (byte ∷ bytes) (identifier (byte ∷ bytes))
+    else if byte == comma then one false w place (byte ∷ bytes) (plain (kinds.Sign signs.Comma) 1)
+    else if byte == right_paren then one false (moved w parts.Definition) place (byte ∷ bytes)
     (plain (kinds.Sign signs.RightParen) 1)
-    else one false w place (byte ∷ bytes) (plain (kinds.Sign signs.Ellipsis) 3))))
+    else one false w place (byte ∷ bytes) (plain (kinds.Sign signs.Ellipsis) 3)
 
 -- The two names of a format definition. Behind them, in limbo, limbo goes on.
 abbrev pub behind_format : Bool → Where → Where

@@ -30,7 +30,7 @@ mark_of kind text = mark_from (first_mark kind) text
 -- The lengths at which the marks of what a text begins with are kept: each fourth one below 16, each second one below
 -- 256, and each 256th one.
 abbrev pub step_at : ℕ → ℕ
-step_at count = if nat_lt count 16 then 4 else (if nat_lt count 256 then 2 else 256)
+step_at count = if nat_lt count 16 then 4 else if nat_lt count 256 then 2 else 256
 
 unfoldable pub is_kept_length : ℕ → Bool
 is_kept_length count = count % step_at count == 0

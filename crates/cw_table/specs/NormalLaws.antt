@@ -43,8 +43,7 @@ abbrev pub CountAtMostEight : Type 0
 CountAtMostEight = (rows : List Row) (flags : Flags) (state : State) → count rows flags state ≤ 8 * length state.scraps
 
 -- After a production at the least place where some row fits, no row fits further before that place than a safe
--- distance,
--- whatever the scraps are; and the least safe distance is safe.
+-- distance, whatever the scraps are; and the least safe distance is safe.
 abbrev pub SafeReachesFar : Type 0
 SafeReachesFar = (rows : List Row) (flags : Flags) (state : State) (place : ℕ) (row : Row) (distance lower : ℕ)
     → list_all row_is_sound rows ≡ true → IsLeast rows (cats_of state.scraps) place row → safe rows row distance ≡ true

@@ -3,6 +3,7 @@ ghost use Rattle.std.specs.Prelude.{◌≡◌, ◌+◌, ◌<◌, ◌≤◌, ◌�
 ghost use Rattle.std.specs.FinMap.{get};
 ghost use Rattle.cw_desk.specs.Meaning.{Files, Rose};
 ghost use Rattle.cw_input.specs.Merged.{merged};
+ghost use Rattle.cw_input.specs.Overwriting.{overwriting};
 ghost use Rattle.cw_lines.specs.Writes.{Adds};
 ghost use Rattle.cw_program.specs.Program.{Outcome};
 ghost use Rattle.cw_texpart.specs.Texts.{lasting};
@@ -12,7 +13,7 @@ ghost use Rattle.cw_run.specs.Notes.{note_events};
 ghost use Rattle.cw_weave.specs.Pressing.{IsPrintable, flags_in, text_in};
 ghost use Rattle.cw_weave.specs.Proper.{IsProper};
 ghost use Rattle.cw_weave.specs.Woven.{book_of, change_text, weave_book, weave_command_of};
-ghost use Rattle.cw_weave.specs.Woven.{weave_web, weave_whole, woven};
+ghost use Rattle.cw_weave.specs.Woven.{weave_unless, weave_web, woven};
 ghost use Rattle.cw_weave.specs.Written.{AreWritten, events_of};
 
 use crate::ending::end_run;
@@ -113,8 +114,8 @@ fn weave_whole<D: Desk, L: Ledger>(
     desk: &mut D,
     steps: &mut Steps<L>,
 ) -> Result<Exit, PutError>
-    ensures runs { RunsBy (weave_whole source.entry.line.now source.entry.web.now)
-        (D.told desk.old) (D.told desk.new) result }
+    ensures runs { RunsBy (weave_unless (overwriting source.entry.web.now.files source.entry.line.now)
+        source.entry.line.now source.entry.web.now) (D.told desk.old) (D.told desk.new) result }
     ensures bound { steps.new ≤ steps.old
         + book_looks (text_in source.entry) (flags_in source.entry)
         (book_of (flags_in source.entry) source.entry.web.now) }

@@ -1,6 +1,5 @@
 -- The lines that are left, in the phase so far, give from the state so far what all give from the first state; and the
--- room that was
--- enough at first is enough for what is left.
+-- room that was enough at first is enough for what is left.
 use Rattle.std.proofs.Common.{◌≡◌, ◌+◌, ◌-◌, ◌*◌, ◌<◌, ◌≤◌, length}
 use Rattle.std.specs.FinMap.{get}
 use Rattle.cw_base.specs.declared.limits.TheConstants.{INPUT_LIMIT}
