@@ -105,7 +105,7 @@ front-out begins (item ∷ items) d e h =
     go : (b : Bool) → (begins && is_break item) ≡ b
         → ((more : Bool) (n : ℕ) → items_depth items n ≡ Some e → items_depth (trim_front more items) n ≡ Some e)
         → items_depth (if b then trim_front begins items
-            else item ∷ trim_front (begins_after begins item) items) d ≡ Some e
+        else item ∷ trim_front (begins_after begins item) items) d ≡ Some e
     go true is rec = rec begins d (break-leads item d e (items_depth items) (both-right _ _ is) h)
     go false is rec = next-leads (item_depth item d) (items_depth items)
         (items_depth (trim_front (begins_after begins item) items)) e (rec (begins_after begins item)) h

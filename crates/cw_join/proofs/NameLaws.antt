@@ -99,7 +99,7 @@ pieces-more done bytes rest piece behind size put begins some is front back =
 -- the fonts of longer identifiers
 long-by : (b : Bool) (name : List ℕ)
     → (if b then codes "\\\\{" ++ name_bytes name ++ codes "}"
-        else codes "\\.{" ++ name_bytes name ++ codes "}") ≡ font_bytes b ++ name_bytes name ++ codes "}"
+    else codes "\\.{" ++ name_bytes name ++ codes "}") ≡ font_bytes b ++ name_bytes name ++ codes "}"
 long-by true name = refl
 long-by false name = refl
 

@@ -67,8 +67,8 @@ noted-in low i (b ∷ bs) l =
   where
     by : (t : Bool) → NotedIn low (i.place + length (b ∷ bs)) (noted (stepped i b bs) bs)
         → NotedIn low (i.place + length (b ∷ bs)) (if t then
-              with_note (note_here i b bs) i.place (noted (stepped i b bs) bs)
-            else [])
+        with_note (note_here i b bs) i.place (noted (stepped i b bs) bs)
+        else [])
     by true rest = with-in (note_here i b bs) low (i.place + length (b ∷ bs)) i.place (noted (stepped i b bs) bs) l
         (omega arith) rest
     by false rest = tt

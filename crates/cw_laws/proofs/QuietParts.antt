@@ -144,7 +144,7 @@ module _ (flags : Flags) (kept : List SecName) (uses : List NameUse) where
   by-sign : (b : Bool) (name token : Seen) (rest : Nest) → IsWell false (Leaf name (Leaf token rest))
       → Quiet uses (Leaf name (Leaf token rest)) → is_kept uses name.span.start ≡ false → (known : Known)
       → Rests (if b then record { head = Named name.span.start token.span.start; rest = rest }
-          else headless (Leaf name (Leaf token rest))) known
+      else headless (Leaf name (Leaf token rest))) known
   by-sign true name token rest w q m known =
       ap (λ (o : Option (List (List Answer))). made_before
       (texts_named flags o cat.Dead Text (sign_behind token.span.start) name.span.start known)

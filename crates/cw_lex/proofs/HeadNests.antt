@@ -98,10 +98,10 @@ Signed name answers (Some rest) = Leaves rest (named_headed name (nest answers))
 named-rest : (name t : Seen) (rest : Nest) (b : Bool) → is_head_sign t.kind ≡ b → (named_headed name (Leaf t rest)).rest
     ≡ (if b then rest else Leaf name (Leaf t rest))
 named-rest name t rest true e = ap (λ b. (if b then
-      record { head = Named name.span.start t.span.start; rest = rest }
+    record { head = Named name.span.start t.span.start; rest = rest }
     else headless (Leaf name (Leaf t rest))).rest) e
 named-rest name t rest false e = ap (λ b. (if b then
-      record { head = Named name.span.start t.span.start; rest = rest }
+    record { head = Named name.span.start t.span.start; rest = rest }
     else headless (Leaf name (Leaf t rest))).rest) e
 
 sign-leaves : (name : Seen) (answers : List Answer) → IsNested answers → Signed name answers (behind_sign answers)

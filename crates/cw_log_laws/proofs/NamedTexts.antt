@@ -277,7 +277,7 @@ named-fits name (Group t inner rest) g h = headless-fits (Leaf name (Group t inn
 named-fits name (Leaf t rest) g h = by (is_head_sign t.kind)
   where
     by : (b : Bool) → FitsIn (Leaf name (Leaf t rest)) (if b then
-          record { head = Named name.span.start t.span.start; rest = rest }
+        record { head = Named name.span.start t.span.start; rest = rest }
         else headless (Leaf name (Leaf t rest)))
     by true = record { words = tt; rest = h.1; few = omega arith }
     by false = headless-fits (Leaf name (Leaf t rest)) (g, h)

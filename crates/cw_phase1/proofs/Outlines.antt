@@ -98,7 +98,7 @@ none-here : (lines : List MergedLine) (size : ℕ) (p : Placed) (ps : List Place
     → sections_of lines size (p ∷ ps) ≡ sections_of lines size ps
 none-here lines size p ps h =
     ap (λ (t : Bool). if t then section_at lines size p.token ps ∷ sections_of lines size ps
-        else sections_of lines size ps) h
+    else sections_of lines size ps) h
 
 goes-by : (o : Option Open) (lines : List MergedLine) (size : ℕ) (p : Placed) (ps : List Placed)
     → is_section_code p.role ≡ false
@@ -144,7 +144,7 @@ ends-now lines size o p ps n h =
       definitions = span (unwrap_or o.tex_end (if t || not (is_tex p.part) then p.token.span.start
           else first_start ends_tex size ps))
           (unwrap_or o.definitions_end (if t || is_program p.part then p.token.span.start
-              else first_start ends_definitions size ps));
+          else first_start ends_definitions size ps));
       c_part = span (unwrap_or o.definitions_end (if t || is_program p.part then p.token.span.start
           else first_start ends_definitions size ps))
           (if t then p.token.span.start else first_start ends_section size ps);
@@ -158,7 +158,7 @@ one-here : (lines : List MergedLine) (size : ℕ) (p : Placed) (ps : List Placed
     → open_section lines size (opened p.token) ps ∷ sections_of lines size ps ≡ sections_of lines size (p ∷ ps)
 one-here lines size p ps h =
     ap (λ (t : Bool). if t then section_at lines size p.token ps ∷ sections_of lines size ps
-        else sections_of lines size ps) (sym h)
+    else sections_of lines size ps) (sym h)
 
 closes-by : (o : Option Open) (lines : List MergedLine) (size : ℕ) (closed : List Section) (p : Placed)
     (ps : List Placed) → AreNamed o → is_section_code p.role ≡ true

@@ -189,7 +189,7 @@ note-by : (b : Bool) (lines : List MergedLine) (note : Answer) (kind : NoteKind)
     → is_unended kind ≡ b
     → scanned_notes lines (if b then Note kind place ∷ note ∷ answers else note ∷ Note kind place ∷ answers)
     ≡ (if b then scanned_note lines (Note kind place) ++ scanned_note lines note
-        else scanned_note lines note ++ scanned_note lines (Note kind place)) ++ scanned_notes lines answers
+    else scanned_note lines note ++ scanned_note lines (Note kind place)) ++ scanned_notes lines answers
 note-by true lines note kind place answers e = sym (append_assoc (scanned_note lines (Note kind place))
     (scanned_note lines note) (scanned_notes lines answers))
 note-by false lines note kind place answers e =

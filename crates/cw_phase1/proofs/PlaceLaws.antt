@@ -35,7 +35,7 @@ first-place line (next ∷ lines) at byte last inside =
     let test : nat_lt byte (at + length line.text + 1) ≡ true =
     lt-ltb byte (at + length line.text + 1) (inside short) in
     ap (λ (b : Bool). if b then line.place
-        else place_from (next ∷ lines) (at + length line.text + 1) byte line.place) test
+    else place_from (next ∷ lines) (at + length line.text + 1) byte line.place) test
 
 -- The place of a byte is that of the line that has it.
 pub place-at : (lines : List MergedLine) (at byte i : ℕ) (last : Place) (none : MergedLine) → i < length lines

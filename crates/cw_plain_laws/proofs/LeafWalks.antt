@@ -194,8 +194,8 @@ rest-walks s (InnerText tree ∷ items) all long comments rest =
     (rest-walks s items (All-tail (ItemWalks s) (InnerText tree) items all) long comments rest)
     ∙ sym (append_assoc (struck tree) (struck (comment_rest items)) (owners (pieces_from s rest (among comments))))
     ∙ ap (λ l. l ++ owners (pieces_from s rest (among comments))) (sym (ap (λ (b : Bool). if b then
-          struck (comment_rest items)
-        else struck tree ++ struck (comment_rest items)) (goes-on items)))
+    struck (comment_rest items)
+    else struck tree ++ struck (comment_rest items)) (goes-on items)))
 
 abbrev is_long : TokKind → Bool
 is_long kind.LongComment = true

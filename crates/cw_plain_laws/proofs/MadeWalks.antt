@@ -204,7 +204,7 @@ sign-stays _ e = absurd cc
 named-found-if : (s : Source) (b : Bool) (t u : Seen) (rest : Nest) → is_name t.kind ≡ true
     → is_head_sign u.kind ≡ b → AllOf (IsFound s.answers) (Leaf t (Leaf u rest))
     → HeadedFound s (if b then record { head = Named t.span.start u.span.start; rest = rest }
-        else headless (Leaf t (Leaf u rest)))
+    else headless (Leaf t (Leaf u rest)))
 named-found-if s true t u rest is sign all = record {
   head = ((t, (refl, (all.0, is))), (u, (refl, (all.1.0, sign-stays u.kind sign))));
   rest = all.1.1;

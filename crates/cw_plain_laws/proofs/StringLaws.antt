@@ -54,8 +54,8 @@ ends q braces place last along (b ∷ []) k rest size closed =
       stop = ap (λ t. (let i : Inside = if t then ended (stepped (inside q braces place last false) q rest) rest
           else inside q braces place last false in i).place) (stops-there q last rest) ∙ omega arith;
       quiet = ap (λ t. if t then
-            with_note (note_here (inside q braces place last false) q rest) place
-            (noted (stepped (inside q braces place last false) q rest) rest)
+          with_note (note_here (inside q braces place last false) q rest) place
+          (noted (stepped (inside q braces place last false) q rest) rest)
           else []) (stops-there q last rest);
       closing = ap (λ t. t && true) (same-byte q);
     })))
@@ -71,7 +71,7 @@ ends q braces place last along (b ∷ c ∷ bs) k rest size closed =
       stop = ap (λ t. (let j : Inside = if t then ended next (c ∷ (bs ++ rest)) else i in j).place)
           closed.0 ∙ later.stop ∙ omega arith;
       quiet = ap (λ t. if t then
-            with_note (note_here i b (c ∷ (bs ++ rest))) place (noted next (c ∷ (bs ++ rest)))
+          with_note (note_here i b (c ∷ (bs ++ rest))) place (noted next (c ∷ (bs ++ rest)))
           else []) closed.0
           ∙ ap (λ l. with_note (note_here i b (c ∷ (bs ++ rest))) place l) later.quiet
           ∙ quiet-here along q braces place last b c bs closed.1 rest;

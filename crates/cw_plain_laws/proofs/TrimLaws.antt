@@ -103,7 +103,7 @@ front-by : (s : Source) (begins : Bool) (item : Item) (items : List Item) (t : B
     → OwnsSame s (trim_front begins items) items
     → OwnsSame s (trim_front (begins_after begins item) items) items
     → OwnsSame s (if t then trim_front begins items
-        else item ∷ trim_front (begins_after begins item) items) (item ∷ items)
+    else item ∷ trim_front (begins_after begins item) items) (item ∷ items)
 front-by s begins item items true e gone kept stand = gone stand
     ∙ sym (break-quiet s item items (both-right begins (is_break item) e) stand)
 front-by s begins item items false e gone kept stand =

@@ -87,8 +87,8 @@ by-first : (byte next : ℕ) (bytes : List ℕ) (come : ℕ)
     → ((c : ℕ) → rest_bytes (portion_behind c) (next ∷ bytes) ≡ divided_units c (units (next ∷ bytes)))
     → (escapes : Bool) → (byte == 92) ≡ escapes
     → rest_bytes (portion_behind come) (byte ∷ next ∷ bytes) ≡ divided_units come (if escapes then
-          (byte ∷ next ∷ []) ∷ units bytes
-        else (byte ∷ []) ∷ units (next ∷ bytes))
+    (byte ∷ next ∷ []) ∷ units bytes
+    else (byte ∷ []) ∷ units (next ∷ bytes))
 by-first byte next bytes come behind others true is = pair-shown byte next bytes come is behind
 by-first byte next bytes come behind others false is =
     one-shown byte (next ∷ bytes) (units (next ∷ bytes)) come

@@ -35,9 +35,9 @@ byte-plain : (byte braces : ℕ) → is_special byte ≡ false → byte_piece by
 byte-plain byte braces is =
     let o = all-other (byte == 10) (byte == 64) (byte == 92) (byte == 123) (byte == 125) is in
     λ i. if o.second i then piece_of [] braces
-        else if o.fourth i then piece_of (byte ∷ []) (suc braces)
-        else if o.fifth i then closed braces
-        else piece_of ((if o.first i then 32 else byte) ∷ []) braces
+    else if o.fourth i then piece_of (byte ∷ []) (suc braces)
+    else if o.fifth i then closed braces
+    else piece_of ((if o.first i then 32 else byte) ∷ []) braces
 
 one-plain : (byte : ℕ) (bytes : List ℕ) (braces : ℕ) → is_special byte ≡ false
     → comment_piece (byte ∷ bytes) braces ≡ joined_pieces (piece_of (byte ∷ []) braces) (comment_piece bytes braces)
@@ -47,9 +47,9 @@ one-plain byte [] braces is =
 one-plain byte (next ∷ bytes) braces is =
     let o = all-other (byte == 10) (byte == 64) (byte == 92) (byte == 123) (byte == 125) is in
     λ i. if o.third i && not (next == 64) then
-          piece_then (piece_of (byte ∷ blank_for next ∷ []) braces) (comment_piece bytes)
-        else if o.second i && next == 64 then piece_then (piece_of (byte ∷ []) braces) (comment_piece bytes)
-        else piece_then (byte-plain byte braces is i) (comment_piece (next ∷ bytes))
+    piece_then (piece_of (byte ∷ blank_for next ∷ []) braces) (comment_piece bytes)
+    else if o.second i && next == 64 then piece_then (piece_of (byte ∷ []) braces) (comment_piece bytes)
+    else piece_then (byte-plain byte braces is i) (comment_piece (next ∷ bytes))
 
 abbrev plain : List ℕ → ℕ
 plain text = position_or_len is_special text

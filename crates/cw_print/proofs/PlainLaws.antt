@@ -33,9 +33,9 @@ one-said byte (next ∷ bytes) plain =
     let backslash : (byte == 92) ≡ false = other-than byte 92 refl plain in
     let at : (byte == 64) ≡ false = other-than byte 64 refl plain in
     λ i. if backslash i && next == 10 then string_bytes bytes
-        else if backslash i && not (next == 92 && begins 10 bytes) then byte ∷ next ∷ string_bytes bytes
-        else if at i && next == 64 then byte ∷ string_bytes bytes
-        else byte ∷ string_bytes (next ∷ bytes)
+    else if backslash i && not (next == 92 && begins 10 bytes) then byte ∷ next ∷ string_bytes bytes
+    else if at i && next == 64 then byte ∷ string_bytes bytes
+    else byte ∷ string_bytes (next ∷ bytes)
 
 -- and it prints itself where there is room for it
 one-printed : (room byte : ℕ) (bytes : List ℕ) → (room == 0) ≡ false → is_special byte ≡ false

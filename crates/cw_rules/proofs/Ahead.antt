@@ -152,8 +152,8 @@ module _ (s : Stop) (more : List ℕ) where
       λ i. (if digit i || (mark i && begins_by (is_in class) more) then 1 + more_digits class more else 0)
   more_digits-same class (b ∷ bs) g h =
       λ i. if is_in class b || (b == apostrophe && begins_by-same (is_in class) bs g h i) then
-            1 + more_digits-same class bs g h i
-          else 0
+      1 + more_digits-same class bs g h i
+      else 0
 
   digits-same : (class : Class) (bs : List ℕ) → is_in class 64 ≡ false → is_in class 124 ≡ false
       → digits class (bs ++ byte_of s ∷ more) ≡ digits class bs

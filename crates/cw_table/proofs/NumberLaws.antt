@@ -96,7 +96,7 @@ struck-reserved (Sub tree rest) = go (first_ident tree) (struck-reserved tree) (
     go Nothing a b = ap (λ ns. struck tree ++ ns) b
 struck-reserved (Inner tree rest) =
     ap (λ (b : Bool). if b then struck (reserve_first rest)
-        else struck tree ++ struck (reserve_first rest)) (continues-reserved rest)
+    else struck tree ++ struck (reserve_first rest)) (continues-reserved rest)
     ∙ ap (λ (ns : List ℕ). if continues_name rest then ns else struck tree ++ ns) (struck-reserved rest)
 
 numbers-set : (xs : List Scrap) (k : ℕ) → numbers_of (set xs k (reserved_in (get_or xs k no_scrap))) ≡ numbers_of xs

@@ -68,7 +68,7 @@ abbrev pub is_hazard : Row → Row → ℕ → Bool
 is_hazard row other places =
     ltb (places + row.offset) other.test_count
     && (list_any (brings row other (places + row.offset)) (pairs_of row)
-      && (suits_before row other places && (reserves row || suits_after row other places)))
+    && (suits_before row other places && (reserves row || suits_after row other places)))
 
 unfoldable pub endangers : List Row → Row → ℕ → Bool
 endangers rows row places = list_any (λ other. is_hazard row other places) rows

@@ -157,7 +157,7 @@ gaps-end : (gaps items : List Item) → AllGaps gaps → ends_text items ≡ tru
 gaps-end [] items all ends = refl
 gaps-end (gap ∷ gaps) items all ends =
     ap (λ (b : Bool). if is_break gap && b then trim_back (gaps ++ items)
-        else gap ∷ trim_back (gaps ++ items)) (ends-gaps gaps items all.1 ∙ ends)
+    else gap ∷ trim_back (gaps ++ items)) (ends-gaps gaps items all.1 ∙ ends)
     ∙ ap (λ (l : List Item). if is_break gap && true then l else gap ∷ l)
     (gaps-end gaps items all.1 ends)
     ∙ go (is_break gap)
@@ -173,7 +173,7 @@ gaps-stay : (gaps items : List Item) → AllGaps gaps → ends_text items ≡ fa
 gaps-stay [] items all ends = refl
 gaps-stay (gap ∷ gaps) items all ends =
     ap (λ (b : Bool). if is_break gap && b then trim_back (gaps ++ items)
-        else gap ∷ trim_back (gaps ++ items)) (ends-gaps gaps items all.1 ∙ ends)
+    else gap ∷ trim_back (gaps ++ items)) (ends-gaps gaps items all.1 ∙ ends)
     ∙ go (is_break gap)
     ∙ ap (λ (l : List Item). gap ∷ l) (gaps-stay gaps items all.1 ends)
   where
@@ -194,7 +194,7 @@ gap-and-item gaps (SignItem control) items all e =
     gaps-stay gaps (SignItem control ∷ items) all (ap (λ (b : Bool). b && ends_text items)
     e)
     ∙ ap (λ (b : Bool). gaps ++ (if b && ends_text items then trim_back items
-        else SignItem control ∷ trim_back items)) (sign-in-none control e)
+    else SignItem control ∷ trim_back items)) (sign-in-none control e)
 
 all-push : (gaps : List Item) (item : Item) → AllGaps gaps → is_gap item ≡ true → AllGaps (gaps ++ item ∷ [])
 all-push [] item all e = (e, tt)
@@ -338,7 +338,7 @@ module _ (old items : List FlatItem) (gap i kept : ℕ) (d : FlatItem) (within :
   next b is =
       ap unbroken (item-and-rest old items i d within k.rest)
       ∙ ap (λ (c : Bool). if c then unbroken (items_are (drop (i + 1) old))
-          else here ∷ unbroken (items_are (drop (i + 1) old))) is
+      else here ∷ unbroken (items_are (drop (i + 1) old))) is
 
   pub unbroken-kept : is_break here ≡ false → KeepsUnbroken old (set items kept (get_or items i d)) gap (i + 1)
       (kept + 1)

@@ -59,15 +59,15 @@ stored items kept item low = ap items_are (take_more_set items kept item low) �
 pub front_step : (begins : Bool) (item : Item) (items : List Item) (b : Bool)
     → (is_inserted item || (begins && is_break item)) ≡ b
     → trim_front begins (without_inserted (item ∷ items)) ≡ (if b then
-          trim_front begins (without_inserted items)
-        else item ∷ trim_front (begins_after begins item) (without_inserted items))
+    trim_front begins (without_inserted items)
+    else item ∷ trim_front (begins_after begins item) (without_inserted items))
 front_step begins item items b is =
     go (is_inserted item) ∙ ap (λ (c : Bool). if c then trim_front begins (without_inserted items)
-        else item ∷ trim_front (begins_after begins item) (without_inserted items)) is
+    else item ∷ trim_front (begins_after begins item) (without_inserted items)) is
   where
     go : (c : Bool) → trim_front begins (if c then without_inserted items else item ∷ without_inserted items)
         ≡ (if c || (begins && is_break item) then trim_front begins (without_inserted items)
-            else item ∷ trim_front (begins_after begins item) (without_inserted items))
+        else item ∷ trim_front (begins_after begins item) (without_inserted items))
     go true = refl
     go false = refl
 
@@ -78,8 +78,8 @@ module _ (old items : List FlatItem) (i kept : ℕ) (begins : Bool) (d : FlatIte
 
   next-front : (b : Bool) → (is_inserted item || (begins && is_break item)) ≡ b
       → trim_front begins (without_inserted (items_are (drop i old))) ≡ (if b then
-            trim_front begins (without_inserted (items_are (drop (i + 1) old)))
-          else item ∷ trim_front (begins_after begins item) (without_inserted (items_are (drop (i + 1) old))))
+      trim_front begins (without_inserted (items_are (drop (i + 1) old)))
+      else item ∷ trim_front (begins_after begins item) (without_inserted (items_are (drop (i + 1) old))))
   next-front b is =
       ap (λ l. trim_front begins (without_inserted l)) (item-and-rest old items i d within k.rest)
       ∙ front_step begins item (items_are (drop (i + 1) old)) b is

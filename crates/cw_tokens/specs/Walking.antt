@@ -80,4 +80,4 @@ size_above lists links root zero l = 0
 size_above lists links root (suc n) l =
     if eqb l root then 0
     else 1 + (size_from lists (get_or links l no_link).list (get_or links l no_link).place
-      + size_above lists links root n (get_or links l no_link).list)
+    + size_above lists links root n (get_or links l no_link).list)
