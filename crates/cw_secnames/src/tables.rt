@@ -7,7 +7,7 @@ use cw_base::Memory;
 use std::alloc::Global;
 use std::mem::replace;
 
-// How many rows the first table has, and each further one: a full table has two links a row.
+// How many rows the first table has, and each further one, which has two links a row when it is full.
 const FIRST_ROWS: usize = 1024;
 
 const ROWS: usize = 32768;
