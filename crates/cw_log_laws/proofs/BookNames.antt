@@ -17,7 +17,7 @@ use Rattle.cw_names.specs.Words.{built_in_words}
 use Rattle.cw_phase1.proofs.NameSizes.{all-short}
 use Rattle.cw_phase1.specs.Book.{answers_of, book}
 use Rattle.cw_phase1.specs.Roles.{Placed, placed}
-use Rattle.cw_phase1.specs.Texts.{entry_text}
+use Rattle.cw_rules.specs.ControlTexts.{text_behind_code}
 use Rattle.cw_phase1.specs.Uses.{references_of}
 use Rattle.cw_phase1.specs.Words.{KnownNames, category_of, known_after, known_behind, name_id, with_format}
 use Rattle.cw_phase1.specs.declared.roles.Role.{Role}
@@ -100,7 +100,7 @@ good-behind roles.Word text k g = good-entry Ident text k.names g
 good-behind (roles.FirstName silent) text k g = good-entry Ident text k.names g
 good-behind (roles.SecondName silent) text k g =
     good-format k.first (name_id Ident text k.names) (with_entry Ident text k.names) (good-entry Ident text k.names g)
-good-behind (roles.Entry kind) text k g = good-entry kind (entry_text text) k.names g
+good-behind (roles.Entry kind) text k g = good-entry kind (text_behind_code text) k.names g
 good-behind _ text k g = g
 
 good-after : (ps : List Placed) (k : KnownNames) → Good k.names → Good (known_after ps k).names

@@ -30,7 +30,7 @@ use Rattle.cw_phase1.specs.declared.words.Words.{Words}
 use Rattle.cw_phase1.specs.Roles.{Placed, Step, name_step, token_step, token_step_by, code_step, free_step}
 use Rattle.cw_phase1.specs.Roles.{section_step, word_role, head_role, behind_begin, placed_by, placed}
 use Rattle.cw_phase1.specs.Sections.{is_section_code}
-use Rattle.cw_phase1.specs.Texts.{entry_text}
+use Rattle.cw_rules.specs.ControlTexts.{text_behind_code}
 use Rattle.cw_phase1.specs.Uses.{use_by, reference_by}
 use Rattle.cw_phase1.specs.Outlining.{closing_by, closed_at, open_with, section_told_by}
 use Rattle.cw_phase1.specs.Words.{KnownNames, known_behind, with_format}
@@ -80,7 +80,7 @@ role-known (roles.FirstName silent) text k h = entered-below Ident text k.names
 role-known (roles.SecondName silent) text k h =
     subst (λ n. IfSome k.first (λ id. id.index < n))
     (sym (format-length k.first _ (names.with_entry Ident text k.names))) (word-known Ident text k h)
-role-known (roles.Entry kind) text k h = word-known kind (entry_text text) k h
+role-known (roles.Entry kind) text k h = word-known kind (text_behind_code text) k h
 role-known roles.SectionCode text k h = h
 role-known roles.Underline text k h = h
 role-known (roles.Name how) text k h = h

@@ -17,7 +17,7 @@ use Rattle.cw_phase1.specs.declared.roles.Role.{Role}
 use Rattle.cw_phase1.specs.declared.roles.Role.TheVariants as roles
 use Rattle.cw_phase1.specs.declared.told.Told.{Told}
 use Rattle.cw_phase1.specs.Roles.{Placed}
-use Rattle.cw_phase1.specs.Texts.{entry_text}
+use Rattle.cw_rules.specs.ControlTexts.{text_behind_code}
 use Rattle.cw_phase1.specs.Words.{KnownNames, Mention, mention, word, with_format, known_behind, known_after}
 use Rattle.cw_phase1.specs.Words.{names_after}
 use Rattle.cw_phase1.specs.Words.{mention_by, mentions_from, waits_behind, occurrence, occurrences}
@@ -122,7 +122,7 @@ role-keeps kind text n roles.Word word k s = with-entry kind text n Ident word k
 role-keeps kind text n (roles.FirstName silent) word k s = with-entry kind text n Ident word k.names s
 role-keeps kind text n (roles.SecondName silent) word k s =
     format k.first kind text n _ _ (with-entry kind text n Ident word k.names s)
-role-keeps kind text n (roles.Entry other) word k s = with-entry kind text n other (entry_text word) k.names s
+role-keeps kind text n (roles.Entry other) word k s = with-entry kind text n other (text_behind_code word) k.names s
 role-keeps kind text n roles.SectionCode word k s = s
 role-keeps kind text n roles.Underline word k s = s
 role-keeps kind text n (roles.Name how) word k s = s
@@ -155,8 +155,8 @@ mentioned (roles.SecondName false) p waits ps k =
     (format k.first Ident p.token.text _ _ _ (entered Ident p.token.text k.names))
 mentioned (roles.SecondName true) p waits ps k = refl
 mentioned (roles.Entry kind) p waits ps k =
-    one (mention kind (entry_text p.token.text) p waits) k.names ps (known_behind (roles.Entry kind) p.token.text k)
-    (entered kind (entry_text p.token.text) k.names)
+    one (mention kind (text_behind_code p.token.text) p waits) k.names ps (known_behind (roles.Entry kind) p.token.text k)
+    (entered kind (text_behind_code p.token.text) k.names)
 mentioned roles.SectionCode p waits ps k = refl
 mentioned roles.Underline p waits ps k = refl
 mentioned (roles.Name how) p waits ps k = refl

@@ -1,4 +1,4 @@
--- The texts of index entries and of section names, as their tokens have them.
+-- The texts of section names, as their tokens have them.
 use Rattle.std.specs.Prelude.{ℕ, ◌-◌, Bool, true, false, ◌==◌, ◌||◌, List, [], ◌∷◌, Option, Some, None, length, drop}
 use Rattle.std.specs.Prelude.{◌&&◌}
 use Rattle.std.specs.Prelude.{take, codes, nat_eq, if◌then◌else◌}
@@ -13,18 +13,6 @@ use Rattle.cw_rules.specs.Bytes.{is_in, greater, at_sign}
 use Rattle.cw_rules.specs.declared.classes.Class.TheVariants.{White}
 use Rattle.cw_secnames.specs.declared.kinds.SecKind.{SecKind}
 use Rattle.cw_secnames.specs.declared.kinds.SecKind.TheVariants.{Named, File}
-
--- The control text of an entry, behind its code: up to the first `@>`, where `@@` is one `@`, and another `@` is kept.
-abbrev pub indexed_text : List ℕ → List ℕ
-indexed_text [] = []
-indexed_text (byte ∷ []) = byte ∷ []
-indexed_text (byte ∷ next ∷ bytes) =
-    if byte == at_sign && next == greater then []
-    else if byte == at_sign && next == at_sign then at_sign ∷ indexed_text bytes
-    else byte ∷ indexed_text (next ∷ bytes)
-
-abbrev pub entry_text : List ℕ → List ℕ
-entry_text token = indexed_text (drop 2 token)
 
 -- White space is reduced to single blanks and dropped at both ends.
 abbrev pub blank_before : List ℕ → List ℕ

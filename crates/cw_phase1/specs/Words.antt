@@ -10,7 +10,7 @@ use Rattle.cw_names.specs.Names as names
 use Rattle.cw_phase1.specs.declared.roles.Role.{Role}
 use Rattle.cw_phase1.specs.declared.roles.Role.TheVariants as roles
 use Rattle.cw_phase1.specs.Roles.{Placed}
-use Rattle.cw_phase1.specs.Texts.{entry_text}
+use Rattle.cw_rules.specs.ControlTexts.{text_behind_code}
 
 -- ## Names
 
@@ -45,7 +45,7 @@ known_behind (roles.FirstName silent) text k =
     record { first = Some (name_id Ident text k.names); names = names.with_entry Ident text k.names }
 known_behind (roles.SecondName silent) text k =
     record k { names = with_format k.first (name_id Ident text k.names) (names.with_entry Ident text k.names) }
-known_behind (roles.Entry kind) text k = record k { names = names.with_entry kind (entry_text text) k.names }
+known_behind (roles.Entry kind) text k = record k { names = names.with_entry kind (text_behind_code text) k.names }
 known_behind role text k = k
 
 abbrev pub known_after : List Placed → KnownNames → KnownNames
@@ -78,7 +78,7 @@ mention_by roles.Parameter p waits = word p waits ∷ []
 mention_by roles.Word p waits = word p waits ∷ []
 mention_by (roles.FirstName false) p waits = word p waits ∷ []
 mention_by (roles.SecondName false) p waits = word p waits ∷ []
-mention_by (roles.Entry kind) p waits = mention kind (entry_text p.token.text) p waits ∷ []
+mention_by (roles.Entry kind) p waits = mention kind (text_behind_code p.token.text) p waits ∷ []
 mention_by role p waits = []
 
 -- whether an `@!` waits behind a token

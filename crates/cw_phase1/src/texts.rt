@@ -3,7 +3,8 @@ ghost use Rattle.std.specs.Prelude.{◌≡◌, ◌<◌, ◌≤◌, ◌∷◌, �
 ghost use Rattle.cw_rules.specs.Bytes.{is_in};
 ghost use Rattle.cw_rules.specs.Names.{uncoded};
 ghost use Rattle.cw_rules.specs.declared.classes.Class.TheVariants.{White};
-ghost use Rattle.cw_phase1.specs.Texts.{byte_of, indexed_text, entry_text, is_begun, name_text, rest_of};
+ghost use Rattle.cw_rules.specs.ControlTexts.{text_behind_code, text_to_end};
+ghost use Rattle.cw_phase1.specs.Texts.{byte_of, is_begun, name_text, rest_of};
 
 use cw_base::Memory;
 
@@ -17,8 +18,8 @@ struct Piece {
 // The first byte of a control text; None where it ends.
 fn first_piece(bytes: &[u8]) -> Option<Piece>
     requires { 0 < length bytes.now }
-    ensures value { MatchOption result (indexed_text bytes.now ≡ [])
-        (λ p. indexed_text bytes.now ≡ p.byte ∷ indexed_text (drop p.size bytes.now)) }
+    ensures value { MatchOption result (text_to_end bytes.now ≡ [])
+        (λ p. text_to_end bytes.now ≡ p.byte ∷ text_to_end (drop p.size bytes.now)) }
     ensures size { MatchOption result (Unit {0}) (λ p. (0 < p.size) × (p.size ≤ length bytes.now)) }
 {
     let byte = bytes[0];
@@ -37,7 +38,7 @@ fn first_piece(bytes: &[u8]) -> Option<Piece>
 
 /// The text of an index entry, in a buffer.
 pub(crate) fn entry_text(buffer: &mut Vec<u8>, token: &[u8]) -> Result<(), Memory>
-    ensures { OnOk result (buffer.new.items ≡ entry_text token.now) }
+    ensures { OnOk result (buffer.new.items ≡ text_behind_code token.now) }
 {
     buffer.clear();
     let mut at = 2;

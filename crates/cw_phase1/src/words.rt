@@ -3,7 +3,7 @@ ghost use Rattle.std.specs.Prelude.{◌≡◌, ◌<◌, ◌++◌, [], ◌∷◌,
 ghost use Rattle.cw_names.specs.Names.{with_entry};
 ghost use Rattle.cw_names.specs.Words.{built_in_words};
 ghost use Rattle.cw_phase1.specs.Placing.{placed_of};
-ghost use Rattle.cw_phase1.specs.Texts.{entry_text};
+ghost use Rattle.cw_rules.specs.ControlTexts.{text_behind_code};
 ghost use Rattle.cw_phase1.specs.Words.{name_id, with_format, occurrence};
 ghost use Rattle.cw_phase1.specs.Telling.{IsKnown, word_occurrence, word_told};
 

@@ -10,7 +10,7 @@ use Rattle.cw_trees.specs.declared.Control.{Control}
 use Rattle.cw_trees.specs.declared.Control.TheVariants.{CommentEnd, NameEnd}
 use Rattle.cw_trees.specs.Flat.{Item, SourceItem, IdentItem, ReservedItem, SignItem, Open, Close, is_run_sign}
 use Rattle.cw_print.specs.Found.{numbered}
-use Rattle.cw_print.specs.Texts.{control_bytes}
+use Rattle.cw_rules.specs.ControlTexts.{text_behind_code}
 
 -- What is laid out. Words and parts are bytes of the token of a number; all else is added to them.
 pub data Piece : Type 0 where
@@ -58,7 +58,7 @@ in_name stand = record stand { name = 1 }
 
 -- A code prints nothing, but for a text that is copied and for a string.
 abbrev pub code_text : Code → List ℕ → List ℕ
-code_text code.Verbatim text = control_bytes text
+code_text code.Verbatim text = text_behind_code text
 code_text code.Quote text = text
 code_text _ text = []
 

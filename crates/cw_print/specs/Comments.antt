@@ -2,7 +2,7 @@
 use Rattle.std.specs.Prelude.{◌≡◌, ℕ, zero, suc, ◌&&◌, ◌||◌, ◌==◌, Bool, not, List, [], ◌∷◌, ◌++◌, if◌then◌else◌}
 use Rattle.cw_base.specs.Bytes.{newline, space, backslash}
 use Rattle.cw_rules.specs.Bytes.{at_sign, left_brace, right_brace}
-use Rattle.cw_print.specs.Texts.{is_at_pair}
+use Rattle.cw_rules.specs.ControlTexts.{is_at_pair}
 
 -- What bytes of a comment print, and how many of its braces are open behind them.
 pub record CommentPiece : Type 0 where

@@ -1,8 +1,9 @@
--- The bytes that strings, include names and control texts say, and how long ones are divided.
-use Rattle.std.specs.Prelude.{ℕ, ◌+◌, ◌&&◌, ◌==◌, nat_le, Bool, List, [], ◌∷◌, ◌++◌, codes, drop, length, if◌then◌else◌}
+-- The bytes that strings and include names say, and how long texts are divided.
+use Rattle.std.specs.Prelude.{ℕ, ◌+◌, ◌&&◌, ◌==◌, nat_le, Bool, List, [], ◌∷◌, ◌++◌, codes, length, if◌then◌else◌}
 use Rattle.std.specs.Prelude.{not}
 use Rattle.cw_base.specs.Bytes.{backslash, newline}
-use Rattle.cw_rules.specs.Bytes.{begins, greater, at_sign}
+use Rattle.cw_rules.specs.Bytes.{begins}
+use Rattle.cw_rules.specs.ControlTexts.{is_at_pair}
 use Rattle.cw_print.specs.Escaping.{braced, escaped}
 
 -- In a string `@@` is one `@`, and a backslash and a line's end print nothing. Any other byte behind a backslash is
@@ -13,9 +14,6 @@ is_continued byte next = byte == backslash && next == newline
 abbrev pub is_pair : ℕ → ℕ → List ℕ → Bool
 is_pair byte next bytes =
     byte == backslash && not (next == backslash && begins newline bytes)
-
-abbrev pub is_at_pair : ℕ → ℕ → Bool
-is_at_pair byte next = byte == at_sign && next == at_sign
 
 abbrev pub string_bytes : List ℕ → List ℕ
 string_bytes [] = []
@@ -63,21 +61,3 @@ divided text = divided_units 0 (units text)
 -- a text in typewriter type at which a line may be broken
 abbrev pub divided_typewriter : List ℕ → List ℕ
 divided_typewriter text = braced (codes "\\.") (divided text)
-
--- ## Control texts
-
--- A control text goes to the first `@>`. In it `@@` is one `@`, and another `@` is kept.
-abbrev pub is_text_end : ℕ → ℕ → Bool
-is_text_end byte next = byte == at_sign && next == greater
-
-abbrev pub text_to_end : List ℕ → List ℕ
-text_to_end [] = []
-text_to_end (byte ∷ []) = byte ∷ []
-text_to_end (byte ∷ next ∷ bytes) =
-    if is_text_end byte next then []
-    else if is_at_pair byte next then byte ∷ text_to_end bytes
-    else byte ∷ text_to_end (next ∷ bytes)
-
--- the text behind a code's two bytes
-abbrev pub control_bytes : List ℕ → List ℕ
-control_bytes token = text_to_end (drop 2 token)

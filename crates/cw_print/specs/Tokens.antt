@@ -9,7 +9,8 @@ use Rattle.cw_rules.specs.declared.tokens.TokKind.TheVariants as kind
 use Rattle.cw_rules.specs.Signs.{spelling}
 use Rattle.cw_print.specs.Escaping.{escaped, braced, typewriter}
 use Rattle.cw_print.specs.Constants.{constant_bytes}
-use Rattle.cw_print.specs.Texts.{string_bytes, include_bytes, control_bytes, divided_typewriter}
+use Rattle.cw_rules.specs.ControlTexts.{text_behind_code}
+use Rattle.cw_print.specs.Texts.{string_bytes, include_bytes, divided_typewriter}
 
 -- A sign has a macro, or prints itself.
 abbrev pub sign_macro : Sign → List ℕ
@@ -42,8 +43,8 @@ sign_macro other = spelling other
 
 -- A code by its text, or by a macro. `@'` is a string with these two bytes before it.
 abbrev pub code_bytes : Code → List ℕ → List ℕ
-code_bytes code.Verbatim text = braced (codes "\\vb") (escaped (control_bytes text))
-code_bytes code.TexBox text = braced (codes "\\hbox") (control_bytes text)
+code_bytes code.Verbatim text = braced (codes "\\vb") (escaped (text_behind_code text))
+code_bytes code.TexBox text = braced (codes "\\hbox") (text_behind_code text)
 code_bytes code.Quote text = divided_typewriter (codes "@'" ++ string_bytes (drop 2 text))
 code_bytes code.Join text = codes "\\J"
 code_bytes code.HeaderFile text = codes "\\ATH"

@@ -2,8 +2,8 @@
 ghost use Rattle.std.specs.Prelude.{◌≡◌, ◌≤◌, ◌++◌, ◌∷◌, IfOk, OnOk, length};
 ghost use Rattle.cw_print.specs.Dividing.{rest_bytes};
 ghost use Rattle.cw_print.specs.Escaping.{escaped};
-ghost use Rattle.cw_print.specs.Texts.{is_continued, is_pair, is_at_pair, string_bytes, include_bytes, is_text_end};
-ghost use Rattle.cw_print.specs.Texts.{divided, text_to_end};
+ghost use Rattle.cw_rules.specs.ControlTexts.{is_at_pair, is_text_end, text_to_end};
+ghost use Rattle.cw_print.specs.Texts.{divided, is_continued, is_pair, string_bytes, include_bytes};
 
 use crate::dividing::{Portion, is_special};
 use crate::escaping::{put_escaped, put_escaped_byte};

@@ -1,6 +1,6 @@
 //! The bytes of tokens.
 ghost use Rattle.std.specs.Prelude.{◌≡◌, ◌++◌, OnOk, drop};
-ghost use Rattle.cw_print.specs.Texts.{control_bytes};
+ghost use Rattle.cw_rules.specs.ControlTexts.{text_behind_code};
 ghost use Rattle.cw_print.specs.Tokens.{code_bytes, token_bytes};
 
 use crate::constants::put_constant;
@@ -21,7 +21,7 @@ fn behind_code(text: &[u8]) -> &[u8]
 
 /// Appends what the control text of a code says.
 pub fn put_code_text(out: &mut Bytes, text: &[u8]) -> Result<(), Memory>
-    ensures { OnOk result (out.new ≡ out.old ++ control_bytes text.now) }
+    ensures { OnOk result (out.new ≡ out.old ++ text_behind_code text.now) }
 {
     put_control_text(out, behind_code(text))
 }

@@ -4,6 +4,7 @@ pub mod Signs
 pub mod Constants
 pub mod Prefixes
 pub mod Codes
+pub mod ControlTexts
 pub mod Bodies
 pub mod Names
 pub mod Answers

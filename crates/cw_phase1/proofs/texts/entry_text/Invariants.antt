@@ -1,10 +1,10 @@
 -- The bytes so far, and what the rest of the control text stands for, are the text of the entry.
 use Rattle.std.proofs.Common.{◌≡◌, ◌-◌, ◌++◌, length, drop}
-use Rattle.cw_phase1.specs.Texts.{indexed_text}
+use Rattle.cw_rules.specs.ControlTexts.{text_to_end}
 use Rattle.cw_phase1.proofs.texts.entry_text.Given as goal
 
 abbrev pub invariant-loop-at : goal.invariant-loop-at
-invariant-loop-at l = l.buffer.items ++ indexed_text (drop l.at l.token) ≡ indexed_text (drop 2 l.token)
+invariant-loop-at l = l.buffer.items ++ text_to_end (drop l.at l.token) ≡ text_to_end (drop 2 l.token)
 
 abbrev pub decreases-loop-at : goal.decreases-loop-at
 decreases-loop-at l = length l.token - l.at

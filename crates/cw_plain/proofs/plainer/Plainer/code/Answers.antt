@@ -2,7 +2,7 @@
 use Rattle.std.proofs.Common.{◌≡◌, ℕ, List, [], ◌++◌, refl, sym, ap, ◌∙◌}
 use Rattle.cw_rules.specs.declared.codes.Code.{Code}
 use Rattle.cw_rules.specs.declared.tokens.TokKind.TheVariants as kinds
-use Rattle.cw_print.specs.Texts.{control_bytes}
+use Rattle.cw_rules.specs.ControlTexts.{text_behind_code}
 use Rattle.cw_plain.specs.Pieces.{Placed, Stand, Word, placed, token_placed}
 use Rattle.cw_plain.specs.Titles.{titles}
 use Rattle.cw_plain.specs.Walking.{Walked}
@@ -16,9 +16,9 @@ code_in number code text w =
 pub returns-in_ok-put_code_text-in-Verbatim-clause-makes : goal.returns-in_ok-put_code_text-in-Verbatim-clause-makes
 returns-in_ok-put_code_text-in-Verbatim-clause-makes c =
     let stand : Stand = record { name = c.self.inside.name; comments = c.self.inside.comments } in
-    let word : c.as_slice.result.now ≡ control_bytes c.args.text.now =
+    let word : c.as_slice.result.now ≡ text_behind_code c.args.text.now =
     cc (
-      ap (λ (bytes : List ℕ). bytes ++ control_bytes c.args.text.now) c.new_in-word.ensures,
+      ap (λ (bytes : List ℕ). bytes ++ text_behind_code c.args.text.now) c.new_in-word.ensures,
       c.in_ok-put_code_text-in-Verbatim.ensures,
       c.as_slice.ensures,
     ) in
