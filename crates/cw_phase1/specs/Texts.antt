@@ -1,6 +1,5 @@
 -- The texts of section names, as their tokens have them.
 use Rattle.std.specs.Prelude.{ℕ, ◌-◌, Bool, true, false, ◌==◌, ◌||◌, List, [], ◌∷◌, Option, Some, None, length, drop}
-use Rattle.std.specs.Prelude.{◌&&◌}
 use Rattle.std.specs.Prelude.{take, codes, nat_eq, if◌then◌else◌}
 use Rattle.std.specs.List.{ends_with}
 use Rattle.std.specs.Cmp.Lexicographic.{pointwise}
@@ -9,7 +8,7 @@ use Rattle.cw_rules.specs.declared.codes.Code.TheVariants as at
 use Rattle.cw_rules.specs.declared.tokens.TokKind.{TokKind}
 use Rattle.cw_rules.specs.declared.tokens.TokKind.TheVariants as kinds
 use Rattle.cw_rules.specs.Names.{is_void, uncoded}
-use Rattle.cw_rules.specs.Bytes.{is_in, greater, at_sign}
+use Rattle.cw_rules.specs.Bytes.{is_in}
 use Rattle.cw_rules.specs.declared.classes.Class.TheVariants.{White}
 use Rattle.cw_secnames.specs.declared.kinds.SecKind.{SecKind}
 use Rattle.cw_secnames.specs.declared.kinds.SecKind.TheVariants.{Named, File}
