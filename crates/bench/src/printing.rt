@@ -1,10 +1,11 @@
 //! Prints ordinary C from its translation.
-ghost use Rattle.std.specs.Prelude.{◌≡◌, ◌<◌, IsTrue, false, length};
+ghost use Rattle.std.specs.Prelude.{◌≡◌, ◌<◌, IsTrue, None, false, length};
 ghost use Rattle.cw_base.specs.declared.event.Out.TheVariants.{Tex};
 ghost use Rattle.cw_desk.specs.Meaning.{is_open};
 ghost use Rattle.cw_lex.specs.Nested.{begins_section_in};
 ghost use Rattle.cw_scraps.specs.Lines.{IsNamedBelow};
 ghost use Rattle.cw_tokens.specs.Shapes.{unfolded};
+ghost use Rattle.cw_translator.specs.NameParts.{AreNamesOf};
 
 use crate::samples::{LARGEST, ORDINARY, SMALL, repeated};
 use cw_answers::Answers;
@@ -20,36 +21,64 @@ use cw_tokens::{ListId, TokenStore};
 use std::alloc::Global;
 use std::io;
 
+// What a text needs while it is translated and printed.
+#[derive(Drop)]
+struct Held {
+    answers: Answers,
+    book: Book,
+    store: TokenStore,
+    marks: Marks,
+}
+
 // The printing alone, whose instructions are counted. Answers how many lines were ended.
 #[inline(never)]
 fn measured<D: Desk>(
     alloc: Global,
-    answers: &Answers,
-    book: &Book,
-    store: &TokenStore,
+    held: &Held,
     list: ListId,
     desk: &mut D,
 ) -> Result<u64, PutError>
     requires made { IsTrue (is_open (D.told desk.old).outputs Tex) }
-    requires uncut { begins_section_in answers.now ≡ false }
-    requires list { list.index < length store.now.lists }
-    requires named { IsNamedBelow (length book.now.names) (unfolded store.now.lists list.index) }
+    requires uncut { begins_section_in held.now.answers ≡ false }
+    requires list { list.index < length held.now.store.lists }
+    requires named { IsNamedBelow (length held.now.book.names) (unfolded held.now.store.lists list.index) }
 {
     let text = KeptText {
-        answers,
-        book,
+        answers: &held.answers,
+        book: &held.book,
         section: 0,
         flags: &Flags::start(),
         inner: false,
     };
     let mut out = LineOut::new_in(alloc, Out::Tex);
-    print_answers(alloc, text, store, list, &mut out, desk)?;
+    print_answers(alloc, text, &held.store, list, &mut out, desk)?;
     Ok(out.lines())
 }
 
 // Translates and prints a text.
 fn printed<D: Desk>(alloc: Global, text: &[u8], desk: &mut D) -> Result<u64, PutError>
     requires made { IsTrue (is_open (D.told desk.old).outputs Tex) }
+{
+    let book = phase_one(alloc, &Web::new_in(alloc))?;
+    let mut held = Held {
+        answers: Answers::new_in(alloc),
+        book,
+        store: TokenStore::new_in(alloc),
+        marks: Marks::new_in(alloc),
+    };
+    printed_in(alloc, text, &mut held, desk)
+}
+
+// The same with what is empty yet.
+fn printed_in<D: Desk>(
+    alloc: Global,
+    text: &[u8],
+    held: &mut Held,
+    desk: &mut D,
+) -> Result<u64, PutError>
+    requires made { IsTrue (is_open (D.told desk.old).outputs Tex) }
+    requires kept { AreNamesOf held.old.book.sec_names held.old.book.name_uses }
+    requires idle { held.old.store.building ≡ None }
 {
     let span = Span {
         start: 0,
@@ -58,26 +87,22 @@ fn printed<D: Desk>(alloc: Global, text: &[u8], desk: &mut D) -> Result<u64, Put
     if text.len() > LARGEST || !is_uncut(text, span, Mode::CPart) {
         return Err(PutError::Memory);
     }
-    let mut answers = Answers::new_in(alloc);
-    answers.scan(text, span, Mode::CPart)?;
-    let mut book = phase_one(alloc, &Web::new_in(alloc))?;
-    let mut store = TokenStore::new_in(alloc);
-    let mut marks = Marks::new_in(alloc);
+    held.answers.scan(text, span, Mode::CPart)?;
     let mut steps: Steps<Silent> = Steps::new();
     let done = translate(
         alloc,
         text,
         span,
         Mode::CPart,
-        &mut book.names,
-        &book.sec_names,
-        &book.name_uses,
-        &mut store,
-        &mut marks,
+        &mut held.book.names,
+        &held.book.sec_names,
+        &held.book.name_uses,
+        &mut held.store,
+        &mut held.marks,
         &Flags::start(),
         &mut steps,
     )?;
-    measured(alloc, &answers, &book, &store, done.list, desk)
+    measured(alloc, held, done.list, desk)
 }
 
 /// Prints it to no file.
