@@ -15,7 +15,7 @@ use Rattle.cw_base.specs.declared.category.CatSet.{CatSet}
 use Rattle.cw_base.specs.Category.{all_cats, in_set, meet, number_of}
 use Rattle.cw_base.proofs.CategoryLaws.{each-of, place-of}
 use Rattle.cw_base.proofs.SetLaws.{any-at, meet-by}
-use Rattle.cw_base.proofs.TestLaws.{both, both-failed, both-left, both-right, not-false, not-true, other-one}
+use Rattle.cw_base.proofs.TestLaws.{both, both-failed, both-left, both-right, not-false, not-true, other-one, both-left, both-right}
 use Rattle.cw_base.proofs.TestLaws.{one-failed-left, one-failed-right, one-left, one-right}
 use Rattle.cw_table.specs.declared.types.RowResult.{RowResult}
 use Rattle.cw_table.specs.declared.types.RowResult.TheVariants.{Is, SameAs}
@@ -29,14 +29,6 @@ use Rattle.cw_table.proofs.FirstLaws.{first-behind, first-here, length-tests_of}
 use Rattle.cw_table.proofs.Soundness.{sound-row}
 
 -- Lists and tests.
-
-first-true : (b x : Bool) → (b && x) ≡ true → b ≡ true
-first-true true x h = refl
-first-true false x h = h
-
-rest-true : (b x : Bool) → (b && x) ≡ true → x ≡ true
-rest-true true x h = h
-rest-true false x h = absurd cc
 
 both-true : (b x : Bool) → b ≡ true → x ≡ true → (b && x) ≡ true
 both-true true x h k = k
@@ -113,10 +105,10 @@ any-member p s c h k =
 pub hold-at : (tests : List CatSet) (cats : List Cat) (k : ℕ) → all_hold tests cats ≡ true → k < length tests
     → in_set (get_or tests k empty) (get_or cats k End) ≡ true
 hold-at [] cats k h lt = absurd (omega arith)
-hold-at (test ∷ tests) [] zero h lt = first-true _ _ h
-hold-at (test ∷ tests) [] (suc k) h lt = hold-at tests [] k (rest-true _ _ h) (omega arith)
-hold-at (test ∷ tests) (cat ∷ cats) zero h lt = first-true _ _ h
-hold-at (test ∷ tests) (cat ∷ cats) (suc k) h lt = hold-at tests cats k (rest-true _ _ h) (omega arith)
+hold-at (test ∷ tests) [] zero h lt = both-left _ _ h
+hold-at (test ∷ tests) [] (suc k) h lt = hold-at tests [] k (both-right _ _ h) (omega arith)
+hold-at (test ∷ tests) (cat ∷ cats) zero h lt = both-left _ _ h
+hold-at (test ∷ tests) (cat ∷ cats) (suc k) h lt = hold-at tests cats k (both-right _ _ h) (omega arith)
 
 pub hold-from : (tests : List CatSet) (cats : List Cat)
     → ((k : ℕ) → k < length tests → in_set (get_or tests k empty) (get_or cats k End) ≡ true) → all_hold tests cats
