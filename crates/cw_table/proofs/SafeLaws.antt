@@ -15,7 +15,7 @@ use Rattle.cw_base.specs.declared.category.CatSet.{CatSet}
 use Rattle.cw_base.specs.Category.{all_cats, in_set, meet, number_of}
 use Rattle.cw_base.proofs.CategoryLaws.{each-of, place-of}
 use Rattle.cw_base.proofs.SetLaws.{any-at, meet-by}
-use Rattle.cw_base.proofs.TestLaws.{both, both-failed, both-left, both-right, not-false, not-true, other-one, both-left, both-right}
+use Rattle.cw_base.proofs.TestLaws.{both, both-failed, both-left, both-right, not-false, not-true, other-one}
 use Rattle.cw_base.proofs.TestLaws.{one-failed-left, one-failed-right, one-left, one-right}
 use Rattle.cw_table.specs.declared.types.RowResult.{RowResult}
 use Rattle.cw_table.specs.declared.types.RowResult.TheVariants.{Is, SameAs}
@@ -29,10 +29,6 @@ use Rattle.cw_table.proofs.FirstLaws.{first-behind, first-here, length-tests_of}
 use Rattle.cw_table.proofs.Soundness.{sound-row}
 
 -- Lists and tests.
-
-both-true : (b x : Bool) → b ≡ true → x ≡ true → (b && x) ≡ true
-both-true true x h k = k
-both-true false x h k = h
 
 pub all-numbers : (p : ℕ → Bool) (first n : ℕ) → ((i : ℕ) → i < n → p (first + i) ≡ true)
     → list_all p (numbers_from first n) ≡ true
@@ -114,9 +110,9 @@ pub hold-from : (tests : List CatSet) (cats : List Cat)
     → ((k : ℕ) → k < length tests → in_set (get_or tests k empty) (get_or cats k End) ≡ true) → all_hold tests cats
     ≡ true
 hold-from [] cats h = refl
-hold-from (test ∷ tests) [] h = both-true _ _ (h 0 (omega arith)) (hold-from tests [] (λ k lt. h (suc k) (omega arith)))
+hold-from (test ∷ tests) [] h = both _ _ (h 0 (omega arith)) (hold-from tests [] (λ k lt. h (suc k) (omega arith)))
 hold-from (test ∷ tests) (cat ∷ cats) h =
-    both-true _ _ (h 0 (omega arith)) (hold-from tests cats (λ k lt. h (suc k) (omega arith)))
+    both _ _ (h 0 (omega arith)) (hold-from tests cats (λ k lt. h (suc k) (omega arith)))
 
 pub same-pairs : (row : Row) (k : ℕ) → eqb k row.offset ≡ true → pairs_by (SameAs k) row
     ≡ map (λ c. (c, c)) (members (test row row.offset))
