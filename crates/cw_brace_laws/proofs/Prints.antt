@@ -58,7 +58,7 @@ break-plain (suc (suc (suc (suc n)))) d = refl
 backup-plain : (run : List Control) → ArePlain (backup_bytes run)
 backup-plain run d = go (list_any is_backup run)
   where
-    go : (b : Bool) → bytes_depth list_if b (codes "\\4") d ≡ Some d
+    go : (b : Bool) → bytes_depth (list_if b (codes "\\4")) d ≡ Some d
     go true = refl
     go false = refl
 
