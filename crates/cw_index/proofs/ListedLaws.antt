@@ -12,7 +12,7 @@ use Rattle.cw_part.proofs.WovenLaws.{weaves-stopped, weaving-begun, weaving-last
 use Rattle.cw_part.proofs.WovenLaws.{weaving-next}
 use Rattle.cw_texpart.proofs.WeavingLaws.{weaves-behind, weaves-refused}
 use Rattle.cw_texpart.specs.declared.counts.Counts.{Counts}
-use Rattle.cw_texpart.specs.Done.{Done, done_behind, as_it_is, then}
+use Rattle.cw_texpart.specs.Done.{Done, done_behind, as_it_is, done_then}
 use Rattle.cw_texpart.specs.Texts.{Setting}
 use Rattle.cw_texpart.specs.Weaving.{Press, Weaves}
 
@@ -25,9 +25,9 @@ no-sums = record { scraps = refl; productions = refl }
 -- a text is woven; bytes are still to be put behind it
 behind-text : {s : Setting} (text : List Entry → Done ℕ) (back : List ℕ) {old mid : Press} {counts : Counts}
     → Weaves s (text old.book.names) old mid (Ok counts)
-    → Weaving s (as_it_is back) (then (text old.book.names) (as_it_is back)) old mid counts
+    → Weaving s (as_it_is back) (done_then (text old.book.names) (as_it_is back)) old mid counts
 behind-text {s = s} text back {old = old} {counts = counts} woven =
-    weaving-next text (as_it_is back) (weaving-begun s (λ names. then (text names) (as_it_is back)) old no-sums) woven
+    weaving-next text (as_it_is back) (weaving-begun s (λ names. done_then (text names) (as_it_is back)) old no-sums) woven
     (none-first counts)
 
 -- The front is refused.
@@ -44,7 +44,7 @@ pub text-refused : {T : Type 0} {s : Setting} {front : List ℕ} {d : Done ℕ} 
     → Puts {T = T} front old.line line old.told told (Ok value)
     → Weaves s d (record { book = old.book; line = line; told = told; steps = old.steps }) new (Err error)
     → IsErrAnd result (λ found. found ≡ error)
-    → Weaves s (done_behind front (then d (as_it_is back))) old new result
+    → Weaves s (done_behind front (done_then d (as_it_is back))) old new result
 text-refused {d = d} back put woven is = weaves-behind put (weaves-stopped (as_it_is back d.names) woven is)
 
 -- What stands behind it is refused.
@@ -55,7 +55,7 @@ pub back-refused : {T U : Type 0} {s : Setting} {front : List ℕ} (text : List 
     → Weaves s (text old.book.names) (record { book = old.book; line = line; told = told; steps = old.steps }) mid
     (Ok counts)
     → Puts {T = U} back mid.line line' mid.told told' (Err error) → IsErrAnd result (λ found. found ≡ error)
-    → Weaves s (done_behind front (then (text old.book.names) (as_it_is back))) old
+    → Weaves s (done_behind front (done_then (text old.book.names) (as_it_is back))) old
     (record { book = mid.book; line = line'; told = told'; steps = mid.steps }) result
 back-refused text back put woven ended is =
     weaves-behind put (weaving-last-stopped (behind-text text back woven) (bytes-refused ended refl) is)
@@ -67,7 +67,7 @@ pub listed-woven : {T U : Type 0} {s : Setting} {front : List ℕ} (text : List 
     → Weaves s (text old.book.names) (record { book = old.book; line = line; told = told; steps = old.steps }) mid
     (Ok counts)
     → Puts {T = U} back mid.line line' mid.told told' (Ok ended)
-    → Weaves s (done_behind front (then (text old.book.names) (as_it_is back))) old
+    → Weaves s (done_behind front (done_then (text old.book.names) (as_it_is back))) old
     (record { book = mid.book; line = line'; told = told'; steps = mid.steps }) (Ok counts)
 listed-woven text back {counts = counts} put woven ended =
     weaves-behind put (weaving-last (behind-text text back woven) (weaves-bytes ended) (nothing-more counts))

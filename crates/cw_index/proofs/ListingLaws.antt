@@ -6,7 +6,7 @@ use Rattle.cw_lines.specs.declared.put_error.PutError.{PutError}
 use Rattle.cw_names.specs.Names.{Entry}
 use Rattle.cw_part.proofs.WovenLaws.{AreSums, Weaving, weaving-ended}
 use Rattle.cw_texpart.specs.declared.counts.Counts.{Counts}
-use Rattle.cw_texpart.specs.Done.{Done, then}
+use Rattle.cw_texpart.specs.Done.{Done, done_then}
 use Rattle.cw_texpart.specs.Texts.{Lasting, Setting}
 use Rattle.cw_texpart.specs.Weaving.{Press, Weaves}
 use Rattle.cw_index.specs.declared.names.ListText.{ListText}
@@ -19,7 +19,7 @@ pub listed-next : {s : Setting} {all : Done ℕ} {old now : Press} {counts : Cou
     (d : Listed) → i < length ls
     → Weaving s (all_listed s (drop i ls)) all old now counts
     → Weaving s
-    (λ names. then (listed_done s (slice_index_or ls i d) names) (all_listed s (drop (i + 1) ls))) all old now counts
+    (λ names. done_then (listed_done s (slice_index_or ls i d) names) (all_listed s (drop (i + 1) ls))) all old now counts
 listed-next {s = s} {all = all} {old = old} {now = now} {counts = counts} ls i d within w =
     subst (λ (rest : List Listed). Weaving s (all_listed s rest) all old now counts) (drop_more ls i d within) w
 

@@ -6,7 +6,7 @@ use Rattle.cw_lex.specs.Lexing.{tokens_of}
 use Rattle.cw_rules.specs.declared.tokens.Mode.TheVariants.{Inner}
 use Rattle.cw_names.specs.Names.{Entry}
 use Rattle.cw_part.specs.Footnotes.{of_name, use_footnotes}
-use Rattle.cw_texpart.specs.Done.{Done, done_behind, as_it_is, then}
+use Rattle.cw_texpart.specs.Done.{Done, done_behind, as_it_is, done_then}
 use Rattle.cw_texpart.specs.TexParts.{IsWhole}
 use Rattle.cw_texpart.specs.Texts.{Lasting, Setting, text_done}
 use Rattle.cw_index.specs.Standing.{listed_names}
@@ -30,13 +30,13 @@ name_ending s l = codes "\n" ++ use_notes s.book l
 -- A listed name prints as a C text of its own.
 abbrev pub listed_done : Setting → Listed → List Entry → Done ℕ
 listed_done s l names =
-    done_behind (codes "\\I") (then (text_done s Inner false (name_span s.text l.place) names)
+    done_behind (codes "\\I") (done_then (text_done s Inner false (name_span s.text l.place) names)
     (as_it_is (name_ending s l)))
 
 -- names that are listed one after another
 abbrev pub all_listed : Setting → List Listed → List Entry → Done ℕ
 all_listed s [] names = as_it_is [] names
-all_listed s (l ∷ ls) names = then (listed_done s l names) (all_listed s ls)
+all_listed s (l ∷ ls) names = done_then (listed_done s l names) (all_listed s ls)
 
 abbrev pub names_done : Setting → List Entry → Done ℕ
 names_done s names = all_listed s (listed_names s.book.sec_names s.book.name_uses) names

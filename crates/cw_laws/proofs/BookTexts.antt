@@ -22,7 +22,7 @@ use Rattle.cw_rules.specs.declared.tokens.Mode.TheVariants as modes
 use Rattle.cw_secnames.specs.Uses.{name_at}
 use Rattle.cw_table.specs.Rewriting.{State}
 use Rattle.cw_texpart.specs.Beside.{first_code, has_definition, has_prose, is_nothing}
-use Rattle.cw_texpart.specs.Done.{Done, as_it_is, reprinted, then}
+use Rattle.cw_texpart.specs.Done.{Done, as_it_is, reprinted, done_then}
 use Rattle.cw_texpart.specs.Heads.{head}
 use Rattle.cw_texpart.specs.Inks.{prints}
 use Rattle.cw_texpart.specs.TexParts.{beside_in, piece_done, pieces_done, head_and_tex, tex_done}
@@ -56,7 +56,7 @@ module _ (looked_at : List State → List State)
 
   across : {X Y : Type 0} (d : Done X) (e : Done Y) (f : List Entry → Done X) (g : List Entry → Done Y)
       → LeaveTheSame looked_at d e → ((names : List Entry) → LeaveTheSame looked_at (f names) (g names))
-      → LeaveTheSame looked_at (then d f) (then e g)
+      → LeaveTheSame looked_at (done_then d f) (done_then e g)
   across d e f g p q = record {
     names = (q d.names).names ∙ ap (λ ns. (g ns).names) p.names;
     marks = ap (λ ms. ms ++ (f d.names).marks) p.marks
@@ -70,11 +70,11 @@ module _ (looked_at : List State → List State)
 
   -- texts, and others behind them
   refs-joined : (s : Setting) (rs qs : List TextRef) (names : List Entry)
-      → LeaveTheSame looked_at (then (refs_done s rs names) (refs_done s qs)) (refs_done s (rs ++ qs) names)
+      → LeaveTheSame looked_at (done_then (refs_done s rs names) (refs_done s qs)) (refs_done s (rs ++ qs) names)
   refs-joined s [] qs names = record { names = refl; marks = refl; ended = refl }
   refs-joined s (r ∷ rs) qs names =
       let d : Done ℕ = ref_done s r names in
-      let t : LeaveTheSame looked_at (then (refs_done s rs d.names) (refs_done s qs)) (refs_done s (rs ++ qs) d.names) =
+      let t : LeaveTheSame looked_at (done_then (refs_done s rs d.names) (refs_done s qs)) (refs_done s (rs ++ qs) d.names) =
       refs-joined s rs qs d.names in
       record {
         names = t.names;
@@ -114,7 +114,7 @@ module _ (looked_at : List State → List State)
   pieces-left s n [] names = record { names = refl; marks = refl; ended = refl }
   pieces-left s n (p ∷ ps) names =
       trans (pieces_done (at_section s n) (p ∷ ps) names)
-      (then (refs_done s (piece_refs s.book.name_uses n p) names) (refs_done s (tex_refs s.book.name_uses n ps)))
+      (done_then (refs_done s (piece_refs s.book.name_uses n p) names) (refs_done s (tex_refs s.book.name_uses n ps)))
       (refs_done s (tex_refs s.book.name_uses n (p ∷ ps)) names)
       (across (piece_done (at_section s n) p names) (refs_done s (piece_refs s.book.name_uses n p) names)
       (pieces_done (at_section s n) ps) (refs_done s (tex_refs s.book.name_uses n ps)) (piece-left s n p names)
@@ -146,7 +146,7 @@ module _ (looked_at : List State → List State)
       (ref_done s (text_ref n modes.CPart section.c_part) names)
 
   nothing-left : (s : Setting) (d : Done ℕ) (out : List ℕ) (names : List Entry) → LeavesNothing looked_at names d
-      → LeaveTheSame looked_at (then d (as_it_is out)) (refs_done s [] names)
+      → LeaveTheSame looked_at (done_then d (as_it_is out)) (refs_done s [] names)
   nothing-left s d out names l = record {
     names = l.names;
     marks = append-nil d.marks ∙ l.marks;
@@ -155,7 +155,7 @@ module _ (looked_at : List State → List State)
 
   part-left : (s : Setting) (n : ℕ) (section : Section) (b : Bool) (out : List ℕ) (names : List Entry)
       → (b ≡ false → LeavesNothing looked_at names (ref_done s (text_ref n modes.CPart section.c_part) names))
-      → LeaveTheSame looked_at (then (part_done (at_section s n) section names) (as_it_is out))
+      → LeaveTheSame looked_at (done_then (part_done (at_section s n) section names) (as_it_is out))
       (refs_done s (part_refs b n section.c_part) names)
   part-left s n section true out names none =
       across (part_done (at_section s n) section names) (ref_done s (text_ref n modes.CPart section.c_part) names)
@@ -163,7 +163,7 @@ module _ (looked_at : List State → List State)
       (λ ns. record { names = refl; marks = refl; ended = refl })
   part-left s n section false out names none =
       let d : Done ℕ = ref_done s (text_ref n modes.CPart section.c_part) names in
-      trans (then (part_done (at_section s n) section names) (as_it_is out)) (then d (as_it_is out))
+      trans (done_then (part_done (at_section s n) section names) (as_it_is out)) (done_then d (as_it_is out))
       (refs_done s [] names)
       (across (part_done (at_section s n) section names) d (as_it_is out) (as_it_is out) (part-alone s n section names)
       (λ ns. record { names = refl; marks = refl; ended = refl }))
@@ -203,14 +203,14 @@ module _ (looked_at : List State → List State)
       let ps : List TextRef = tex_refs s.book.name_uses n (tex_pieces_of s.text section.tex) in
       let ds : List TextRef = definition_refs n (printed_definitions s.text section.definitions) in
       let part : List TextRef = part_refs b n section.c_part in
-      trans (section_done t section names) (then (refs_done s ps names) (refs_done s (ds ++ part)))
+      trans (section_done t section names) (done_then (refs_done s ps names) (refs_done s (ds ++ part)))
       (refs_done s (ps ++ (ds ++ part)) names)
       (across (tex_done t section names) (refs_done s ps names) (rest_done t section) (refs_done s (ds ++ part))
       (tex-left s n section names)
-      (λ ns. trans (rest_done t section ns) (then (refs_done s ds ns) (refs_done s part)) (refs_done s (ds ++ part) ns)
+      (λ ns. trans (rest_done t section ns) (done_then (refs_done s ds ns) (refs_done s part)) (refs_done s (ds ++ part) ns)
       (across (definitions_done t (first_opening (beside_in t section))
       (printed_definitions s.text section.definitions) ns) (refs_done s ds ns)
-      (λ ms. then (part_done t section ms) (as_it_is (ending t section))) (refs_done s part)
+      (λ ms. done_then (part_done t section ms) (as_it_is (ending t section))) (refs_done s part)
       (definitions-left s n (first_opening (beside_in t section)) (printed_definitions s.text section.definitions) ns)
       (λ ms. part-left s n section b (ending t section) ms (none ms)))
       (refs-joined s ds part ns)))
@@ -226,7 +226,7 @@ module _ (looked_at : List State → List State)
   sections-left s test P none n (section ∷ sections) all names =
       let first : List TextRef = section_refs (test section) s.text s.book.name_uses n section in
       let rest : List TextRef = refs_from test s.text s.book.name_uses (suc n) sections in
-      trans (sections_done s n (section ∷ sections) names) (then (refs_done s first names) (refs_done s rest))
+      trans (sections_done s n (section ∷ sections) names) (done_then (refs_done s first names) (refs_done s rest))
       (refs_done s (first ++ rest) names)
       (across (section_done (at_section s n) section names) (refs_done s first names) (sections_done s (suc n) sections)
       (refs_done s rest)

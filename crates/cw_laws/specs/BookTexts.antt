@@ -9,7 +9,7 @@ use Rattle.cw_phase1.specs.Book.{book}
 use Rattle.cw_rules.specs.declared.tokens.Mode.{Mode}
 use Rattle.cw_rules.specs.declared.tokens.Mode.TheVariants as modes
 use Rattle.cw_table.specs.Rewriting.{State}
-use Rattle.cw_texpart.specs.Done.{Done, as_it_is, then}
+use Rattle.cw_texpart.specs.Done.{Done, as_it_is, done_then}
 use Rattle.cw_texpart.specs.Texts.{Setting, setting, text_done}
 use Rattle.cw_texts.specs.declared.text_list.TextRef.{TextRef}
 use Rattle.cw_texts.specs.Texts.{refs_from, texts_of}
@@ -29,7 +29,7 @@ ref_done s ref names = text_done (at_section s ref.section) ref.mode (is_inner r
 -- Each is translated with the names that the one before it leaves.
 abbrev pub refs_done : Setting → List TextRef → List Entry → Done ℕ
 refs_done s [] names = as_it_is [] names
-refs_done s (ref ∷ refs) names = then (ref_done s ref names) (refs_done s refs)
+refs_done s (ref ∷ refs) names = done_then (ref_done s ref names) (refs_done s refs)
 
 -- ## What they leave
 

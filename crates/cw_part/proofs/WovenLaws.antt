@@ -13,7 +13,7 @@ use Rattle.cw_names.specs.declared.xrefs.Occurrence.{Occurrence}
 use Rattle.cw_translator.specs.Counting.{limit_in, productions_in, scraps_in, ticks_in}
 use Rattle.cw_table.specs.Productions.{productions}
 use Rattle.cw_texpart.specs.declared.counts.Counts.{Counts}
-use Rattle.cw_texpart.specs.Done.{Done, joined_done, as_it_is, then}
+use Rattle.cw_texpart.specs.Done.{Done, joined_done, as_it_is, done_then}
 use Rattle.cw_texpart.specs.Texts.{Setting}
 use Rattle.cw_texpart.specs.Weaving.{Press, Weaves, underlined}
 use Rattle.cw_texpart.proofs.WeavingLaws.{joined-joined, limit-append, productions-append, scraps-append}
@@ -155,7 +155,7 @@ weaving-begun s rest press none = record {
 
 -- what is to come behind a piece that is woven next
 goes-next : {s : Setting} (d rest : List Entry → Done ℕ) {all : Done ℕ} {old mid : Press} {counts : Counts}
-    (w : Weaving s (λ names. then (d names) rest) all old mid counts)
+    (w : Weaving s (λ names. done_then (d names) rest) all old mid counts)
     → joined_done w.done (joined_done (d mid.book.names) (rest (d mid.book.names).names)) ≡ all
 goes-next d rest {mid = mid} w =
     ap (λ (names : List Entry). joined_done w.done (joined_done (d names) (rest (d names).names))) w.woven.names
@@ -163,7 +163,7 @@ goes-next d rest {mid = mid} w =
 
 pub weaving-next : {s : Setting} (d rest : List Entry → Done ℕ) {all : Done ℕ} {old mid new : Press}
     {counts more sum : Counts}
-    → Weaving s (λ names. then (d names) rest) all old mid counts → Weaves s (d mid.book.names) mid new (Ok more)
+    → Weaving s (λ names. done_then (d names) rest) all old mid counts → Weaves s (d mid.book.names) mid new (Ok more)
     → AreSums sum counts more
     → Weaving s rest all old new sum
 weaving-next {s = s} d rest {all = all} {old = old} {mid = mid} w woven sums = record {
@@ -174,7 +174,7 @@ weaving-next {s = s} d rest {all = all} {old = old} {mid = mid} w woven sums = r
 
 pub weaving-stopped : {s : Setting} (d rest : List Entry → Done ℕ) {all : Done ℕ} {old mid new : Press}
     {counts : Counts} {error : PutError} {result : Result Counts PutError}
-    → Weaving s (λ names. then (d names) rest) all old mid counts → Weaves s (d mid.book.names) mid new (Err error)
+    → Weaving s (λ names. done_then (d names) rest) all old mid counts → Weaves s (d mid.book.names) mid new (Err error)
     → IsErrAnd result (λ found. found ≡ error) → Weaves s all old new result
 weaving-stopped {s = s} d rest {all = all} {old = old} {mid = mid} w woven is =
     weaves-as (goes-next d rest w)

@@ -7,7 +7,7 @@ use Rattle.cw_names.specs.Names.{Entry}
 use Rattle.cw_texts.specs.declared.definitions.Definition.{Definition}
 use Rattle.cw_phase1.specs.declared.sections.Section.{Section}
 use Rattle.cw_translator.specs.Counting.{scraps_in}
-use Rattle.cw_texpart.specs.Done.{Done, as_it_is, reprinted, then}
+use Rattle.cw_texpart.specs.Done.{Done, as_it_is, reprinted, done_then}
 use Rattle.cw_texpart.specs.TexParts.{beside_in}
 use Rattle.cw_texpart.specs.Texts.{Setting, text_done}
 use Rattle.cw_texpart.specs.declared.beside.Beside.{Beside}
@@ -35,7 +35,7 @@ definition_done s opening d names = paragraph opening (text_done s modes.Definit
 abbrev pub definitions_done : Setting → List ℕ → List Definition → List Entry → Done ℕ
 definitions_done s opening [] names = as_it_is [] names
 definitions_done s opening (d ∷ ds) names =
-    then (definition_done s opening d names) (definitions_done s later_opening ds)
+    done_then (definition_done s opening d names) (definitions_done s later_opening ds)
 
 -- ## The C part
 

@@ -9,7 +9,7 @@ use Rattle.cw_texts.specs.Scans.{scanned}
 use Rattle.cw_texts.specs.TexPieces.{TexPiece, Copied, InnerText, Cited, tex_pieces_of}
 use Rattle.cw_texpart.specs.Beside.{code_beside, is_nothing}
 use Rattle.cw_texpart.specs.declared.beside.Beside.{Beside}
-use Rattle.cw_texpart.specs.Done.{Done, done_behind, as_it_is, reprinted, then}
+use Rattle.cw_texpart.specs.Done.{Done, done_behind, as_it_is, reprinted, done_then}
 use Rattle.cw_texpart.specs.Heads.{head}
 use Rattle.cw_texpart.specs.Inks.{Ink, laid, prints, token_inks}
 use Rattle.cw_texpart.specs.Texts.{Setting, name_done, text_done}
@@ -23,7 +23,7 @@ piece_done s (Cited part) names = reprinted prints (name_done s true part names)
 
 abbrev pub pieces_done : Setting → List TexPiece → List Entry → Done Ink
 pieces_done s [] names = as_it_is [] names
-pieces_done s (piece ∷ pieces) names = then (piece_done s piece names) (pieces_done s pieces)
+pieces_done s (piece ∷ pieces) names = done_then (piece_done s piece names) (pieces_done s pieces)
 
 -- the head, and the TeX part directly behind it, which prints nothing where code stands beside the number
 abbrev pub head_and_tex : Bool → List ℕ → Setting → Section → List Entry → Done ℕ

@@ -9,7 +9,7 @@ use Rattle.cw_part.specs.PresentForms.{part_setting}
 use Rattle.cw_part.specs.Sections.{ending, rest_by}
 use Rattle.cw_translator.specs.NameParts.{AreNamesOf}
 use Rattle.cw_texpart.specs.declared.counts.Counts.{Counts}
-use Rattle.cw_texpart.specs.Done.{Done, as_it_is, then}
+use Rattle.cw_texpart.specs.Done.{Done, as_it_is, done_then}
 use Rattle.cw_texpart.specs.Texts.{Lasting, Setting, lasting}
 use Rattle.cw_part.proofs.SectionLaws.{moved, sums-are}
 use Rattle.cw_part.proofs.WovenLaws.{
@@ -50,7 +50,7 @@ returns-in_err-more-clause-weaves g c =
     let part : List Entry → Done ℕ = part_by c.args.p.beside s c.args.section in
     let end : List Entry → Done ℕ = as_it_is (ending s c.args.section) in
     weaving-stopped part end
-    (weaving-next (definitions_done s (first_opening c.args.p.beside) ds) (λ names. then (part names) end)
+    (weaving-next (definitions_done s (first_opening c.args.p.beside) ds) (λ names. done_then (part names) end)
     (weaving-begun s (rest_by c.args.p.beside s c.args.section) _ {counts = no_counts}
     (record { scraps = refl; productions = refl })) c.in_ok-counts.ensures.weaves (none-before c.in_ok-counts.counts))
     (moved c.args.p (λ (t : Setting). part_by c.args.p.beside t c.args.section c.print_definitions.new.book.names)
@@ -65,7 +65,7 @@ returns-in_err-counts-2-clause-weaves g c =
     let end : List Entry → Done ℕ = as_it_is (ending s c.args.section) in
     weaving-wanting
     (weaving-next part end
-    (weaving-next (definitions_done s (first_opening c.args.p.beside) ds) (λ names. then (part names) end)
+    (weaving-next (definitions_done s (first_opening c.args.p.beside) ds) (λ names. done_then (part names) end)
     (weaving-begun s (rest_by c.args.p.beside s c.args.section) _ {counts = no_counts}
     (record { scraps = refl; productions = refl })) c.in_ok-counts.ensures.weaves (none-before c.in_ok-counts.counts))
     (moved c.args.p (λ (t : Setting). part_by c.args.p.beside t c.args.section c.print_definitions.new.book.names)
@@ -87,7 +87,7 @@ returns-in_err-put_ending-clause-weaves g c =
     let end : List Entry → Done ℕ = as_it_is (ending s c.args.section) in
     weaving-last-stopped
     (weaving-next part end
-    (weaving-next (definitions_done s (first_opening c.args.p.beside) ds) (λ names. then (part names) end)
+    (weaving-next (definitions_done s (first_opening c.args.p.beside) ds) (λ names. done_then (part names) end)
     (weaving-begun s (rest_by c.args.p.beside s c.args.section) _ {counts = no_counts}
     (record { scraps = refl; productions = refl })) c.in_ok-counts.ensures.weaves (none-before c.in_ok-counts.counts))
     (moved c.args.p (λ (t : Setting). part_by c.args.p.beside t c.args.section c.print_definitions.new.book.names)
@@ -106,7 +106,7 @@ returns-clause-weaves g c =
     let end : List Entry → Done ℕ = as_it_is (ending s c.args.section) in
     weaving-last
     (weaving-next part end
-    (weaving-next (definitions_done s (first_opening c.args.p.beside) ds) (λ names. then (part names) end)
+    (weaving-next (definitions_done s (first_opening c.args.p.beside) ds) (λ names. done_then (part names) end)
     (weaving-begun s (rest_by c.args.p.beside s c.args.section) _ {counts = no_counts}
     (record { scraps = refl; productions = refl })) c.in_ok-counts.ensures.weaves (none-before c.in_ok-counts.counts))
     (moved c.args.p (λ (t : Setting). part_by c.args.p.beside t c.args.section c.print_definitions.new.book.names)
