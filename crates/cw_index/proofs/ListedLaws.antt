@@ -27,7 +27,8 @@ behind-text : {s : Setting} (text : List Entry → Done ℕ) (back : List ℕ) {
     → Weaves s (text old.book.names) old mid (Ok counts)
     → Weaving s (as_it_is back) (done_then (text old.book.names) (as_it_is back)) old mid counts
 behind-text {s = s} text back {old = old} {counts = counts} woven =
-    weaving-next text (as_it_is back) (weaving-begun s (λ names. done_then (text names) (as_it_is back)) old no-sums) woven
+    weaving-next text (as_it_is back)
+    (weaving-begun s (λ names. done_then (text names) (as_it_is back)) old no-sums) woven
     (none-first counts)
 
 -- The front is refused.

@@ -19,7 +19,8 @@ pub listed-next : {s : Setting} {all : Done ℕ} {old now : Press} {counts : Cou
     (d : Listed) → i < length ls
     → Weaving s (all_listed s (drop i ls)) all old now counts
     → Weaving s
-    (λ names. done_then (listed_done s (slice_index_or ls i d) names) (all_listed s (drop (i + 1) ls))) all old now counts
+    (λ names. done_then (listed_done s (slice_index_or ls i d) names) (all_listed s (drop (i + 1) ls)))
+    all old now counts
 listed-next {s = s} {all = all} {old = old} {now = now} {counts = counts} ls i d within w =
     subst (λ (rest : List Listed). Weaving s (all_listed s rest) all old now counts) (drop_more ls i d within) w
 

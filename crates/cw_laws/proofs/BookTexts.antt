@@ -74,7 +74,8 @@ module _ (looked_at : List State → List State)
   refs-joined s [] qs names = record { names = refl; marks = refl; ended = refl }
   refs-joined s (r ∷ rs) qs names =
       let d : Done ℕ = ref_done s r names in
-      let t : LeaveTheSame looked_at (done_then (refs_done s rs d.names) (refs_done s qs)) (refs_done s (rs ++ qs) d.names) =
+      let t : LeaveTheSame looked_at (done_then (refs_done s rs d.names) (refs_done s qs))
+      (refs_done s (rs ++ qs) d.names) =
       refs-joined s rs qs d.names in
       record {
         names = t.names;
@@ -207,7 +208,8 @@ module _ (looked_at : List State → List State)
       (refs_done s (ps ++ (ds ++ part)) names)
       (across (tex_done t section names) (refs_done s ps names) (rest_done t section) (refs_done s (ds ++ part))
       (tex-left s n section names)
-      (λ ns. trans (rest_done t section ns) (done_then (refs_done s ds ns) (refs_done s part)) (refs_done s (ds ++ part) ns)
+      (λ ns. trans (rest_done t section ns) (done_then (refs_done s ds ns) (refs_done s part))
+      (refs_done s (ds ++ part) ns)
       (across (definitions_done t (first_opening (beside_in t section))
       (printed_definitions s.text section.definitions) ns) (refs_done s ds ns)
       (λ ms. done_then (part_done t section ms) (as_it_is (ending t section))) (refs_done s part)
