@@ -23,8 +23,8 @@ use std::io;
 
 // What a text needs while it is translated and printed.
 #[derive(Drop)]
-struct Held {
-    answers: Answers,
+struct Held<'a> {
+    answers: Answers<'a>,
     book: Book,
     store: TokenStore,
     marks: Marks,
@@ -70,10 +70,10 @@ fn printed<D: Desk>(alloc: Global, text: &[u8], desk: &mut D) -> Result<u64, Put
 }
 
 // The same with what is empty yet.
-fn printed_in<D: Desk>(
+fn printed_in<'a, D: Desk>(
     alloc: Global,
-    text: &[u8],
-    held: &mut Held,
+    text: &'a [u8],
+    held: &mut Held<'a>,
     desk: &mut D,
 ) -> Result<u64, PutError>
     requires made { IsTrue (is_open (D.told desk.old).outputs Tex) }
