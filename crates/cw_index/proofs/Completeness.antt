@@ -56,7 +56,7 @@ all-mentions false section (o ∷ os) = by (o.section == section) (all-mentions 
     by true more = refl
     by false more = more
 
-of-name : (only : Bool) (name section : ℕ) (os : List Occurrence)
+pub of-name : (only : Bool) (name section : ℕ) (os : List Occurrence)
     → list_any (λ (o : Occurrence). is_at only section (as_mention o))
     (filter (λ (o : Occurrence). o.name.index == name) os)
     ≡ occurs only name section os
@@ -207,7 +207,7 @@ module _ {X : Type 0} (order : X → X → Ordering) where
       by more Equal not = absurd (not refl)
       by more Greater not = ap (λ b. test x || b) more ∙ or-swap (test x) (test k) (list_any test xs)
 
-  each-inserted : (P : X → Type 0) (xs : List X) (k : X) → P k → AllByRecursion P xs
+  pub each-inserted : (P : X → Type 0) (xs : List X) (k : X) → P k → AllByRecursion P xs
       → AllByRecursion P (insert_key order xs k)
   each-inserted P [] k one each = (one, tt)
   each-inserted P (x ∷ xs) k one each = by (each-inserted P xs k one each.1) (order k x)

@@ -5,6 +5,7 @@ mod OrderRows
 mod RowLaws
 mod OrderNames
 mod Completeness
+mod EachRow
 mod StandLaws
 mod EnteredLaws
 mod PrintingLaws

@@ -2,7 +2,7 @@
 use Rattle.std.specs.Cmp.{IsTotalOrder, nat_cmp_total, on_total, then_total}
 use Rattle.std.specs.Cmp.Lexicographic.{lists_total}
 use Rattle.std.proofs.lemmas.Cmp.{nat_list_cmp_total}
-use Rattle.cw_index.specs.Collation.{class_of, class_cmp, class_rank, classes_cmp, entry_cmp, entry_kind_place}
+use Rattle.cw_index.specs.Collation.{class_of, class_cmp, class_rank, entry_cmp, entry_kind_place}
 use Rattle.cw_index.specs.Collation.{text_cmp, value}
 
 class_cmp-total : IsTotalOrder class_cmp

@@ -1,10 +1,13 @@
--- The index is complete and says nothing else: it lists a section for a name exactly where the name occurs there.
-use Rattle.std.specs.Prelude.{◌≡◌, ℕ, ◌==◌, ◌&&◌, Bool, List, ◌∷◌, ◌++◌, length}
-use Rattle.std.specs.List.{list_any}
+-- The index is complete and says nothing else: it lists a section for a name exactly where the name occurs there, and
+-- each row is of one name, with its entry.
+use Rattle.std.specs.Prelude.{◌≡◌, ℕ, ◌==◌, ◌&&◌, All, Bool, true, IsTrue, List, ◌∷◌, ◌++◌, Some, length, slice_get}
+use Rattle.std.specs.List.{IsDistinct, list_any}
+use Rattle.std.specs.List.Sorted.{IsStrictlySortedBy}
 use Rattle.cw_names.specs.declared.xrefs.Occurrence.{Occurrence}
 use Rattle.cw_names.specs.declared.xrefs.SectionRef.{SectionRef}
+use Rattle.cw_names.specs.Mentions.{AreAscending}
 use Rattle.cw_names.specs.Names.{AreDistinct, Entry}
-use Rattle.cw_index.specs.Mentions.{Row, index_rows, is_listed, needs_underline}
+use Rattle.cw_index.specs.Mentions.{Row, has_sections, index_rows, is_listed, needs_underline, row_cmp}
 
 -- an occurrence, as a section that may be listed for it
 abbrev pub as_mention : Occurrence → SectionRef
@@ -30,3 +33,27 @@ IndexIsComplete = (before after : List Entry) (entry : Entry) (occurrences : Lis
     → AreDistinct (before ++ entry ∷ after)
     → list_any (lists (length before) section) (index_rows (before ++ entry ∷ after) occurrences)
     ≡ occurs (needs_underline (length before) entry) (length before) section occurrences
+
+-- whether two rows are of the same name
+abbrev pub are_of_one_name : Row → Row → Bool
+are_of_one_name row other = row.name == other.name
+
+-- what the rows of an index are, of these names and their occurrences
+pub record AreRowsOf (names : List Entry) (occurrences : List Occurrence) (rows : List Row) : Type 0 where
+  -- the entry of a row, which is what the row prints, is that of its name
+  pub entries : All (λ row. slice_get names row.name ≡ Some row.entry) rows
+  -- no name has two rows
+  pub once : IsDistinct are_of_one_name rows
+  -- each row stands before all later ones by the order of entries
+  pub order : IsStrictlySortedBy row_cmp rows
+  -- each row lists a section
+  pub some : All (λ row. IsTrue (has_sections row.sections)) rows
+  -- its sections ascend, each once
+  pub ascending : All (λ row. AreAscending row.sections) rows
+  -- each of them is underlined just where the name has an underlined occurrence in it
+  pub underlined : All (λ row. All (λ m. m.underlined ≡ occurs true row.name m.section occurrences) row.sections) rows
+
+-- The rows of every index are so, whatever its names and their occurrences.
+abbrev pub RowsAreOfNames : Type 0
+RowsAreOfNames = (names : List Entry) (occurrences : List Occurrence)
+    → AreRowsOf names occurrences (index_rows names occurrences)

@@ -1,6 +1,10 @@
 -- The index is complete, and says nothing else.
 use Rattle.cw_index.proofs.Completeness.{index-complete}
+use Rattle.cw_index.proofs.EachRow.{rows-of-names}
 use Rattle.cw_index.proofs.laws.index_law.Goals as goal
 
 pub returns : goal.returns
-returns c = index-complete
+returns c = record {
+  complete = index-complete;
+  rows = rows-of-names;
+}
