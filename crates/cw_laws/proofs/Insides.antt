@@ -11,8 +11,11 @@ use Rattle.cw_rules.specs.Bytes.{at_sign, greater, begins_with}
 use Rattle.cw_rules.specs.Bodies.{stops, takes_next, stepped, goes_on, ended, and_last, note_unless, at_start, extent}
 use Rattle.cw_rules.specs.Bodies.{noted, note_here, note_on, is_single, with_note}
 use Rattle.cw_rules.specs.Bodies.{all_notes}
+use Rattle.cw_rules.specs.declared.tokens.Mode.{Mode}
+use Rattle.cw_rules.specs.declared.tokens.TokKind.{TokKind}
+use Rattle.cw_rules.specs.Tokens.{comment_kind}
 use Rattle.cw_laws.specs.Ends.{begins_two, before_end, ends_control, is_double_at, control_size, ends_piece, is_pair}
-use Rattle.cw_laws.specs.Ends.{is_single_at, single_place, IsNoted, HasControlText}
+use Rattle.cw_laws.specs.Ends.{is_single_at, single_place, IsNoted, HasControlText, piece_size, bars_begin, IsPieceIn}
 use Rattle.cw_laws.proofs.Strings.{step-size}
 
 -- the ends and the pairs of a body, said of the bytes
@@ -69,7 +72,7 @@ module _ (body : Body) (ends pairs : List ℕ → Bool) (r : Rules body ends pai
           → ((stepped one y ys).along ≡ false
           → (ended (stepped one y ys) ys).place - (stepped one y ys).place ≡ before_end ends pairs ys)
           → (ended i (x ∷ y ∷ ys)).place - i.place
-          ≡ (if e then 0 else if p then 2 + before_end ends pairs ys else 1 + before_end ends pairs (y ∷ ys))
+          ≡ (if e then 0 else (if p then 2 + before_end ends pairs ys else 1 + before_end ends pairs (y ∷ ys)))
       by true p k l rest behind = none i x (y ∷ ys) (goes i x (y ∷ ys) b a ∙ ap not k)
       by false true k l rest behind =
           let al : one.along ≡ true = along i x (y ∷ ys) b a ∙ l in
@@ -99,10 +102,26 @@ control-along i byte bytes b a =
 piece-rules : (long deep : Bool) → Rules (bodies.Piece long deep) (ends_piece long (not deep)) (is_pair long)
 piece-rules long deep = record { stop = λ before byte bytes. refl; takes = λ byte bytes. refl }
 
-pub piece-size : (long deep : Bool) (i : Inside) (bytes : List ℕ) → i.body ≡ bodies.Piece long deep → i.along ≡ false
-    → (ended i bytes).place - i.place ≡ before_end (ends_piece long (not deep)) (is_pair long) bytes
-piece-size long deep i bytes b a =
-    before-size (bodies.Piece long deep) (ends_piece long (not deep)) (is_pair long) (piece-rules long deep) i bytes b a
+abbrev piece_at : Bool → Bool → ℕ → ℕ → Inside
+piece_at long deep braces place =
+    record { body = bodies.Piece long deep; braces = braces; place = place; before = 0; along = false }
+
+piece-is : (long deep bars : Bool) (braces place : ℕ) (bytes : List ℕ) → bars ≡ not deep
+    → (extent (piece_at long deep braces place) bytes).size ≡ piece_size long bars bytes
+piece-is long deep bars braces place bytes h =
+    and-none ((ended (piece_at long deep braces place) bytes).place - place)
+    ∙ before-size (bodies.Piece long deep) (ends_piece long (not deep)) (is_pair long) (piece-rules long deep)
+    (piece_at long deep braces place) bytes refl refl
+    ∙ ap (λ b. piece_size long b bytes) (sym h)
+  where
+    and-none : (n : ℕ) → n + 0 ≡ n
+    and-none n = omega arith
+
+pub piece-whole : (mode : Mode) (long deep : Bool) (braces place : ℕ) (bytes : List ℕ) (rest : List TokKind)
+    → bars_begin mode (comment_kind long ∷ rest) ≡ not deep
+    → IsPieceIn mode (comment_kind long ∷ rest) bytes (extent (piece_at long deep braces place) bytes).size
+piece-whole mode true deep braces place bytes rest h = piece-is true deep _ braces place bytes h
+piece-whole mode false deep braces place bytes rest h = piece-is false deep _ braces place bytes h
 
 -- ## Control texts
 
@@ -185,8 +204,8 @@ single-noted i (x ∷ y ∷ ys) b a less =
 
     by : (e s p : Bool) → ends_control (x ∷ y ∷ ys) ≡ e → is_single_at (x ∷ y ∷ ys) ≡ s
         → is_double_at (x ∷ y ∷ ys) ≡ p
-        → (if e || s then 0 else if p then 2 + single_place ys else 1 + single_place (y ∷ ys))
-        < (if e then 0 else if p then 2 + control_size ys else 1 + control_size (y ∷ ys))
+        → (if e || s then 0 else (if p then 2 + single_place ys else 1 + single_place (y ∷ ys)))
+        < (if e then 0 else (if p then 2 + control_size ys else 1 + control_size (y ∷ ys)))
         → (one.along ≡ false → single_place (y ∷ ys) < control_size (y ∷ ys)
         → HasNote NoteKind.CodeInControlText (noted one (y ∷ ys)))
         → ((stepped one y ys).along ≡ false → single_place ys < control_size ys

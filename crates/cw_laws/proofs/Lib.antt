@@ -11,6 +11,8 @@ pub mod WhiteSpace
 pub mod Strings
 pub mod Longest
 pub mod Insides
+pub mod StillOpen
+pub mod EndCodes
 pub mod Ends
 pub mod PlainText
 mod Endings

@@ -1,10 +1,12 @@
--- Where control texts and comments end.
-use Rattle.std.specs.Prelude.{◌≡◌, ℕ, ◌+◌, ◌-◌, ◌<◌, ◌≤◌, Bool, true, false, not, ◌&&◌, ◌||◌, List, [], ◌∷◌, ◌⊎◌}
+-- Where control texts, comments and inner texts end.
+use Rattle.std.specs.Prelude.{◌≡◌, ℕ, ◌+◌, ◌-◌, ◌<◌, nat_lt, Bool, true, false, not, ◌&&◌, ◌||◌, List, [], ◌∷◌, ◌⊎◌}
 use Rattle.std.specs.Prelude.{drop, take, if◌then◌else◌}
 use Rattle.std.specs.List.{count_by}
 use Rattle.cw_base.specs.declared.notes.NoteKind.{NoteKind}
-use Rattle.cw_base.specs.declared.notes.NoteKind.TheVariants.{CodeInControlText, CommentUnended, ControlTextUnended}
+use Rattle.cw_base.specs.declared.notes.NoteKind.TheVariants.{BarMissing, CodeInControlText, CommentUnended}
+use Rattle.cw_base.specs.declared.notes.NoteKind.TheVariants.{ControlTextUnended}
 use Rattle.cw_rules.specs.declared.tokens.Mode.{Mode}
+use Rattle.cw_rules.specs.declared.tokens.Mode.TheVariants as modes
 use Rattle.cw_rules.specs.declared.tokens.TokKind.{TokKind}
 use Rattle.cw_rules.specs.declared.tokens.TokKind.TheVariants as kinds
 use Rattle.cw_rules.specs.Answers.{Answer, Token, Begin, Finish, Note}
@@ -13,6 +15,7 @@ use Rattle.cw_base.specs.Bytes.{newline, backslash}
 use Rattle.cw_rules.specs.Bytes.{star, slash, greater, at_sign, begins}
 use Rattle.cw_rules.specs.Codes.{begins_section, has_control_text}
 use Rattle.cw_lex.specs.Lexing.{tokens_of}
+use Rattle.cw_lex.specs.Nested.{is_section_kind}
 
 -- the bytes begin with these two
 abbrev pub begins_two : ℕ → ℕ → List ℕ → Bool
@@ -27,8 +30,8 @@ before_end ends pairs [] = 0
 before_end ends pairs (byte ∷ []) = if ends (byte ∷ []) then 0 else 1
 before_end ends pairs (byte ∷ next ∷ bytes) =
     if ends (byte ∷ next ∷ bytes) then 0
-    else if pairs (byte ∷ next ∷ bytes) then 2 + before_end ends pairs bytes
-    else 1 + before_end ends pairs (next ∷ bytes)
+    else (if pairs (byte ∷ next ∷ bytes) then 2 + before_end ends pairs bytes
+    else 1 + before_end ends pairs (next ∷ bytes))
 
 -- This note stands among those directly behind an answer.
 abbrev pub IsNoted : NoteKind → List Answer → Type 0
@@ -67,6 +70,21 @@ pub record HasControlText (bytes : List ℕ) (size : ℕ) (answers : List Answer
   pub noted : is_closed (drop 2 bytes) ≡ false → IsNoted ControlTextUnended answers
   pub single : single_place (drop 2 bytes) < control_size (drop 2 bytes) → IsNoted CodeInControlText answers
 
+-- ## How deep inner texts stand
+
+abbrev pub is_inner_text : TokKind → Bool
+is_inner_text kinds.InnerText = true
+is_inner_text kind = false
+
+-- How many inner texts are around a place before which these are open: all of inner C text is one more.
+abbrev pub inner_depth : Mode → List TokKind → ℕ
+inner_depth modes.Inner opened = 1 + count_by is_inner_text opened
+inner_depth mode opened = count_by is_inner_text opened
+
+-- A bar begins an inner text where fewer than twenty are around it.
+abbrev pub bars_begin : Mode → List TokKind → Bool
+bars_begin mode opened = nat_lt (inner_depth mode opened) 20
+
 -- ## Comments
 
 -- Text of a comment ends where the comment does, before a section code, and where inner texts may begin before a bar.
@@ -82,56 +100,81 @@ is_pair long bytes =
     && not (begins at_sign (drop 1 bytes) || (not long && begins newline (drop 1 bytes))))
     || begins_two at_sign at_sign bytes
 
-abbrev pub is_comment : TokKind → Bool
-is_comment kinds.LongComment = true
-is_comment kinds.ShortComment = true
-is_comment kind = false
+abbrev pub piece_size : (long bars : Bool) → List ℕ → ℕ
+piece_size long bars bytes = before_end (ends_piece long bars) (is_pair long) bytes
 
--- A piece of a comment's text has all bytes up to the first end, where these are open, the innermost first. A bar
--- begins no inner text only where the text stands in twenty comments.
-pub record IsWholePiece (long : Bool) (opened : List TokKind) (bytes : List ℕ) (size : ℕ) : Type 0 where
-  pub bars : Bool
-  pub whole : size ≡ before_end (ends_piece long bars) (is_pair long) bytes
-  pub deep : bars ≡ false → 20 ≤ count_by is_comment opened
+-- A piece of a comment's text has all bytes up to the first end, where these are open, the innermost first.
+abbrev pub IsPieceIn : Mode → List TokKind → List ℕ → ℕ → Type 0
+IsPieceIn mode (kinds.LongComment ∷ opened) bytes size =
+    size ≡ piece_size true (bars_begin mode (kinds.LongComment ∷ opened)) bytes
+IsPieceIn mode (kinds.ShortComment ∷ opened) bytes size =
+    size ≡ piece_size false (bars_begin mode (kinds.ShortComment ∷ opened)) bytes
+IsPieceIn mode opened bytes size = Unit {0}
 
-abbrev pub IsPieceIn : List TokKind → List ℕ → ℕ → Type 0
-IsPieceIn (kinds.LongComment ∷ opened) bytes size = IsWholePiece true (kinds.LongComment ∷ opened) bytes size
-IsPieceIn (kinds.ShortComment ∷ opened) bytes size = IsWholePiece false (kinds.ShortComment ∷ opened) bytes size
-IsPieceIn opened bytes size = Unit {0}
+-- ## Where comments and inner texts begin and end
 
--- A section code or the end of the text ends a comment without bytes of its own, and that is noted.
-pub record IsCutOff (bytes : List ℕ) (size : ℕ) (answers : List Answer) : Type 0 where
-  pub none : size ≡ 0
-  pub stands : (bytes ≡ []) ⊎ (begins_section_code bytes ≡ true)
-  pub noted : IsNoted CommentUnended answers
+-- A comment begins with its two bytes, and an inner text with a bar. Nothing else begins.
+abbrev pub BeginsAt : Mode → List TokKind → TokKind → List ℕ → ℕ → Type 0
+BeginsAt mode opened kinds.LongComment bytes size = (begins_two slash star bytes ≡ true) × (size ≡ 2)
+BeginsAt mode opened kinds.ShortComment bytes size = (begins_two slash slash bytes ≡ true) × (size ≡ 2)
+BeginsAt mode opened kinds.InnerText bytes size =
+    (begins bar bytes ≡ true) × (size ≡ 1) × (bars_begin mode opened ≡ true)
+BeginsAt mode opened kind bytes size = ⊥
 
--- A long comment ends with `*/`, and a short one before a line's end, if it isn't cut off.
-abbrev pub EndsAt : TokKind → List ℕ → ℕ → List Answer → Type 0
-EndsAt kinds.LongComment bytes size answers =
-    ((begins_two star slash bytes ≡ true) × (size ≡ 2)) ⊎ IsCutOff bytes size answers
-EndsAt kinds.ShortComment bytes size answers =
-    ((begins newline bytes ≡ true) × (size ≡ 0)) ⊎ IsCutOff bytes size answers
-EndsAt kind bytes size answers = Unit {0}
+-- A section code or the end of the text cuts off all that is open.
+abbrev pub CutsAll : List ℕ → Type 0
+CutsAll bytes = (bytes ≡ []) ⊎ (begins_section_code bytes ≡ true)
+
+abbrev pub is_in_short : List TokKind → Bool
+is_in_short (kinds.ShortComment ∷ around) = true
+is_in_short around = false
+
+-- What is cut off ends without bytes of its own, and that is noted.
+abbrev pub IsCutOff : NoteKind → ℕ → List Answer → Type 0
+IsCutOff note size answers = (size ≡ 0) × IsNoted note answers
+
+-- A long comment ends with `*/`, a short one before a line's end, and an inner text with a bar, if it isn't cut off; a
+-- line's end too cuts off an inner text of a short comment. `around` is open around what ends.
+abbrev pub EndsAt : TokKind → (around : List TokKind) → List ℕ → ℕ → List Answer → Type 0
+EndsAt kinds.LongComment around bytes size answers =
+    ((begins_two star slash bytes ≡ true) × (size ≡ 2)) ⊎ (CutsAll bytes × IsCutOff CommentUnended size answers)
+EndsAt kinds.ShortComment around bytes size answers =
+    ((begins newline bytes ≡ true) × (size ≡ 0)) ⊎ (CutsAll bytes × IsCutOff CommentUnended size answers)
+EndsAt kinds.InnerText around bytes size answers =
+    ((begins bar bytes ≡ true) × (size ≡ 1))
+    ⊎ ((CutsAll bytes ⊎ ((begins newline bytes && is_in_short around) ≡ true)) × IsCutOff BarMissing size answers)
+EndsAt kind around bytes size answers = ⊥
 
 -- ## Among answers
 
-abbrev pub GoesToEnd : List TokKind → TokKind → List ℕ → ℕ → List Answer → Type 0
-GoesToEnd opened kinds.Text bytes size answers = IsPieceIn opened bytes size
-GoesToEnd opened (kinds.Code code) bytes size answers =
+abbrev pub GoesToEnd : Mode → List TokKind → TokKind → List ℕ → ℕ → List Answer → Type 0
+GoesToEnd mode opened kinds.Text bytes size answers = IsPieceIn mode opened bytes size
+GoesToEnd mode opened (kinds.Code code) bytes size answers =
     has_control_text code ≡ true → HasControlText bytes size answers
-GoesToEnd opened kind bytes size answers = Unit {0}
+GoesToEnd mode opened kind bytes size answers = Unit {0}
 
--- The control texts and comments among answers end so, before which these comments and inner texts are open.
-abbrev pub AllEnd : List ℕ → List TokKind → List Answer → Type 0
-AllEnd text opened [] = Unit {0}
-AllEnd text opened (Token t ∷ answers) =
-    GoesToEnd opened t.kind (drop t.span.start text) (t.span.end - t.span.start) answers × AllEnd text opened answers
-AllEnd text opened (Begin t ∷ answers) = AllEnd text (t.kind ∷ opened) answers
-AllEnd text opened (Finish t ∷ answers) =
-    EndsAt t.kind (drop t.span.start text) (t.span.end - t.span.start) answers × AllEnd text (drop 1 opened) answers
-AllEnd text opened (Note kind place ∷ answers) = AllEnd text opened answers
+-- Behind a section code TeX text goes on.
+abbrev pub mode_behind : TokKind → Mode → Mode
+mode_behind kind mode = if is_section_kind kind then modes.TexText else mode
+
+-- The control texts, comments and inner texts among answers end so, in this mode, before which these are open, the
+-- innermost first. What ends is the innermost. At a section code, and at the end, none is open.
+abbrev pub AllEnd : List ℕ → Mode → List TokKind → List Answer → Type 0
+AllEnd text mode opened [] = opened ≡ []
+AllEnd text mode opened (Token t ∷ answers) =
+    GoesToEnd mode opened t.kind (drop t.span.start text) (t.span.end - t.span.start) answers
+    × (is_section_kind t.kind ≡ true → opened ≡ [])
+    × AllEnd text (mode_behind t.kind mode) opened answers
+AllEnd text mode opened (Begin t ∷ answers) =
+    BeginsAt mode opened t.kind (drop t.span.start text) (t.span.end - t.span.start)
+    × AllEnd text mode (t.kind ∷ opened) answers
+AllEnd text mode opened (Finish t ∷ answers) =
+    (opened ≡ t.kind ∷ drop 1 opened)
+    × EndsAt t.kind (drop 1 opened) (drop t.span.start text) (t.span.end - t.span.start) answers
+    × AllEnd text mode (drop 1 opened) answers
+AllEnd text mode opened (Note kind place ∷ answers) = AllEnd text mode opened answers
 
 -- So it is with all bytes that are scanned.
 abbrev pub TextsGoToTheirEnds : Type 0
 TextsGoToTheirEnds =
-    (text : List ℕ) (start end : ℕ) (mode : Mode) → AllEnd (take end text) [] (tokens_of text start end mode)
+    (text : List ℕ) (start end : ℕ) (mode : Mode) → AllEnd (take end text) mode [] (tokens_of text start end mode)

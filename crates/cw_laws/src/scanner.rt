@@ -24,8 +24,10 @@ pub fn longest_law()
 
 /// The law of ends: a control text goes to the first `@>`, a long comment's text to the first `*/`, and that of a short
 /// one to the first line's end, with `@@` and what a backslash takes along passed over. Inner texts stand in comments
-/// between bars. Where a line's end comes first in a control text, or a section code or the end of the text in a
-/// comment, it ends there with a note. It does nothing: what it ensures is for proofs.
+/// and in TeX text between bars; a bar begins one exactly where fewer than twenty are around it. What ends is always the
+/// innermost that is open. Where a line's end comes first in a control text, or a section code or the end of the text in
+/// a comment or an inner text, it ends there with a note, so that nothing is open there. It does nothing: what it
+/// ensures is for proofs.
 pub fn ends_law()
     ensures { TextsGoToTheirEnds }
 {}
