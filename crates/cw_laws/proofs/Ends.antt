@@ -1,4 +1,4 @@
--- Each control text, comment and inner text goes up to its end.
+-- Each text of a code, comment and inner text goes up to its end.
 use Rattle.std.proofs.Common.{◌≡◌, ℕ, zero, suc, ◌+◌, ◌-◌, Bool, true, false, ◌&&◌, not, ◌==◌, nat_lt, List, []}
 use Rattle.std.proofs.Common.{◌∷◌, ◌++◌, Option, Some, None, if◌then◌else◌, drop, take, refl, sym, ap, subst, ◌∙◌}
 use Rattle.std.proofs.Common.{arith, append_assoc, slice_index, inl, inr, length}
@@ -246,10 +246,10 @@ module _ (text : List ℕ) where
       (q mode opened (drop place text))
 
   code-by-goes : (effect : Effect) (w : Where) (place byte : ℕ) (bytes : List ℕ) (mode : Mode)
-      (opened : List TokKind) → drop place text ≡ byte ∷ bytes → is_section (code_at bytes) ≡ false
-      → InCode w mode opened → Suits effect w.part (code_at bytes)
+      (opened : List TokKind) → drop place text ≡ byte ∷ bytes → (byte == at_sign) ≡ true
+      → is_section (code_at bytes) ≡ false → InCode w mode opened → Suits effect w.part (code_at bytes)
       → Goes mode opened (code_by effect (code_at bytes) w place (byte ∷ bytes))
-  code-by-goes effects.Stands w place byte bytes mode opened here other c h =
+  code-by-goes effects.Stands w place byte bytes mode opened here at other c h =
       let code = code_at bytes in
       let all = byte ∷ bytes in
       let may = may_head w.part w.comments in
@@ -263,21 +263,21 @@ module _ (text : List ℕ) where
       (both-left may (is_head place all) (both-right (is_name code) (may && is_head place all) h)))
       (record { base = refl; limbo = refl; inner = refl })) c)
       (λ h. code-like w (passed w.part) mode opened (like-passed w.part) c))
-      (whole-here mode opened place all _ here (code-whole mode opened place byte bytes other))
-  code-by-goes (effects.Drops note) w place byte bytes mode opened here other c h =
+      (whole-here mode opened place all _ here (code-whole mode opened place byte bytes at other))
+  code-by-goes (effects.Drops note) w place byte bytes mode opened here at other c h =
       one-goes mode opened (in_hash_line w.part) (moved w (passed w.part)) place (byte ∷ bytes) _
       (code-like w (passed w.part) mode opened (like-passed w.part) c)
       (whole-here mode opened place (byte ∷ bytes) _ here
-      (dropped-whole mode opened note place byte bytes
+      (dropped-whole mode opened note place byte bytes at
       (sym c.agrees.limbo ∙ not-limbo w.part w.comments opened c.around)))
-  code-by-goes effects.Defines w place byte bytes mode opened here other c h =
+  code-by-goes effects.Defines w place byte bytes mode opened here at other c h =
       moved-goes w (parts.MacroName place) false place (byte ∷ bytes) _ mode opened
       (like-ordinary w.part (parts.MacroName place) h.0 (record { base = refl; limbo = refl; inner = refl })) c h.1
-  code-by-goes effects.Formats w place byte bytes mode opened here other c h =
+  code-by-goes effects.Formats w place byte bytes mode opened here at other c h =
       moved-goes w (parts.FormatName place false false) false place (byte ∷ bytes) _ mode opened
       (like-ordinary w.part (parts.FormatName place false false) h.0
       (record { base = refl; limbo = refl; inner = refl })) c h.1
-  code-by-goes effects.BeginsC w place byte bytes mode opened here other c h =
+  code-by-goes effects.BeginsC w place byte bytes mode opened here at other c h =
       moved-goes w (parts.Plain false false) false place (byte ∷ bytes) _ mode opened
       (like-ordinary w.part (parts.Plain false false) h.0 (record { base = refl; limbo = refl; inner = refl })) c h.1
 
@@ -362,7 +362,7 @@ module _ (text : List ℕ) where
       (λ h. if-both P (byte == slash && begins slash bytes) start.ShortComment _
       (λ h. begin-goes false w place all mode opened (ap (begins_two slash slash) here ∙ h) c)
       (λ h. if-both P (byte == at_sign) (start.Code (code_at bytes)) _
-      (λ h. code-by-goes (effect_in w.part w.comments (code_at bytes)) w place byte bytes mode opened here
+      (λ h. code-by-goes (effect_in w.part w.comments (code_at bytes)) w place byte bytes mode opened here h
       (sym (ap (λ t. t && begins_section bytes) h) ∙ other) c (suits w.part w.comments (code_at bytes)))
       (λ h. if-both P (byte == bar && (bar_ends && not (begins bar bytes))) start.EndOfInner
       (sign_or_other (longest all_signs all))
@@ -509,24 +509,24 @@ module _ (text : List ℕ) where
       })
 
   limbo-by-goes : (effect : Effect) (place byte : ℕ) (bytes : List ℕ) (mode : Mode) (opened : List TokKind)
-      → drop place text ≡ byte ∷ bytes → is_section (code_at bytes) ≡ false
+      → drop place text ≡ byte ∷ bytes → (byte == at_sign) ≡ true → is_section (code_at bytes) ≡ false
       → Stands (bare parts.Limbo) mode opened → SuitsLimbo effect (code_at bytes)
       → Goes mode opened (limbo_by effect (code_at bytes) (bare parts.Limbo) place (byte ∷ bytes))
-  limbo-by-goes effects.Stands place byte bytes mode opened here other s h =
+  limbo-by-goes effects.Stands place byte bytes mode opened here at other s h =
       one-goes mode opened false (bare parts.Limbo) place (byte ∷ bytes) _ s
-      (whole-here mode opened place (byte ∷ bytes) _ here (code-whole mode opened place byte bytes other))
-  limbo-by-goes effects.Formats place byte bytes mode opened here other s h =
+      (whole-here mode opened place (byte ∷ bytes) _ here (code-whole mode opened place byte bytes at other))
+  limbo-by-goes effects.Formats place byte bytes mode opened here at other s h =
       one-goes mode opened false (bare (parts.FormatName place false true)) place (byte ∷ bytes) _
       (bare-like parts.Limbo (parts.FormatName place false true) mode opened
       (record { base = refl; limbo = refl; inner = refl }) s)
       (h mode opened (drop place text))
-  limbo-by-goes (effects.Drops note) place byte bytes mode opened here other s h =
+  limbo-by-goes (effects.Drops note) place byte bytes mode opened here at other s h =
       one-goes mode opened false (bare parts.Limbo) place (byte ∷ bytes) _ s
       (whole-here mode opened place (byte ∷ bytes) _ here
-      (limbo-dropped-whole mode opened note place byte bytes (sym s.agrees.limbo)))
-  limbo-by-goes effects.Defines place byte bytes mode opened here other s h =
+      (limbo-dropped-whole mode opened note place byte bytes at (sym s.agrees.limbo)))
+  limbo-by-goes effects.Defines place byte bytes mode opened here at other s h =
       skip-goes mode opened (bare parts.Limbo) s
-  limbo-by-goes effects.BeginsC place byte bytes mode opened here other s h =
+  limbo-by-goes effects.BeginsC place byte bytes mode opened here at other s h =
       skip-goes mode opened (bare parts.Limbo) s
 
   limbo-text-goes : (place byte : ℕ) (bytes : List ℕ) (mode : Mode) (opened : List TokKind)
@@ -534,34 +534,34 @@ module _ (text : List ℕ) where
       → Stands (bare parts.Limbo) mode opened → Goes mode opened (limbo_text (bare parts.Limbo) place byte bytes)
   limbo-text-goes place byte bytes mode opened here other s =
       if-both (Goes mode opened) (byte == at_sign) _ _
-      (λ h. limbo-by-goes (effect_in_limbo (code_at bytes)) place byte bytes mode opened here
+      (λ h. limbo-by-goes (effect_in_limbo (code_at bytes)) place byte bytes mode opened here h
       (sym (ap (λ t. t && begins_section bytes) h) ∙ other) s (limbo-suits (code_at bytes)))
       (λ h. text-goes parts.Limbo place (run classes.LimboText (byte ∷ bytes)) (byte ∷ bytes) mode opened refl s)
 
   tex-by-goes : (effect : Effect) (place byte : ℕ) (bytes : List ℕ) (mode : Mode) (opened : List TokKind)
-      → drop place text ≡ byte ∷ bytes → is_section (code_at bytes) ≡ false → Stands (bare parts.Tex) mode opened
-      → Suits effect parts.Tex (code_at bytes)
+      → drop place text ≡ byte ∷ bytes → (byte == at_sign) ≡ true → is_section (code_at bytes) ≡ false
+      → Stands (bare parts.Tex) mode opened → Suits effect parts.Tex (code_at bytes)
       → Goes mode opened (tex_by effect (code_at bytes) (bare parts.Tex) place (byte ∷ bytes))
-  tex-by-goes effects.Stands place byte bytes mode opened here other s h =
+  tex-by-goes effects.Stands place byte bytes mode opened here at other s h =
       let headed = is_name (code_at bytes) && is_head place (byte ∷ bytes) in
       one-goes mode opened false (if headed then bare parts.Head else bare parts.Tex) place (byte ∷ bytes) _
       (either-stands headed (bare parts.Head) (bare parts.Tex) mode opened
       (λ h. bare-like parts.Tex parts.Head mode opened (record { base = refl; limbo = refl; inner = refl }) s) (λ h. s))
-      (whole-here mode opened place (byte ∷ bytes) _ here (code-whole mode opened place byte bytes other))
-  tex-by-goes (effects.Drops note) place byte bytes mode opened here other s h =
+      (whole-here mode opened place (byte ∷ bytes) _ here (code-whole mode opened place byte bytes at other))
+  tex-by-goes (effects.Drops note) place byte bytes mode opened here at other s h =
       one-goes mode opened false (bare parts.Tex) place (byte ∷ bytes) _ s
       (whole-here mode opened place (byte ∷ bytes) _ here
-      (dropped-whole mode opened note place byte bytes (sym s.agrees.limbo)))
-  tex-by-goes effects.Defines place byte bytes mode opened here other s h =
+      (dropped-whole mode opened note place byte bytes at (sym s.agrees.limbo)))
+  tex-by-goes effects.Defines place byte bytes mode opened here at other s h =
       one-goes mode opened false (bare (parts.MacroName place)) place (byte ∷ bytes) _
       (bare-like parts.Tex (parts.MacroName place) mode opened (record { base = refl; limbo = refl; inner = refl }) s)
       (h.1 mode opened (drop place text))
-  tex-by-goes effects.Formats place byte bytes mode opened here other s h =
+  tex-by-goes effects.Formats place byte bytes mode opened here at other s h =
       one-goes mode opened false (bare (parts.FormatName place false false)) place (byte ∷ bytes) _
       (bare-like parts.Tex (parts.FormatName place false false) mode opened
       (record { base = refl; limbo = refl; inner = refl }) s)
       (h.1 mode opened (drop place text))
-  tex-by-goes effects.BeginsC place byte bytes mode opened here other s h =
+  tex-by-goes effects.BeginsC place byte bytes mode opened here at other s h =
       one-goes mode opened false (bare (parts.Plain false false)) place (byte ∷ bytes) _
       (bare-like parts.Tex (parts.Plain false false) mode opened (record { base = refl; limbo = refl; inner = refl }) s)
       (h.1 mode opened (drop place text))
@@ -572,7 +572,7 @@ module _ (text : List ℕ) where
   tex-text-goes place byte bytes mode opened here other s =
       let inner : Found = inner_begin false (bare parts.TexInner) place (byte ∷ bytes) in
       if-both (Goes mode opened) (byte == at_sign) _ _
-      (λ h. tex-by-goes (effect_in_tex (code_at bytes)) place byte bytes mode opened here
+      (λ h. tex-by-goes (effect_in_tex (code_at bytes)) place byte bytes mode opened here h
       (sym (ap (λ t. t && begins_section bytes) h) ∙ other) s (tex-suits (code_at bytes)))
       (λ h. if-both (Goes mode opened) (byte == bar) inner _
       (λ h. subst (λ o. Goes mode o inner) (sym s.fit)

@@ -1,21 +1,25 @@
--- How many bytes come before the end of a control text, and of a piece of a comment.
+-- How many bytes come before the end of a control text, of a section name, and of a piece of a comment.
 use Rattle.std.proofs.Common.{◌≡◌, ℕ, ◌+◌, ◌-◌, Bool, true, false, ◌&&◌, ◌||◌, not, ◌==◌, List, [], ◌∷◌, ◌++◌, drop}
 use Rattle.std.proofs.Common.{if◌then◌else◌, refl, sym, subst, ap, ◌∙◌, ◌<◌, ◌⊎◌, arith, inl, inr, Option, Some, None}
+use Rattle.std.proofs.Common.{length}
 use Rattle.cw_base.specs.declared.notes.NoteKind.{NoteKind}
 use Rattle.cw_rules.specs.declared.bodies.Body.{Body}
 use Rattle.cw_rules.specs.declared.bodies.Body.TheVariants as bodies
 use Rattle.cw_rules.specs.declared.bodies.Inside.{Inside}
 use Rattle.cw_rules.specs.declared.bodies.Noted.{Noted}
 use Rattle.cw_rules.specs.Answers.{Answer, note_answers}
-use Rattle.cw_rules.specs.Bytes.{at_sign, greater, begins_with}
+use Rattle.cw_rules.specs.declared.codes.Code.{Code}
+use Rattle.cw_rules.specs.Bytes.{at_sign, greater, begins, begins_with}
+use Rattle.cw_rules.specs.Codes.{begins_section}
 use Rattle.cw_rules.specs.Bodies.{stops, takes_next, stepped, goes_on, ended, and_last, note_unless, at_start, extent}
 use Rattle.cw_rules.specs.Bodies.{noted, note_here, note_on, is_single, with_note}
-use Rattle.cw_rules.specs.Bodies.{all_notes}
+use Rattle.cw_rules.specs.Bodies.{all_notes, closing_bytes, one_note}
 use Rattle.cw_rules.specs.declared.tokens.Mode.{Mode}
 use Rattle.cw_rules.specs.declared.tokens.TokKind.{TokKind}
-use Rattle.cw_rules.specs.Tokens.{comment_kind}
-use Rattle.cw_laws.specs.Ends.{begins_two, before_end, ends_control, is_double_at, control_size, ends_piece, is_pair}
-use Rattle.cw_laws.specs.Ends.{is_single_at, single_place, IsNoted, HasControlText, piece_size, bars_begin, IsPieceIn}
+use Rattle.cw_rules.specs.Tokens.{comment_kind, section_name}
+use Rattle.cw_laws.specs.Ends.{begins_two, before_end, ends_control, is_double_at, ends_piece, is_pair, ends_name}
+use Rattle.cw_laws.specs.Ends.{is_single_at, before_single, IsNoted, HasControlText, HasName, is_closed, closed_size}
+use Rattle.cw_laws.specs.Ends.{piece_size, bars_begin, IsPieceIn}
 use Rattle.cw_laws.proofs.Strings.{step-size}
 
 -- the ends and the pairs of a body, said of the bytes
@@ -72,7 +76,7 @@ module _ (body : Body) (ends pairs : List ℕ → Bool) (r : Rules body ends pai
           → ((stepped one y ys).along ≡ false
           → (ended (stepped one y ys) ys).place - (stepped one y ys).place ≡ before_end ends pairs ys)
           → (ended i (x ∷ y ∷ ys)).place - i.place
-          ≡ (if e then 0 else (if p then 2 + before_end ends pairs ys else 1 + before_end ends pairs (y ∷ ys)))
+          ≡ (if e then 0 else if p then 2 + before_end ends pairs ys else 1 + before_end ends pairs (y ∷ ys))
       by true p k l rest behind = none i x (y ∷ ys) (goes i x (y ∷ ys) b a ∙ ap not k)
       by false true k l rest behind =
           let al : one.along ≡ true = along i x (y ∷ ys) b a ∙ l in
@@ -89,15 +93,15 @@ module _ (body : Body) (ends pairs : List ℕ → Bool) (r : Rules body ends pai
 control-rules : Rules bodies.ControlText ends_control is_double_at
 control-rules = record { stop = λ before byte bytes. refl; takes = λ byte bytes. refl }
 
-control-goes : (i : Inside) (byte : ℕ) (bytes : List ℕ) → i.body ≡ bodies.ControlText → i.along ≡ false
-    → ends_control (byte ∷ bytes) ≡ false → goes_on i (byte ∷ bytes) ≡ true
-control-goes i byte bytes b a k =
-    goes bodies.ControlText ends_control is_double_at control-rules i byte bytes b a ∙ ap not k
-
-control-along : (i : Inside) (byte : ℕ) (bytes : List ℕ) → i.body ≡ bodies.ControlText → i.along ≡ false
-    → (stepped i byte bytes).along ≡ is_double_at (byte ∷ bytes)
-control-along i byte bytes b a =
-    along bodies.ControlText ends_control is_double_at control-rules i byte bytes b a
+name-rules : Rules bodies.SectionName ends_name (begins at_sign)
+name-rules = record {
+  stop = λ before byte bytes. by (byte == at_sign) (begins greater bytes) (begins_section bytes);
+  takes = λ byte bytes. refl;
+}
+  where
+    by : (t a b : Bool) → (t && (a || b)) ≡ ((t && a) || (t && b))
+    by true a b = refl
+    by false a b = refl
 
 piece-rules : (long deep : Bool) → Rules (bodies.Piece long deep) (ends_piece long (not deep)) (is_pair long)
 piece-rules long deep = record { stop = λ before byte bytes. refl; takes = λ byte bytes. refl }
@@ -123,7 +127,7 @@ pub piece-whole : (mode : Mode) (long deep : Bool) (braces place : ℕ) (bytes :
 piece-whole mode true deep braces place bytes rest h = piece-is true deep _ braces place bytes h
 piece-whole mode false deep braces place bytes rest h = piece-is false deep _ braces place bytes h
 
--- ## Control texts
+-- ## The texts of codes
 
 two-with : (first second : ℕ) (bytes : List ℕ)
     → begins_with (first ∷ second ∷ []) bytes ≡ begins_two first second bytes
@@ -168,59 +172,66 @@ behind-step kind i byte bytes h k =
     subst (HasNote kind) (sym (noted-step i byte bytes h))
     (with-behind kind (note_here i byte bytes) i.place (noted (stepped i byte bytes) bytes) k)
 
-here-step : (i : Inside) (byte : ℕ) (bytes : List ℕ) → i.body ≡ bodies.ControlText → i.along ≡ false
-    → goes_on i (byte ∷ bytes) ≡ true → is_single byte bytes ≡ true
-    → HasNote NoteKind.CodeInControlText (noted i (byte ∷ bytes))
-here-step i byte bytes b a h s =
-    subst (HasNote NoteKind.CodeInControlText)
-    (sym (noted-step i byte bytes h ∙ ap (λ o. with_note o i.place (noted (stepped i byte bytes) bytes)) here))
-    (inl refl)
-  where
-    here : note_here i byte bytes ≡ Some NoteKind.CodeInControlText
-    here =
-        (λ k. if a k then None else note_on (b k) i.braces byte bytes)
-        ∙ ap (λ t. if t then Some NoteKind.CodeInControlText else None) s
+-- a body in which a single `@` is noted so
+abbrev NotesSingle : Body → NoteKind → Type 0
+NotesSingle body kind = (braces byte : ℕ) (bytes : List ℕ)
+    → note_on body braces byte bytes ≡ (if is_single byte bytes then Some kind else None)
 
-abbrev ends_or_single : List ℕ → Bool
-ends_or_single bytes = ends_control bytes || is_single_at bytes
+module _ (body : Body) (ends pairs : List ℕ → Bool) (r : Rules body ends pairs) (kind : NoteKind)
+    (notes : NotesSingle body kind) where
+  here-step : (i : Inside) (byte : ℕ) (bytes : List ℕ) → i.body ≡ body → i.along ≡ false
+      → goes_on i (byte ∷ bytes) ≡ true → is_single byte bytes ≡ true → HasNote kind (noted i (byte ∷ bytes))
+  here-step i byte bytes b a h s =
+      subst (HasNote kind)
+      (sym (noted-step i byte bytes h ∙ ap (λ o. with_note o i.place (noted (stepped i byte bytes) bytes)) here))
+      (inl refl)
+    where
+      here : note_here i byte bytes ≡ Some kind
+      here =
+          (λ k. if a k then None else note_on (b k) i.braces byte bytes)
+          ∙ notes i.braces byte bytes
+          ∙ ap (λ t. if t then Some kind else None) s
 
-single-noted : (i : Inside) (bytes : List ℕ) → i.body ≡ bodies.ControlText → i.along ≡ false
-    → single_place bytes < control_size bytes → HasNote NoteKind.CodeInControlText (noted i bytes)
-single-noted i [] b a less = absurd (omega (arith, less))
-single-noted i (x ∷ []) b a less = by (ends_control (x ∷ [])) (is_single_at (x ∷ [])) refl refl less
-  where
-    by : (e s : Bool) → ends_control (x ∷ []) ≡ e → is_single_at (x ∷ []) ≡ s
-        → (if e || s then 0 else 1) < (if e then 0 else 1) → HasNote NoteKind.CodeInControlText (noted i (x ∷ []))
-    by true s k l less = absurd (omega (arith, less))
-    by false true k l less = here-step i x [] b a (control-goes i x [] b a k) l
-    by false false k l less = absurd (omega (arith, less))
-single-noted i (x ∷ y ∷ ys) b a less =
-    by (ends_control (x ∷ y ∷ ys)) (is_single_at (x ∷ y ∷ ys)) (is_double_at (x ∷ y ∷ ys)) refl refl refl less
-    (λ e. single-noted (stepped i x (y ∷ ys)) (y ∷ ys) b e)
-    (λ e. single-noted (stepped (stepped i x (y ∷ ys)) y ys) ys b e)
-  where
-    one : Inside
-    one = stepped i x (y ∷ ys)
+  on : (i : Inside) (byte : ℕ) (bytes : List ℕ) → i.body ≡ body → i.along ≡ false → ends (byte ∷ bytes) ≡ false
+      → goes_on i (byte ∷ bytes) ≡ true
+  on i byte bytes b a k = goes body ends pairs r i byte bytes b a ∙ ap not k
 
-    by : (e s p : Bool) → ends_control (x ∷ y ∷ ys) ≡ e → is_single_at (x ∷ y ∷ ys) ≡ s
-        → is_double_at (x ∷ y ∷ ys) ≡ p
-        → (if e || s then 0 else (if p then 2 + single_place ys else 1 + single_place (y ∷ ys)))
-        < (if e then 0 else (if p then 2 + control_size ys else 1 + control_size (y ∷ ys)))
-        → (one.along ≡ false → single_place (y ∷ ys) < control_size (y ∷ ys)
-        → HasNote NoteKind.CodeInControlText (noted one (y ∷ ys)))
-        → ((stepped one y ys).along ≡ false → single_place ys < control_size ys
-        → HasNote NoteKind.CodeInControlText (noted (stepped one y ys) ys))
-        → HasNote NoteKind.CodeInControlText (noted i (x ∷ y ∷ ys))
-    by true s p k l m less rest behind = absurd (omega (arith, less))
-    by false true p k l m less rest behind = here-step i x (y ∷ ys) b a (control-goes i x (y ∷ ys) b a k) l
-    by false false true k l m less rest behind =
-        let al : one.along ≡ true = control-along i x (y ∷ ys) b a ∙ m in
-        behind-step NoteKind.CodeInControlText i x (y ∷ ys) (control-goes i x (y ∷ ys) b a k)
-        (behind-step NoteKind.CodeInControlText one y ys (ap (λ t. t || not (stops i.body x y ys)) al)
-        (behind (ap (λ t. not t && takes_next i.body y ys) al) (omega (arith, less))))
-    by false false false k l m less rest behind =
-        behind-step NoteKind.CodeInControlText i x (y ∷ ys) (control-goes i x (y ∷ ys) b a k)
-        (rest (control-along i x (y ∷ ys) b a ∙ m) (omega (arith, less)))
+  single-noted : (i : Inside) (bytes : List ℕ) → i.body ≡ body → i.along ≡ false
+      → before_single ends pairs bytes < before_end ends pairs bytes → HasNote kind (noted i bytes)
+  single-noted i [] b a less = absurd (omega (arith, less))
+  single-noted i (x ∷ []) b a less = by (ends (x ∷ [])) (is_single_at (x ∷ [])) refl refl less
+    where
+      by : (e s : Bool) → ends (x ∷ []) ≡ e → is_single_at (x ∷ []) ≡ s
+          → (if e || s then 0 else 1) < (if e then 0 else 1) → HasNote kind (noted i (x ∷ []))
+      by true s k l less = absurd (omega (arith, less))
+      by false true k l less = here-step i x [] b a (on i x [] b a k) l
+      by false false k l less = absurd (omega (arith, less))
+  single-noted i (x ∷ y ∷ ys) b a less =
+      by (ends (x ∷ y ∷ ys)) (is_single_at (x ∷ y ∷ ys)) (pairs (x ∷ y ∷ ys)) refl refl refl less
+      (λ e. single-noted (stepped i x (y ∷ ys)) (y ∷ ys) b e)
+      (λ e. single-noted (stepped (stepped i x (y ∷ ys)) y ys) ys b e)
+    where
+      one : Inside
+      one = stepped i x (y ∷ ys)
+
+      by : (e s p : Bool) → ends (x ∷ y ∷ ys) ≡ e → is_single_at (x ∷ y ∷ ys) ≡ s → pairs (x ∷ y ∷ ys) ≡ p
+          → (if e || s then 0
+          else if p then 2 + before_single ends pairs ys else 1 + before_single ends pairs (y ∷ ys))
+          < (if e then 0 else if p then 2 + before_end ends pairs ys else 1 + before_end ends pairs (y ∷ ys))
+          → (one.along ≡ false → before_single ends pairs (y ∷ ys) < before_end ends pairs (y ∷ ys)
+          → HasNote kind (noted one (y ∷ ys)))
+          → ((stepped one y ys).along ≡ false → before_single ends pairs ys < before_end ends pairs ys
+          → HasNote kind (noted (stepped one y ys) ys)) → HasNote kind (noted i (x ∷ y ∷ ys))
+      by true s p k l m less rest behind = absurd (omega (arith, less))
+      by false true p k l m less rest behind = here-step i x (y ∷ ys) b a (on i x (y ∷ ys) b a k) l
+      by false false true k l m less rest behind =
+          let al : one.along ≡ true = along body ends pairs r i x (y ∷ ys) b a ∙ m in
+          behind-step kind i x (y ∷ ys) (on i x (y ∷ ys) b a k)
+          (behind-step kind one y ys (ap (λ t. t || not (stops i.body x y ys)) al)
+          (behind (ap (λ t. not t && takes_next i.body y ys) al) (omega (arith, less))))
+      by false false false k l m less rest behind =
+          behind-step kind i x (y ∷ ys) (on i x (y ∷ ys) b a k)
+          (rest (along body ends pairs r i x (y ∷ ys) b a ∙ m) (omega (arith, less)))
 
 note-in : (kind : NoteKind) (ns : List Noted) (later : List Answer) → HasNote kind ns
     → IsNoted kind (note_answers ns ++ later)
@@ -237,24 +248,81 @@ before-last : (kind : NoteKind) (ns : List Noted) (o : Option Noted) → HasNote
 before-last kind ns None h = h
 before-last kind ns (Some n) h = note-before kind ns (n ∷ []) h
 
+note-behind : (kind : NoteKind) (ns ms : List Noted) → HasNote kind ms → HasNote kind (ns ++ ms)
+note-behind kind [] ms h = h
+note-behind kind (n ∷ ns) ms h = inr (note-behind kind ns ms h)
+
+-- ## Whole texts
+
+-- a text that `@>` closes, as far as it goes
+record IsCut (ends pairs : List ℕ → Bool) (i : Inside) (bytes : List ℕ) : Type 0 where
+  closed : (extent i bytes).closed ≡ is_closed ends pairs bytes
+  size : (extent i bytes).size ≡ closed_size ends pairs bytes
+
+is-cut : (ends pairs : List ℕ → Bool) (i : Inside) (bytes : List ℕ)
+    → closing_bytes i.body ≡ at_sign ∷ greater ∷ []
+    → (ended i bytes).place - i.place ≡ before_end ends pairs bytes → IsCut ends pairs i bytes
+is-cut ends pairs i bytes by size = record {
+  closed = closed;
+  size =
+      (λ k. if begins_with (by k) (drop (size k) bytes) then size k + length (by k) else size k)
+      ∙ ap (λ t. if t then before_end ends pairs bytes + 2 else before_end ends pairs bytes)
+      (two-with at_sign greater (drop (before_end ends pairs bytes) bytes));
+}
+  where
+    closed : (extent i bytes).closed ≡ is_closed ends pairs bytes
+    closed = (λ k. begins_with (by k) (drop (size k) bytes))
+        ∙ two-with at_sign greater (drop (before_end ends pairs bytes) bytes)
+
+control-cut : (place : ℕ) (bytes : List ℕ)
+    → IsCut ends_control is_double_at (at_start bodies.ControlText place) bytes
+control-cut place bytes =
+    is-cut ends_control is_double_at (at_start bodies.ControlText place) bytes refl
+    (before-size bodies.ControlText ends_control is_double_at control-rules (at_start bodies.ControlText place) bytes
+    refl refl)
+
+name-cut : (place : ℕ) (bytes : List ℕ) → IsCut ends_name (begins at_sign) (at_start bodies.SectionName place) bytes
+name-cut place bytes =
+    is-cut ends_name (begins at_sign) (at_start bodies.SectionName place) bytes refl
+    (before-size bodies.SectionName ends_name (begins at_sign) name-rules (at_start bodies.SectionName place) bytes
+    refl refl)
+
 pub control-whole : (place byte next : ℕ) (bytes : List ℕ) (later : List Answer)
     → HasControlText (byte ∷ next ∷ bytes)
     (2 + (extent (at_start bodies.ControlText place) bytes).size)
     (note_answers (all_notes NoteKind.ControlTextUnended (at_start bodies.ControlText place) bytes) ++ later)
-control-whole place byte next bytes later = record {
-  whole = λ k. 2 + (if closed k then size k + 2 else size k);
-  noted = λ h. unended-noted NoteKind.ControlTextUnended _ (extent i bytes).closed (extent i bytes).stop later
-      (closed ∙ h);
-  single = λ less. note-in NoteKind.CodeInControlText (all_notes NoteKind.ControlTextUnended i bytes) later
-      (before-last NoteKind.CodeInControlText (noted i bytes) _ (single-noted i bytes refl refl less));
-}
+control-whole place byte next bytes later =
+    let i = at_start bodies.ControlText place in
+    record {
+      whole = ap (λ n. 2 + n) (control-cut place bytes).size;
+      noted = λ h. unended-noted NoteKind.ControlTextUnended _ (extent i bytes).closed (extent i bytes).stop later
+          ((control-cut place bytes).closed ∙ h);
+      singles = λ less. note-in NoteKind.CodeInControlText (all_notes NoteKind.ControlTextUnended i bytes) later
+          (before-last NoteKind.CodeInControlText (noted i bytes) _
+          (single-noted bodies.ControlText ends_control is_double_at control-rules NoteKind.CodeInControlText
+          (λ braces byte bytes. refl) i bytes refl refl less));
+    }
+
+pub name-whole : (code : Code) (place byte next : ℕ) (bytes : List ℕ) (later : List Answer)
+    → HasName (byte ∷ next ∷ bytes) (section_name code place (byte ∷ next ∷ bytes)).size
+    (note_answers (section_name code place (byte ∷ next ∷ bytes)).notes ++ later)
+name-whole code place byte next bytes later =
+    let i = at_start bodies.SectionName (place + 2) in
+    let cut = name-cut (place + 2) bytes in
+    let notes = (section_name code place (byte ∷ next ∷ bytes)).notes in
+    let first = one_note (note_unless (extent i bytes).closed NoteKind.NameUnended place) in
+    record {
+      whole = ap (λ n. 2 + n) cut.size;
+      noted = λ h. note-in NoteKind.NameUnended notes later
+          (note-before NoteKind.NameUnended first _ (unended (extent i bytes).closed (cut.closed ∙ h)));
+      singles = λ less. note-in NoteKind.CodeInName notes later
+          (note-behind NoteKind.CodeInName first _
+          (note-behind NoteKind.CodeInName (one_note _) (noted i bytes)
+          (single-noted bodies.SectionName ends_name (begins at_sign) name-rules NoteKind.CodeInName
+          (λ braces byte bytes. refl) i bytes refl refl less)));
+    }
   where
-    i : Inside
-    i = at_start bodies.ControlText place
-
-    size : (ended i bytes).place - place ≡ control_size bytes
-    size = before-size bodies.ControlText ends_control is_double_at control-rules i bytes refl refl
-
-    closed : (extent i bytes).closed ≡ begins_two at_sign greater (drop (control_size bytes) bytes)
-    closed = (λ k. begins_with (at_sign ∷ greater ∷ []) (drop (size k) bytes))
-        ∙ two-with at_sign greater (drop (control_size bytes) bytes)
+    unended : (closed : Bool) → closed ≡ false
+        → HasNote NoteKind.NameUnended (one_note (note_unless closed NoteKind.NameUnended place))
+    unended true e = absurd cc
+    unended false e = inl refl

@@ -12,6 +12,7 @@ pub mod Strings
 pub mod Longest
 pub mod Insides
 pub mod StillOpen
+pub mod QuoteCodes
 pub mod EndCodes
 pub mod Ends
 pub mod PlainText

@@ -2,6 +2,7 @@
 use Rattle.std.proofs.Common.{◌≡◌, ℕ, true, false, List, [], ◌∷◌, codes, length, refl, arith}
 use Rattle.cw_base.specs.declared.span.Span.{Span}
 use Rattle.cw_base.specs.Web.{MergedLine, text_of}
+use Rattle.cw_rules.specs.declared.tokens.Mode.{Mode}
 use Rattle.cw_rules.specs.declared.tokens.Mode.TheVariants as modes
 use Rattle.cw_rules.specs.declared.signs.Sign.TheVariants as signs
 use Rattle.cw_rules.specs.declared.tokens.TokKind.{TokKind}
@@ -12,7 +13,9 @@ use Rattle.cw_lex.specs.Openings.{tokens_in}
 use Rattle.cw_phase1.specs.Book.{book}
 use Rattle.cw_phase1.specs.Sections.{span}
 use Rattle.cw_texpart.specs.Limbo.{printed_limbo}
-use Rattle.cw_laws.specs.Ends.{before_end, control_size, ends_piece, is_pair, single_place}
+use Rattle.cw_rules.specs.Bytes.{at_sign, begins}
+use Rattle.cw_laws.specs.Ends.{before_end, before_single, closed_size, control_size, ends_control, ends_name}
+use Rattle.cw_laws.specs.Ends.{ends_piece, is_double_at, is_pair}
 use Rattle.cw_laws.specs.NotePlaces.{NotesLie}
 use Rattle.cw_laws.specs.Pieces.{book_pieces, piece_bytes, pieces_with}
 use Rattle.cw_laws.specs.TexText.{kept_bytes, last_line_ended}
@@ -73,7 +76,7 @@ a_control_text = refl
 a_control_line : control_size (codes "a@\nb@>") ≡ 2
 a_control_line = refl
 
-a_single_at : single_place (codes "a@,b@>") ≡ 1
+a_single_at : before_single ends_control is_double_at (codes "a@,b@>") ≡ 1
 a_single_at = refl
 
 abbrev spans_of : List Seen → List Span
@@ -85,6 +88,27 @@ spans_in text = spans_of (tokens_in (tokens_of text 0 (length text) modes.CPart)
 
 the_control_texts : spans_in (codes "@^a@@>b@>c@.d\ne") ≡ span 0 9 ∷ span 9 10 ∷ span 10 13 ∷ span 14 15 ∷ []
 the_control_texts = refl
+
+-- A section name goes on over a line's end, and `@@` are two bytes of it.
+a_name : closed_size ends_name (begins at_sign) (codes "a\nb@@>c@>d") ≡ 9
+a_name = refl
+
+a_cut_name : closed_size ends_name (begins at_sign) (codes "ab@ c@>") ≡ 2
+a_cut_name = refl
+
+-- The string of `@'` ends with its quote, of which one is behind a backslash.
+a_quote : spans_in (codes "@'\\''a") ≡ span 0 5 ∷ span 5 6 ∷ []
+a_quote = refl
+
+-- In TeX text `@t` is dropped with its control text, and in limbo without.
+abbrev dropped_in : Mode → List Span
+dropped_in mode = spans_of (tokens_in (tokens_of (codes "@ta@>b") 0 6 mode))
+
+a_dropped_text : dropped_in modes.TexText ≡ span 0 5 ∷ span 5 6 ∷ []
+a_dropped_text = refl
+
+a_dropped_code : dropped_in modes.Limbo ≡ span 0 2 ∷ span 2 3 ∷ span 3 5 ∷ span 5 6 ∷ []
+a_dropped_code = refl
 
 -- A backslash takes the star along, and a bar begins an inner text.
 a_piece : before_end (ends_piece true true) (is_pair true) (codes "a\\*/b|c|*/") ≡ 5
@@ -112,6 +136,13 @@ a_short_comment = refl
 
 a_comment_without_end : ends_in (codes "/*a") ≡ span 3 3 ∷ []
 a_comment_without_end = refl
+
+-- A line's end cuts off an inner text of a short comment, and then ends that; in a long one it cuts off nothing.
+a_cut_inner_text : ends_in (codes "//|a\n") ≡ span 4 4 ∷ span 4 4 ∷ []
+a_cut_inner_text = refl
+
+an_inner_line : ends_in (codes "/*|a\n|*/") ≡ span 5 6 ∷ span 6 8 ∷ []
+an_inner_line = refl
 
 -- In limbo a bar and a backslash are bytes as others. An empty line stays, and the last line is ended.
 a_limbo : printed_limbo (codes "a|b\n\n\\c") (span 0 7) ≡ codes "a|b\n\n\\c\n"

@@ -17,6 +17,7 @@ use Rattle.cw_rules.specs.Tokens.{in_hash_line, is_deep, passed, first_depth, be
 use Rattle.cw_rules.specs.Tokens.{moved}
 use Rattle.cw_rules.proofs.Choices.{if-both}
 use Rattle.cw_lex.specs.Lexing.{beginning}
+use Rattle.cw_lex.specs.Openings.{is_limbo_mode}
 use Rattle.cw_laws.specs.Ends.{is_inner_text, inner_depth, bars_begin}
 
 -- ## The part
@@ -35,17 +36,13 @@ abbrev pub inner_part : Part → Bool
 inner_part parts.Inner = true
 inner_part part = false
 
-abbrev pub limbo_mode : Mode → Bool
-limbo_mode modes.Limbo = true
-limbo_mode mode = false
-
 abbrev pub inner_mode : Mode → Bool
 inner_mode modes.Inner = true
 inner_mode mode = false
 
 -- a part of text in this mode
 pub record Agrees (part : Part) (mode : Mode) : Type 0 where
-  pub limbo : limbo_part part ≡ limbo_mode mode
+  pub limbo : limbo_part part ≡ is_limbo_mode mode
   pub inner : inner_part part ≡ inner_mode mode
 
 -- another part in which the same is open

@@ -1,10 +1,12 @@
--- Where control texts, comments and inner texts end.
+-- Where the texts of codes, comments and inner texts end.
 use Rattle.std.specs.Prelude.{◌≡◌, ℕ, ◌+◌, ◌-◌, ◌<◌, nat_lt, Bool, true, false, not, ◌&&◌, ◌||◌, List, [], ◌∷◌, ◌⊎◌}
-use Rattle.std.specs.Prelude.{drop, take, if◌then◌else◌}
+use Rattle.std.specs.Prelude.{drop, length, take, if◌then◌else◌}
 use Rattle.std.specs.List.{count_by}
 use Rattle.cw_base.specs.declared.notes.NoteKind.{NoteKind}
-use Rattle.cw_base.specs.declared.notes.NoteKind.TheVariants.{BarMissing, CodeInControlText, CommentUnended}
-use Rattle.cw_base.specs.declared.notes.NoteKind.TheVariants.{ControlTextUnended}
+use Rattle.cw_base.specs.declared.notes.NoteKind.TheVariants.{BarMissing, CodeInControlText, CodeInName}
+use Rattle.cw_base.specs.declared.notes.NoteKind.TheVariants.{CommentUnended, ControlTextUnended, NameUnended}
+use Rattle.cw_rules.specs.declared.codes.Code.{Code}
+use Rattle.cw_rules.specs.declared.codes.Code.TheVariants as at
 use Rattle.cw_rules.specs.declared.tokens.Mode.{Mode}
 use Rattle.cw_rules.specs.declared.tokens.Mode.TheVariants as modes
 use Rattle.cw_rules.specs.declared.tokens.TokKind.{TokKind}
@@ -13,9 +15,11 @@ use Rattle.cw_rules.specs.Answers.{Answer, Token, Begin, Finish, Note}
 use Rattle.cw_base.specs.Text.{bar}
 use Rattle.cw_base.specs.Bytes.{newline, backslash}
 use Rattle.cw_rules.specs.Bytes.{star, slash, greater, at_sign, begins}
-use Rattle.cw_rules.specs.Codes.{begins_section, has_control_text}
+use Rattle.cw_rules.specs.Codes.{begins_section, code_at, has_control_text}
 use Rattle.cw_lex.specs.Lexing.{tokens_of}
 use Rattle.cw_lex.specs.Nested.{is_section_kind}
+use Rattle.cw_lex.specs.Openings.{is_limbo_mode}
+use Rattle.cw_laws.specs.Strings.{IsString}
 
 -- the bytes begin with these two
 abbrev pub begins_two : ℕ → ℕ → List ℕ → Bool
@@ -30,15 +34,15 @@ before_end ends pairs [] = 0
 before_end ends pairs (byte ∷ []) = if ends (byte ∷ []) then 0 else 1
 before_end ends pairs (byte ∷ next ∷ bytes) =
     if ends (byte ∷ next ∷ bytes) then 0
-    else (if pairs (byte ∷ next ∷ bytes) then 2 + before_end ends pairs bytes
-    else 1 + before_end ends pairs (next ∷ bytes))
+    else if pairs (byte ∷ next ∷ bytes) then 2 + before_end ends pairs bytes
+    else 1 + before_end ends pairs (next ∷ bytes)
 
 -- This note stands among those directly behind an answer.
 abbrev pub IsNoted : NoteKind → List Answer → Type 0
 IsNoted wanted (Note kind place ∷ answers) = (kind ≡ wanted) ⊎ IsNoted wanted answers
 IsNoted wanted answers = ⊥
 
--- ## Control texts
+-- ## The texts of codes
 
 -- A control text ends before `@>` and before a line's end; `@@` belongs together.
 abbrev pub ends_control : List ℕ → Bool
@@ -50,25 +54,65 @@ is_double_at bytes = begins_two at_sign at_sign bytes
 abbrev pub control_size : List ℕ → ℕ
 control_size bytes = before_end ends_control is_double_at bytes
 
+-- A section name ends before `@>` and before a section code, perhaps on a later line; any other `@` belongs to the byte
+-- behind it.
+abbrev pub ends_name : List ℕ → Bool
+ends_name bytes = begins_two at_sign greater bytes || begins_section_code bytes
+
 -- an `@` that no other follows
 abbrev pub is_single_at : List ℕ → Bool
 is_single_at bytes = begins at_sign bytes && not (begins at_sign (drop 1 bytes))
 
 -- how many bytes come before the first end or single `@`
-abbrev pub single_place : List ℕ → ℕ
-single_place bytes = before_end (λ bytes. ends_control bytes || is_single_at bytes) is_double_at bytes
+abbrev pub before_single : (ends pairs : List ℕ → Bool) → List ℕ → ℕ
+before_single ends pairs bytes = before_end (λ bytes. ends bytes || is_single_at bytes) pairs bytes
 
 -- `@>` stands at the first end
-abbrev pub is_closed : List ℕ → Bool
-is_closed bytes = begins_two at_sign greater (drop (control_size bytes) bytes)
+abbrev pub is_closed : (ends pairs : List ℕ → Bool) → List ℕ → Bool
+is_closed ends pairs bytes = begins_two at_sign greater (drop (before_end ends pairs bytes) bytes)
 
--- A code has the bytes of its control text up to the first end, and `@>` where it stands there. Else that is noted,
--- and so is a single `@` before the first end.
-pub record HasControlText (bytes : List ℕ) (size : ℕ) (answers : List Answer) : Type 0 where
-  pub whole : size
-      ≡ 2 + (if is_closed (drop 2 bytes) then control_size (drop 2 bytes) + 2 else control_size (drop 2 bytes))
-  pub noted : is_closed (drop 2 bytes) ≡ false → IsNoted ControlTextUnended answers
-  pub single : single_place (drop 2 bytes) < control_size (drop 2 bytes) → IsNoted CodeInControlText answers
+-- the bytes before the first end, and `@>` where it stands there
+abbrev pub closed_size : (ends pairs : List ℕ → Bool) → List ℕ → ℕ
+closed_size ends pairs bytes =
+    if is_closed ends pairs bytes then before_end ends pairs bytes + 2 else before_end ends pairs bytes
+
+-- A code has the bytes of its text up to the first end, and `@>` where it stands there. Else that is noted, and so is a
+-- single `@` before the first end.
+pub record HasText (ends pairs : List ℕ → Bool) (unended single : NoteKind) (bytes : List ℕ) (size : ℕ)
+    (answers : List Answer) : Type 0 where
+  pub whole : size ≡ 2 + closed_size ends pairs (drop 2 bytes)
+  pub noted : is_closed ends pairs (drop 2 bytes) ≡ false → IsNoted unended answers
+  pub singles : before_single ends pairs (drop 2 bytes) < before_end ends pairs (drop 2 bytes) → IsNoted single answers
+
+abbrev pub HasControlText : List ℕ → ℕ → List Answer → Type 0
+HasControlText bytes size answers =
+    HasText ends_control is_double_at ControlTextUnended CodeInControlText bytes size answers
+
+abbrev pub HasName : List ℕ → ℕ → List Answer → Type 0
+HasName bytes size answers = HasText ends_name (begins at_sign) NameUnended CodeInName bytes size answers
+
+-- The bytes begin with this code: an `@`, and behind it the byte that tells the code.
+abbrev pub BeginsCode : Code → List ℕ → Type 0
+BeginsCode code bytes = (begins at_sign bytes ≡ true) × (code_at (drop 1 bytes) ≡ code)
+
+-- A code goes up to the end of its name or control text, and `@'` up to that of the string that begins with its `'`.
+abbrev pub CodeGoesToEnd : Code → List ℕ → ℕ → List Answer → Type 0
+CodeGoesToEnd at.Quote bytes size answers = BeginsCode at.Quote bytes × IsString (drop 1 bytes) (size - 1)
+CodeGoesToEnd at.SectionName bytes size answers = BeginsCode at.SectionName bytes × HasName bytes size answers
+CodeGoesToEnd at.FileName bytes size answers = BeginsCode at.FileName bytes × HasName bytes size answers
+CodeGoesToEnd code bytes size answers =
+    has_control_text code ≡ true → BeginsCode code bytes × HasControlText bytes size answers
+
+-- a control text is dropped with its code, but not in limbo
+abbrev pub drops_text : Mode → List ℕ → Bool
+drops_text mode bytes = not (is_limbo_mode mode) && has_control_text (code_at (drop 1 bytes))
+
+-- A code that is dropped has the bytes of its control text, if that is dropped too; else it is the `@` and the byte
+-- behind it, where one is there.
+pub record IsDropped (mode : Mode) (bytes : List ℕ) (size : ℕ) (answers : List Answer) : Type 0 where
+  pub code : begins at_sign bytes ≡ true
+  pub text : drops_text mode bytes ≡ true → HasControlText bytes size answers
+  pub alone : drops_text mode bytes ≡ false → size ≡ length (take 2 bytes)
 
 -- ## How deep inner texts stand
 
@@ -149,16 +193,16 @@ EndsAt kind around bytes size answers = ⊥
 
 abbrev pub GoesToEnd : Mode → List TokKind → TokKind → List ℕ → ℕ → List Answer → Type 0
 GoesToEnd mode opened kinds.Text bytes size answers = IsPieceIn mode opened bytes size
-GoesToEnd mode opened (kinds.Code code) bytes size answers =
-    has_control_text code ≡ true → HasControlText bytes size answers
+GoesToEnd mode opened (kinds.Code code) bytes size answers = CodeGoesToEnd code bytes size answers
+GoesToEnd mode opened kinds.Dropped bytes size answers = IsDropped mode bytes size answers
 GoesToEnd mode opened kind bytes size answers = Unit {0}
 
 -- Behind a section code TeX text goes on.
 abbrev pub mode_behind : TokKind → Mode → Mode
 mode_behind kind mode = if is_section_kind kind then modes.TexText else mode
 
--- The control texts, comments and inner texts among answers end so, in this mode, before which these are open, the
--- innermost first. What ends is the innermost. At a section code, and at the end, none is open.
+-- So texts go to their ends among answers, in this mode, before which these comments and inner texts are open, the
+-- innermost first. What ends is the innermost; at a section code, and at the end, none is open.
 abbrev pub AllEnd : List ℕ → Mode → List TokKind → List Answer → Type 0
 AllEnd text mode opened [] = opened ≡ []
 AllEnd text mode opened (Token t ∷ answers) =
