@@ -7,6 +7,7 @@ use Rattle.std.proofs.lemmas.List.{append-nil}
 use Rattle.cw_base.specs.declared.notes.NoteKind.{NoteKind}
 use Rattle.cw_base.proofs.TestLaws.{both-left, both-right}
 use Rattle.cw_rules.specs.declared.bodies.Noted.{Noted}
+use Rattle.cw_rules.specs.declared.classes.Class.{Class}
 use Rattle.cw_rules.specs.declared.classes.Class.TheVariants as classes
 use Rattle.cw_rules.specs.declared.codes.Effect.{Effect}
 use Rattle.cw_rules.specs.declared.codes.Effect.TheVariants as effects
@@ -498,13 +499,18 @@ module _ (text : List ℕ) where
   -- ## Limbo, TeX text and heads
 
   -- a piece of limbo or of TeX text
-  text-goes : (part : Part) (place size : ℕ) (bytes : List ℕ) (mode : Mode) (opened : List TokKind)
-      → base part ≡ [] → Stands (bare part) mode opened
-      → Goes mode opened (one false (bare part) place bytes (plain kinds.Text size))
-  text-goes part place size bytes mode opened none s =
+  text-goes : (part : Part) (place : ℕ) (bytes : List ℕ) (mode : Mode) (opened : List TokKind)
+      → base part ≡ [] → drop place text ≡ bytes → Stands (bare part) mode opened
+      → Goes mode opened (one false (bare part) place bytes (plain kinds.Text
+      (run (if limbo_part part then classes.LimboText else classes.TexText) bytes)))
+  text-goes part place bytes mode opened none here s =
+      let class : Bool → Class = λ t. if t then classes.LimboText else classes.TexText in
+      let size = run (class (limbo_part part)) bytes in
       one-goes mode opened false (bare part) place bytes (plain kinds.Text size) s
       (record {
-        goes = λ later. subst (λ o. IsPieceIn mode o (drop place text) size) (sym (s.fit ∙ none)) tt;
+        goes = λ later. subst (λ o. IsPieceIn mode o (drop place text) size) (sym (s.fit ∙ none))
+            (ap (λ l. run (class (limbo_part part)) l) (sym here)
+            ∙ ap (λ t. run (class t) (drop place text)) s.agrees.limbo);
         section = refl;
       })
 
@@ -536,7 +542,7 @@ module _ (text : List ℕ) where
       if-both (Goes mode opened) (byte == at_sign) _ _
       (λ h. limbo-by-goes (effect_in_limbo (code_at bytes)) place byte bytes mode opened here h
       (sym (ap (λ t. t && begins_section bytes) h) ∙ other) s (limbo-suits (code_at bytes)))
-      (λ h. text-goes parts.Limbo place (run classes.LimboText (byte ∷ bytes)) (byte ∷ bytes) mode opened refl s)
+      (λ h. text-goes parts.Limbo place (byte ∷ bytes) mode opened refl here s)
 
   tex-by-goes : (effect : Effect) (place byte : ℕ) (bytes : List ℕ) (mode : Mode) (opened : List TokKind)
       → drop place text ≡ byte ∷ bytes → (byte == at_sign) ≡ true → is_section (code_at bytes) ≡ false
@@ -581,7 +587,7 @@ module _ (text : List ℕ) where
         rest mode (kinds.InnerText ∷ [])
             (record { fit = refl; agrees = record { limbo = s.agrees.limbo; inner = s.agrees.inner } }),
       )))
-      (λ h. text-goes parts.Tex place (run classes.TexText (byte ∷ bytes)) (byte ∷ bytes) mode opened refl s))
+      (λ h. text-goes parts.Tex place (byte ∷ bytes) mode opened refl here s))
     where
       bars-in-tex : (mode : Mode) → Agrees parts.Tex mode → bars_begin mode [] ≡ true
       bars-in-tex modes.Inner a = refl

@@ -14,7 +14,8 @@ use Rattle.cw_rules.specs.declared.tokens.TokKind.TheVariants as kinds
 use Rattle.cw_rules.specs.Answers.{Answer, Token, Begin, Finish, Note}
 use Rattle.cw_base.specs.Text.{bar}
 use Rattle.cw_base.specs.Bytes.{newline, backslash}
-use Rattle.cw_rules.specs.Bytes.{star, slash, greater, at_sign, begins}
+use Rattle.cw_rules.specs.declared.classes.Class.TheVariants.{LimboText, TexText}
+use Rattle.cw_rules.specs.Bytes.{star, slash, greater, at_sign, begins, run}
 use Rattle.cw_rules.specs.Codes.{begins_section, code_at, has_control_text}
 use Rattle.cw_lex.specs.Lexing.{tokens_of}
 use Rattle.cw_lex.specs.Nested.{is_section_kind}
@@ -147,13 +148,15 @@ is_pair long bytes =
 abbrev pub piece_size : (long bars : Bool) → List ℕ → ℕ
 piece_size long bars bytes = before_end (ends_piece long bars) (is_pair long) bytes
 
--- A piece of a comment's text has all bytes up to the first end, where these are open, the innermost first.
+-- A piece of text has all bytes up to the first end, where these are open, the innermost first: in a comment up to its
+-- end, in limbo to an `@`, and in TeX text to an `@` or a bar. None stands in inner texts.
 abbrev pub IsPieceIn : Mode → List TokKind → List ℕ → ℕ → Type 0
 IsPieceIn mode (kinds.LongComment ∷ opened) bytes size =
     size ≡ piece_size true (bars_begin mode (kinds.LongComment ∷ opened)) bytes
 IsPieceIn mode (kinds.ShortComment ∷ opened) bytes size =
     size ≡ piece_size false (bars_begin mode (kinds.ShortComment ∷ opened)) bytes
-IsPieceIn mode opened bytes size = Unit {0}
+IsPieceIn mode [] bytes size = size ≡ run (if is_limbo_mode mode then LimboText else TexText) bytes
+IsPieceIn mode (kind ∷ opened) bytes size = ⊥
 
 -- ## Where comments and inner texts begin and end
 
@@ -191,6 +194,7 @@ EndsAt kind around bytes size answers = ⊥
 
 -- ## Among answers
 
+-- A token of this kind goes up to its end, in this mode, before which these comments and inner texts are open.
 abbrev pub GoesToEnd : Mode → List TokKind → TokKind → List ℕ → ℕ → List Answer → Type 0
 GoesToEnd mode opened kinds.Text bytes size answers = IsPieceIn mode opened bytes size
 GoesToEnd mode opened (kinds.Code code) bytes size answers = CodeGoesToEnd code bytes size answers
