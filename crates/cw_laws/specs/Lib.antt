@@ -1,5 +1,5 @@
 -- The words of the laws: where the pieces of a web lie, where the scanner's notes do, what stands between tokens,
--- where strings end, how long tokens are, where control texts and comments end, what TeX text prints, and which C
+-- where strings end, how long tokens are, where texts of codes and comments end, what TeX text prints, and which C
 -- texts a book is woven of.
 pub mod Pieces
 pub mod NotePlaces

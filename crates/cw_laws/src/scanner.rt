@@ -24,11 +24,11 @@ pub fn longest_law()
 
 /// The law of ends: a control text goes to the first `@>` of its line, a section name to the first `@>`, the string of
 /// `@'` to its end, a long comment's text to the first `*/`, and that of a short one to the first line's end, with `@@`
-/// and what a backslash takes along passed over. A code that is dropped has its control text with it, but in limbo.
+/// and what a backslash takes along passed over. A code that is dropped has its control text with it, except in limbo.
 /// Inner texts stand in comments and in TeX text between bars; a bar begins one exactly where fewer than twenty are
 /// around it. What ends is always the innermost that is open. Where a line's end comes first in a control text, or a
-/// section code or the end of the text in a name, a comment or an inner text, it ends there with a note, and nothing
-/// is open there. It does nothing: what it ensures is for proofs.
+/// section code in a name, a comment or an inner text, it ends there with a note, as it does with the end of the text.
+/// So nothing is open at a section code and at the end. It does nothing: what it ensures is for proofs.
 pub fn ends_law()
     ensures { TextsGoToTheirEnds }
 {}
