@@ -25,7 +25,7 @@ use Rattle.cw_rules.proofs.Choices.{if-both}
 use Rattle.cw_lex.specs.Nested.{is_section_kind}
 use Rattle.cw_lex.specs.Openings.{is_limbo_mode}
 use Rattle.cw_laws.specs.Strings.{IsString}
-use Rattle.cw_laws.specs.Ends.{BeginsCode, CodeGoesToEnd, GoesToEnd, HasControlText, HasName, drops_text}
+use Rattle.cw_laws.specs.Ends.{BeginsCode, CodeGoesToEnd, GoesToEnd, HasName, HasOwnText, drops_text}
 use Rattle.cw_laws.proofs.Insides.{control-whole, name-whole}
 use Rattle.cw_laws.proofs.QuoteCodes.{quote-byte}
 use Rattle.cw_laws.proofs.StillOpen.{IsOrdinary}
@@ -44,20 +44,42 @@ pub record IsWhole (mode : Mode) (opened : List TokKind) (bytes : List ℕ) (cut
 
 -- a code of two bytes
 abbrev pub IsBare : Code → Type 0
-IsBare code = (mode : Mode) (opened : List TokKind) (bytes : List ℕ)
+IsBare code = (mode : Mode) (opened : List TokKind) (bytes : List ℕ) → BeginsCode code bytes
     → IsWhole mode opened bytes (plain (kinds.Code code) 2)
 
+abbrev is_unknown : Code → Bool
+is_unknown at.Unknown = true
+is_unknown code = false
+
+two-bytes : (code : Code) (bytes : List ℕ) → BeginsCode code bytes → is_unknown code ≡ false
+    → 2 ≡ length (take 2 bytes)
+two-bytes code [] b h = absurd cc
+two-bytes code (byte ∷ []) b h = not-both (is_unknown code) (sym (ap is_unknown b.1)) h
+two-bytes code (byte ∷ next ∷ bytes) b h = refl
+
 bare-define : IsBare at.Define
-bare-define mode opened bytes = record { goes = λ later k. absurd cc; section = refl }
+bare-define mode opened bytes b = record {
+  goes = λ later. (b, record { text = λ k. absurd cc; alone = λ k. two-bytes at.Define bytes b refl });
+  section = refl;
+}
 
 bare-format : IsBare at.Format
-bare-format mode opened bytes = record { goes = λ later k. absurd cc; section = refl }
+bare-format mode opened bytes b = record {
+  goes = λ later. (b, record { text = λ k. absurd cc; alone = λ k. two-bytes at.Format bytes b refl });
+  section = refl;
+}
 
 bare-silent : IsBare at.SilentFormat
-bare-silent mode opened bytes = record { goes = λ later k. absurd cc; section = refl }
+bare-silent mode opened bytes b = record {
+  goes = λ later. (b, record { text = λ k. absurd cc; alone = λ k. two-bytes at.SilentFormat bytes b refl });
+  section = refl;
+}
 
 bare-program : IsBare at.Program
-bare-program mode opened bytes = record { goes = λ later k. absurd cc; section = refl }
+bare-program mode opened bytes b = record {
+  goes = λ later. (b, record { text = λ k. absurd cc; alone = λ k. two-bytes at.Program bytes b refl });
+  section = refl;
+}
 
 ordinary-begin : IsOrdinary parts.Begin
 ordinary-begin = record { base = refl; limbo = refl; inner = refl }
@@ -142,19 +164,15 @@ quote-goes : (code : Code) (bytes : List ℕ) (size : ℕ) (answers : List Answe
 quote-goes at.Quote bytes size answers h b s = (b, s)
 quote-goes _ bytes size answers h b s = absurd cc
 
-control-goes : (code : Code) (bytes : List ℕ) (size : ℕ) (answers : List Answer) → has_control_text code ≡ true
-    → BeginsCode code bytes → HasControlText bytes size answers → CodeGoesToEnd code bytes size answers
-control-goes at.Quote bytes size answers h b t = absurd cc
-control-goes at.SectionName bytes size answers h b t = absurd cc
-control-goes at.FileName bytes size answers h b t = absurd cc
-control-goes _ bytes size answers h b t = λ k. (b, t)
-
-alone-goes : (code : Code) (bytes : List ℕ) (size : ℕ) (answers : List Answer) → is_name code ≡ false
-    → is_quote code ≡ false → has_control_text code ≡ false → CodeGoesToEnd code bytes size answers
-alone-goes at.Quote bytes size answers n q h = absurd cc
-alone-goes at.SectionName bytes size answers n q h = absurd cc
-alone-goes at.FileName bytes size answers n q h = absurd cc
-alone-goes code bytes size answers n q h = λ k. not-both _ k h
+own-goes : (code : Code) (bytes : List ℕ) (size : ℕ) (answers : List Answer) → is_name code ≡ false
+    → is_quote code ≡ false → BeginsCode code bytes → HasOwnText (has_control_text code) bytes size answers
+    → CodeGoesToEnd code bytes size answers
+own-goes at.Section bytes size answers n q b t = tt
+own-goes at.StarredSection bytes size answers n q b t = tt
+own-goes at.SectionName bytes size answers n q b t = absurd cc
+own-goes at.FileName bytes size answers n q b t = absurd cc
+own-goes at.Quote bytes size answers n q b t = absurd cc
+own-goes _ bytes size answers n q b t = (b, t)
 
 -- the string of the `'` behind an `@`
 string-goes : (place byte next : ℕ) (bytes : List ℕ) → is_quote (code_of next) ≡ true
@@ -169,92 +187,103 @@ string-goes place byte next bytes h =
     less : (n : ℕ) → (0 + 1) + n ≡ (2 + n) - 1
     less n = omega arith
 
-code-goes : (mode : Mode) (opened : List TokKind) (place byte next : ℕ) (bytes : List ℕ)
-    → (byte == at_sign) ≡ true → is_section (code_of next) ≡ false
-    → IsWhole mode opened (byte ∷ next ∷ bytes) (code_token (code_of next) place (byte ∷ next ∷ bytes))
-code-goes mode opened place byte next bytes at other =
-    let all = byte ∷ next ∷ bytes in
-    let code = code_of next in
-    let P : Cut → Type 0 = IsWhole mode opened all in
-    if-both P (is_name code) (section_name code place all) _
-    (λ h. record {
-      goes = λ later. name-goes code all _ _ h (at, refl) (name-whole code place byte next bytes later);
-      section = section-kind code other;
-    })
-    (λ n. if-both P (is_quote code) (string (kinds.Code code) 2 apostrophe place all)
-    (control_or_plain code place all)
-    (λ h. record {
-      goes = λ later. quote-goes code all _ _ h (at, refl) (string-goes place byte next bytes h);
-      section = section-kind code other;
-    })
-    (λ q. if-both P (has_control_text code) (control_text code place all)
-    (plain (kinds.Code code) (alone_size all))
-    (λ h. record {
-      goes = λ later. control-goes code all _ _ h (at, refl) (control-whole (place + 2) byte next bytes later);
-      section = section-kind code other;
-    })
-    (λ h. record { goes = λ later. alone-goes code all _ _ n q h; section = section-kind code other })))
-
-pub code-whole : (mode : Mode) (opened : List TokKind) (place byte : ℕ) (bytes : List ℕ)
-    → (byte == at_sign) ≡ true → is_section (code_at bytes) ≡ false
-    → IsWhole mode opened (byte ∷ bytes) (code_token (code_at bytes) place (byte ∷ bytes))
-code-whole mode opened place byte [] at other = record { goes = λ later k. absurd cc; section = refl }
-code-whole mode opened place byte (next ∷ bytes) at other = code-goes mode opened place byte next bytes at other
-
--- ## Codes that are dropped
-
 size-alone : (byte : ℕ) (bytes : List ℕ) → alone_size (byte ∷ bytes) ≡ length (take 2 (byte ∷ bytes))
 size-alone byte [] = refl
 size-alone byte (next ∷ bytes) = refl
 
--- with a control text where the code has one
-abbrev DropsBy : Mode → List ℕ → Bool → Cut → Type 0
-DropsBy mode bytes t cut = (later : List Answer)
-    → (t ≡ true → HasControlText bytes cut.size (note_answers cut.notes ++ later))
-    × (t ≡ false → cut.size ≡ length (take 2 bytes))
-
-drops-by : (code : Code) (mode : Mode) (place byte : ℕ) (bytes : List ℕ) → code_at bytes ≡ code
-    → DropsBy mode (byte ∷ bytes) (has_control_text code) (control_or_plain code place (byte ∷ bytes))
-drops-by code mode place byte [] is = λ later.
-    (λ h. not-both _ h (ap has_control_text (sym is)), λ h. none (has_control_text code) h)
+-- a code with its control text, where it has one
+own-text : (code : Code) (place byte : ℕ) (bytes : List ℕ) (later : List Answer) → code_at bytes ≡ code
+    → HasOwnText (has_control_text code) (byte ∷ bytes) (control_or_plain code place (byte ∷ bytes)).size
+    (note_answers (control_or_plain code place (byte ∷ bytes)).notes ++ later)
+own-text code place byte [] later is = record {
+  text = λ h. not-both _ h (ap has_control_text (sym is));
+  alone = λ h. none (has_control_text code) h;
+}
   where
     none : (t : Bool) → t ≡ false
         → (if t then control_text code place (byte ∷ []) else plain (kinds.Code code) (alone_size (byte ∷ []))).size ≡ 1
     none true h = absurd cc
     none false h = refl
-drops-by code mode place byte (next ∷ bytes) is = by (has_control_text code)
+own-text code place byte (next ∷ bytes) later is = by (has_control_text code)
   where
-    by : (t : Bool) → DropsBy mode (byte ∷ next ∷ bytes) t
-        (if t then control_text code place (byte ∷ next ∷ bytes)
-        else plain (kinds.Code code) (alone_size (byte ∷ next ∷ bytes)))
-    by true = λ later. (λ h. control-whole (place + 2) byte next bytes later, λ h. absurd cc)
-    by false = λ later. (λ h. absurd cc, λ h. refl)
+    cut : Bool → Cut
+    cut t = if t then control_text code place (byte ∷ next ∷ bytes)
+        else plain (kinds.Code code) (alone_size (byte ∷ next ∷ bytes))
+
+    by : (t : Bool) → HasOwnText t (byte ∷ next ∷ bytes) (cut t).size (note_answers (cut t).notes ++ later)
+    by true = record { text = λ h. control-whole (place + 2) byte next bytes later; alone = λ h. absurd cc }
+    by false = record { text = λ h. absurd cc; alone = λ h. refl }
+
+own-kind : (code : Code) (place : ℕ) (bytes : List ℕ) → (control_or_plain code place bytes).kind ≡ kinds.Code code
+own-kind code place bytes =
+    if-both (λ (c : Cut). c.kind ≡ kinds.Code code) (has_control_text code) (control_text code place bytes)
+    (plain (kinds.Code code) (alone_size bytes)) (λ h. refl) (λ h. refl)
+
+own-whole : (mode : Mode) (opened : List TokKind) (code : Code) (place byte : ℕ) (bytes : List ℕ)
+    → (byte == at_sign) ≡ true → code_at bytes ≡ code → is_section code ≡ false → is_name code ≡ false
+    → is_quote code ≡ false
+    → IsWhole mode opened (byte ∷ bytes) (control_or_plain code place (byte ∷ bytes))
+own-whole mode opened code place byte bytes sign is other n q =
+    let cut = control_or_plain code place (byte ∷ bytes) in
+    record {
+      goes = λ later. subst (λ k. GoesToEnd mode opened k (byte ∷ bytes) cut.size (note_answers cut.notes ++ later))
+          (sym (own-kind code place (byte ∷ bytes)))
+          (own-goes code (byte ∷ bytes) cut.size _ n q (sign, is) (own-text code place byte bytes later is));
+      section = ap is_section_kind (own-kind code place (byte ∷ bytes)) ∙ section-kind code other;
+    }
+
+pub code-whole : (mode : Mode) (opened : List TokKind) (place byte : ℕ) (bytes : List ℕ)
+    → (byte == at_sign) ≡ true → is_section (code_at bytes) ≡ false
+    → IsWhole mode opened (byte ∷ bytes) (code_token (code_at bytes) place (byte ∷ bytes))
+code-whole mode opened place byte [] sign other =
+    own-whole mode opened at.Unknown place byte [] sign refl refl refl refl
+code-whole mode opened place byte (next ∷ bytes) sign other =
+    let all = byte ∷ next ∷ bytes in
+    let code = code_of next in
+    let P : Cut → Type 0 = IsWhole mode opened all in
+    if-both P (is_name code) (section_name code place all) _
+    (λ h. record {
+      goes = λ later. name-goes code all _ _ h (sign, refl) (name-whole code place byte next bytes later);
+      section = section-kind code other;
+    })
+    (λ n. if-both P (is_quote code) (string (kinds.Code code) 2 apostrophe place all)
+    (control_or_plain code place all)
+    (λ h. record {
+      goes = λ later. quote-goes code all _ _ h (sign, refl) (string-goes place byte next bytes h);
+      section = section-kind code other;
+    })
+    (λ q. own-whole mode opened code place byte (next ∷ bytes) sign refl other n q))
+
+-- ## Codes that are dropped
 
 -- one more note before
-noted-on : (bytes : List ℕ) (size : ℕ) (note : NoteKind) (place : ℕ) (answers : List Answer)
-    → HasControlText bytes size answers → HasControlText bytes size (Note note place ∷ answers)
-noted-on bytes size note place answers h = record {
-  whole = h.whole;
-  noted = λ k. inr (h.noted k);
-  singles = λ k. inr (h.singles k);
+noted-on : (has_text : Bool) (bytes : List ℕ) (size : ℕ) (note : NoteKind) (place : ℕ) (answers : List Answer)
+    → HasOwnText has_text bytes size answers → HasOwnText has_text bytes size (Note note place ∷ answers)
+noted-on has_text bytes size note place answers h = record {
+  text = λ k. record {
+    whole = (h.text k).whole;
+    noted = λ lost. inr ((h.text k).noted lost);
+    singles = λ less. inr ((h.text k).singles less);
+  };
+  alone = h.alone;
 }
 
 pub dropped-whole : (mode : Mode) (opened : List TokKind) (note : NoteKind) (place byte : ℕ) (bytes : List ℕ)
     → (byte == at_sign) ≡ true → is_limbo_mode mode ≡ false
     → IsWhole mode opened (byte ∷ bytes) (dropped_code note (code_at bytes) place (byte ∷ bytes))
-dropped-whole mode opened note place byte bytes at other =
+dropped-whole mode opened note place byte bytes sign other =
     let cut = control_or_plain (code_at bytes) place (byte ∷ bytes) in
     let drops : drops_text mode (byte ∷ bytes) ≡ has_control_text (code_at bytes) =
     ap (λ t. not t && has_control_text (code_at bytes)) other in
     record {
-      goes = λ later.
-          let by = drops-by (code_at bytes) mode place byte bytes refl later in
-          record {
-            code = at;
-            text = λ h. noted-on (byte ∷ bytes) cut.size note place (note_answers cut.notes ++ later)
-                (by.0 (sym drops ∙ h));
-            alone = λ h. by.1 (sym drops ∙ h);
-          };
+      goes = λ later. (
+        sign,
+        subst (λ t. HasOwnText t (byte ∷ bytes) cut.size (Note note place ∷ (note_answers cut.notes ++ later)))
+            (sym drops)
+            (noted-on (has_control_text (code_at bytes)) (byte ∷ bytes) cut.size note place
+            (note_answers cut.notes ++ later)
+            (own-text (code_at bytes) place byte bytes later refl)),
+      );
       section = refl;
     }
 
@@ -262,14 +291,13 @@ pub limbo-dropped-whole : (mode : Mode) (opened : List TokKind) (note : NoteKind
     → (byte == at_sign) ≡ true → is_limbo_mode mode ≡ true
     → IsWhole mode opened (byte ∷ bytes)
     (dropped note place (plain (kinds.Code (code_at bytes)) (alone_size (byte ∷ bytes))))
-limbo-dropped-whole mode opened note place byte bytes at h =
+limbo-dropped-whole mode opened note place byte bytes sign h =
     let none : drops_text mode (byte ∷ bytes) ≡ false =
     ap (λ t. not t && has_control_text (code_at bytes)) h in
     record {
-      goes = λ later. record {
-        code = at;
-        text = λ k. not-both _ k none;
-        alone = λ k. size-alone byte bytes;
-      };
+      goes = λ later. (
+        sign,
+        record { text = λ k. not-both _ k none; alone = λ k. size-alone byte bytes },
+      );
       section = refl;
     }

@@ -48,14 +48,15 @@ use Rattle.cw_rules.specs.Tokens.{is_name, include_name, piece_start}
 use Rattle.cw_rules.proofs.Choices.{if-both}
 use Rattle.cw_lex.specs.Lexing.{still_fresh, answers, fresh_at, last_at, beginning}
 use Rattle.cw_lex.specs.Nested.{is_section_kind}
-use Rattle.cw_laws.specs.Ends.{begins_two, IsNoted, IsPieceIn, EndsAt, BeginsAt, CutsAll}
+use Rattle.cw_laws.specs.Ends.{BeginsCode, begins_two, IsNoted, IsPieceIn, EndsAt, BeginsAt, CutsAll}
 use Rattle.cw_laws.specs.Ends.{bars_begin, is_in_short, GoesToEnd, AllEnd, TextsGoToTheirEnds}
 use Rattle.cw_laws.proofs.Insides.{piece-whole}
 use Rattle.cw_laws.proofs.StillOpen.{base, limbo_part, Agrees, Like, like-passed, like-hash, like-word, IsOrdinary}
 use Rattle.cw_laws.proofs.StillOpen.{like-ordinary, agrees-like, with_inner_text, InComment, Around, Fits, fits}
 use Rattle.cw_laws.proofs.StillOpen.{around-like, not-limbo, Stands, InCode, code-like, code-stands, deep-in}
 use Rattle.cw_laws.proofs.StillOpen.{beginning-stands}
-use Rattle.cw_laws.proofs.EndCodes.{not-both, IsWhole, Suits, suits, tex-suits, SuitsLimbo, limbo-suits, may-ordinary}
+use Rattle.cw_laws.proofs.EndCodes.{not-both, IsWhole, IsBare, Suits, suits}
+use Rattle.cw_laws.proofs.EndCodes.{tex-suits, SuitsLimbo, limbo-suits, may-ordinary}
 use Rattle.cw_laws.proofs.EndCodes.{code-whole, dropped-whole, limbo-dropped-whole}
 use Rattle.cw_lex.proofs.Covering.{drop-on}
 
@@ -190,8 +191,8 @@ module _ (text : List ℕ) where
       rest modes.TexText [] (record { fit = refl; agrees = record { limbo = refl; inner = refl } }) in
       subst (AllEnd text mode opened) (sym (append_assoc (all_cut w.part w.comments place place) token.answers later))
       (all-cut w.part w.comments place place mode opened (token.answers ++ later) h s.fit
-      (if-both P (begins star (drop 1 all)) _ _ (λ h. (λ k. absurd cc, λ e. refl, tex))
-      (λ h. (λ k. absurd cc, λ e. refl, tex))))
+      (if-both P (begins star (drop 1 all)) _ _ (λ h. (tt, λ e. refl, tex))
+      (λ h. (tt, λ e. refl, tex))))
 
   -- the bytes at a line's end
   short-ends : (place : ℕ) (long : Bool) (around : List TokKind) (bytes : List ℕ) (more : List Answer)
@@ -246,6 +247,21 @@ module _ (text : List ℕ) where
       one-goes mode opened hash_line (moved w other) place bytes cut (code-like w other mode opened l c)
       (q mode opened (drop place text))
 
+  -- a code of two bytes, behind which a like part goes on
+  begins-code : (place byte : ℕ) (bytes : List ℕ) → drop place text ≡ byte ∷ bytes → (byte == at_sign) ≡ true
+      → BeginsCode (code_at bytes) (drop place text)
+  begins-code place byte bytes here at =
+      (ap (begins at_sign) here ∙ at, ap (λ l. code_at (drop 1 l)) here)
+
+  bare-goes : (w : Where) (other : Part) (place byte : ℕ) (bytes : List ℕ) (mode : Mode) (opened : List TokKind)
+      → drop place text ≡ byte ∷ bytes → (byte == at_sign) ≡ true → Like w.part other → InCode w mode opened
+      → IsBare (code_at bytes)
+      → Goes mode opened (one false (moved w other) place (byte ∷ bytes) (plain (kinds.Code (code_at bytes)) 2))
+  bare-goes w other place byte bytes mode opened here at l c q =
+      one-goes mode opened false (moved w other) place (byte ∷ bytes) (plain (kinds.Code (code_at bytes)) 2)
+      (code-like w other mode opened l c)
+      (q mode opened (drop place text) (begins-code place byte bytes here at))
+
   code-by-goes : (effect : Effect) (w : Where) (place byte : ℕ) (bytes : List ℕ) (mode : Mode)
       (opened : List TokKind) → drop place text ≡ byte ∷ bytes → (byte == at_sign) ≡ true
       → is_section (code_at bytes) ≡ false → InCode w mode opened → Suits effect w.part (code_at bytes)
@@ -272,14 +288,14 @@ module _ (text : List ℕ) where
       (dropped-whole mode opened note place byte bytes at
       (sym c.agrees.limbo ∙ not-limbo w.part w.comments opened c.around)))
   code-by-goes effects.Defines w place byte bytes mode opened here at other c h =
-      moved-goes w (parts.MacroName place) false place (byte ∷ bytes) _ mode opened
+      bare-goes w (parts.MacroName place) place byte bytes mode opened here at
       (like-ordinary w.part (parts.MacroName place) h.0 (record { base = refl; limbo = refl; inner = refl })) c h.1
   code-by-goes effects.Formats w place byte bytes mode opened here at other c h =
-      moved-goes w (parts.FormatName place false false) false place (byte ∷ bytes) _ mode opened
+      bare-goes w (parts.FormatName place false false) place byte bytes mode opened here at
       (like-ordinary w.part (parts.FormatName place false false) h.0
       (record { base = refl; limbo = refl; inner = refl })) c h.1
   code-by-goes effects.BeginsC w place byte bytes mode opened here at other c h =
-      moved-goes w (parts.Plain false false) false place (byte ∷ bytes) _ mode opened
+      bare-goes w (parts.Plain false false) place byte bytes mode opened here at
       (like-ordinary w.part (parts.Plain false false) h.0 (record { base = refl; limbo = refl; inner = refl })) c h.1
 
   begins-here : (long : Bool) (place : ℕ) (mode : Mode) (opened : List TokKind)
@@ -525,7 +541,7 @@ module _ (text : List ℕ) where
       one-goes mode opened false (bare (parts.FormatName place false true)) place (byte ∷ bytes) _
       (bare-like parts.Limbo (parts.FormatName place false true) mode opened
       (record { base = refl; limbo = refl; inner = refl }) s)
-      (h mode opened (drop place text))
+      (h mode opened (drop place text) (begins-code place byte bytes here at))
   limbo-by-goes (effects.Drops note) place byte bytes mode opened here at other s h =
       one-goes mode opened false (bare parts.Limbo) place (byte ∷ bytes) _ s
       (whole-here mode opened place (byte ∷ bytes) _ here
@@ -561,16 +577,16 @@ module _ (text : List ℕ) where
   tex-by-goes effects.Defines place byte bytes mode opened here at other s h =
       one-goes mode opened false (bare (parts.MacroName place)) place (byte ∷ bytes) _
       (bare-like parts.Tex (parts.MacroName place) mode opened (record { base = refl; limbo = refl; inner = refl }) s)
-      (h.1 mode opened (drop place text))
+      (h.1 mode opened (drop place text) (begins-code place byte bytes here at))
   tex-by-goes effects.Formats place byte bytes mode opened here at other s h =
       one-goes mode opened false (bare (parts.FormatName place false false)) place (byte ∷ bytes) _
       (bare-like parts.Tex (parts.FormatName place false false) mode opened
       (record { base = refl; limbo = refl; inner = refl }) s)
-      (h.1 mode opened (drop place text))
+      (h.1 mode opened (drop place text) (begins-code place byte bytes here at))
   tex-by-goes effects.BeginsC place byte bytes mode opened here at other s h =
       one-goes mode opened false (bare (parts.Plain false false)) place (byte ∷ bytes) _
       (bare-like parts.Tex (parts.Plain false false) mode opened (record { base = refl; limbo = refl; inner = refl }) s)
-      (h.1 mode opened (drop place text))
+      (h.1 mode opened (drop place text) (begins-code place byte bytes here at))
 
   tex-text-goes : (place byte : ℕ) (bytes : List ℕ) (mode : Mode) (opened : List TokKind)
       → drop place text ≡ byte ∷ bytes → (byte == at_sign && begins_section bytes) ≡ false

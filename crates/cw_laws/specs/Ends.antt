@@ -96,24 +96,30 @@ HasName bytes size answers = HasText ends_name (begins at_sign) NameUnended Code
 abbrev pub BeginsCode : Code → List ℕ → Type 0
 BeginsCode code bytes = (begins at_sign bytes ≡ true) × (code_at (drop 1 bytes) ≡ code)
 
+-- A code has the bytes of its control text, if that belongs to it. Else it is alone: the `@` and the byte behind it,
+-- where one is there.
+pub record HasOwnText (has_text : Bool) (bytes : List ℕ) (size : ℕ) (answers : List Answer) : Type 0 where
+  pub text : has_text ≡ true → HasControlText bytes size answers
+  pub alone : has_text ≡ false → size ≡ length (take 2 bytes)
+
 -- A code goes up to the end of its name or control text, and `@'` up to that of the string that begins with its `'`.
+-- Of section codes nothing is said here.
 abbrev pub CodeGoesToEnd : Code → List ℕ → ℕ → List Answer → Type 0
-CodeGoesToEnd at.Quote bytes size answers = BeginsCode at.Quote bytes × IsString (drop 1 bytes) (size - 1)
+CodeGoesToEnd at.Section bytes size answers = Unit {0}
+CodeGoesToEnd at.StarredSection bytes size answers = Unit {0}
 CodeGoesToEnd at.SectionName bytes size answers = BeginsCode at.SectionName bytes × HasName bytes size answers
 CodeGoesToEnd at.FileName bytes size answers = BeginsCode at.FileName bytes × HasName bytes size answers
+CodeGoesToEnd at.Quote bytes size answers = BeginsCode at.Quote bytes × IsString (drop 1 bytes) (size - 1)
 CodeGoesToEnd code bytes size answers =
-    has_control_text code ≡ true → BeginsCode code bytes × HasControlText bytes size answers
+    BeginsCode code bytes × HasOwnText (has_control_text code) bytes size answers
 
--- a control text is dropped with its code, but not in limbo
+-- A code that may not stand in its place is dropped with its control text, but in limbo without.
 abbrev pub drops_text : Mode → List ℕ → Bool
 drops_text mode bytes = not (is_limbo_mode mode) && has_control_text (code_at (drop 1 bytes))
 
--- A code that is dropped has the bytes of its control text, if that is dropped too; else it is the `@` and the byte
--- behind it, where one is there.
-pub record IsDropped (mode : Mode) (bytes : List ℕ) (size : ℕ) (answers : List Answer) : Type 0 where
-  pub code : begins at_sign bytes ≡ true
-  pub text : drops_text mode bytes ≡ true → HasControlText bytes size answers
-  pub alone : drops_text mode bytes ≡ false → size ≡ length (take 2 bytes)
+abbrev pub DroppedGoesToEnd : Mode → List ℕ → ℕ → List Answer → Type 0
+DroppedGoesToEnd mode bytes size answers =
+    (begins at_sign bytes ≡ true) × HasOwnText (drops_text mode bytes) bytes size answers
 
 -- ## How deep inner texts stand
 
@@ -198,7 +204,7 @@ EndsAt kind around bytes size answers = ⊥
 abbrev pub GoesToEnd : Mode → List TokKind → TokKind → List ℕ → ℕ → List Answer → Type 0
 GoesToEnd mode opened kinds.Text bytes size answers = IsPieceIn mode opened bytes size
 GoesToEnd mode opened (kinds.Code code) bytes size answers = CodeGoesToEnd code bytes size answers
-GoesToEnd mode opened kinds.Dropped bytes size answers = IsDropped mode bytes size answers
+GoesToEnd mode opened kinds.Dropped bytes size answers = DroppedGoesToEnd mode bytes size answers
 GoesToEnd mode opened kind bytes size answers = Unit {0}
 
 -- Behind a section code TeX text goes on.
