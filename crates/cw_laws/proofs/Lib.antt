@@ -9,6 +9,7 @@ pub mod NotePlaces
 pub mod HashLines
 pub mod WhiteSpace
 pub mod Strings
+pub mod Wanted
 pub mod Longest
 pub mod Insides
 pub mod StillOpen

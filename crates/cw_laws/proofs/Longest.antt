@@ -1,9 +1,10 @@
--- Identifiers, constants and signs are the longest that begin at their places.
-use Rattle.std.proofs.Common.{◌≡◌, ℕ, zero, suc, ◌+◌, ◌-◌, ◌≤◌, Bool, true, false, ◌&&◌, not, ◌==◌, nat_lt}
-use Rattle.std.proofs.Common.{nat_le, List, [], ◌∷◌, ◌++◌, Option, Some, None, if◌then◌else◌, length, slice_index, drop}
+-- Each token is the longest that begins at its place.
+use Rattle.std.proofs.Common.{◌≡◌, ℕ, zero, suc, ◌+◌, ◌-◌, ◌<◌, ◌≤◌, Bool, true, false, ◌&&◌, ◌||◌, not, ◌==◌, nat_lt}
+use Rattle.std.proofs.Common.{codes, List, [], ◌∷◌, ◌++◌, Option, Some, None, if◌then◌else◌, length, slice_index, drop}
 use Rattle.std.proofs.Common.{take, refl}
 use Rattle.std.proofs.Common.{sym, ap, subst, ◌∙◌, arith}
 use Rattle.std.proofs.lemmas.Bool.{eqb-true}
+use Rattle.cw_base.proofs.TestLaws.{both-left, both-right, not-true}
 use Rattle.cw_rules.specs.declared.bodies.Noted.{Noted}
 use Rattle.cw_rules.specs.declared.classes.Class.TheVariants as classes
 use Rattle.cw_rules.specs.declared.codes.Code.{Code}
@@ -20,9 +21,9 @@ use Rattle.cw_rules.specs.declared.tokens.TokKind.{TokKind}
 use Rattle.cw_rules.specs.declared.tokens.TokKind.TheVariants as kinds
 use Rattle.cw_rules.specs.Answers.{Answer, Token, Begin, Finish, Note, Where, Cut, Found, note_answers, plain}
 use Rattle.cw_base.specs.Bytes.{newline, backslash}
-use Rattle.cw_rules.specs.Bytes.{apostrophe, slash, star, at_sign, hash, less, comma}
+use Rattle.cw_rules.specs.Bytes.{apostrophe, slash, star, at_sign, hash, less, comma, equals, plus, left_paren}
 use Rattle.cw_base.specs.Text.{bar}
-use Rattle.cw_rules.specs.Bytes.{right_paren, begins, begins_with, is_letter, is_mark, is_in, run}
+use Rattle.cw_rules.specs.Bytes.{right_paren, begins, begins_by, begins_with, is_letter, is_mark, is_in, run}
 use Rattle.cw_rules.specs.Codes.{code_at, begins_section, effect_in_limbo, effect_in_tex, has_control_text}
 use Rattle.cw_rules.specs.Constants.{constant}
 use Rattle.cw_rules.specs.Prefixes.{prefix_size}
@@ -35,17 +36,21 @@ use Rattle.cw_rules.specs.Tokens.{code_token, limbo_by, limbo_text, tex_by, tex_
 use Rattle.cw_rules.specs.Apart.{code_text_apart, comment_text_apart, behind_head_apart, part_text_apart, in_text_apart}
 use Rattle.cw_rules.specs.Apart.{found_apart}
 use Rattle.cw_rules.specs.Tokens.{name_follows, macro_name, parameter_follows, parameter, format_name}
-use Rattle.cw_rules.specs.Tokens.{is_name, include_name, piece_start}
+use Rattle.cw_rules.specs.Tokens.{is_name, include_name, piece_start, identifier, behind_word, head_sign_size}
 use Rattle.cw_rules.specs.Bodies.{one_note, note_unless, noted}
 use Rattle.cw_base.specs.declared.notes.NoteKind.{NoteKind}
 use Rattle.cw_rules.proofs.Choices.{if-both}
 use Rattle.cw_rules.proofs.Taking.{AreBare, bare-all-cut}
-use Rattle.cw_lex.specs.Lexing.{still_fresh, answers, fresh_at, last_at, beginning}
-use Rattle.cw_laws.specs.Longest.{NoneIsLonger, IsLongest, AreLongest, TokensAreLongest}
+use Rattle.cw_lex.specs.Lexing.{still_fresh, answers, fresh_after, last_after, fresh_at, last_at, beginning}
+use Rattle.cw_laws.specs.Longest.{NoneIsLonger, begins_comment, IsSign, IsOtherByte, IsIncludeName, IsLongest}
+use Rattle.cw_laws.specs.Longest.{AreLongest, TokensAreLongest}
+use Rattle.cw_laws.specs.WhiteSpace.{begins_space_in}
 use Rattle.cw_laws.specs.Strings.{IsString}
 use Rattle.cw_lex.proofs.Covering.{drop-on}
+use Rattle.cw_lex.proofs.Walk.{fresh-more, last-more}
 use Rattle.cw_rules.proofs.StringPrefixes.{no-prefix}
 use Rattle.cw_laws.proofs.Strings.{prefixed-is, unprefixed-is}
+use Rattle.cw_laws.proofs.Wanted.{Wants, WantsIn, sign-here, letter-here, parameter-here, found-goes, beginning-wants}
 
 -- ## Signs
 
@@ -95,32 +100,116 @@ longest-of : (bytes : List ℕ) (sign : Sign) → longest all_signs bytes ≡ So
     → NoneIsLonger all_signs bytes (length (spelling sign))
 longest-of bytes sign e = subst (λ o. NoneIsLonger all_signs bytes (size_of o)) e (longest-most all_signs bytes)
 
-parenthesis : (bytes : List ℕ) → NoneIsLonger all_signs (40 ∷ bytes) 1
-parenthesis bytes = longest-of (40 ∷ bytes) signs.LeftParen refl
+-- of a sign, and of none, with which the bytes begin
+abbrev Fits : List ℕ → Option Sign → Type 0
+Fits bytes None = Unit {0}
+Fits bytes (Some sign) = begins_with (spelling sign) bytes ≡ true
 
--- no sign has more than three bytes
-abbrev are_short : List Sign → Bool
-are_short [] = true
-are_short (sign ∷ more) = nat_le (length (spelling sign)) 3 && are_short more
-
-short-signs : (more : List Sign) (bytes : List ℕ) → are_short more ≡ true → NoneIsLonger more bytes 3
-short-signs [] bytes h = tt
-short-signs (sign ∷ more) bytes h = by (nat_le (length (spelling sign)) 3) (are_short more) refl h
-    (λ k. short-signs more bytes k)
+longest-fits : (more : List Sign) (bytes : List ℕ) → Fits bytes (longest more bytes)
+longest-fits [] bytes = tt
+longest-fits (sign ∷ more) bytes =
+    by (begins_with (spelling sign) bytes) (longest more bytes) refl (longest-fits more bytes)
   where
-    le-true : (a b : ℕ) → nat_le a b ≡ true → a ≤ b
-    le-true a b h = grind arith
+    by : (fits : Bool) (o : Option Sign) → begins_with (spelling sign) bytes ≡ fits → Fits bytes o
+        → Fits bytes (longer fits sign o)
+    by true None e h = e
+    by false None e h = tt
+    by true (Some other) e h =
+        if-both (Fits bytes) (nat_lt (length (spelling other)) (length (spelling sign))) (Some sign) (Some other)
+        (λ k. e) (λ k. h)
+    by false (Some other) e h = h
 
-    by : (t u : Bool) → nat_le (length (spelling sign)) 3 ≡ t → (t && u) ≡ true
-        → (u ≡ true → NoneIsLonger more bytes 3)
-        → (begins_with (spelling sign) bytes ≡ true → length (spelling sign) ≤ 3) × NoneIsLonger more bytes 3
-    by true u e h rest = (λ k. le-true (length (spelling sign)) 3 e, rest h)
-    by false u e h rest = absurd cc
+-- the longest of the table, where no constant and no comment begins
+sign-is : (bytes : List ℕ) (sign : Sign) → longest all_signs bytes ≡ Some sign → constant bytes ≡ 0
+    → begins_comment bytes ≡ false → IsSign sign bytes (length (spelling sign))
+sign-is bytes sign e c d = record {
+  spelt = subst (Fits bytes) e (longest-fits all_signs bytes);
+  whole = refl;
+  longest = longest-of bytes sign e;
+  no_constant = c;
+  no_comment = d;
+}
 
-sign-longest : (bytes : List ℕ) (sign : Sign) → NoneIsLonger all_signs bytes (length (spelling sign))
-    → IsLongest bytes (length (spelling sign)) (kinds.Sign sign)
-sign-longest bytes signs.LeftParen h = refl
-sign-longest bytes _ h = (refl, h)
+begins-all : (wanted bytes : List ℕ) → begins_with wanted bytes ≡ true → bytes ≡ wanted ++ drop (length wanted) bytes
+begins-all [] bytes h = refl
+begins-all (w ∷ ws) [] h = absurd cc
+begins-all (w ∷ ws) (b ∷ bs) h =
+    (λ i. eqb-true b w (both-left (b == w) (begins_with ws bs) h) i
+    ∷ begins-all ws bs (both-right (b == w) (begins_with ws bs) h) i)
+
+dots-are : (bytes : List ℕ) → begins_with (codes "...") bytes ≡ true → IsSign signs.Ellipsis bytes 3
+dots-are bytes h =
+    subst (λ l. IsSign signs.Ellipsis l 3) (sym (begins-all (codes "...") bytes h))
+    (sign-is (46 ∷ 46 ∷ 46 ∷ drop 3 bytes) signs.Ellipsis refl refl refl)
+
+-- ## What begins at a byte of C text but for its sign
+
+record IsBare (hash_line : Bool) (byte : ℕ) (bytes : List ℕ) : Type 0 where
+  space : begins_space_in hash_line (byte ∷ bytes) ≡ false
+  letter : is_letter byte ≡ false
+  digit : constant (byte ∷ bytes) ≡ 0
+  mark : is_mark byte ≡ false
+  comment : begins_comment (byte ∷ bytes) ≡ false
+  code : (byte == at_sign) ≡ false
+
+other-is : (hash_line : Bool) (byte : ℕ) (bytes : List ℕ) → IsBare hash_line byte bytes
+    → longest all_signs (byte ∷ bytes) ≡ None → IsOtherByte hash_line (byte ∷ bytes) 1
+other-is hash_line byte bytes b e = record {
+  whole = refl;
+  no_space = b.space;
+  no_letter = b.letter;
+  no_constant = b.digit;
+  no_mark = b.mark;
+  no_code = b.code;
+  no_sign = subst (λ o. NoneIsLonger all_signs (byte ∷ bytes) (size_of o)) e (longest-most all_signs (byte ∷ bytes));
+}
+
+none-below : (n : ℕ) → nat_lt 0 n ≡ false → n ≡ 0
+none-below n h = grind arith
+
+no-space : (line blank along : Bool) → line ≡ false → (blank || along) ≡ false → ((line || blank) || along) ≡ false
+no-space true blank along e h = absurd cc
+no-space false blank along e h = h
+
+no-comment : (first long short : Bool) → (first && long) ≡ false → (first && short) ≡ false
+    → (first && (long || short)) ≡ false
+no-comment true true short h g = h
+no-comment true false short h g = g
+no-comment false long short h g = refl
+
+-- ## The sign of a head
+
+equals-first : (bytes : List ℕ) → begins_with (equals ∷ []) bytes ≡ begins equals bytes
+equals-first [] = refl
+equals-first (b ∷ bs) = by (b == equals)
+  where
+    by : (t : Bool) → (t && true) ≡ t
+    by true = refl
+    by false = refl
+
+-- by whether `=` and `+` stand first and `=` behind
+abbrev size_by : (first second third : Bool) → ℕ
+size_by first second third = if (first && third) || (second && third) then 2 else (if first then 1 else 0)
+
+head-sign : (byte : ℕ) (bytes : List ℕ) → nat_lt 0 (head_sign_size (byte ∷ bytes)) ≡ true
+    → (0 < (if begins equals bytes then 2 else 1))
+    × ((if begins equals bytes then 2 else 1) ≡ head_sign_size (byte ∷ bytes))
+head-sign byte bytes h =
+    let some = by (byte == equals) (byte == plus) (begins equals bytes) (sym (ap (nat_lt 0) size) ∙ h) in
+    (some.0, some.1 ∙ sym size)
+  where
+    size : head_sign_size (byte ∷ bytes) ≡ size_by (byte == equals) (byte == plus) (begins equals bytes)
+    size = ap (λ t. size_by (byte == equals) (byte == plus) t) (equals-first bytes)
+
+    by : (first second third : Bool) → nat_lt 0 (size_by first second third) ≡ true
+        → (0 < (if third then 2 else 1)) × ((if third then 2 else 1) ≡ size_by first second third)
+    by true second true h = (omega arith, refl)
+    by true true false h = (omega arith, refl)
+    by true false false h = (omega arith, refl)
+    by false true true h = (omega arith, refl)
+    by false false true h = absurd cc
+    by false true false h = absurd cc
+    by false false false h = absurd cc
 
 -- ## Lists of answers
 
@@ -145,29 +234,39 @@ noted-longest text (n ∷ ns) = noted-longest text ns
 
 -- a kind of which nothing is said
 abbrev IsOther : TokKind → Type 0
-IsOther kind = (bytes : List ℕ) (size : ℕ) → IsLongest bytes size kind
+IsOther kind = (hash_line : Bool) (before bytes : List ℕ) (size : ℕ) → IsLongest hash_line before bytes size kind
 
 code-token-other : (code : Code) (place : ℕ) (bytes : List ℕ) → IsOther (code_token code place bytes).kind
 code-token-other code place bytes =
     let P : Cut → Type 0 = λ c. IsOther c.kind in
-    if-both P (is_name code) (section_name code place bytes) _ (λ h bytes size. tt)
+    if-both P (is_name code) (section_name code place bytes) _ (λ h line before bytes size. tt)
     (λ h. if-both P (is_quote code) (string (kinds.Code code) 2 apostrophe place bytes)
-    (control_or_plain code place bytes) (λ h bytes size. tt)
+    (control_or_plain code place bytes) (λ h line before bytes size. tt)
     (λ h. if-both P (has_control_text code) (control_text code place bytes)
-    (plain (kinds.Code code) (alone_size bytes)) (λ h bytes size. tt) (λ h bytes size. tt)))
+    (plain (kinds.Code code) (alone_size bytes)) (λ h line before bytes size. tt) (λ h line before bytes size. tt)))
 
 section-other : (bytes : List ℕ) → IsOther (section_code bytes).kind
 section-other bytes =
-    if-both (λ (c : Cut). IsOther c.kind) (begins star (drop 1 bytes)) _ _ (λ h bytes size. tt) (λ h bytes size. tt)
+    if-both (λ (c : Cut). IsOther c.kind) (begins star (drop 1 bytes)) _ _ (λ h line before bytes size. tt)
+    (λ h line before bytes size. tt)
 
 module _ (text : List ℕ) where
   abbrev Longest : Found → Type 0
   Longest f = AreLongest text f.answers
 
+  abbrev Says : Bool → ℕ → ℕ → TokKind → Type 0
+  Says hash_line place size kind = IsLongest hash_line (take place text) (drop place text) size kind
+
+  -- a place of the text, and what the rules know of it
+  record At (fresh : Bool) (last place byte : ℕ) (bytes : List ℕ) : Type 0 where
+    here : drop place text ≡ byte ∷ bytes
+    freshly : fresh_at text place ≡ fresh
+    behind : last_at text place ≡ last
+
   one-longest : (hash_line : Bool) (next : Where) (place : ℕ) (bytes : List ℕ) (cut : Cut)
-      → IsLongest (drop place text) cut.size cut.kind → Longest (one hash_line next place bytes cut)
+      → Says hash_line place cut.size cut.kind → Longest (one hash_line next place bytes cut)
   one-longest hash_line next place bytes cut h = (
-    subst (λ n. IsLongest (drop place text) n cut.kind) (size cut.size) h,
+    subst (λ n. Says hash_line place n cut.kind) (size cut.size) h,
     noted-longest text cut.notes,
   )
     where
@@ -178,22 +277,30 @@ module _ (text : List ℕ) where
   missing c place = one_note (note_unless (c.braces == 0) NoteKind.MissingBrace place)
 
   line-end-longest : (part : Part) (comments : List Opened) (last place : ℕ)
+      → begins newline (drop place text) ≡ true → last_at text place ≡ last
       → Longest (line_end part comments last place)
-  line-end-longest part [] last place =
-      if-both Longest (in_hash_line part && not (last == backslash)) _ _ (λ h. (tt, tt)) (λ h. tt)
-  line-end-longest part (c ∷ comments) last place =
+  line-end-longest part [] last place here behind =
+      if-both Longest (in_hash_line part && not (last == backslash)) _ _
+      (λ h. one-longest true (record { part = parts.Plain false false; comments = [] }) place (newline ∷ [])
+      (plain kinds.HashLineEnd 1) (
+        here,
+        refl,
+        ap (λ n. n == backslash) behind
+            ∙ not-true (last == backslash) (both-right (in_hash_line part) (not (last == backslash)) h),
+      )) (λ h. tt)
+  line-end-longest part (c ∷ comments) last place here behind =
       let hash_line = in_hash_line part in
       if-both Longest c.long _ _ (λ h. tt)
       (λ h. append-longest text (inner_cut hash_line place place ++ comment_end hash_line c place 0 [])
       (line_end (passed part) comments last place).answers (noted-longest text (missing c place))
-      (line-end-longest (passed part) comments last place))
+      (line-end-longest (passed part) comments last place here behind))
 
   -- ## C text
 
   code-by-longest : (effect : Effect) (code : Code) (w : Where) (place : ℕ) (bytes : List ℕ)
       → Longest (code_by effect code w place bytes)
   code-by-longest effects.Stands code w place bytes = (
-    code-token-other code place bytes (drop place text) _,
+    code-token-other code place bytes _ (take place text) (drop place text) _,
     noted-longest text (code_token code place bytes).notes,
   )
   code-by-longest (effects.Drops note) code w place bytes =
@@ -202,67 +309,98 @@ module _ (text : List ℕ) where
   code-by-longest effects.Formats code w place bytes = (tt, tt)
   code-by-longest effects.BeginsC code w place bytes = (tt, tt)
 
-  word-longest : (place : ℕ) (bytes : List ℕ) → drop place text ≡ bytes
-      → IsLongest (drop place text) ((place + run classes.Word bytes) - place) kinds.Identifier × Unit {0}
-  word-longest place bytes here =
-      let size : (place + run classes.Word bytes) - place ≡ run classes.Word bytes = omega arith in
-      (size ∙ ap (run classes.Word) (sym here), tt)
+  word-longest : (hash_line : Bool) (next : Where) (place byte : ℕ) (bytes : List ℕ)
+      → drop place text ≡ byte ∷ bytes → is_letter byte ≡ true
+      → Longest (one hash_line next place (byte ∷ bytes) (identifier (byte ∷ bytes)))
+  word-longest hash_line next place byte bytes here h =
+      one-longest hash_line next place (byte ∷ bytes) (identifier (byte ∷ bytes))
+      (ap (begins_by is_letter) here ∙ h, ap (run classes.Word) (sym here))
 
   in-code-longest : (bar_ends : Bool) (w : Where) (place byte : ℕ) (bytes : List ℕ) → drop place text ≡ byte ∷ bytes
+      → begins_space_in (in_hash_line w.part) (byte ∷ bytes) ≡ false
       → Longest (in_code (start_of bar_ends byte bytes) w place (byte ∷ bytes))
-  in-code-longest bar_ends w place byte bytes here =
+  in-code-longest bar_ends w place byte bytes here space =
       let all = byte ∷ bytes in
+      let hash_line = in_hash_line w.part in
+      let next = moved w (passed w.part) in
       let P : Start → Type 0 = λ s. Longest (in_code s w place all) in
       let opening = prefix_size all + 1 in
       let string-at : ℕ → Cut = λ mark. string kinds.Quoted opening mark place all in
       if-both P (nat_lt 0 (prefix_size all)) (start.Quoted (slice_index all (prefix_size all))) _
-      (λ h. one-longest (in_hash_line w.part) (moved w (passed w.part)) place all
-      (string-at (slice_index all (prefix_size all)))
+      (λ h. one-longest hash_line next place all (string-at (slice_index all (prefix_size all)))
       (subst (λ l. IsString l (string-at (slice_index all (prefix_size all))).size) (sym here)
       (prefixed-is place byte bytes h)))
-      (λ h. if-both P (is_letter byte) start.Identifier _ (λ h. word-longest place all here)
+      (λ h. if-both P (is_letter byte) start.Identifier _
+      (λ h. word-longest hash_line (moved w (behind_word w.part all)) place byte bytes here h)
       (λ letter. if-both P (nat_lt 0 (constant all)) start.Constant _
-      (λ h. one-longest (in_hash_line w.part) (moved w (passed w.part)) place all (plain kinds.Constant (constant all))
-      (ap constant (sym here)))
-      (λ h. if-both P (is_mark byte) (start.Quoted byte) _
-      (λ h. one-longest (in_hash_line w.part) (moved w (passed w.part)) place all (string-at byte)
+      (λ h. one-longest hash_line next place all (plain kinds.Constant (constant all)) (ap constant (sym here)))
+      (λ digit. if-both P (is_mark byte) (start.Quoted byte) _
+      (λ h. one-longest hash_line next place all (string-at byte)
       (subst (λ l. IsString l (string-at byte).size) (sym here)
       (unprefixed-is place byte bytes (no-prefix byte bytes letter) h)))
-      (λ h. if-both P (byte == slash && begins star bytes) start.LongComment _ (λ h. tt)
-      (λ h. if-both P (byte == slash && begins slash bytes) start.ShortComment _ (λ h. tt)
-      (λ h. if-both P (byte == at_sign) (start.Code (code_at bytes)) _
+      (λ mark. if-both P (byte == slash && begins star bytes) start.LongComment _ (λ h. tt)
+      (λ long. if-both P (byte == slash && begins slash bytes) start.ShortComment _ (λ h. tt)
+      (λ short. if-both P (byte == at_sign) (start.Code (code_at bytes)) _
       (λ h. code-by-longest (effect_in w.part w.comments (code_at bytes)) (code_at bytes) w place all)
-      (λ h. if-both P (byte == bar && (bar_ends && not (begins bar bytes))) start.EndOfInner
+      (λ code. if-both P (byte == bar && (bar_ends && not (begins bar bytes))) start.EndOfInner
       (sign_or_other (longest all_signs all)) (λ h. tt)
-      (λ h. by (longest all_signs all) refl))))))))
+      (λ h. by (longest all_signs all) refl (record {
+        space = space;
+        letter = letter;
+        digit = none-below (constant all) digit;
+        mark = mark;
+        comment = no-comment (byte == slash) (begins star bytes) (begins slash bytes) long short;
+        code = code;
+      })))))))))
     where
-      by : (o : Option Sign) → longest all_signs (byte ∷ bytes) ≡ o
+      by : (o : Option Sign) → longest all_signs (byte ∷ bytes) ≡ o → IsBare (in_hash_line w.part) byte bytes
           → Longest (in_code (sign_or_other o) w place (byte ∷ bytes))
-      by None e = (tt, tt)
-      by (Some sign) e =
+      by None e b =
+          one-longest (in_hash_line w.part) (moved w (passed w.part)) place (byte ∷ bytes) (plain kinds.OtherByte 1)
+          (subst (λ l. IsOtherByte (in_hash_line w.part) l 1) (sym here)
+          (other-is (in_hash_line w.part) byte bytes b e))
+      by (Some sign) e b =
           one-longest (in_hash_line w.part) (moved w (passed w.part)) place (byte ∷ bytes)
           (plain (kinds.Sign sign) (length (spelling sign)))
-          (subst (λ l. IsLongest l (length (spelling sign)) (kinds.Sign sign)) (sym here)
-          (sign-longest (byte ∷ bytes) sign (longest-of (byte ∷ bytes) sign e)))
+          (subst (λ l. IsSign sign l (length (spelling sign))) (sym here)
+          (sign-is (byte ∷ bytes) sign e b.digit b.comment))
 
-  code-text-longest : (w : Where) (fresh : Bool) (last place byte : ℕ) (bytes : List ℕ)
-      → drop place text ≡ byte ∷ bytes → Longest (code_text_apart w fresh last place byte bytes)
-  code-text-longest w fresh last place byte bytes here =
-      if-both Longest (byte == newline) _ _ (λ h. line-end-longest w.part w.comments last place)
-      (λ h. if-both Longest (is_space w.part byte bytes) _ _ (λ h. tt)
-      (λ h. if-both Longest (byte == hash && (takes_hash_line w.part w.comments && fresh)) _ _ (λ h. (tt, tt))
-      (λ h. if-both Longest (byte == less && (behind_include w.part && closes_on_line bytes)) _ _
-      (λ h. (tt, noted-longest text (include_name place (byte ∷ bytes)).notes))
-      (λ h. in-code-longest (ends_at_bar w.part w.comments) w place byte bytes here))))
+  code-text-longest : (w : Where) (fresh : Bool) (last place byte : ℕ) (bytes : List ℕ) → At fresh last place byte bytes
+      → Longest (code_text_apart w fresh last place byte bytes)
+  code-text-longest w fresh last place byte bytes at =
+      let all = byte ∷ bytes in
+      let next = moved w (passed w.part) in
+      let takes = takes_hash_line w.part w.comments in
+      let closes = behind_include w.part && closes_on_line bytes in
+      if-both Longest (byte == newline) _ _
+      (λ h. line-end-longest w.part w.comments last place (ap (begins newline) at.here ∙ h) at.behind)
+      (λ line. if-both Longest (is_space w.part byte bytes) _ _ (λ h. tt)
+      (λ space. if-both Longest (byte == hash && (takes && fresh)) _ _
+      (λ h. one-longest true (moved w (parts.Plain true false)) place all (plain kinds.HashLine 1) (
+        ap (begins hash) at.here ∙ both-left (byte == hash) (takes && fresh) h,
+        refl,
+        at.freshly ∙ both-right takes fresh (both-right (byte == hash) (takes && fresh) h),
+      ))
+      (λ h. if-both Longest (byte == less && closes) _ _
+      (λ h. one-longest (in_hash_line w.part) next place all (include_name place all)
+      (subst (λ l. IsIncludeName l (include_name place all).size) (sym at.here) (record {
+        opened = both-left (byte == less) closes h;
+        closed = both-right (behind_include w.part) (closes_on_line bytes) (both-right (byte == less) closes h);
+        whole = refl;
+      })))
+      (λ h. in-code-longest (ends_at_bar w.part w.comments) w place byte bytes at.here
+      (no-space (byte == newline) (is_in classes.Blank byte) _ line space)))))
 
-  comment-text-longest : (part : Part) (c : Opened) (comments : List Opened) (last place byte : ℕ) (bytes : List ℕ)
+  comment-text-longest : (part : Part) (c : Opened) (comments : List Opened) (fresh : Bool) (last place byte : ℕ)
+      (bytes : List ℕ) → At fresh last place byte bytes
       → Longest (comment_text_apart part c comments last place byte bytes)
-  comment-text-longest part c comments last place byte bytes =
+  comment-text-longest part c comments fresh last place byte bytes at =
       if-both Longest (c.long && (byte == star && begins slash bytes)) _ _ (λ h. noted-longest text (missing c place))
       (λ h. if-both Longest (not c.long && byte == newline) _ _
       (λ h. append-longest text (comment_end (in_hash_line part) c place 0 [])
       (line_end part comments last place).answers (noted-longest text (missing c place))
-      (line-end-longest part comments last place))
+      (line-end-longest part comments last place
+      (ap (begins newline) at.here ∙ both-right (not c.long) (byte == newline) h) at.behind))
       (λ h. if-both Longest (byte == bar && not (is_deep part (c ∷ comments))) _ _ (λ h. tt)
       (λ h. (tt, noted-longest text (noted (piece_start part comments c place) (byte ∷ bytes))))))
 
@@ -271,7 +409,7 @@ module _ (text : List ℕ) where
   limbo-by-longest : (effect : Effect) (code : Code) (w : Where) (place : ℕ) (bytes : List ℕ)
       → Longest (limbo_by effect code w place bytes)
   limbo-by-longest effects.Stands code w place bytes = (
-    code-token-other code place bytes (drop place text) _,
+    code-token-other code place bytes _ (take place text) (drop place text) _,
     noted-longest text (code_token code place bytes).notes,
   )
   limbo-by-longest effects.Formats code w place bytes = (tt, tt)
@@ -287,7 +425,7 @@ module _ (text : List ℕ) where
   tex-by-longest : (effect : Effect) (code : Code) (w : Where) (place : ℕ) (bytes : List ℕ)
       → Longest (tex_by effect code w place bytes)
   tex-by-longest effects.Stands code w place bytes = (
-    code-token-other code place bytes (drop place text) _,
+    code-token-other code place bytes _ (take place text) (drop place text) _,
     noted-longest text (code_token code place bytes).notes,
   )
   tex-by-longest (effects.Drops note) code w place bytes =
@@ -303,84 +441,101 @@ module _ (text : List ℕ) where
       (λ h. if-both Longest (byte == bar) _ _ (λ h. tt) (λ h. (tt, tt)))
 
   macro-name-longest : (code : ℕ) (w : Where) (place byte : ℕ) (bytes : List ℕ) → drop place text ≡ byte ∷ bytes
-      → Longest (macro_name code w place byte bytes)
-  macro-name-longest code w place byte bytes here =
-      if-both Longest (is_in classes.White byte) _ _ (λ h. tt) (λ h. word-longest place (byte ∷ bytes) here)
+      → name_follows (byte ∷ bytes) ≡ true → Longest (macro_name code w place byte bytes)
+  macro-name-longest code w place byte bytes here follows =
+      if-both Longest (is_in classes.White byte) _ _ (λ h. tt)
+      (λ h. word-longest false w place byte bytes here (letter-here byte bytes h follows))
 
   format-name-longest : (code : ℕ) (second limbo : Bool) (w : Where) (place byte : ℕ) (bytes : List ℕ)
-      → drop place text ≡ byte ∷ bytes → Longest (format_name code second limbo w place byte bytes)
-  format-name-longest code second limbo w place byte bytes here =
-      if-both Longest (is_in classes.White byte) _ _ (λ h. tt) (λ h. word-longest place (byte ∷ bytes) here)
+      → drop place text ≡ byte ∷ bytes → name_follows (byte ∷ bytes) ≡ true
+      → Longest (format_name code second limbo w place byte bytes)
+  format-name-longest code second limbo w place byte bytes here follows =
+      if-both Longest (is_in classes.White byte) _ _ (λ h. tt)
+      (λ h. word-longest false w place byte bytes here (letter-here byte bytes h follows))
 
-  at-sign-here : (sign : Sign) (place byte wanted : ℕ) (bytes : List ℕ) → drop place text ≡ byte ∷ bytes
-      → (byte == wanted) ≡ true → longest all_signs (wanted ∷ bytes) ≡ Some sign
-      → IsLongest (drop place text) (length (spelling sign)) (kinds.Sign sign)
-  at-sign-here sign place byte wanted bytes here h e =
-      subst (λ l. IsLongest l (length (spelling sign)) (kinds.Sign sign))
-      (sym (here ∙ ap (λ b. b ∷ bytes) (eqb-true byte wanted h)))
-      (sign-longest (wanted ∷ bytes) sign (longest-of (wanted ∷ bytes) sign e))
+  sign-here-is : (sign : Sign) (place byte wanted : ℕ) (bytes : List ℕ) → drop place text ≡ byte ∷ bytes
+      → (byte == wanted) ≡ true → longest all_signs (wanted ∷ bytes) ≡ Some sign → constant (wanted ∷ bytes) ≡ 0
+      → begins_comment (wanted ∷ bytes) ≡ false → IsSign sign (drop place text) (length (spelling sign))
+  sign-here-is sign place byte wanted bytes here h e c d =
+      subst (λ l. IsSign sign l (length (spelling sign))) (sym (here ∙ ap (λ b. b ∷ bytes) (eqb-true byte wanted h)))
+      (sign-is (wanted ∷ bytes) sign e c d)
 
   parameter-longest : (w : Where) (place byte : ℕ) (bytes : List ℕ) → drop place text ≡ byte ∷ bytes
-      → Longest (parameter w place byte bytes)
-  parameter-longest w place byte bytes here =
+      → parameter_follows (byte ∷ bytes) ≡ true → Longest (parameter w place byte bytes)
+  parameter-longest w place byte bytes here follows =
+      let all = byte ∷ bytes in
       if-both Longest (is_in classes.White byte) _ _ (λ h. tt)
-      (λ h. if-both Longest (is_letter byte) _ _ (λ h. word-longest place (byte ∷ bytes) here)
-      (λ h. if-both Longest (byte == comma) _ _
-      (λ h. one-longest false w place (byte ∷ bytes) (plain (kinds.Sign signs.Comma) 1)
-      (at-sign-here signs.Comma place byte comma bytes here h refl))
-      (λ h. if-both Longest (byte == right_paren) _ _
-      (λ h. one-longest false (moved w parts.Definition) place (byte ∷ bytes) (plain (kinds.Sign signs.RightParen) 1)
-      (at-sign-here signs.RightParen place byte right_paren bytes here h refl))
-      (λ h. one-longest false w place (byte ∷ bytes) (plain (kinds.Sign signs.Ellipsis) 3)
-      (refl, short-signs all_signs (drop place text) refl)))))
+      (λ white. if-both Longest (is_letter byte) _ _ (λ h. word-longest false w place byte bytes here h)
+      (λ letter. if-both Longest (byte == comma) _ _
+      (λ h. one-longest false w place all (plain (kinds.Sign signs.Comma) 1)
+      (sign-here-is signs.Comma place byte comma bytes here h refl refl refl))
+      (λ no-comma. if-both Longest (byte == right_paren) _ _
+      (λ h. one-longest false (moved w parts.Definition) place all (plain (kinds.Sign signs.RightParen) 1)
+      (sign-here-is signs.RightParen place byte right_paren bytes here h refl refl refl))
+      (λ no-paren. one-longest false w place all (plain (kinds.Sign signs.Ellipsis) 3)
+      (subst (λ l. IsSign signs.Ellipsis l 3) (sym here) (dots-are all
+      (last-of (is_letter byte) (byte == comma) (byte == right_paren) (begins_with (codes "...") all) letter no-comma
+      no-paren (parameter-here byte bytes white follows))))))))
+    where
+      last-of : (a b c d : Bool) → a ≡ false → b ≡ false → c ≡ false → (a || (b || (c || d))) ≡ true → d ≡ true
+      last-of true b c d e f g h = absurd cc
+      last-of false true c d e f g h = absurd cc
+      last-of false false true d e f g h = absurd cc
+      last-of false false false d e f g h = h
 
   behind-head-longest : (limbo : Bool) (w : Where) (fresh : Bool) (last place byte : ℕ) (bytes : List ℕ)
-      → drop place text ≡ byte ∷ bytes → Longest (behind_head_apart limbo w fresh last place byte bytes)
-  behind-head-longest true w fresh last place byte bytes here =
+      → At fresh last place byte bytes → Longest (behind_head_apart limbo w fresh last place byte bytes)
+  behind-head-longest true w fresh last place byte bytes at =
       limbo-text-longest (moved w parts.Limbo) place byte bytes
-  behind-head-longest false w fresh last place byte bytes here =
-      code-text-longest (moved w parts.Definition) fresh last place byte bytes here
+  behind-head-longest false w fresh last place byte bytes at =
+      code-text-longest (moved w parts.Definition) fresh last place byte bytes at
 
   -- ## Any text
 
   part-text-longest : (part : Part) (w : Where) (fresh : Bool) (last place byte : ℕ) (bytes : List ℕ)
-      → drop place text ≡ byte ∷ bytes → Longest (part_text_apart part w fresh last place byte bytes)
-  part-text-longest parts.Limbo w fresh last place byte bytes here = limbo-text-longest w place byte bytes
-  part-text-longest parts.Tex w fresh last place byte bytes here = tex-text-longest w place byte bytes
-  part-text-longest parts.Head w fresh last place byte bytes here =
-      if-both Longest (is_in classes.Blank byte) _ _ (λ h. tt) (λ h. (tt, tt))
-  part-text-longest (parts.MacroName code) w fresh last place byte bytes here =
-      if-both Longest (name_follows (byte ∷ bytes)) _ _ (λ h. macro-name-longest code w place byte bytes here)
-      (λ h. behind-head-longest false w fresh last place byte bytes here)
-  part-text-longest (parts.MacroParen code) w fresh last place byte bytes here =
+      → At fresh last place byte bytes → Wants part (byte ∷ bytes)
+      → Longest (part_text_apart part w fresh last place byte bytes)
+  part-text-longest parts.Limbo w fresh last place byte bytes at p = limbo-text-longest w place byte bytes
+  part-text-longest parts.Tex w fresh last place byte bytes at p = tex-text-longest w place byte bytes
+  part-text-longest parts.Head w fresh last place byte bytes at p =
+      let size = if begins equals bytes then 2 else 1 in
+      if-both Longest (is_in classes.Blank byte) _ _ (λ h. tt)
+      (λ h. one-longest false (moved w (parts.Plain false false)) place (byte ∷ bytes) (plain kinds.HeadSign size)
+      (subst (λ l. (0 < size) × (size ≡ head_sign_size l)) (sym at.here)
+      (head-sign byte bytes (sign-here byte bytes h p))))
+  part-text-longest (parts.MacroName code) w fresh last place byte bytes at p =
+      if-both Longest (name_follows (byte ∷ bytes)) _ _ (λ h. macro-name-longest code w place byte bytes at.here h)
+      (λ h. behind-head-longest false w fresh last place byte bytes at)
+  part-text-longest (parts.MacroParen code) w fresh last place byte bytes at p =
       one-longest false (moved w (parts.Parameters code)) place (byte ∷ bytes) (plain (kinds.Sign signs.LeftParen) 1)
-      refl
-  part-text-longest (parts.Parameters code) w fresh last place byte bytes here =
-      if-both Longest (parameter_follows (byte ∷ bytes)) _ _ (λ h. parameter-longest w place byte bytes here)
-      (λ h. behind-head-longest false w fresh last place byte bytes here)
-  part-text-longest (parts.FormatName code second limbo) w fresh last place byte bytes here =
+      (sign-here-is signs.LeftParen place byte left_paren bytes at.here p refl refl refl)
+  part-text-longest (parts.Parameters code) w fresh last place byte bytes at p =
+      if-both Longest (parameter_follows (byte ∷ bytes)) _ _ (λ h. parameter-longest w place byte bytes at.here h)
+      (λ h. behind-head-longest false w fresh last place byte bytes at)
+  part-text-longest (parts.FormatName code second limbo) w fresh last place byte bytes at p =
       if-both Longest (name_follows (byte ∷ bytes)) _ _
-      (λ h. format-name-longest code second limbo w place byte bytes here)
-      (λ h. behind-head-longest limbo w fresh last place byte bytes here)
-  part-text-longest parts.TexInner w fresh last place byte bytes here =
-      code-text-longest w fresh last place byte bytes here
-  part-text-longest parts.Begin w fresh last place byte bytes here =
-      code-text-longest w fresh last place byte bytes here
-  part-text-longest (parts.Plain hash_line include) w fresh last place byte bytes here =
-      code-text-longest w fresh last place byte bytes here
-  part-text-longest parts.Definition w fresh last place byte bytes here =
-      code-text-longest w fresh last place byte bytes here
-  part-text-longest parts.Inner w fresh last place byte bytes here =
-      code-text-longest w fresh last place byte bytes here
+      (λ h. format-name-longest code second limbo w place byte bytes at.here h)
+      (λ h. behind-head-longest limbo w fresh last place byte bytes at)
+  part-text-longest parts.TexInner w fresh last place byte bytes at p =
+      code-text-longest w fresh last place byte bytes at
+  part-text-longest parts.Begin w fresh last place byte bytes at p =
+      code-text-longest w fresh last place byte bytes at
+  part-text-longest (parts.Plain hash_line include) w fresh last place byte bytes at p =
+      code-text-longest w fresh last place byte bytes at
+  part-text-longest parts.Definition w fresh last place byte bytes at p =
+      code-text-longest w fresh last place byte bytes at
+  part-text-longest parts.Inner w fresh last place byte bytes at p =
+      code-text-longest w fresh last place byte bytes at
 
   in-text-longest : (part : Part) (comments : List Opened) (fresh : Bool) (last place byte : ℕ) (bytes : List ℕ)
-      → drop place text ≡ byte ∷ bytes → Longest (in_text_apart part comments fresh last place byte bytes)
-  in-text-longest part [] fresh last place byte bytes here =
-      part-text-longest part (record { part = part; comments = [] }) fresh last place byte bytes here
-  in-text-longest part (c ∷ comments) fresh last place byte bytes here =
+      → At fresh last place byte bytes → WantsIn part comments (byte ∷ bytes)
+      → Longest (in_text_apart part comments fresh last place byte bytes)
+  in-text-longest part [] fresh last place byte bytes at p =
+      part-text-longest part (record { part = part; comments = [] }) fresh last place byte bytes at p
+  in-text-longest part (c ∷ comments) fresh last place byte bytes at p =
       if-both Longest c.inner _ _
-      (λ h. code-text-longest (record { part = part; comments = c ∷ comments }) fresh last place byte bytes here)
-      (λ h. comment-text-longest part c comments last place byte bytes)
+      (λ h. code-text-longest (record { part = part; comments = c ∷ comments }) fresh last place byte bytes at)
+      (λ h. comment-text-longest part c comments fresh last place byte bytes at)
 
   section-longest : (w : Where) (place : ℕ) (bytes : List ℕ) → Longest (section w place bytes)
   section-longest w place bytes =
@@ -388,25 +543,41 @@ module _ (text : List ℕ) where
       append-longest text (all_cut w.part w.comments place place) _
       (bare-longest text place (all_cut w.part w.comments place place)
       (bare-all-cut w.part w.comments place place))
-      (section-other (at_sign ∷ bytes) (drop place text) _, noted-longest text cut.notes)
+      (section-other (at_sign ∷ bytes) false (take place text) (drop place text) _, noted-longest text cut.notes)
+
+  -- what the byte at a place says of the next one
+  abbrev Known : Bool → ℕ → ℕ → Type 0
+  Known fresh last place = (fresh_at text place ≡ fresh) × (last_at text place ≡ last)
+
+  known-on : (fresh : Bool) (last place byte : ℕ) (bytes : List ℕ) → drop place text ≡ byte ∷ bytes
+      → Known fresh last place → Known (still_fresh fresh byte) byte (place + 1)
+  known-on fresh last place byte bytes here k = (
+    sym (fresh-more true text place 1) ∙ ap (λ l. fresh_after (fresh_at text place) (take 1 l)) here
+        ∙ ap (λ f. still_fresh f byte) k.0,
+    sym (last-more 0 text place 1) ∙ ap (λ l. last_after (last_at text place) (take 1 l)) here,
+  )
 
   all-longest : (bytes : List ℕ) (w : Where) (fresh : Bool) (last place taken : ℕ) → drop place text ≡ bytes
+      → Known fresh last place → WantsIn w.part w.comments (drop taken bytes)
       → AreLongest text (answers bytes w fresh last place taken)
-  all-longest [] w fresh last place taken here = bare-longest text place (all_cut w.part w.comments place (place - 1))
+  all-longest [] w fresh last place taken here k p =
+      bare-longest text place (all_cut w.part w.comments place (place - 1))
       (bare-all-cut w.part w.comments place (place - 1))
-  all-longest (byte ∷ bytes) w fresh last place zero here =
+  all-longest (byte ∷ bytes) w fresh last place zero here k p =
       let f = found_apart w fresh last place byte bytes in
       append-longest text f.answers (answers bytes f.next (still_fresh fresh byte) byte (place + 1) f.more)
       (if-both Longest (byte == at_sign && begins_section bytes) _ _ (λ h. section-longest w place bytes)
-      (λ h. in-text-longest w.part w.comments fresh last place byte bytes here))
+      (λ h. in-text-longest w.part w.comments fresh last place byte bytes
+      (record { here = here; freshly = k.0; behind = k.1 }) p))
       (all-longest bytes f.next (still_fresh fresh byte) byte (place + 1) f.more
-      (drop-on text place byte bytes here))
-  all-longest (byte ∷ bytes) w fresh last place (suc taken) here =
+      (drop-on text place byte bytes here) (known-on fresh last place byte bytes here k)
+      (found-goes w fresh last place byte bytes p))
+  all-longest (byte ∷ bytes) w fresh last place (suc taken) here k p =
       all-longest bytes w (still_fresh fresh byte) byte (place + 1) taken (drop-on text place byte bytes here)
+      (known-on fresh last place byte bytes here k) p
 
 pub tokens-are-longest : TokensAreLongest
-tokens-are-longest = record {
-  tokens = λ text start end mode. let cut = take end text in
-      all-longest cut (drop start cut) (beginning mode) (fresh_at cut start) (last_at cut start) start 0 refl;
-  parenthesis = parenthesis;
-}
+tokens-are-longest text start end mode =
+    let cut = take end text in
+    all-longest cut (drop start cut) (beginning mode) (fresh_at cut start) (last_at cut start) start 0 refl
+    (refl, refl) (beginning-wants mode (drop start cut))

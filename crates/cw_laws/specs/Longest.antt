@@ -1,17 +1,21 @@
--- Identifiers, constants and signs are the longest that begin at their places, and strings go up to their ends.
-use Rattle.std.specs.Prelude.{◌≡◌, ℕ, ◌-◌, ◌≤◌, true, List, [], ◌∷◌, drop, take, length}
-use Rattle.cw_rules.specs.declared.classes.Class.TheVariants.{Word}
+-- Each token is the longest that begins at its place, and a sign and an other byte stand where nothing else begins.
+use Rattle.std.specs.Prelude.{◌≡◌, ℕ, ◌+◌, ◌-◌, ◌<◌, ◌≤◌, Bool, true, false, ◌&&◌, ◌||◌, ◌==◌, List, [], ◌∷◌, drop}
+use Rattle.std.specs.Prelude.{take, length}
+use Rattle.cw_base.specs.Bytes.{newline, backslash}
+use Rattle.cw_rules.specs.declared.classes.Class.TheVariants.{Word, IncludeName}
 use Rattle.cw_rules.specs.declared.signs.Sign.{Sign}
-use Rattle.cw_rules.specs.declared.signs.Sign.TheVariants as signs
 use Rattle.cw_rules.specs.declared.tokens.Mode.{Mode}
 use Rattle.cw_rules.specs.declared.tokens.TokKind.{TokKind}
 use Rattle.cw_rules.specs.declared.tokens.TokKind.TheVariants as kinds
 use Rattle.cw_rules.specs.Answers.{Answer, Token, Begin, Finish, Note}
-use Rattle.cw_rules.specs.Bytes.{run, begins_with, left_paren}
+use Rattle.cw_rules.specs.Bytes.{run, begins, begins_by, begins_with, is_letter, is_mark, at_sign, hash, less, slash}
+use Rattle.cw_rules.specs.Bytes.{star}
 use Rattle.cw_rules.specs.Constants.{constant}
 use Rattle.cw_rules.specs.Signs.{spelling, all_signs}
-use Rattle.cw_lex.specs.Lexing.{tokens_of}
+use Rattle.cw_rules.specs.Tokens.{closes_on_line, head_sign_size}
+use Rattle.cw_lex.specs.Lexing.{tokens_of, fresh_after, last_after}
 use Rattle.cw_laws.specs.Strings.{IsString}
+use Rattle.cw_laws.specs.WhiteSpace.{begins_space_in}
 
 -- Of these signs none with which the bytes begin is longer than so many bytes.
 abbrev pub NoneIsLonger : List Sign → List ℕ → ℕ → Type 0
@@ -19,27 +23,65 @@ NoneIsLonger [] bytes size = Unit {0}
 NoneIsLonger (sign ∷ more) bytes size =
     (begins_with (spelling sign) bytes ≡ true → length (spelling sign) ≤ size) × NoneIsLonger more bytes size
 
--- A token of this size and kind is the longest with which the bytes begin: an identifier has all the letters and digits
--- that stand in a row, a constant all that a constant takes, a string goes up to its end, and a sign is the longest of
--- the table. The `(` of a macro's parameters is one byte, as is any `(`.
-abbrev pub IsLongest : List ℕ → ℕ → TokKind → Type 0
-IsLongest bytes size kinds.Identifier = size ≡ run Word bytes
-IsLongest bytes size kinds.Constant = size ≡ constant bytes
-IsLongest bytes size kinds.Quoted = IsString bytes size
-IsLongest bytes size (kinds.Sign signs.LeftParen) = size ≡ 1
-IsLongest bytes size (kinds.Sign sign) = (size ≡ length (spelling sign)) × NoneIsLonger all_signs bytes size
-IsLongest bytes size kind = Unit {0}
+abbrev pub begins_comment : List ℕ → Bool
+begins_comment bytes = begins slash bytes && (begins star (drop 1 bytes) || begins slash (drop 1 bytes))
+
+-- A sign is the longest of the table with which the bytes begin, where neither a constant nor a comment begins.
+pub record IsSign (sign : Sign) (bytes : List ℕ) (size : ℕ) : Type 0 where
+  pub spelt : begins_with (spelling sign) bytes ≡ true
+  pub whole : size ≡ length (spelling sign)
+  pub longest : NoneIsLonger all_signs bytes size
+  pub no_constant : constant bytes ≡ 0
+  pub no_comment : begins_comment bytes ≡ false
+
+-- An other byte is one byte with which nothing else begins: no white space, identifier, constant, string, code or sign,
+-- and so no comment.
+pub record IsOtherByte (hash_line : Bool) (bytes : List ℕ) (size : ℕ) : Type 0 where
+  pub whole : size ≡ 1
+  pub no_space : begins_space_in hash_line bytes ≡ false
+  pub no_letter : begins_by is_letter bytes ≡ false
+  pub no_constant : constant bytes ≡ 0
+  pub no_mark : begins_by is_mark bytes ≡ false
+  pub no_code : begins at_sign bytes ≡ false
+  pub no_sign : NoneIsLonger all_signs bytes 0
+
+-- An include name goes from `<` to the first `>`, before which no line ends.
+pub record IsIncludeName (bytes : List ℕ) (size : ℕ) : Type 0 where
+  pub opened : begins less bytes ≡ true
+  pub closed : closes_on_line (drop 1 bytes) ≡ true
+  pub whole : size ≡ 1 + (run IncludeName (drop 1 bytes) + 1)
+
+-- A token of this size and kind stands behind bytes and before others, in a `#` line or not.
+--   identifier: a letter, and all letters and digits that stand in a row
+--   constant: all that a constant takes
+--   string: up to its end
+--   `#` of a `#` line: the first byte of its line but for blanks
+--   end of a `#` line: a line's end with no backslash before it
+--   sign of a head: the longest of `==`, `+=` and `=`
+abbrev pub IsLongest : Bool → List ℕ → List ℕ → ℕ → TokKind → Type 0
+IsLongest hash_line before bytes size kinds.Identifier = (begins_by is_letter bytes ≡ true) × (size ≡ run Word bytes)
+IsLongest hash_line before bytes size kinds.Constant = size ≡ constant bytes
+IsLongest hash_line before bytes size kinds.Quoted = IsString bytes size
+IsLongest hash_line before bytes size kinds.IncludeName = IsIncludeName bytes size
+IsLongest hash_line before bytes size (kinds.Sign sign) = IsSign sign bytes size
+IsLongest hash_line before bytes size kinds.HashLine =
+    (begins hash bytes ≡ true) × (size ≡ 1) × (fresh_after true before ≡ true)
+IsLongest hash_line before bytes size kinds.HashLineEnd =
+    (begins newline bytes ≡ true) × (size ≡ 1) × ((last_after 0 before == backslash) ≡ false)
+IsLongest hash_line before bytes size kinds.OtherByte = IsOtherByte hash_line bytes size
+IsLongest hash_line before bytes size kinds.HeadSign = (0 < size) × (size ≡ head_sign_size bytes)
+IsLongest hash_line before bytes size kind = Unit {0}
 
 abbrev pub AreLongest : List ℕ → List Answer → Type 0
 AreLongest text [] = Unit {0}
 AreLongest text (Token t ∷ answers) =
-    IsLongest (drop t.span.start text) (t.span.end - t.span.start) t.kind × AreLongest text answers
+    IsLongest t.hash_line (take t.span.start text) (drop t.span.start text) (t.span.end - t.span.start) t.kind
+    × AreLongest text answers
 AreLongest text (Begin t ∷ answers) = AreLongest text answers
 AreLongest text (Finish t ∷ answers) = AreLongest text answers
 AreLongest text (Note kind place ∷ answers) = AreLongest text answers
 
--- So it is with the tokens of all bytes that are scanned. And no longer sign begins with `(`.
-pub record TokensAreLongest : Type 0 where
-  pub tokens : (text : List ℕ) (start end : ℕ) (mode : Mode)
-      → AreLongest (take end text) (tokens_of text start end mode)
-  pub parenthesis : (bytes : List ℕ) → NoneIsLonger all_signs (left_paren ∷ bytes) 1
+-- So it is with the tokens of all bytes that are scanned.
+abbrev pub TokensAreLongest : Type 0
+TokensAreLongest =
+    (text : List ℕ) (start end : ℕ) (mode : Mode) → AreLongest (take end text) (tokens_of text start end mode)

@@ -1,4 +1,4 @@
--- Identifiers, constants and signs are the longest that begin at their places.
+-- Each token is the longest that begins at its place.
 use Rattle.cw_laws.proofs.Longest.{tokens-are-longest}
 use Rattle.cw_laws.proofs.scanner.longest_law.Goals as goal
 
