@@ -10,6 +10,7 @@ pub mod HashLines
 pub mod WhiteSpace
 pub mod Strings
 pub mod Wanted
+pub mod WholeTexts
 pub mod Longest
 pub mod Insides
 pub mod StillOpen

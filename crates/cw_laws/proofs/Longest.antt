@@ -50,6 +50,7 @@ use Rattle.cw_lex.proofs.Covering.{drop-on}
 use Rattle.cw_lex.proofs.Walk.{fresh-more, last-more}
 use Rattle.cw_rules.proofs.StringPrefixes.{no-prefix}
 use Rattle.cw_laws.proofs.Strings.{prefixed-is, unprefixed-is}
+use Rattle.cw_laws.proofs.WholeTexts.{whole-texts}
 use Rattle.cw_laws.proofs.Wanted.{Wants, WantsIn, sign-here, letter-here, parameter-here, found-goes, beginning-wants}
 
 -- ## Signs
@@ -577,7 +578,9 @@ module _ (text : List ℕ) where
       (known-on fresh last place byte bytes here k) p
 
 pub tokens-are-longest : TokensAreLongest
-tokens-are-longest text start end mode =
-    let cut = take end text in
-    all-longest cut (drop start cut) (beginning mode) (fresh_at cut start) (last_at cut start) start 0 refl
-    (refl, refl) (beginning-wants mode (drop start cut))
+tokens-are-longest = record {
+  tokens = λ text start end mode. let cut = take end text in
+      all-longest cut (drop start cut) (beginning mode) (fresh_at cut start) (last_at cut start) start 0 refl
+      (refl, refl) (beginning-wants mode (drop start cut));
+  texts = whole-texts;
+}

@@ -1,10 +1,12 @@
 -- Each token is the longest that begins at its place, and a sign and an other byte stand where nothing else begins.
 use Rattle.std.specs.Prelude.{◌≡◌, ℕ, ◌+◌, ◌-◌, ◌<◌, ◌≤◌, Bool, true, false, ◌&&◌, ◌||◌, ◌==◌, List, [], ◌∷◌, drop}
-use Rattle.std.specs.Prelude.{take, length}
+use Rattle.std.specs.Prelude.{take, length, if◌then◌else◌}
 use Rattle.cw_base.specs.Bytes.{newline, backslash}
-use Rattle.cw_rules.specs.declared.classes.Class.TheVariants.{Word, IncludeName}
+use Rattle.cw_rules.specs.declared.classes.Class.{Class}
+use Rattle.cw_rules.specs.declared.classes.Class.TheVariants.{Word, IncludeName, LimboText, TexText}
 use Rattle.cw_rules.specs.declared.signs.Sign.{Sign}
 use Rattle.cw_rules.specs.declared.tokens.Mode.{Mode}
+use Rattle.cw_rules.specs.declared.tokens.Mode.TheVariants as modes
 use Rattle.cw_rules.specs.declared.tokens.TokKind.{TokKind}
 use Rattle.cw_rules.specs.declared.tokens.TokKind.TheVariants as kinds
 use Rattle.cw_rules.specs.Answers.{Answer, Token, Begin, Finish, Note}
@@ -14,6 +16,7 @@ use Rattle.cw_rules.specs.Constants.{constant}
 use Rattle.cw_rules.specs.Signs.{spelling, all_signs}
 use Rattle.cw_rules.specs.Tokens.{closes_on_line, head_sign_size}
 use Rattle.cw_lex.specs.Lexing.{tokens_of, fresh_after, last_after}
+use Rattle.cw_lex.specs.Nested.{is_section_kind}
 use Rattle.cw_laws.specs.Strings.{IsString}
 use Rattle.cw_laws.specs.WhiteSpace.{begins_space_in}
 
@@ -81,7 +84,35 @@ AreLongest text (Begin t ∷ answers) = AreLongest text answers
 AreLongest text (Finish t ∷ answers) = AreLongest text answers
 AreLongest text (Note kind place ∷ answers) = AreLongest text answers
 
+-- ## Text in no comment
+
+-- Limbo goes up to the first section code, and all text behind it that stands in no comment is TeX text.
+abbrev pub text_of : Mode → Class
+text_of modes.Limbo = LimboText
+text_of mode = TexText
+
+abbrev pub text_behind : Class → TokKind → Class
+text_behind class kind = if is_section_kind kind then TexText else class
+
+-- Where nothing is open, a piece of limbo has all bytes up to the next `@`, and one of TeX text all up to the next `@`
+-- or bar.
+abbrev pub IsWholeText : Class → ℕ → List ℕ → ℕ → TokKind → Type 0
+IsWholeText class depth bytes size kinds.Text = depth ≡ 0 → size ≡ run class bytes
+IsWholeText class depth bytes size kind = Unit {0}
+
+-- So it is with the texts among answers, before which so many comments and inner texts are open.
+abbrev pub AreWholeTexts : List ℕ → Class → ℕ → List Answer → Type 0
+AreWholeTexts text class depth [] = Unit {0}
+AreWholeTexts text class depth (Token t ∷ answers) =
+    IsWholeText class depth (drop t.span.start text) (t.span.end - t.span.start) t.kind
+    × AreWholeTexts text (text_behind class t.kind) depth answers
+AreWholeTexts text class depth (Begin t ∷ answers) = AreWholeTexts text class (depth + 1) answers
+AreWholeTexts text class depth (Finish t ∷ answers) = AreWholeTexts text class (depth - 1) answers
+AreWholeTexts text class depth (Note kind place ∷ answers) = AreWholeTexts text class depth answers
+
 -- So it is with the tokens of all bytes that are scanned.
-abbrev pub TokensAreLongest : Type 0
-TokensAreLongest =
-    (text : List ℕ) (start end : ℕ) (mode : Mode) → AreLongest (take end text) (tokens_of text start end mode)
+pub record TokensAreLongest : Type 0 where
+  pub tokens : (text : List ℕ) (start end : ℕ) (mode : Mode)
+      → AreLongest (take end text) (tokens_of text start end mode)
+  pub texts : (text : List ℕ) (start end : ℕ) (mode : Mode)
+      → AreWholeTexts (take end text) (text_of mode) 0 (tokens_of text start end mode)
