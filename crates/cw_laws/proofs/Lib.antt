@@ -9,6 +9,7 @@ pub mod NotePlaces
 pub mod HashLines
 pub mod WhiteSpace
 pub mod Strings
+pub mod SectionBytes
 pub mod Wanted
 pub mod WholeTexts
 pub mod Longest

@@ -8,6 +8,7 @@ use Rattle.cw_base.proofs.TestLaws.{both-left, both-right, not-true}
 use Rattle.cw_rules.specs.declared.bodies.Noted.{Noted}
 use Rattle.cw_rules.specs.declared.classes.Class.TheVariants as classes
 use Rattle.cw_rules.specs.declared.codes.Code.{Code}
+use Rattle.cw_rules.specs.declared.codes.Code.TheVariants as at
 use Rattle.cw_rules.specs.declared.codes.Effect.{Effect}
 use Rattle.cw_rules.specs.declared.codes.Effect.TheVariants as effects
 use Rattle.cw_rules.specs.declared.parts.Part.{Part}
@@ -49,6 +50,7 @@ use Rattle.cw_laws.specs.Strings.{IsString}
 use Rattle.cw_lex.proofs.Covering.{drop-on}
 use Rattle.cw_lex.proofs.Walk.{fresh-more, last-more}
 use Rattle.cw_rules.proofs.StringPrefixes.{no-prefix}
+use Rattle.cw_laws.proofs.SectionBytes.{section-is, starred-is}
 use Rattle.cw_laws.proofs.Strings.{prefixed-is, unprefixed-is}
 use Rattle.cw_laws.proofs.WholeTexts.{whole-texts}
 use Rattle.cw_laws.proofs.Wanted.{Wants, WantsIn, sign-here, letter-here, parameter-here, found-goes, beginning-wants}
@@ -218,7 +220,7 @@ append-longest : (text : List ℕ) (xs ys : List Answer) → AreLongest text xs 
     → AreLongest text (xs ++ ys)
 append-longest text [] ys h g = g
 append-longest text (Token t ∷ xs) ys h g = (h.0, append-longest text xs ys h.1 g)
-append-longest text (Begin t ∷ xs) ys h g = append-longest text xs ys h g
+append-longest text (Begin t ∷ xs) ys h g = (h.0, append-longest text xs ys h.1 g)
 append-longest text (Finish t ∷ xs) ys h g = append-longest text xs ys h g
 append-longest text (Note kind place ∷ xs) ys h g = append-longest text xs ys h g
 
@@ -232,24 +234,6 @@ bare-longest text place (Note kind about ∷ xs) h = bare-longest text place xs 
 noted-longest : (text : List ℕ) (ns : List Noted) → AreLongest text (note_answers ns)
 noted-longest text [] = tt
 noted-longest text (n ∷ ns) = noted-longest text ns
-
--- a kind of which nothing is said
-abbrev IsOther : TokKind → Type 0
-IsOther kind = (hash_line : Bool) (before bytes : List ℕ) (size : ℕ) → IsLongest hash_line before bytes size kind
-
-code-token-other : (code : Code) (place : ℕ) (bytes : List ℕ) → IsOther (code_token code place bytes).kind
-code-token-other code place bytes =
-    let P : Cut → Type 0 = λ c. IsOther c.kind in
-    if-both P (is_name code) (section_name code place bytes) _ (λ h line before bytes size. tt)
-    (λ h. if-both P (is_quote code) (string (kinds.Code code) 2 apostrophe place bytes)
-    (control_or_plain code place bytes) (λ h line before bytes size. tt)
-    (λ h. if-both P (has_control_text code) (control_text code place bytes)
-    (plain (kinds.Code code) (alone_size bytes)) (λ h line before bytes size. tt) (λ h line before bytes size. tt)))
-
-section-other : (bytes : List ℕ) → IsOther (section_code bytes).kind
-section-other bytes =
-    if-both (λ (c : Cut). IsOther c.kind) (begins star (drop 1 bytes)) _ _ (λ h line before bytes size. tt)
-    (λ h line before bytes size. tt)
 
 module _ (text : List ℕ) where
   abbrev Longest : Found → Type 0
@@ -298,17 +282,58 @@ module _ (text : List ℕ) where
 
   -- ## C text
 
-  code-by-longest : (effect : Effect) (code : Code) (w : Where) (place : ℕ) (bytes : List ℕ)
-      → Longest (code_by effect code w place bytes)
-  code-by-longest effects.Stands code w place bytes = (
-    code-token-other code place bytes _ (take place text) (drop place text) _,
-    noted-longest text (code_token code place bytes).notes,
+  -- a code is what the byte behind the `@` makes
+  abbrev IsCodeHere : ℕ → Code → Type 0
+  IsCodeHere place code = (begins at_sign (drop place text) ≡ true) × (code ≡ code_at (drop 1 (drop place text)))
+
+  code-here : (place byte : ℕ) (bytes : List ℕ) → drop place text ≡ byte ∷ bytes → (byte == at_sign) ≡ true
+      → IsCodeHere place (code_at bytes)
+  code-here place byte bytes here h =
+      (ap (begins at_sign) here ∙ h, sym (ap (λ l. code_at (drop 1 l)) here))
+
+  token-here : (hash_line : Bool) (place byte : ℕ) (bytes : List ℕ) → drop place text ≡ byte ∷ bytes
+      → (byte == at_sign) ≡ true
+      → Says hash_line place (code_token (code_at bytes) place (byte ∷ bytes)).size
+      (code_token (code_at bytes) place (byte ∷ bytes)).kind
+  token-here hash_line place byte bytes here h =
+      let c = code_at bytes in
+      let all = byte ∷ bytes in
+      let P : Cut → Type 0 = λ c. Says hash_line place c.size c.kind in
+      let is = code-here place byte bytes here h in
+      if-both P (is_name c) (section_name c place all) _ (λ k. is)
+      (λ k. if-both P (is_quote c) (string (kinds.Code c) 2 apostrophe place all) (control_or_plain c place all)
+      (λ k. is)
+      (λ k. if-both P (has_control_text c) (control_text c place all) (plain (kinds.Code c) (alone_size all))
+      (λ k. is) (λ k. is)))
+
+  dropped-here : (place byte : ℕ) (bytes : List ℕ) → drop place text ≡ byte ∷ bytes → (byte == at_sign) ≡ true
+      → begins at_sign (drop place text) ≡ true
+  dropped-here place byte bytes here h = ap (begins at_sign) here ∙ h
+
+  code-by-longest : (effect : Effect) (w : Where) (place byte : ℕ) (bytes : List ℕ) → drop place text ≡ byte ∷ bytes
+      → (byte == at_sign) ≡ true → Longest (code_by effect (code_at bytes) w place (byte ∷ bytes))
+  code-by-longest effects.Stands w place byte bytes here h =
+      one-longest (in_hash_line w.part) w place (byte ∷ bytes) (code_token (code_at bytes) place (byte ∷ bytes))
+      (token-here (in_hash_line w.part) place byte bytes here h)
+  code-by-longest (effects.Drops note) w place byte bytes here h = (
+    dropped-here place byte bytes here h,
+    noted-longest text (control_or_plain (code_at bytes) place (byte ∷ bytes)).notes,
   )
-  code-by-longest (effects.Drops note) code w place bytes =
-      (tt, noted-longest text (control_or_plain code place bytes).notes)
-  code-by-longest effects.Defines code w place bytes = (tt, tt)
-  code-by-longest effects.Formats code w place bytes = (tt, tt)
-  code-by-longest effects.BeginsC code w place bytes = (tt, tt)
+  code-by-longest effects.Defines w place byte bytes here h = (code-here place byte bytes here h, tt)
+  code-by-longest effects.Formats w place byte bytes here h = (code-here place byte bytes here h, tt)
+  code-by-longest effects.BeginsC w place byte bytes here h = (code-here place byte bytes here h, tt)
+
+  -- two bytes begin a comment
+  comment-here : (second place byte : ℕ) (bytes : List ℕ) → drop place text ≡ byte ∷ bytes
+      → (byte == slash && begins second bytes) ≡ true
+      → ((begins slash (drop place text) && begins second (drop 1 (drop place text))) ≡ true)
+      × ((place + 2) - place ≡ 2)
+  comment-here second place byte bytes here h =
+      (ap (λ l. begins slash l && begins second (drop 1 l)) here ∙ h, omega arith)
+
+  bar-here : (place byte : ℕ) (bytes : List ℕ) → drop place text ≡ byte ∷ bytes → (byte == bar) ≡ true
+      → (begins bar (drop place text) ≡ true) × ((place + 1) - place ≡ 1)
+  bar-here place byte bytes here h = (ap (begins bar) here ∙ h, omega arith)
 
   word-longest : (hash_line : Bool) (next : Where) (place byte : ℕ) (bytes : List ℕ)
       → drop place text ≡ byte ∷ bytes → is_letter byte ≡ true
@@ -339,10 +364,12 @@ module _ (text : List ℕ) where
       (λ h. one-longest hash_line next place all (string-at byte)
       (subst (λ l. IsString l (string-at byte).size) (sym here)
       (unprefixed-is place byte bytes (no-prefix byte bytes letter) h)))
-      (λ mark. if-both P (byte == slash && begins star bytes) start.LongComment _ (λ h. tt)
-      (λ long. if-both P (byte == slash && begins slash bytes) start.ShortComment _ (λ h. tt)
+      (λ mark. if-both P (byte == slash && begins star bytes) start.LongComment _
+      (λ h. (comment-here star place byte bytes here h, tt))
+      (λ long. if-both P (byte == slash && begins slash bytes) start.ShortComment _
+      (λ h. (comment-here slash place byte bytes here h, tt))
       (λ short. if-both P (byte == at_sign) (start.Code (code_at bytes)) _
-      (λ h. code-by-longest (effect_in w.part w.comments (code_at bytes)) (code_at bytes) w place all)
+      (λ h. code-by-longest (effect_in w.part w.comments (code_at bytes)) w place byte bytes here h)
       (λ code. if-both P (byte == bar && (bar_ends && not (begins bar bytes))) start.EndOfInner
       (sign_or_other (longest all_signs all)) (λ h. tt)
       (λ h. by (longest all_signs all) refl (record {
@@ -402,44 +429,47 @@ module _ (text : List ℕ) where
       (line_end part comments last place).answers (noted-longest text (missing c place))
       (line-end-longest part comments last place
       (ap (begins newline) at.here ∙ both-right (not c.long) (byte == newline) h) at.behind))
-      (λ h. if-both Longest (byte == bar && not (is_deep part (c ∷ comments))) _ _ (λ h. tt)
+      (λ h. if-both Longest (byte == bar && not (is_deep part (c ∷ comments))) _ _
+      (λ h. (bar-here place byte bytes at.here (both-left (byte == bar) (not (is_deep part (c ∷ comments))) h), tt))
       (λ h. (tt, noted-longest text (noted (piece_start part comments c place) (byte ∷ bytes))))))
 
   -- ## Limbo, TeX text and heads
 
-  limbo-by-longest : (effect : Effect) (code : Code) (w : Where) (place : ℕ) (bytes : List ℕ)
-      → Longest (limbo_by effect code w place bytes)
-  limbo-by-longest effects.Stands code w place bytes = (
-    code-token-other code place bytes _ (take place text) (drop place text) _,
-    noted-longest text (code_token code place bytes).notes,
-  )
-  limbo-by-longest effects.Formats code w place bytes = (tt, tt)
-  limbo-by-longest (effects.Drops note) code w place bytes = (tt, tt)
-  limbo-by-longest effects.Defines code w place bytes = tt
-  limbo-by-longest effects.BeginsC code w place bytes = tt
+  limbo-by-longest : (effect : Effect) (w : Where) (place byte : ℕ) (bytes : List ℕ) → drop place text ≡ byte ∷ bytes
+      → (byte == at_sign) ≡ true → Longest (limbo_by effect (code_at bytes) w place (byte ∷ bytes))
+  limbo-by-longest effects.Stands w place byte bytes here h =
+      one-longest false w place (byte ∷ bytes) (code_token (code_at bytes) place (byte ∷ bytes))
+      (token-here false place byte bytes here h)
+  limbo-by-longest effects.Formats w place byte bytes here h = (code-here place byte bytes here h, tt)
+  limbo-by-longest (effects.Drops note) w place byte bytes here h = (dropped-here place byte bytes here h, tt)
+  limbo-by-longest effects.Defines w place byte bytes here h = tt
+  limbo-by-longest effects.BeginsC w place byte bytes here h = tt
 
-  limbo-text-longest : (w : Where) (place byte : ℕ) (bytes : List ℕ) → Longest (limbo_text w place byte bytes)
-  limbo-text-longest w place byte bytes =
+  limbo-text-longest : (w : Where) (place byte : ℕ) (bytes : List ℕ) → drop place text ≡ byte ∷ bytes
+      → Longest (limbo_text w place byte bytes)
+  limbo-text-longest w place byte bytes here =
       if-both Longest (byte == at_sign) _ _
-      (λ h. limbo-by-longest (effect_in_limbo (code_at bytes)) (code_at bytes) w place (byte ∷ bytes)) (λ h. (tt, tt))
+      (λ h. limbo-by-longest (effect_in_limbo (code_at bytes)) w place byte bytes here h) (λ h. (tt, tt))
 
-  tex-by-longest : (effect : Effect) (code : Code) (w : Where) (place : ℕ) (bytes : List ℕ)
-      → Longest (tex_by effect code w place bytes)
-  tex-by-longest effects.Stands code w place bytes = (
-    code-token-other code place bytes _ (take place text) (drop place text) _,
-    noted-longest text (code_token code place bytes).notes,
+  tex-by-longest : (effect : Effect) (w : Where) (place byte : ℕ) (bytes : List ℕ) → drop place text ≡ byte ∷ bytes
+      → (byte == at_sign) ≡ true → Longest (tex_by effect (code_at bytes) w place (byte ∷ bytes))
+  tex-by-longest effects.Stands w place byte bytes here h =
+      one-longest false w place (byte ∷ bytes) (code_token (code_at bytes) place (byte ∷ bytes))
+      (token-here false place byte bytes here h)
+  tex-by-longest (effects.Drops note) w place byte bytes here h = (
+    dropped-here place byte bytes here h,
+    noted-longest text (control_or_plain (code_at bytes) place (byte ∷ bytes)).notes,
   )
-  tex-by-longest (effects.Drops note) code w place bytes =
-      (tt, noted-longest text (control_or_plain code place bytes).notes)
-  tex-by-longest effects.Defines code w place bytes = (tt, tt)
-  tex-by-longest effects.Formats code w place bytes = (tt, tt)
-  tex-by-longest effects.BeginsC code w place bytes = (tt, tt)
+  tex-by-longest effects.Defines w place byte bytes here h = (code-here place byte bytes here h, tt)
+  tex-by-longest effects.Formats w place byte bytes here h = (code-here place byte bytes here h, tt)
+  tex-by-longest effects.BeginsC w place byte bytes here h = (code-here place byte bytes here h, tt)
 
-  tex-text-longest : (w : Where) (place byte : ℕ) (bytes : List ℕ) → Longest (tex_text w place byte bytes)
-  tex-text-longest w place byte bytes =
+  tex-text-longest : (w : Where) (place byte : ℕ) (bytes : List ℕ) → drop place text ≡ byte ∷ bytes
+      → Longest (tex_text w place byte bytes)
+  tex-text-longest w place byte bytes here =
       if-both Longest (byte == at_sign) _ _
-      (λ h. tex-by-longest (effect_in_tex (code_at bytes)) (code_at bytes) w place (byte ∷ bytes))
-      (λ h. if-both Longest (byte == bar) _ _ (λ h. tt) (λ h. (tt, tt)))
+      (λ h. tex-by-longest (effect_in_tex (code_at bytes)) w place byte bytes here h)
+      (λ h. if-both Longest (byte == bar) _ _ (λ h. (bar-here place byte bytes here h, tt)) (λ h. (tt, tt)))
 
   macro-name-longest : (code : ℕ) (w : Where) (place byte : ℕ) (bytes : List ℕ) → drop place text ≡ byte ∷ bytes
       → name_follows (byte ∷ bytes) ≡ true → Longest (macro_name code w place byte bytes)
@@ -487,7 +517,7 @@ module _ (text : List ℕ) where
   behind-head-longest : (limbo : Bool) (w : Where) (fresh : Bool) (last place byte : ℕ) (bytes : List ℕ)
       → At fresh last place byte bytes → Longest (behind_head_apart limbo w fresh last place byte bytes)
   behind-head-longest true w fresh last place byte bytes at =
-      limbo-text-longest (moved w parts.Limbo) place byte bytes
+      limbo-text-longest (moved w parts.Limbo) place byte bytes at.here
   behind-head-longest false w fresh last place byte bytes at =
       code-text-longest (moved w parts.Definition) fresh last place byte bytes at
 
@@ -496,8 +526,8 @@ module _ (text : List ℕ) where
   part-text-longest : (part : Part) (w : Where) (fresh : Bool) (last place byte : ℕ) (bytes : List ℕ)
       → At fresh last place byte bytes → Wants part (byte ∷ bytes)
       → Longest (part_text_apart part w fresh last place byte bytes)
-  part-text-longest parts.Limbo w fresh last place byte bytes at p = limbo-text-longest w place byte bytes
-  part-text-longest parts.Tex w fresh last place byte bytes at p = tex-text-longest w place byte bytes
+  part-text-longest parts.Limbo w fresh last place byte bytes at p = limbo-text-longest w place byte bytes at.here
+  part-text-longest parts.Tex w fresh last place byte bytes at p = tex-text-longest w place byte bytes at.here
   part-text-longest parts.Head w fresh last place byte bytes at p =
       let size = if begins equals bytes then 2 else 1 in
       if-both Longest (is_in classes.Blank byte) _ _ (λ h. tt)
@@ -538,13 +568,22 @@ module _ (text : List ℕ) where
       (λ h. code-text-longest (record { part = part; comments = c ∷ comments }) fresh last place byte bytes at)
       (λ h. comment-text-longest part c comments fresh last place byte bytes at)
 
-  section-longest : (w : Where) (place : ℕ) (bytes : List ℕ) → Longest (section w place bytes)
-  section-longest w place bytes =
-      let cut = section_code (at_sign ∷ bytes) in
+  section-longest : (w : Where) (place byte : ℕ) (bytes : List ℕ) → drop place text ≡ byte ∷ bytes
+      → (byte == at_sign && begins_section bytes) ≡ true → Longest (section w place bytes)
+  section-longest w place byte bytes here h =
+      let code = section_code (at_sign ∷ bytes) in
+      let P : Cut → Type 0 = λ c. Says false place c.size c.kind in
       append-longest text (all_cut w.part w.comments place place) _
       (bare-longest text place (all_cut w.part w.comments place place)
       (bare-all-cut w.part w.comments place place))
-      (section-other (at_sign ∷ bytes) false (take place text) (drop place text) _, noted-longest text cut.notes)
+      (one-longest false w place (at_sign ∷ bytes) code
+      (if-both P (begins star bytes) _ _ (λ k. says at.StarredSection (starred-is bytes k))
+      (λ k. says at.Section (section-is bytes (both-right (byte == at_sign) (begins_section bytes) h) k))))
+    where
+      says : (c : Code) → code_at bytes ≡ c → IsCodeHere place c
+      says c e =
+          let byte-is = both-left (byte == at_sign) (begins_section bytes) h in
+          (ap (begins at_sign) here ∙ byte-is, sym (ap (λ l. code_at (drop 1 l)) here ∙ e))
 
   -- what the byte at a place says of the next one
   abbrev Known : Bool → ℕ → ℕ → Type 0
@@ -567,7 +606,7 @@ module _ (text : List ℕ) where
   all-longest (byte ∷ bytes) w fresh last place zero here k p =
       let f = found_apart w fresh last place byte bytes in
       append-longest text f.answers (answers bytes f.next (still_fresh fresh byte) byte (place + 1) f.more)
-      (if-both Longest (byte == at_sign && begins_section bytes) _ _ (λ h. section-longest w place bytes)
+      (if-both Longest (byte == at_sign && begins_section bytes) _ _ (λ h. section-longest w place byte bytes here h)
       (λ h. in-text-longest w.part w.comments fresh last place byte bytes
       (record { here = here; freshly = k.0; behind = k.1 }) p))
       (all-longest bytes f.next (still_fresh fresh byte) byte (place + 1) f.more

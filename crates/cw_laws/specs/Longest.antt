@@ -2,6 +2,7 @@
 use Rattle.std.specs.Prelude.{◌≡◌, ℕ, ◌+◌, ◌-◌, ◌<◌, ◌≤◌, Bool, true, false, ◌&&◌, ◌||◌, ◌==◌, List, [], ◌∷◌, drop}
 use Rattle.std.specs.Prelude.{take, length, if◌then◌else◌}
 use Rattle.cw_base.specs.Bytes.{newline, backslash}
+use Rattle.cw_base.specs.Text.{bar}
 use Rattle.cw_rules.specs.declared.classes.Class.{Class}
 use Rattle.cw_rules.specs.declared.classes.Class.TheVariants.{Word, IncludeName, LimboText, TexText}
 use Rattle.cw_rules.specs.declared.signs.Sign.{Sign}
@@ -12,6 +13,7 @@ use Rattle.cw_rules.specs.declared.tokens.TokKind.TheVariants as kinds
 use Rattle.cw_rules.specs.Answers.{Answer, Token, Begin, Finish, Note}
 use Rattle.cw_rules.specs.Bytes.{run, begins, begins_by, begins_with, is_letter, is_mark, at_sign, hash, less, slash}
 use Rattle.cw_rules.specs.Bytes.{star}
+use Rattle.cw_rules.specs.Codes.{code_at}
 use Rattle.cw_rules.specs.Constants.{constant}
 use Rattle.cw_rules.specs.Signs.{spelling, all_signs}
 use Rattle.cw_rules.specs.Tokens.{closes_on_line, head_sign_size}
@@ -61,6 +63,7 @@ pub record IsIncludeName (bytes : List ℕ) (size : ℕ) : Type 0 where
 --   `#` of a `#` line: the first byte of its line but for blanks
 --   end of a `#` line: a line's end with no backslash before it
 --   sign of a head: the longest of `==`, `+=` and `=`
+--   code: `@`, and what the byte behind it makes
 abbrev pub IsLongest : Bool → List ℕ → List ℕ → ℕ → TokKind → Type 0
 IsLongest hash_line before bytes size kinds.Identifier = (begins_by is_letter bytes ≡ true) × (size ≡ run Word bytes)
 IsLongest hash_line before bytes size kinds.Constant = size ≡ constant bytes
@@ -73,14 +76,25 @@ IsLongest hash_line before bytes size kinds.HashLineEnd =
     (begins newline bytes ≡ true) × (size ≡ 1) × ((last_after 0 before == backslash) ≡ false)
 IsLongest hash_line before bytes size kinds.OtherByte = IsOtherByte hash_line bytes size
 IsLongest hash_line before bytes size kinds.HeadSign = (0 < size) × (size ≡ head_sign_size bytes)
+IsLongest hash_line before bytes size (kinds.Code code) =
+    (begins at_sign bytes ≡ true) × (code ≡ code_at (drop 1 bytes))
+IsLongest hash_line before bytes size kinds.Dropped = begins at_sign bytes ≡ true
 IsLongest hash_line before bytes size kind = Unit {0}
+
+-- What has parts begins with `/*` or `//`, or with a bar.
+abbrev pub IsBeginning : List ℕ → ℕ → TokKind → Type 0
+IsBeginning bytes size kinds.LongComment = ((begins slash bytes && begins star (drop 1 bytes)) ≡ true) × (size ≡ 2)
+IsBeginning bytes size kinds.ShortComment = ((begins slash bytes && begins slash (drop 1 bytes)) ≡ true) × (size ≡ 2)
+IsBeginning bytes size kinds.InnerText = (begins bar bytes ≡ true) × (size ≡ 1)
+IsBeginning bytes size kind = ⊥
 
 abbrev pub AreLongest : List ℕ → List Answer → Type 0
 AreLongest text [] = Unit {0}
 AreLongest text (Token t ∷ answers) =
     IsLongest t.hash_line (take t.span.start text) (drop t.span.start text) (t.span.end - t.span.start) t.kind
     × AreLongest text answers
-AreLongest text (Begin t ∷ answers) = AreLongest text answers
+AreLongest text (Begin t ∷ answers) =
+    IsBeginning (drop t.span.start text) (t.span.end - t.span.start) t.kind × AreLongest text answers
 AreLongest text (Finish t ∷ answers) = AreLongest text answers
 AreLongest text (Note kind place ∷ answers) = AreLongest text answers
 
