@@ -12,6 +12,8 @@ pub mod Strings
 pub mod SectionBytes
 pub mod Wanted
 pub mod WholeTexts
+pub mod LongestSigns
+pub mod HashSigns
 pub mod Longest
 pub mod Insides
 pub mod StillOpen

@@ -1,5 +1,5 @@
 -- Each token is the longest that begins at its place.
-use Rattle.std.proofs.Common.{◌≡◌, ℕ, zero, suc, ◌+◌, ◌-◌, ◌<◌, ◌≤◌, Bool, true, false, ◌&&◌, ◌||◌, not, ◌==◌, nat_lt}
+use Rattle.std.proofs.Common.{◌≡◌, ℕ, zero, suc, ◌+◌, ◌-◌, ◌<◌, Bool, true, false, ◌&&◌, ◌||◌, not, ◌==◌, nat_lt}
 use Rattle.std.proofs.Common.{codes, List, [], ◌∷◌, ◌++◌, Option, Some, None, if◌then◌else◌, length, slice_index, drop}
 use Rattle.std.proofs.Common.{take, refl}
 use Rattle.std.proofs.Common.{sym, ap, subst, ◌∙◌, arith}
@@ -28,7 +28,7 @@ use Rattle.cw_rules.specs.Bytes.{right_paren, begins, begins_by, begins_with, is
 use Rattle.cw_rules.specs.Codes.{code_at, begins_section, effect_in_limbo, effect_in_tex, has_control_text}
 use Rattle.cw_rules.specs.Constants.{constant}
 use Rattle.cw_rules.specs.Prefixes.{prefix_size}
-use Rattle.cw_rules.specs.Signs.{all_signs, longer, longest, spelling}
+use Rattle.cw_rules.specs.Signs.{all_signs, longest, spelling}
 use Rattle.cw_rules.specs.Tokens.{in_hash_line, behind_include, takes_hash_line, is_space, is_deep, ends_at_bar}
 use Rattle.cw_rules.specs.Tokens.{closes_on_line, moved, passed, one, comment_end, inner_cut, all_cut, section}
 use Rattle.cw_rules.specs.Tokens.{is_quote, section_code, section_name, string, control_text, alone_size}
@@ -50,100 +50,12 @@ use Rattle.cw_laws.specs.Strings.{IsString}
 use Rattle.cw_lex.proofs.Covering.{drop-on}
 use Rattle.cw_lex.proofs.Walk.{fresh-more, last-more}
 use Rattle.cw_rules.proofs.StringPrefixes.{no-prefix}
+use Rattle.cw_laws.proofs.HashSigns.{hash-signs}
+use Rattle.cw_laws.proofs.LongestSigns.{dots-are, longest-most, sign-is, size_of}
 use Rattle.cw_laws.proofs.SectionBytes.{section-is, starred-is}
 use Rattle.cw_laws.proofs.Strings.{prefixed-is, unprefixed-is}
 use Rattle.cw_laws.proofs.WholeTexts.{whole-texts}
 use Rattle.cw_laws.proofs.Wanted.{Wants, WantsIn, sign-here, letter-here, parameter-here, found-goes, beginning-wants}
-
--- ## Signs
-
-longer-sizes : (more : List Sign) (bytes : List ℕ) (small large : ℕ) → small ≤ large → NoneIsLonger more bytes small
-    → NoneIsLonger more bytes large
-longer-sizes [] bytes small large w h = tt
-longer-sizes (sign ∷ more) bytes small large w h =
-    (λ fits. omega (arith, h.0 fits, w), longer-sizes more bytes small large w h.1)
-
-abbrev size_of : Option Sign → ℕ
-size_of None = 0
-size_of (Some sign) = length (spelling sign)
-
--- none is longer than the longest
-longest-most : (more : List Sign) (bytes : List ℕ) → NoneIsLonger more bytes (size_of (longest more bytes))
-longest-most [] bytes = tt
-longest-most (sign ∷ more) bytes =
-    by (begins_with (spelling sign) bytes) (longest more bytes) (longest-most more bytes)
-  where
-    lt-false : (a b : ℕ) → nat_lt a b ≡ false → b ≤ a
-    lt-false a b h = grind arith
-
-    lt-true : (a b : ℕ) → nat_lt a b ≡ true → a ≤ b
-    lt-true a b h = grind arith
-
-    longer-of : (t : Bool) (other : Sign) → nat_lt (length (spelling other)) (length (spelling sign)) ≡ t
-        → NoneIsLonger more bytes (length (spelling other))
-        → (true ≡ true → length (spelling sign) ≤ size_of (if t then Some sign else Some other))
-        × NoneIsLonger more bytes (size_of (if t then Some sign else Some other))
-    longer-of true other e rest = (
-      λ k. omega arith,
-      longer-sizes more bytes (length (spelling other)) (length (spelling sign))
-          (lt-true (length (spelling other)) (length (spelling sign)) e) rest,
-    )
-    longer-of false other e rest = (λ k. lt-false (length (spelling other)) (length (spelling sign)) e, rest)
-
-    by : (fits : Bool) (o : Option Sign) → NoneIsLonger more bytes (size_of o)
-        → (fits ≡ true → length (spelling sign) ≤ size_of (longer fits sign o))
-        × NoneIsLonger more bytes (size_of (longer fits sign o))
-    by true None rest = (λ k. omega arith, longer-sizes more bytes 0 (length (spelling sign)) (omega arith) rest)
-    by false None rest = (λ k. absurd cc, rest)
-    by true (Some other) rest =
-        longer-of (nat_lt (length (spelling other)) (length (spelling sign))) other refl rest
-    by false (Some other) rest = (λ k. absurd cc, rest)
-
-longest-of : (bytes : List ℕ) (sign : Sign) → longest all_signs bytes ≡ Some sign
-    → NoneIsLonger all_signs bytes (length (spelling sign))
-longest-of bytes sign e = subst (λ o. NoneIsLonger all_signs bytes (size_of o)) e (longest-most all_signs bytes)
-
--- of a sign, and of none, with which the bytes begin
-abbrev Fits : List ℕ → Option Sign → Type 0
-Fits bytes None = Unit {0}
-Fits bytes (Some sign) = begins_with (spelling sign) bytes ≡ true
-
-longest-fits : (more : List Sign) (bytes : List ℕ) → Fits bytes (longest more bytes)
-longest-fits [] bytes = tt
-longest-fits (sign ∷ more) bytes =
-    by (begins_with (spelling sign) bytes) (longest more bytes) refl (longest-fits more bytes)
-  where
-    by : (fits : Bool) (o : Option Sign) → begins_with (spelling sign) bytes ≡ fits → Fits bytes o
-        → Fits bytes (longer fits sign o)
-    by true None e h = e
-    by false None e h = tt
-    by true (Some other) e h =
-        if-both (Fits bytes) (nat_lt (length (spelling other)) (length (spelling sign))) (Some sign) (Some other)
-        (λ k. e) (λ k. h)
-    by false (Some other) e h = h
-
--- the longest of the table, where no constant and no comment begins
-sign-is : (bytes : List ℕ) (sign : Sign) → longest all_signs bytes ≡ Some sign → constant bytes ≡ 0
-    → begins_comment bytes ≡ false → IsSign sign bytes (length (spelling sign))
-sign-is bytes sign e c d = record {
-  spelt = subst (Fits bytes) e (longest-fits all_signs bytes);
-  whole = refl;
-  longest = longest-of bytes sign e;
-  no_constant = c;
-  no_comment = d;
-}
-
-begins-all : (wanted bytes : List ℕ) → begins_with wanted bytes ≡ true → bytes ≡ wanted ++ drop (length wanted) bytes
-begins-all [] bytes h = refl
-begins-all (w ∷ ws) [] h = absurd cc
-begins-all (w ∷ ws) (b ∷ bs) h =
-    (λ i. eqb-true b w (both-left (b == w) (begins_with ws bs) h) i
-    ∷ begins-all ws bs (both-right (b == w) (begins_with ws bs) h) i)
-
-dots-are : (bytes : List ℕ) → begins_with (codes "...") bytes ≡ true → IsSign signs.Ellipsis bytes 3
-dots-are bytes h =
-    subst (λ l. IsSign signs.Ellipsis l 3) (sym (begins-all (codes "...") bytes h))
-    (sign-is (46 ∷ 46 ∷ 46 ∷ drop 3 bytes) signs.Ellipsis refl refl refl)
 
 -- ## What begins at a byte of C text but for its sign
 
@@ -622,4 +534,5 @@ tokens-are-longest = record {
       all-longest cut (drop start cut) (beginning mode) (fresh_at cut start) (last_at cut start) start 0 refl
       (refl, refl) (beginning-wants mode (drop start cut));
   texts = whole-texts;
+  hash_signs = hash-signs;
 }

@@ -6,6 +6,7 @@ use Rattle.cw_base.specs.Text.{bar}
 use Rattle.cw_rules.specs.declared.classes.Class.{Class}
 use Rattle.cw_rules.specs.declared.classes.Class.TheVariants.{Word, IncludeName, LimboText, TexText}
 use Rattle.cw_rules.specs.declared.signs.Sign.{Sign}
+use Rattle.cw_rules.specs.declared.signs.Sign.TheVariants as signs
 use Rattle.cw_rules.specs.declared.tokens.Mode.{Mode}
 use Rattle.cw_rules.specs.declared.tokens.Mode.TheVariants as modes
 use Rattle.cw_rules.specs.declared.tokens.TokKind.{TokKind}
@@ -20,7 +21,7 @@ use Rattle.cw_rules.specs.Tokens.{closes_on_line, head_sign_size}
 use Rattle.cw_lex.specs.Lexing.{tokens_of, fresh_after, last_after}
 use Rattle.cw_lex.specs.Nested.{is_section_kind}
 use Rattle.cw_laws.specs.Strings.{IsString}
-use Rattle.cw_laws.specs.WhiteSpace.{begins_space_in}
+use Rattle.cw_laws.specs.WhiteSpace.{begins_space_in, hash_line_by}
 
 -- Of these signs none with which the bytes begin is longer than so many bytes.
 abbrev pub NoneIsLonger : List Sign → List ℕ → ℕ → Type 0
@@ -124,9 +125,29 @@ AreWholeTexts text class depth (Begin t ∷ answers) = AreWholeTexts text class 
 AreWholeTexts text class depth (Finish t ∷ answers) = AreWholeTexts text class (depth - 1) answers
 AreWholeTexts text class depth (Note kind place ∷ answers) = AreWholeTexts text class depth answers
 
+-- ## Signs that begin no `#` line
+
+-- Where nothing is open, a `#` that is the first byte of its line but for blanks is a sign in a `#` line alone.
+abbrev pub IsHashSign : Bool → ℕ → List ℕ → TokKind → Type 0
+IsHashSign line depth before (kinds.Sign signs.Hash) = depth ≡ 0 → fresh_after true before ≡ true → line ≡ true
+IsHashSign line depth before kind = Unit {0}
+
+-- So it is among answers up to the first section code, before which so many comments and inner texts are open and a
+-- `#` line goes on or not.
+abbrev pub AreHashSigns : List ℕ → Bool → ℕ → List Answer → Type 0
+AreHashSigns text line depth [] = Unit {0}
+AreHashSigns text line depth (Token t ∷ answers) = is_section_kind t.kind ≡ false
+    → IsHashSign line depth (take t.span.start text) t.kind
+    × AreHashSigns text (hash_line_by line t.kind) depth answers
+AreHashSigns text line depth (Begin t ∷ answers) = AreHashSigns text line (depth + 1) answers
+AreHashSigns text line depth (Finish t ∷ answers) = AreHashSigns text line (depth - 1) answers
+AreHashSigns text line depth (Note kind place ∷ answers) = AreHashSigns text line depth answers
+
 -- So it is with the tokens of all bytes that are scanned.
 pub record TokensAreLongest : Type 0 where
   pub tokens : (text : List ℕ) (start end : ℕ) (mode : Mode)
       → AreLongest (take end text) (tokens_of text start end mode)
   pub texts : (text : List ℕ) (start end : ℕ) (mode : Mode)
       → AreWholeTexts (take end text) (text_of mode) 0 (tokens_of text start end mode)
+  pub hash_signs : (text : List ℕ) (start end : ℕ)
+      → AreHashSigns (take end text) false 0 (tokens_of text start end modes.CPart)
