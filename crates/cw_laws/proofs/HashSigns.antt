@@ -1,9 +1,10 @@
--- In a C part, outside its comments, a `#` that is the first byte of its line but for blanks begins a `#` line.
-use Rattle.std.proofs.Common.{◌≡◌, ℕ, zero, suc, ◌+◌, ◌-◌, ◌≤◌, Bool, true, false, ◌&&◌, not, ◌==◌, nat_lt, List, []}
-use Rattle.std.proofs.Common.{◌∷◌, ◌++◌, Option, Some, None, if◌then◌else◌, drop, take, length, slice_index, refl, sym}
+-- In a C part, outside its comments, a `#` that is the first byte of its line but for blanks begins a `#` line, and
+-- the tokens of these lines are marked.
+use Rattle.std.proofs.Common.{◌≡◌, ℕ, zero, suc, ◌+◌, ◌-◌, ◌≤◌, Bool, true, false, ◌&&◌, ◌||◌, not, ◌==◌, nat_lt, List}
+use Rattle.std.proofs.Common.{[], ◌∷◌, ◌++◌, Option, Some, None, if◌then◌else◌, drop, take, length, slice_index, refl, sym}
 use Rattle.std.proofs.Common.{ap, subst, ◌∙◌, arith, append_assoc}
 use Rattle.std.proofs.lemmas.List.{append-nil}
-use Rattle.cw_base.proofs.TestLaws.{both-failed, both-left, both-right, not-both}
+use Rattle.cw_base.proofs.TestLaws.{both-failed, both-left, both-right, not-both, or-true}
 use Rattle.cw_base.specs.Bytes.{newline, backslash}
 use Rattle.cw_base.specs.Text.{bar}
 use Rattle.cw_base.specs.declared.notes.NoteKind.{NoteKind}
@@ -23,7 +24,7 @@ use Rattle.cw_rules.specs.declared.signs.Sign.TheVariants as signs
 use Rattle.cw_rules.specs.declared.tokens.Mode.TheVariants as modes
 use Rattle.cw_rules.specs.declared.tokens.TokKind.{TokKind}
 use Rattle.cw_rules.specs.declared.tokens.TokKind.TheVariants as kinds
-use Rattle.cw_rules.specs.Answers.{Answer, Token, Begin, Finish, Note, Where, Cut, Found, note_answers, plain}
+use Rattle.cw_rules.specs.Answers.{Answer, Where, Cut, Found, note_answers, plain}
 use Rattle.cw_rules.specs.Apart.{code_text_apart, comment_text_apart, part_text_apart, in_text_apart, found_apart}
 use Rattle.cw_rules.specs.Bodies.{ended, extent, noted, note_unless, one_note}
 use Rattle.cw_rules.specs.Bytes.{apostrophe, at_sign, equals, hash, less, slash, star}
@@ -39,15 +40,14 @@ use Rattle.cw_rules.specs.Tokens.{in_hash_line, include_name, inner_end, is_deep
 use Rattle.cw_rules.specs.Tokens.{is_include, is_name, is_quote, is_space, line_end}
 use Rattle.cw_rules.specs.Tokens.{may_head, moved, one, passed, piece_start}
 use Rattle.cw_rules.specs.Tokens.{section, section_code, section_name, sign_or_other, start_of, string}
-use Rattle.cw_rules.specs.Tokens.{takes_hash_line}
+use Rattle.cw_rules.specs.Tokens.{comment_cut, inner_or_none, part_cut, takes_hash_line}
 use Rattle.cw_rules.proofs.Choices.{if-both}
-use Rattle.cw_rules.proofs.Taking.{AreBare, bare-all-cut}
 use Rattle.cw_lex.specs.Lexing.{still_fresh, answers, beginning, fresh_after, fresh_at, last_at, tokens_of}
 use Rattle.cw_lex.specs.Nested.{is_section_kind}
 use Rattle.cw_lex.proofs.Covering.{drop-on}
 use Rattle.cw_lex.proofs.Nesting.{section-kind}
 use Rattle.cw_lex.proofs.Walk.{fresh-more}
-use Rattle.cw_laws.specs.Longest.{AreHashSigns, IsHashSign}
+use Rattle.cw_laws.specs.Longest.{KeepHashLines, IsHashSign}
 use Rattle.cw_laws.specs.WhiteSpace.{hash_line_by}
 use Rattle.cw_laws.proofs.LongestSigns.{Fits, longest-fits}
 use Rattle.cw_laws.proofs.WholeTexts.{opens, opens-twice, opens-with, twice}
@@ -63,14 +63,14 @@ abbrev is_part : Part → List Opened → Bool
 is_part parts.Head [] = true
 is_part part comments = is_text part
 
--- Where the scanner has a `#` line, the answers have one.
+-- The scanner has a `#` line where the answers have one.
 record Stands (line : Bool) (part : Part) (comments : List Opened) : Type 0 where
   c : is_part part comments ≡ true
-  hash_line : in_hash_line part ≡ true → line ≡ true
+  hash_line : in_hash_line part ≡ line
 
 record InText (line : Bool) (part : Part) : Type 0 where
   c : is_text part ≡ true
-  hash_line : in_hash_line part ≡ true → line ≡ true
+  hash_line : in_hash_line part ≡ line
 
 text-part : (part : Part) (comments : List Opened) → is_text part ≡ true → is_part part comments ≡ true
 text-part parts.Begin comments h = refl
@@ -82,52 +82,53 @@ text-stands : (line : Bool) (part : Part) (comments : List Opened) → InText li
 text-stands line part comments s = record { c = text-part part comments s.c; hash_line = s.hash_line }
 
 passed-text : (line : Bool) (part : Part) → InText line part → InText line (passed part)
-passed-text line parts.Begin s = record { c = refl; hash_line = λ h. absurd cc }
+passed-text line parts.Begin s = record { c = refl; hash_line = s.hash_line }
 passed-text line (parts.Plain hash_line include) s = record { c = refl; hash_line = s.hash_line }
 passed-text line _ s = s
 
-plain-text : (line : Bool) → InText line (parts.Plain false false)
-plain-text line = record { c = refl; hash_line = λ h. absurd cc }
+plain-text : (line : Bool) → false ≡ line → InText line (parts.Plain false false)
+plain-text line e = record { c = refl; hash_line = e }
 
-head-stands : (line : Bool) (part : Part) (comments : List Opened) → may_head part comments ≡ true
-    → Stands line parts.Head comments
-head-stands line part [] h = record { c = refl; hash_line = λ h. absurd cc }
-head-stands line parts.Definition (c ∷ comments) h = absurd cc
-head-stands line parts.Begin (c ∷ comments) h = absurd cc
-head-stands line _ (c ∷ comments) h = absurd cc
+head-stands : (line : Bool) (part : Part) (comments : List Opened) → InText line part
+    → may_head part comments ≡ true → Stands line parts.Head comments
+head-stands line parts.Begin [] k h = record { c = refl; hash_line = k.hash_line }
+head-stands line parts.Begin (c ∷ comments) k h = absurd cc
+head-stands line (parts.Plain hash_line include) comments k h = absurd cc
+head-stands line _ comments k h = not-both false k.c refl
 
--- No definition begins in a C part.
-abbrev BeginsNone : Effect → Type 0
-BeginsNone effects.Defines = ⊥
-BeginsNone effects.Formats = ⊥
-BeginsNone effect = Unit {0}
+-- No definition begins in a C part, and no C part in a `#` line.
+abbrev BeginsNone : Bool → Effect → Type 0
+BeginsNone line effects.Defines = ⊥
+BeginsNone line effects.Formats = ⊥
+BeginsNone line effects.BeginsC = line ≡ false
+BeginsNone line effect = Unit {0}
 
-c-none : (c : Code) → BeginsNone (effect_in_c c)
-c-none code.Define = tt
-c-none code.Format = tt
-c-none code.SilentFormat = tt
-c-none code.Program = tt
-c-none code.At = tt
-c-none code.Letters = tt
-c-none code.Unknown = tt
-c-none _ = tt
+c-none : (line : Bool) (c : Code) → BeginsNone line (effect_in_c c)
+c-none line code.Define = tt
+c-none line code.Format = tt
+c-none line code.SilentFormat = tt
+c-none line code.Program = tt
+c-none line code.At = tt
+c-none line code.Letters = tt
+c-none line code.Unknown = tt
+c-none line _ = tt
 
-begin-none : (c : Code) → BeginsNone (effect_at_begin c)
-begin-none code.Program = tt
-begin-none c = c-none c
+begin-none : (c : Code) → BeginsNone false (effect_at_begin c)
+begin-none code.Program = refl
+begin-none c = c-none false c
 
 none-in : (part : Part) (comments : List Opened) (c : Code) → is_text part ≡ true
-    → BeginsNone (effect_in part comments c)
+    → BeginsNone (in_hash_line part) (effect_in part comments c)
 none-in parts.Begin [] c h = begin-none c
-none-in parts.Begin (d ∷ comments) c h = c-none c
-none-in (parts.Plain hash_line include) comments c h = c-none c
+none-in parts.Begin (d ∷ comments) c h = c-none false c
+none-in (parts.Plain hash_line include) comments c h = c-none hash_line c
 none-in _ comments c h = absurd cc
 
 -- Where a `#` begins no `#` line, one goes on already.
 goes-on-already : (part : Part) (comments : List Opened) (fresh line : Bool) → InText line part → opens comments ≤ 0
     → (takes_hash_line part comments && fresh) ≡ false → fresh ≡ true → line ≡ true
 goes-on-already parts.Begin [] fresh line s o h f = not-both fresh f h
-goes-on-already (parts.Plain true include) [] fresh line s o h f = s.hash_line refl
+goes-on-already (parts.Plain true include) [] fresh line s o h f = sym s.hash_line
 goes-on-already (parts.Plain false include) [] fresh line s o h f = not-both fresh f h
 goes-on-already part (c ∷ comments) fresh line s o h f =
     absurd (by c.inner o)
@@ -136,6 +137,20 @@ goes-on-already part (c ∷ comments) fresh line s o h f =
     by true o = omega arith
     by false o = omega arith
 goes-on-already _ [] fresh line s o h f = not-both false s.c refl
+
+no-part-cut : (part : Part) (comments : List Opened) (place about : ℕ) → is_part part comments ≡ true
+    → part_cut part place about ≡ []
+no-part-cut parts.Begin comments place about h = refl
+no-part-cut (parts.Plain hash_line include) comments place about h = refl
+no-part-cut parts.Head comments place about h = refl
+no-part-cut _ comments place about h = not-both false h refl
+
+or-same : (b : Bool) → (b || b) ≡ b
+or-same true = refl
+or-same false = refl
+
+or-ends : (line : Bool) → line ≡ true → true ≡ (line || false)
+or-ends line h = sym (ap (λ l. l || false) h)
 
 -- ## Kinds
 
@@ -168,7 +183,7 @@ quiet-quoted = record { line = λ line. refl; other = λ line depth before. tt }
 
 module _ (text : List ℕ) where
   abbrev Signs : Bool → ℕ → List Answer → Type 0
-  Signs line depth answers = AreHashSigns text line depth answers
+  Signs line depth answers = KeepHashLines text line depth answers
 
   abbrev Follows : Found → List Answer → Type 0
   Follows f later = (line : Bool) (depth : ℕ) → opens f.next.comments ≤ depth
@@ -188,42 +203,62 @@ module _ (text : List ℕ) where
   notes-between line depth [] ys later h = h
   notes-between line depth (n ∷ ns) ys later h = notes-between line depth ns ys later h
 
-  bare-so : (line : Bool) (depth place : ℕ) (xs later : List Answer) → AreBare place xs
-      → ((depth : ℕ) → Signs line depth later) → Signs line depth (xs ++ later)
-  bare-so line depth place [] later b h = h depth
-  bare-so line depth place (Token t ∷ xs) later b h = absurd b
-  bare-so line depth place (Begin t ∷ xs) later b h = absurd b
-  bare-so line depth place (Finish t ∷ xs) later b h = bare-so line (depth - 1) place xs later b.3 h
-  bare-so line depth place (Note kind about ∷ xs) later b h = bare-so line depth place xs later b h
-
   abbrev missing : Opened → ℕ → List Noted
   missing c place = one_note (note_unless (c.braces == 0) NoteKind.MissingBrace place)
 
   one-goes : (line : Bool) (depth : ℕ) (hash_line : Bool) (next : Where) (place : ℕ) (bytes : List ℕ) (cut : Cut)
-      → opens next.comments ≤ depth → Stands (hash_line_by line cut.kind) next.part next.comments
+      → hash_line ≡ (line || hash_line_by line cut.kind) → opens next.comments ≤ depth
+      → Stands (hash_line_by line cut.kind) next.part next.comments
       → IsHashSign line depth (take place text) cut.kind → Goes line depth (one hash_line next place bytes cut)
-  one-goes line depth hash_line next place bytes cut o s h later rest = λ plain. (
+  one-goes line depth hash_line next place bytes cut m o s h later rest = λ plain. (
+    m,
     h,
     notes-so (hash_line_by line cut.kind) depth cut.notes later (rest (hash_line_by line cut.kind) depth o s),
   )
 
   quiet-goes : (line : Bool) (depth : ℕ) (hash_line : Bool) (next : Where) (place : ℕ) (bytes : List ℕ) (cut : Cut)
-      → opens next.comments ≤ depth → Stands line next.part next.comments → IsQuiet cut.kind
+      → hash_line ≡ line → opens next.comments ≤ depth → Stands line next.part next.comments → IsQuiet cut.kind
       → Goes line depth (one hash_line next place bytes cut)
-  quiet-goes line depth hash_line next place bytes cut o s q =
-      one-goes line depth hash_line next place bytes cut o
+  quiet-goes line depth hash_line next place bytes cut m o s q =
+      one-goes line depth hash_line next place bytes cut
+      (m ∙ sym (ap (λ l. line || l) (q.line line) ∙ or-same line)) o
       (subst (λ l. Stands l next.part next.comments) (sym (q.line line)) s) (q.other line depth (take place text))
+
+  -- what is open ends
+  cut-so : (part : Part) (comments : List Opened) (place about : ℕ) (line : Bool) (depth : ℕ) (later : List Answer)
+      → in_hash_line part ≡ line → part_cut part place about ≡ [] → ((depth : ℕ) → Signs line depth later)
+      → Signs line depth (all_cut part comments place about ++ later)
+  cut-so part [] place about line depth later m none rest =
+      subst (λ l. Signs line depth (l ++ later)) (sym none) (rest depth)
+  cut-so part (c ∷ comments) place about line depth later m none rest =
+      by c.inner (λ depth. cut-so part comments place about line depth later m none rest)
+    where
+      by : (inner : Bool) → ((depth : ℕ) → Signs line depth (all_cut part comments place about ++ later))
+          → Signs line depth ((inner_or_none inner (in_hash_line part) place about
+          ++ (comment_cut (in_hash_line part) c place about ++ all_cut part comments place about)) ++ later)
+      by true more = (
+        m,
+        (
+          m,
+          notes-between line ((depth - 1) - 1) (missing c about) (all_cut part comments place about) later
+              (more ((depth - 1) - 1)),
+        ),
+      )
+      by false more = (
+        m,
+        notes-between line (depth - 1) (missing c about) (all_cut part comments place about) later (more (depth - 1)),
+      )
 
   -- behind a section code nothing is said
   section-goes : (w : Where) (place : ℕ) (bytes : List ℕ) (line : Bool) (depth : ℕ)
-      → Goes line depth (section w place bytes)
-  section-goes w place bytes line depth later rest =
+      → Stands line w.part w.comments → Goes line depth (section w place bytes)
+  section-goes w place bytes line depth k later rest =
       let cut = section_code (at_sign ∷ bytes) in
       let tex : Where = record { part = parts.Tex; comments = [] } in
       let token : Found = one false tex place (at_sign ∷ bytes) cut in
       subst (Signs line depth) (sym (append_assoc (all_cut w.part w.comments place place) token.answers later))
-      (bare-so line depth place (all_cut w.part w.comments place place) (token.answers ++ later)
-      (bare-all-cut w.part w.comments place place)
+      (cut-so w.part w.comments place place line depth (token.answers ++ later) k.hash_line
+      (no-part-cut w.part w.comments place place k.c)
       (λ depth plain. not-both (is_section_kind cut.kind) (section-kind (at_sign ∷ bytes)).is plain))
 
   -- ## C text
@@ -233,27 +268,34 @@ module _ (text : List ℕ) where
   line-end-goes part [] last place line depth k o =
       if-both (Goes line depth) (in_hash_line part && not (last == backslash)) _ _
       (λ h later rest plain. (
+        or-ends line (sym k.hash_line ∙ both-left (in_hash_line part) (not (last == backslash)) h),
         tt,
-        rest false depth (omega arith) (text-stands false (parts.Plain false false) [] (plain-text false)),
+        rest false depth (omega arith) (text-stands false (parts.Plain false false) [] (plain-text false refl)),
       ))
       (λ h later rest. rest line depth (omega arith) (text-stands line part [] k))
   line-end-goes part (c ∷ comments) last place line depth k o =
       let more = line_end (passed part) comments last place in
       if-both (Goes line depth) c.long _ _
       (λ h later rest. rest line depth (opens-twice (c ∷ comments) depth o) (text-stands line part (c ∷ comments) k))
-      (λ h later rest. notes-between line ((depth - 1) - 1) (missing c place) more.answers later
-      (line-end-goes (passed part) comments last place line ((depth - 1) - 1) (passed-text line part k) (omega arith)
-      later rest))
+      (λ h later rest. (
+        k.hash_line,
+        (
+          k.hash_line,
+          notes-between line ((depth - 1) - 1) (missing c place) more.answers later
+              (line-end-goes (passed part) comments last place line ((depth - 1) - 1) (passed-text line part k)
+              (omega arith) later rest),
+        ),
+      ))
 
   moved-goes : (w : Where) (line : Bool) (depth : ℕ) (hash_line : Bool) (part : Part) (place : ℕ) (bytes : List ℕ)
-      (cut : Cut) → InText line part → twice w.comments ≤ depth → IsQuiet cut.kind
+      (cut : Cut) → hash_line ≡ line → InText line part → twice w.comments ≤ depth → IsQuiet cut.kind
       → Goes line depth (one hash_line (moved w part) place bytes cut)
-  moved-goes w line depth hash_line part place bytes cut k o q =
-      quiet-goes line depth hash_line (moved w part) place bytes cut (opens-twice w.comments depth o)
+  moved-goes w line depth hash_line part place bytes cut m k o q =
+      quiet-goes line depth hash_line (moved w part) place bytes cut m (opens-twice w.comments depth o)
       (text-stands line part w.comments k) q
 
   code-by-goes : (effect : Effect) (c : Code) (w : Where) (place : ℕ) (bytes : List ℕ) (line : Bool) (depth : ℕ)
-      → InText line w.part → twice w.comments ≤ depth → BeginsNone effect
+      → InText line w.part → twice w.comments ≤ depth → BeginsNone (in_hash_line w.part) effect
       → Goes line depth (code_by effect c w place bytes)
   code-by-goes effects.Stands c w place bytes line depth k o n =
       let heads = may_head w.part w.comments && is_head place bytes in
@@ -262,28 +304,29 @@ module _ (text : List ℕ) where
       let stands : P next = if-both P (is_name c && heads) (moved w parts.Head) (moved w (passed w.part))
       (λ h. (
         opens-twice w.comments depth o,
-        head-stands line w.part w.comments
+        head-stands line w.part w.comments k
             (both-left (may_head w.part w.comments) (is_head place bytes) (both-right (is_name c) heads h)),
       ))
       (λ h. (
         opens-twice w.comments depth o,
         text-stands line (passed w.part) w.comments (passed-text line w.part k),
       )) in
-      quiet-goes line depth (in_hash_line w.part) next place bytes (code_token c place bytes) stands.0 stands.1
+      quiet-goes line depth (in_hash_line w.part) next place bytes (code_token c place bytes) k.hash_line stands.0 stands.1
       (token-quiet c place bytes)
   code-by-goes (effects.Drops note) c w place bytes line depth k o n =
       moved-goes w line depth (in_hash_line w.part) (passed w.part) place bytes (dropped_code note c place bytes)
-      (passed-text line w.part k) o (record { line = λ line. refl; other = λ line depth before. tt })
+      k.hash_line (passed-text line w.part k) o (record { line = λ line. refl; other = λ line depth before. tt })
   code-by-goes effects.Defines c w place bytes line depth k o n = absurd n
   code-by-goes effects.Formats c w place bytes line depth k o n = absurd n
   code-by-goes effects.BeginsC c w place bytes line depth k o n =
-      moved-goes w line depth false (parts.Plain false false) place bytes (plain (kinds.Code c) 2) (plain-text line) o
-      (code-quiet c)
+      let none : false ≡ line = sym n ∙ k.hash_line in
+      moved-goes w line depth false (parts.Plain false false) place bytes (plain (kinds.Code c) 2) none
+      (plain-text line none) o (code-quiet c)
 
   begin-goes : (long : Bool) (w : Where) (place : ℕ) (bytes : List ℕ) (line : Bool) (depth : ℕ) → InText line w.part
       → twice w.comments ≤ depth → Goes line depth (comment_begin long w place bytes)
   begin-goes long w place bytes line depth k o later rest =
-      rest line (depth + 1) (omega arith) (text-stands line (passed w.part) _ (passed-text line w.part k))
+      (k.hash_line, rest line (depth + 1) (omega arith) (text-stands line (passed w.part) _ (passed-text line w.part k)))
 
   inner-end-goes : (part : Part) (comments : List Opened) (place : ℕ) (bytes : List ℕ) (line : Bool) (depth : ℕ)
       → InText line part → twice comments ≤ depth → ends_at_bar part comments ≡ true
@@ -292,7 +335,7 @@ module _ (text : List ℕ) where
   inner-end-goes (parts.Plain hash_line include) [] place bytes line depth k o h later rest = absurd cc
   inner-end-goes _ [] place bytes line depth k o h later rest = not-both false k.c refl
   inner-end-goes part (c ∷ comments) place bytes line depth k o h later rest =
-      rest line (depth - 1) (omega arith) (text-stands line (passed part) _ (passed-text line part k))
+      (k.hash_line, rest line (depth - 1) (omega arith) (text-stands line (passed part) _ (passed-text line part k)))
 
   in-code-goes : (w : Where) (place byte : ℕ) (bytes : List ℕ) (fresh line : Bool) (depth : ℕ)
       → fresh_at text place ≡ fresh → InText line w.part → twice w.comments ≤ depth
@@ -307,17 +350,18 @@ module _ (text : List ℕ) where
       let string-at : ℕ → Cut = λ mark. string kinds.Quoted (prefix_size all + 1) mark place all in
       if-both P (nat_lt 0 (prefix_size all)) (start.Quoted (slice_index all (prefix_size all))) _
       (λ h. moved-goes w line depth hash_line (passed w.part) place all (string-at (slice_index all (prefix_size all)))
-      on o quiet-quoted)
+      k.hash_line on o quiet-quoted)
       (λ h. if-both P (is_letter byte) start.Identifier _
       (λ h. moved-goes w line depth hash_line (behind_word w.part all) place all (identifier all)
-      (if-both (InText line) (hash_line && is_include all) (parts.Plain true true) (passed w.part)
-      (λ h. record { c = refl; hash_line = λ e. k.hash_line (both-left hash_line (is_include all) h) }) (λ h. on)) o
+      k.hash_line (if-both (InText line) (hash_line && is_include all) (parts.Plain true true) (passed w.part)
+      (λ h. record { c = refl; hash_line = sym (both-left hash_line (is_include all) h) ∙ k.hash_line }) (λ h. on)) o
       quiet-identifier)
       (λ h. if-both P (nat_lt 0 (constant all)) start.Constant _
-      (λ h. moved-goes w line depth hash_line (passed w.part) place all (plain kinds.Constant (constant all)) on o
+      (λ h. moved-goes w line depth hash_line (passed w.part) place all (plain kinds.Constant (constant all)) k.hash_line
+      on o
       quiet-constant)
       (λ h. if-both P (is_mark byte) (start.Quoted byte) _
-      (λ h. moved-goes w line depth hash_line (passed w.part) place all (string-at byte) on o quiet-quoted)
+      (λ h. moved-goes w line depth hash_line (passed w.part) place all (string-at byte) k.hash_line on o quiet-quoted)
       (λ h. if-both P (byte == slash && begins star bytes) start.LongComment _
       (λ h. begin-goes true w place all line depth k o)
       (λ h. if-both P (byte == slash && begins slash bytes) start.ShortComment _
@@ -344,10 +388,10 @@ module _ (text : List ℕ) where
           → Goes line depth (in_code (sign_or_other o) w place (byte ∷ bytes))
       by None e =
           moved-goes w line depth (in_hash_line w.part) (passed w.part) place (byte ∷ bytes) (plain kinds.OtherByte 1)
-          (passed-text line w.part k) o (record { line = λ line. refl; other = λ line depth before. tt })
+          k.hash_line (passed-text line w.part k) o (record { line = λ line. refl; other = λ line depth before. tt })
       by (Some sign) e =
           one-goes line depth (in_hash_line w.part) (moved w (passed w.part)) place (byte ∷ bytes)
-          (plain (kinds.Sign sign) (length (spelling sign))) (opens-twice w.comments depth o)
+          (plain (kinds.Sign sign) (length (spelling sign))) (k.hash_line ∙ sym (or-same line)) (opens-twice w.comments depth o)
           (text-stands line (passed w.part) w.comments (passed-text line w.part k)) (says sign e)
 
   code-text-goes : (w : Where) (fresh : Bool) (last place byte : ℕ) (bytes : List ℕ) (line : Bool) (depth : ℕ)
@@ -361,13 +405,14 @@ module _ (text : List ℕ) where
       (λ h later rest. rest line depth (opens-twice w.comments depth o) (text-stands line w.part w.comments k))
       (λ h. if-both P (byte == hash && (takes_hash_line w.part w.comments && fresh)) _ _
       (λ h later rest plain. (
+        sym (or-true line),
         tt,
         rest true depth (opens-twice w.comments depth o)
-            (text-stands true (parts.Plain true false) w.comments (record { c = refl; hash_line = λ e. refl })),
+            (text-stands true (parts.Plain true false) w.comments (record { c = refl; hash_line = refl })),
       ))
       (λ n. if-both P (byte == less && (behind_include w.part && closes_on_line bytes)) _ _
       (λ h. moved-goes w line depth (in_hash_line w.part) (passed w.part) place all (include_name place all)
-      (passed-text line w.part k) o (record { line = λ line. refl; other = λ line depth before. tt }))
+      k.hash_line (passed-text line w.part k) o (record { line = λ line. refl; other = λ line depth before. tt }))
       (λ h. in-code-goes w place byte bytes fresh line depth f k o n))))
 
   -- ## The text of a comment
@@ -380,13 +425,19 @@ module _ (text : List ℕ) where
       let P : Found → Type 0 = Goes line depth in
       let more = line_end part comments last place in
       if-both P (c.long && (byte == star && begins slash bytes)) _ _
-      (λ h later rest. notes-so line (depth - 1) (missing c place) later
-      (rest line (depth - 1) (opens-twice comments (depth - 1) (omega arith)) (text-stands line part comments k)))
+      (λ h later rest. (
+        k.hash_line,
+        notes-so line (depth - 1) (missing c place) later
+            (rest line (depth - 1) (opens-twice comments (depth - 1) (omega arith)) (text-stands line part comments k)),
+      ))
       (λ h. if-both P (not c.long && byte == newline) _ _
-      (λ h later rest. notes-between line (depth - 1) (missing c place) more.answers later
-      (line-end-goes part comments last place line (depth - 1) k (omega arith) later rest))
+      (λ h later rest. (
+        k.hash_line,
+        notes-between line (depth - 1) (missing c place) more.answers later
+            (line-end-goes part comments last place line (depth - 1) k (omega arith) later rest),
+      ))
       (λ h. if-both P (byte == bar && not (is_deep part (c ∷ comments))) _ _
-      (λ h later rest. rest line (depth + 1) (omega arith) (text-stands line part _ k))
+      (λ h later rest. (k.hash_line, rest line (depth + 1) (omega arith) (text-stands line part _ k)))
       (λ h. quiet-goes line depth (in_hash_line part)
       (record {
         part = part;
@@ -396,7 +447,7 @@ module _ (text : List ℕ) where
         kind = kinds.Text;
         size = (extent (piece_start part comments c place) all).size;
         notes = noted (piece_start part comments c place) all;
-      }) o (text-stands line part _ k) (record { line = λ line. refl; other = λ line depth before. tt }))))
+      }) k.hash_line o (text-stands line part _ k) (record { line = λ line. refl; other = λ line depth before. tt }))))
 
   -- ## Any text of a C part
 
@@ -409,8 +460,8 @@ module _ (text : List ℕ) where
   part-text-goes parts.Head fresh last place byte bytes line depth f k =
       if-both (Goes line depth) (is_in classes.Blank byte) _ _ (λ h later rest. rest line depth (omega arith) k)
       (λ h. quiet-goes line depth false (within (parts.Plain false false)) place (byte ∷ bytes)
-      (plain kinds.HeadSign (if begins equals bytes then 2 else 1)) (omega arith)
-      (text-stands line (parts.Plain false false) [] (plain-text line))
+      (plain kinds.HeadSign (if begins equals bytes then 2 else 1)) k.hash_line (omega arith)
+      (text-stands line (parts.Plain false false) [] (plain-text line k.hash_line))
       (record { line = λ line. refl; other = λ line depth before. tt }))
   part-text-goes parts.Begin fresh last place byte bytes line depth f k =
       code-text-goes (within parts.Begin) fresh last place byte bytes line depth f
@@ -448,12 +499,12 @@ module _ (text : List ℕ) where
       → Stands line w.part w.comments → Signs line depth (answers bytes w fresh last place taken)
   all-so [] w fresh last place taken line depth here f o k =
       subst (Signs line depth) (append-nil (all_cut w.part w.comments place (place - 1)))
-      (bare-so line depth place (all_cut w.part w.comments place (place - 1)) []
-      (bare-all-cut w.part w.comments place (place - 1)) (λ depth. tt))
+      (cut-so w.part w.comments place (place - 1) line depth [] k.hash_line
+      (no-part-cut w.part w.comments place (place - 1) k.c) (λ depth. tt))
   all-so (byte ∷ bytes) w fresh last place zero line depth here f o k =
       let g = found_apart w fresh last place byte bytes in
       if-both (Goes line depth) (byte == at_sign && begins_section bytes) (section w place bytes)
-      (in_text_apart w.part w.comments fresh last place byte bytes) (λ h. section-goes w place bytes line depth)
+      (in_text_apart w.part w.comments fresh last place byte bytes) (λ h. section-goes w place bytes line depth k)
       (λ h. in-text-goes w.part w.comments fresh last place byte bytes line depth f o k)
       (answers bytes g.next (still_fresh fresh byte) byte (place + 1) g.more)
       (λ line depth o k. all-so bytes g.next (still_fresh fresh byte) byte (place + 1) g.more line depth
@@ -462,9 +513,9 @@ module _ (text : List ℕ) where
       all-so bytes w (still_fresh fresh byte) byte (place + 1) taken line depth (drop-on text place byte bytes here)
       (fresh-on fresh place byte bytes here f) o k
 
-pub hash-signs : (text : List ℕ) (start end : ℕ)
-    → AreHashSigns (take end text) false 0 (tokens_of text start end modes.CPart)
-hash-signs text start end =
+pub hash-lines : (text : List ℕ) (start end : ℕ)
+    → KeepHashLines (take end text) false 0 (tokens_of text start end modes.CPart)
+hash-lines text start end =
     let cut = take end text in
     all-so cut (drop start cut) (beginning modes.CPart) (fresh_at cut start) (last_at cut start) start 0 false 0 refl
-    refl (omega arith) (record { c = refl; hash_line = λ h. absurd cc })
+    refl (omega arith) (record { c = refl; hash_line = refl })

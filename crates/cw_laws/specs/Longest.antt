@@ -125,7 +125,7 @@ AreWholeTexts text class depth (Begin t ∷ answers) = AreWholeTexts text class 
 AreWholeTexts text class depth (Finish t ∷ answers) = AreWholeTexts text class (depth - 1) answers
 AreWholeTexts text class depth (Note kind place ∷ answers) = AreWholeTexts text class depth answers
 
--- ## Signs that begin no `#` line
+-- ## `#` lines
 
 -- Where nothing is open, a `#` that is the first byte of its line but for blanks is a sign in a `#` line alone.
 abbrev pub IsHashSign : Bool → ℕ → List ℕ → TokKind → Type 0
@@ -133,15 +133,18 @@ IsHashSign line depth before (kinds.Sign signs.Hash) = depth ≡ 0 → fresh_aft
 IsHashSign line depth before kind = Unit {0}
 
 -- So it is among answers up to the first section code, before which so many comments and inner texts are open and a
--- `#` line goes on or not.
-abbrev pub AreHashSigns : List ℕ → Bool → ℕ → List Answer → Type 0
-AreHashSigns text line depth [] = Unit {0}
-AreHashSigns text line depth (Token t ∷ answers) = is_section_kind t.kind ≡ false
-    → IsHashSign line depth (take t.span.start text) t.kind
-    × AreHashSigns text (hash_line_by line t.kind) depth answers
-AreHashSigns text line depth (Begin t ∷ answers) = AreHashSigns text line (depth + 1) answers
-AreHashSigns text line depth (Finish t ∷ answers) = AreHashSigns text line (depth - 1) answers
-AreHashSigns text line depth (Note kind place ∷ answers) = AreHashSigns text line depth answers
+-- `#` line goes on or not. Each token is marked that has such a line before or behind it.
+abbrev pub KeepHashLines : List ℕ → Bool → ℕ → List Answer → Type 0
+KeepHashLines text line depth [] = Unit {0}
+KeepHashLines text line depth (Token t ∷ answers) = is_section_kind t.kind ≡ false
+    → (t.hash_line ≡ (line || hash_line_by line t.kind))
+    × IsHashSign line depth (take t.span.start text) t.kind
+    × KeepHashLines text (hash_line_by line t.kind) depth answers
+KeepHashLines text line depth (Begin t ∷ answers) =
+    (t.hash_line ≡ line) × KeepHashLines text line (depth + 1) answers
+KeepHashLines text line depth (Finish t ∷ answers) =
+    (t.hash_line ≡ line) × KeepHashLines text line (depth - 1) answers
+KeepHashLines text line depth (Note kind place ∷ answers) = KeepHashLines text line depth answers
 
 -- So it is with the tokens of all bytes that are scanned.
 pub record TokensAreLongest : Type 0 where
@@ -149,5 +152,5 @@ pub record TokensAreLongest : Type 0 where
       → AreLongest (take end text) (tokens_of text start end mode)
   pub texts : (text : List ℕ) (start end : ℕ) (mode : Mode)
       → AreWholeTexts (take end text) (text_of mode) 0 (tokens_of text start end mode)
-  pub hash_signs : (text : List ℕ) (start end : ℕ)
-      → AreHashSigns (take end text) false 0 (tokens_of text start end modes.CPart)
+  pub hash_lines : (text : List ℕ) (start end : ℕ)
+      → KeepHashLines (take end text) false 0 (tokens_of text start end modes.CPart)

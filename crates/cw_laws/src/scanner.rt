@@ -18,10 +18,11 @@ pub fn white_space_law()
 
 /// The law of longest tokens: an identifier, a constant, a sign and the sign of a head has as many bytes as can belong
 /// to one, a string goes up to its end, and an include name to the first `>` of its line. A sign stands where neither a
-/// constant nor a comment begins, and an other byte where nothing else begins. The `#` of a `#` line is the first byte
-/// of its line but for blanks, and what ends one is a line's end with no backslash before it; in a C part, outside its
-/// comments and these lines, such a `#` is no sign. A code is what the byte behind its `@` makes. Text in no comment goes
-/// up to the next `@`, and TeX text up to the next bar too. It does nothing: what it ensures is for proofs.
+/// constant nor a comment begins, and an other byte where nothing else begins. A code is what the byte behind its `@`
+/// makes. Text in no comment goes up to the next `@`, and TeX text up to the next bar too. The `#` of a `#` line is the
+/// first byte of its line but for blanks, and what ends one is a line's end with no backslash before it; in a C part,
+/// outside its comments and these lines, such a `#` is no sign, and the tokens of these lines alone are marked. It does
+/// nothing: what it ensures is for proofs.
 pub fn longest_law()
     ensures { TokensAreLongest }
 {}
