@@ -13,7 +13,7 @@ pub mod SectionBytes
 pub mod Wanted
 pub mod WholeTexts
 pub mod LongestSigns
-pub mod HashSigns
+pub mod CParts
 pub mod Longest
 pub mod Insides
 pub mod StillOpen

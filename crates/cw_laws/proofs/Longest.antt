@@ -50,7 +50,7 @@ use Rattle.cw_laws.specs.Strings.{IsString}
 use Rattle.cw_lex.proofs.Covering.{drop-on}
 use Rattle.cw_lex.proofs.Walk.{fresh-more, last-more}
 use Rattle.cw_rules.proofs.StringPrefixes.{no-prefix}
-use Rattle.cw_laws.proofs.HashSigns.{hash-lines}
+use Rattle.cw_laws.proofs.CParts.{c-parts}
 use Rattle.cw_laws.proofs.LongestSigns.{dots-are, longest-most, sign-is, size_of}
 use Rattle.cw_laws.proofs.SectionBytes.{section-is, starred-is}
 use Rattle.cw_laws.proofs.Strings.{prefixed-is, unprefixed-is}
@@ -534,5 +534,5 @@ tokens-are-longest = record {
       all-longest cut (drop start cut) (beginning mode) (fresh_at cut start) (last_at cut start) start 0 refl
       (refl, refl) (beginning-wants mode (drop start cut));
   texts = whole-texts;
-  hash_lines = hash-lines;
+  c_parts = c-parts;
 }

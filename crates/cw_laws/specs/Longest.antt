@@ -16,6 +16,7 @@ use Rattle.cw_rules.specs.Bytes.{run, begins, begins_by, begins_with, is_letter,
 use Rattle.cw_rules.specs.Bytes.{star}
 use Rattle.cw_rules.specs.Codes.{code_at}
 use Rattle.cw_rules.specs.Constants.{constant}
+use Rattle.cw_rules.specs.Prefixes.{prefix_size}
 use Rattle.cw_rules.specs.Signs.{spelling, all_signs}
 use Rattle.cw_rules.specs.Tokens.{closes_on_line, head_sign_size}
 use Rattle.cw_lex.specs.Lexing.{tokens_of, fresh_after, last_after}
@@ -125,26 +126,27 @@ AreWholeTexts text class depth (Begin t ∷ answers) = AreWholeTexts text class 
 AreWholeTexts text class depth (Finish t ∷ answers) = AreWholeTexts text class (depth - 1) answers
 AreWholeTexts text class depth (Note kind place ∷ answers) = AreWholeTexts text class depth answers
 
--- ## `#` lines
+-- ## C parts
 
--- Where nothing is open, a `#` that is the first byte of its line but for blanks is a sign in a `#` line alone.
-abbrev pub IsHashSign : Bool → ℕ → List ℕ → TokKind → Type 0
-IsHashSign line depth before (kinds.Sign signs.Hash) = depth ≡ 0 → fresh_after true before ≡ true → line ≡ true
-IsHashSign line depth before kind = Unit {0}
+-- In a C part an identifier begins no string. And where nothing is open, a `#` that is the first byte of its line but
+-- for blanks is a sign in a `#` line alone.
+abbrev pub FitsC : Bool → ℕ → List ℕ → List ℕ → TokKind → Type 0
+FitsC line depth before bytes kinds.Identifier = prefix_size bytes ≡ 0
+FitsC line depth before bytes (kinds.Sign signs.Hash) =
+    depth ≡ 0 → fresh_after true before ≡ true → line ≡ true
+FitsC line depth before bytes kind = Unit {0}
 
 -- So it is among answers up to the first section code, before which so many comments and inner texts are open and a
--- `#` line goes on or not. Each token is marked that has such a line before or behind it.
-abbrev pub KeepHashLines : List ℕ → Bool → ℕ → List Answer → Type 0
-KeepHashLines text line depth [] = Unit {0}
-KeepHashLines text line depth (Token t ∷ answers) = is_section_kind t.kind ≡ false
+-- `#` line goes on or not. Each token is marked that has such a line before or behind it, and no other.
+abbrev pub AllFitC : List ℕ → Bool → ℕ → List Answer → Type 0
+AllFitC text line depth [] = Unit {0}
+AllFitC text line depth (Token t ∷ answers) = is_section_kind t.kind ≡ false
     → (t.hash_line ≡ (line || hash_line_by line t.kind))
-    × IsHashSign line depth (take t.span.start text) t.kind
-    × KeepHashLines text (hash_line_by line t.kind) depth answers
-KeepHashLines text line depth (Begin t ∷ answers) =
-    (t.hash_line ≡ line) × KeepHashLines text line (depth + 1) answers
-KeepHashLines text line depth (Finish t ∷ answers) =
-    (t.hash_line ≡ line) × KeepHashLines text line (depth - 1) answers
-KeepHashLines text line depth (Note kind place ∷ answers) = KeepHashLines text line depth answers
+    × FitsC line depth (take t.span.start text) (drop t.span.start text) t.kind
+    × AllFitC text (hash_line_by line t.kind) depth answers
+AllFitC text line depth (Begin t ∷ answers) = (t.hash_line ≡ line) × AllFitC text line (depth + 1) answers
+AllFitC text line depth (Finish t ∷ answers) = (t.hash_line ≡ line) × AllFitC text line (depth - 1) answers
+AllFitC text line depth (Note kind place ∷ answers) = AllFitC text line depth answers
 
 -- So it is with the tokens of all bytes that are scanned.
 pub record TokensAreLongest : Type 0 where
@@ -152,5 +154,5 @@ pub record TokensAreLongest : Type 0 where
       → AreLongest (take end text) (tokens_of text start end mode)
   pub texts : (text : List ℕ) (start end : ℕ) (mode : Mode)
       → AreWholeTexts (take end text) (text_of mode) 0 (tokens_of text start end mode)
-  pub hash_lines : (text : List ℕ) (start end : ℕ)
-      → KeepHashLines (take end text) false 0 (tokens_of text start end modes.CPart)
+  pub c_parts : (text : List ℕ) (start end : ℕ)
+      → AllFitC (take end text) false 0 (tokens_of text start end modes.CPart)

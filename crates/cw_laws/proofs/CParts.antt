@@ -1,8 +1,8 @@
--- In a C part, outside its comments, a `#` that is the first byte of its line but for blanks begins a `#` line, and
--- the tokens of these lines are marked.
+-- In a C part an identifier begins no string; outside its comments a `#` that is the first byte of its line but for
+-- blanks begins a `#` line, and the tokens of these lines are marked.
 use Rattle.std.proofs.Common.{◌≡◌, ℕ, zero, suc, ◌+◌, ◌-◌, ◌≤◌, Bool, true, false, ◌&&◌, ◌||◌, not, ◌==◌, nat_lt, List}
-use Rattle.std.proofs.Common.{[], ◌∷◌, ◌++◌, Option, Some, None, if◌then◌else◌, drop, take, length, slice_index, refl, sym}
-use Rattle.std.proofs.Common.{ap, subst, ◌∙◌, arith, append_assoc}
+use Rattle.std.proofs.Common.{[], ◌∷◌, ◌++◌, Option, Some, None, if◌then◌else◌, drop, take, length, slice_index, refl}
+use Rattle.std.proofs.Common.{sym, ap, subst, ◌∙◌, arith, append_assoc}
 use Rattle.std.proofs.lemmas.List.{append-nil}
 use Rattle.cw_base.proofs.TestLaws.{both-failed, both-left, both-right, not-both, or-true}
 use Rattle.cw_base.specs.Bytes.{newline, backslash}
@@ -47,7 +47,7 @@ use Rattle.cw_lex.specs.Nested.{is_section_kind}
 use Rattle.cw_lex.proofs.Covering.{drop-on}
 use Rattle.cw_lex.proofs.Nesting.{section-kind}
 use Rattle.cw_lex.proofs.Walk.{fresh-more}
-use Rattle.cw_laws.specs.Longest.{KeepHashLines, IsHashSign}
+use Rattle.cw_laws.specs.Longest.{AllFitC, FitsC}
 use Rattle.cw_laws.specs.WhiteSpace.{hash_line_by}
 use Rattle.cw_laws.proofs.LongestSigns.{Fits, longest-fits}
 use Rattle.cw_laws.proofs.WholeTexts.{opens, opens-twice, opens-with, twice}
@@ -149,6 +149,9 @@ or-same : (b : Bool) → (b || b) ≡ b
 or-same true = refl
 or-same false = refl
 
+none-below : (n : ℕ) → nat_lt 0 n ≡ false → n ≡ 0
+none-below n h = grind arith
+
 or-ends : (line : Bool) → line ≡ true → true ≡ (line || false)
 or-ends line h = sym (ap (λ l. l || false) h)
 
@@ -157,10 +160,10 @@ or-ends line h = sym (ap (λ l. l || false) h)
 -- a kind of which nothing is said, and with which no `#` line begins or ends
 record IsQuiet (kind : TokKind) : Type 0 where
   line : (line : Bool) → hash_line_by line kind ≡ line
-  other : (line : Bool) (depth : ℕ) (before : List ℕ) → IsHashSign line depth before kind
+  other : (line : Bool) (depth : ℕ) (before bytes : List ℕ) → FitsC line depth before bytes kind
 
 code-quiet : (c : Code) → IsQuiet (kinds.Code c)
-code-quiet c = record { line = λ line. refl; other = λ line depth before. tt }
+code-quiet c = record { line = λ line. refl; other = λ line depth before bytes. tt }
 
 token-quiet : (c : Code) (place : ℕ) (bytes : List ℕ) → IsQuiet (code_token c place bytes).kind
 token-quiet c place bytes =
@@ -172,18 +175,15 @@ token-quiet c place bytes =
     (λ h. if-both P (has_control_text c) (control_text c place bytes) (plain (kinds.Code c) (alone_size bytes))
     (λ h. quiet) (λ h. quiet)))
 
-quiet-identifier : IsQuiet kinds.Identifier
-quiet-identifier = record { line = λ line. refl; other = λ line depth before. tt }
-
 quiet-constant : IsQuiet kinds.Constant
-quiet-constant = record { line = λ line. refl; other = λ line depth before. tt }
+quiet-constant = record { line = λ line. refl; other = λ line depth before bytes. tt }
 
 quiet-quoted : IsQuiet kinds.Quoted
-quiet-quoted = record { line = λ line. refl; other = λ line depth before. tt }
+quiet-quoted = record { line = λ line. refl; other = λ line depth before bytes. tt }
 
 module _ (text : List ℕ) where
   abbrev Signs : Bool → ℕ → List Answer → Type 0
-  Signs line depth answers = KeepHashLines text line depth answers
+  Signs line depth answers = AllFitC text line depth answers
 
   abbrev Follows : Found → List Answer → Type 0
   Follows f later = (line : Bool) (depth : ℕ) → opens f.next.comments ≤ depth
@@ -209,7 +209,8 @@ module _ (text : List ℕ) where
   one-goes : (line : Bool) (depth : ℕ) (hash_line : Bool) (next : Where) (place : ℕ) (bytes : List ℕ) (cut : Cut)
       → hash_line ≡ (line || hash_line_by line cut.kind) → opens next.comments ≤ depth
       → Stands (hash_line_by line cut.kind) next.part next.comments
-      → IsHashSign line depth (take place text) cut.kind → Goes line depth (one hash_line next place bytes cut)
+      → FitsC line depth (take place text) (drop place text) cut.kind
+      → Goes line depth (one hash_line next place bytes cut)
   one-goes line depth hash_line next place bytes cut m o s h later rest = λ plain. (
     m,
     h,
@@ -222,7 +223,8 @@ module _ (text : List ℕ) where
   quiet-goes line depth hash_line next place bytes cut m o s q =
       one-goes line depth hash_line next place bytes cut
       (m ∙ sym (ap (λ l. line || l) (q.line line) ∙ or-same line)) o
-      (subst (λ l. Stands l next.part next.comments) (sym (q.line line)) s) (q.other line depth (take place text))
+      (subst (λ l. Stands l next.part next.comments) (sym (q.line line)) s)
+      (q.other line depth (take place text) (drop place text))
 
   -- what is open ends
   cut-so : (part : Part) (comments : List Opened) (place about : ℕ) (line : Bool) (depth : ℕ) (later : List Answer)
@@ -311,11 +313,11 @@ module _ (text : List ℕ) where
         opens-twice w.comments depth o,
         text-stands line (passed w.part) w.comments (passed-text line w.part k),
       )) in
-      quiet-goes line depth (in_hash_line w.part) next place bytes (code_token c place bytes) k.hash_line stands.0 stands.1
-      (token-quiet c place bytes)
+      quiet-goes line depth (in_hash_line w.part) next place bytes (code_token c place bytes) k.hash_line stands.0
+      stands.1 (token-quiet c place bytes)
   code-by-goes (effects.Drops note) c w place bytes line depth k o n =
       moved-goes w line depth (in_hash_line w.part) (passed w.part) place bytes (dropped_code note c place bytes)
-      k.hash_line (passed-text line w.part k) o (record { line = λ line. refl; other = λ line depth before. tt })
+      k.hash_line (passed-text line w.part k) o (record { line = λ line. refl; other = λ line depth before bytes. tt })
   code-by-goes effects.Defines c w place bytes line depth k o n = absurd n
   code-by-goes effects.Formats c w place bytes line depth k o n = absurd n
   code-by-goes effects.BeginsC c w place bytes line depth k o n =
@@ -325,8 +327,10 @@ module _ (text : List ℕ) where
 
   begin-goes : (long : Bool) (w : Where) (place : ℕ) (bytes : List ℕ) (line : Bool) (depth : ℕ) → InText line w.part
       → twice w.comments ≤ depth → Goes line depth (comment_begin long w place bytes)
-  begin-goes long w place bytes line depth k o later rest =
-      (k.hash_line, rest line (depth + 1) (omega arith) (text-stands line (passed w.part) _ (passed-text line w.part k)))
+  begin-goes long w place bytes line depth k o later rest = (
+    k.hash_line,
+    rest line (depth + 1) (omega arith) (text-stands line (passed w.part) _ (passed-text line w.part k)),
+  )
 
   inner-end-goes : (part : Part) (comments : List Opened) (place : ℕ) (bytes : List ℕ) (line : Bool) (depth : ℕ)
       → InText line part → twice comments ≤ depth → ends_at_bar part comments ≡ true
@@ -338,10 +342,10 @@ module _ (text : List ℕ) where
       (k.hash_line, rest line (depth - 1) (omega arith) (text-stands line (passed part) _ (passed-text line part k)))
 
   in-code-goes : (w : Where) (place byte : ℕ) (bytes : List ℕ) (fresh line : Bool) (depth : ℕ)
-      → fresh_at text place ≡ fresh → InText line w.part → twice w.comments ≤ depth
+      → drop place text ≡ byte ∷ bytes → fresh_at text place ≡ fresh → InText line w.part → twice w.comments ≤ depth
       → (byte == hash && (takes_hash_line w.part w.comments && fresh)) ≡ false
       → Goes line depth (in_code (start_of (ends_at_bar w.part w.comments) byte bytes) w place (byte ∷ bytes))
-  in-code-goes w place byte bytes fresh line depth f k o n =
+  in-code-goes w place byte bytes fresh line depth here f k o n =
       let all = byte ∷ bytes in
       let ends = ends_at_bar w.part w.comments in
       let hash_line = in_hash_line w.part in
@@ -351,15 +355,16 @@ module _ (text : List ℕ) where
       if-both P (nat_lt 0 (prefix_size all)) (start.Quoted (slice_index all (prefix_size all))) _
       (λ h. moved-goes w line depth hash_line (passed w.part) place all (string-at (slice_index all (prefix_size all)))
       k.hash_line on o quiet-quoted)
-      (λ h. if-both P (is_letter byte) start.Identifier _
-      (λ h. moved-goes w line depth hash_line (behind_word w.part all) place all (identifier all)
-      k.hash_line (if-both (InText line) (hash_line && is_include all) (parts.Plain true true) (passed w.part)
-      (λ h. record { c = refl; hash_line = sym (both-left hash_line (is_include all) h) ∙ k.hash_line }) (λ h. on)) o
-      quiet-identifier)
+      (λ bare. if-both P (is_letter byte) start.Identifier _
+      (λ h. one-goes line depth hash_line (moved w (behind_word w.part all)) place all (identifier all)
+      (k.hash_line ∙ sym (or-same line)) (opens-twice w.comments depth o)
+      (text-stands line (behind_word w.part all) w.comments
+      (if-both (InText line) (hash_line && is_include all) (parts.Plain true true) (passed w.part)
+      (λ h. record { c = refl; hash_line = sym (both-left hash_line (is_include all) h) ∙ k.hash_line }) (λ h. on)))
+      (ap prefix_size here ∙ none-below (prefix_size all) bare))
       (λ h. if-both P (nat_lt 0 (constant all)) start.Constant _
-      (λ h. moved-goes w line depth hash_line (passed w.part) place all (plain kinds.Constant (constant all)) k.hash_line
-      on o
-      quiet-constant)
+      (λ h. moved-goes w line depth hash_line (passed w.part) place all (plain kinds.Constant (constant all))
+      k.hash_line on o quiet-constant)
       (λ h. if-both P (is_mark byte) (start.Quoted byte) _
       (λ h. moved-goes w line depth hash_line (passed w.part) place all (string-at byte) k.hash_line on o quiet-quoted)
       (λ h. if-both P (byte == slash && begins star bytes) start.LongComment _
@@ -376,7 +381,7 @@ module _ (text : List ℕ) where
       (λ h. by (longest all_signs all) (longest-fits all_signs all)))))))))
     where
       says : (sign : Sign) → begins_with (spelling sign) (byte ∷ bytes) ≡ true
-          → IsHashSign line depth (take place text) (kinds.Sign sign)
+          → FitsC line depth (take place text) (drop place text) (kinds.Sign sign)
       says signs.Hash e = λ none first.
           goes-on-already w.part w.comments fresh line k
           (subst (λ d. opens w.comments ≤ d) none (opens-twice w.comments depth o))
@@ -388,16 +393,18 @@ module _ (text : List ℕ) where
           → Goes line depth (in_code (sign_or_other o) w place (byte ∷ bytes))
       by None e =
           moved-goes w line depth (in_hash_line w.part) (passed w.part) place (byte ∷ bytes) (plain kinds.OtherByte 1)
-          k.hash_line (passed-text line w.part k) o (record { line = λ line. refl; other = λ line depth before. tt })
+          k.hash_line (passed-text line w.part k) o
+          (record { line = λ line. refl; other = λ line depth before bytes. tt })
       by (Some sign) e =
           one-goes line depth (in_hash_line w.part) (moved w (passed w.part)) place (byte ∷ bytes)
-          (plain (kinds.Sign sign) (length (spelling sign))) (k.hash_line ∙ sym (or-same line)) (opens-twice w.comments depth o)
+          (plain (kinds.Sign sign) (length (spelling sign))) (k.hash_line ∙ sym (or-same line))
+          (opens-twice w.comments depth o)
           (text-stands line (passed w.part) w.comments (passed-text line w.part k)) (says sign e)
 
   code-text-goes : (w : Where) (fresh : Bool) (last place byte : ℕ) (bytes : List ℕ) (line : Bool) (depth : ℕ)
-      → fresh_at text place ≡ fresh → InText line w.part → twice w.comments ≤ depth
+      → drop place text ≡ byte ∷ bytes → fresh_at text place ≡ fresh → InText line w.part → twice w.comments ≤ depth
       → Goes line depth (code_text_apart w fresh last place byte bytes)
-  code-text-goes w fresh last place byte bytes line depth f k o =
+  code-text-goes w fresh last place byte bytes line depth here f k o =
       let all = byte ∷ bytes in
       let P : Found → Type 0 = Goes line depth in
       if-both P (byte == newline) _ _ (λ h. line-end-goes w.part w.comments last place line depth k o)
@@ -412,8 +419,8 @@ module _ (text : List ℕ) where
       ))
       (λ n. if-both P (byte == less && (behind_include w.part && closes_on_line bytes)) _ _
       (λ h. moved-goes w line depth (in_hash_line w.part) (passed w.part) place all (include_name place all)
-      k.hash_line (passed-text line w.part k) o (record { line = λ line. refl; other = λ line depth before. tt }))
-      (λ h. in-code-goes w place byte bytes fresh line depth f k o n))))
+      k.hash_line (passed-text line w.part k) o (record { line = λ line. refl; other = λ line depth before bytes. tt }))
+      (λ h. in-code-goes w place byte bytes fresh line depth here f k o n))))
 
   -- ## The text of a comment
 
@@ -447,7 +454,8 @@ module _ (text : List ℕ) where
         kind = kinds.Text;
         size = (extent (piece_start part comments c place) all).size;
         notes = noted (piece_start part comments c place) all;
-      }) k.hash_line o (text-stands line part _ k) (record { line = λ line. refl; other = λ line depth before. tt }))))
+      }) k.hash_line o (text-stands line part _ k)
+      (record { line = λ line. refl; other = λ line depth before bytes. tt }))))
 
   -- ## Any text of a C part
 
@@ -455,21 +463,21 @@ module _ (text : List ℕ) where
   within part = record { part = part; comments = [] }
 
   part-text-goes : (part : Part) (fresh : Bool) (last place byte : ℕ) (bytes : List ℕ) (line : Bool) (depth : ℕ)
-      → fresh_at text place ≡ fresh → Stands line part []
+      → drop place text ≡ byte ∷ bytes → fresh_at text place ≡ fresh → Stands line part []
       → Goes line depth (part_text_apart part (within part) fresh last place byte bytes)
-  part-text-goes parts.Head fresh last place byte bytes line depth f k =
+  part-text-goes parts.Head fresh last place byte bytes line depth here f k =
       if-both (Goes line depth) (is_in classes.Blank byte) _ _ (λ h later rest. rest line depth (omega arith) k)
       (λ h. quiet-goes line depth false (within (parts.Plain false false)) place (byte ∷ bytes)
       (plain kinds.HeadSign (if begins equals bytes then 2 else 1)) k.hash_line (omega arith)
       (text-stands line (parts.Plain false false) [] (plain-text line k.hash_line))
-      (record { line = λ line. refl; other = λ line depth before. tt }))
-  part-text-goes parts.Begin fresh last place byte bytes line depth f k =
-      code-text-goes (within parts.Begin) fresh last place byte bytes line depth f
+      (record { line = λ line. refl; other = λ line depth before bytes. tt }))
+  part-text-goes parts.Begin fresh last place byte bytes line depth here f k =
+      code-text-goes (within parts.Begin) fresh last place byte bytes line depth here f
       (record { c = refl; hash_line = k.hash_line }) (omega arith)
-  part-text-goes (parts.Plain hash_line include) fresh last place byte bytes line depth f k =
-      code-text-goes (within (parts.Plain hash_line include)) fresh last place byte bytes line depth f
+  part-text-goes (parts.Plain hash_line include) fresh last place byte bytes line depth here f k =
+      code-text-goes (within (parts.Plain hash_line include)) fresh last place byte bytes line depth here f
       (record { c = refl; hash_line = k.hash_line }) (omega arith)
-  part-text-goes _ fresh last place byte bytes line depth f k = not-both false k.c refl
+  part-text-goes _ fresh last place byte bytes line depth here f k = not-both false k.c refl
 
   in-comment : (line : Bool) (part : Part) (c : Opened) (comments : List Opened) → Stands line part (c ∷ comments)
       → InText line part
@@ -477,14 +485,15 @@ module _ (text : List ℕ) where
   in-comment line _ c comments k = record { c = k.c; hash_line = k.hash_line }
 
   in-text-goes : (part : Part) (comments : List Opened) (fresh : Bool) (last place byte : ℕ) (bytes : List ℕ)
-      (line : Bool) (depth : ℕ) → fresh_at text place ≡ fresh → opens comments ≤ depth → Stands line part comments
+      (line : Bool) (depth : ℕ) → drop place text ≡ byte ∷ bytes → fresh_at text place ≡ fresh
+      → opens comments ≤ depth → Stands line part comments
       → Goes line depth (in_text_apart part comments fresh last place byte bytes)
-  in-text-goes part [] fresh last place byte bytes line depth f o k =
-      part-text-goes part fresh last place byte bytes line depth f k
-  in-text-goes part (c ∷ comments) fresh last place byte bytes line depth f o k =
+  in-text-goes part [] fresh last place byte bytes line depth here f o k =
+      part-text-goes part fresh last place byte bytes line depth here f k
+  in-text-goes part (c ∷ comments) fresh last place byte bytes line depth here f o k =
       if-both (Goes line depth) c.inner _ _
-      (λ h. code-text-goes (record { part = part; comments = c ∷ comments }) fresh last place byte bytes line depth f
-      (in-comment line part c comments k) (omega (arith, opens-with c comments depth true h o)))
+      (λ h. code-text-goes (record { part = part; comments = c ∷ comments }) fresh last place byte bytes line depth here
+      f (in-comment line part c comments k) (omega (arith, opens-with c comments depth true h o)))
       (λ h. comment-text-goes part c comments last place byte bytes line depth (in-comment line part c comments k) o
       (opens-with c comments depth false h o))
 
@@ -505,7 +514,7 @@ module _ (text : List ℕ) where
       let g = found_apart w fresh last place byte bytes in
       if-both (Goes line depth) (byte == at_sign && begins_section bytes) (section w place bytes)
       (in_text_apart w.part w.comments fresh last place byte bytes) (λ h. section-goes w place bytes line depth k)
-      (λ h. in-text-goes w.part w.comments fresh last place byte bytes line depth f o k)
+      (λ h. in-text-goes w.part w.comments fresh last place byte bytes line depth here f o k)
       (answers bytes g.next (still_fresh fresh byte) byte (place + 1) g.more)
       (λ line depth o k. all-so bytes g.next (still_fresh fresh byte) byte (place + 1) g.more line depth
       (drop-on text place byte bytes here) (fresh-on fresh place byte bytes here f) o k)
@@ -513,9 +522,9 @@ module _ (text : List ℕ) where
       all-so bytes w (still_fresh fresh byte) byte (place + 1) taken line depth (drop-on text place byte bytes here)
       (fresh-on fresh place byte bytes here f) o k
 
-pub hash-lines : (text : List ℕ) (start end : ℕ)
-    → KeepHashLines (take end text) false 0 (tokens_of text start end modes.CPart)
-hash-lines text start end =
+pub c-parts : (text : List ℕ) (start end : ℕ)
+    → AllFitC (take end text) false 0 (tokens_of text start end modes.CPart)
+c-parts text start end =
     let cut = take end text in
     all-so cut (drop start cut) (beginning modes.CPart) (fresh_at cut start) (last_at cut start) start 0 false 0 refl
     refl (omega arith) (record { c = refl; hash_line = refl })
