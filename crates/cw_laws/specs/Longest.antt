@@ -18,7 +18,7 @@ use Rattle.cw_rules.specs.Codes.{code_at}
 use Rattle.cw_rules.specs.Constants.{constant}
 use Rattle.cw_rules.specs.Prefixes.{prefix_size}
 use Rattle.cw_rules.specs.Signs.{spelling, all_signs}
-use Rattle.cw_rules.specs.Tokens.{closes_on_line, head_sign_size}
+use Rattle.cw_rules.specs.Tokens.{closes_on_line, head_sign_size, is_include}
 use Rattle.cw_lex.specs.Lexing.{tokens_of, fresh_after, last_after}
 use Rattle.cw_lex.specs.Nested.{is_section_kind}
 use Rattle.cw_laws.specs.Strings.{IsString}
@@ -128,25 +128,36 @@ AreWholeTexts text class depth (Note kind place ∷ answers) = AreWholeTexts tex
 
 -- ## C parts
 
--- In a C part an identifier begins no string. And where nothing is open, a `#` that is the first byte of its line but
--- for blanks is a sign in a `#` line alone.
-abbrev pub FitsC : Bool → ℕ → List ℕ → List ℕ → TokKind → Type 0
-FitsC line depth before bytes kinds.Identifier = prefix_size bytes ≡ 0
-FitsC line depth before bytes (kinds.Sign signs.Hash) =
-    depth ≡ 0 → fresh_after true before ≡ true → line ≡ true
-FitsC line depth before bytes kind = Unit {0}
+-- the word `include` in a `#` line
+abbrev pub names_file : Bool → List ℕ → TokKind → Bool
+names_file line bytes kinds.Identifier = line && is_include bytes
+names_file line bytes kind = false
 
--- So it is among answers up to the first section code, before which so many comments and inner texts are open and a
--- `#` line goes on or not. Each token is marked that has such a line before or behind it, and no other.
-abbrev pub AllFitC : List ℕ → Bool → ℕ → List Answer → Type 0
-AllFitC text line depth [] = Unit {0}
-AllFitC text line depth (Token t ∷ answers) = is_section_kind t.kind ≡ false
+-- In a C part an identifier begins no string. Where nothing is open, a `#` that is the first byte of its line but for
+-- blanks is a sign in a `#` line alone. An include name stands directly behind the word `include`, and a `<` there is a
+-- sign only where no `>` follows on its line.
+abbrev pub FitsC : (line named : Bool) → ℕ → (before bytes : List ℕ) → TokKind → Type 0
+FitsC line named depth before bytes kinds.Identifier = prefix_size bytes ≡ 0
+FitsC line named depth before bytes (kinds.Sign signs.Hash) =
+    depth ≡ 0 → fresh_after true before ≡ true → line ≡ true
+FitsC line named depth before bytes kinds.IncludeName = named ≡ true
+FitsC line named depth before bytes (kinds.Sign signs.Less) = named ≡ true → closes_on_line (drop 1 bytes) ≡ false
+FitsC line named depth before bytes kind = Unit {0}
+
+-- So it is among answers up to the first section code, before which so many comments and inner texts are open, a `#`
+-- line goes on or not, and the last answer is its word `include` or not. Each token is marked that has such a line
+-- before or behind it, and no other.
+abbrev pub AllFitC : List ℕ → (line named : Bool) → ℕ → List Answer → Type 0
+AllFitC text line named depth [] = Unit {0}
+AllFitC text line named depth (Token t ∷ answers) = is_section_kind t.kind ≡ false
     → (t.hash_line ≡ (line || hash_line_by line t.kind))
-    × FitsC line depth (take t.span.start text) (drop t.span.start text) t.kind
-    × AllFitC text (hash_line_by line t.kind) depth answers
-AllFitC text line depth (Begin t ∷ answers) = (t.hash_line ≡ line) × AllFitC text line (depth + 1) answers
-AllFitC text line depth (Finish t ∷ answers) = (t.hash_line ≡ line) × AllFitC text line (depth - 1) answers
-AllFitC text line depth (Note kind place ∷ answers) = AllFitC text line depth answers
+    × FitsC line named depth (take t.span.start text) (drop t.span.start text) t.kind
+    × AllFitC text (hash_line_by line t.kind) (names_file line (drop t.span.start text) t.kind) depth answers
+AllFitC text line named depth (Begin t ∷ answers) =
+    (t.hash_line ≡ line) × AllFitC text line false (depth + 1) answers
+AllFitC text line named depth (Finish t ∷ answers) =
+    (t.hash_line ≡ line) × AllFitC text line false (depth - 1) answers
+AllFitC text line named depth (Note kind place ∷ answers) = AllFitC text line named depth answers
 
 -- So it is with the tokens of all bytes that are scanned.
 pub record TokensAreLongest : Type 0 where
@@ -155,4 +166,4 @@ pub record TokensAreLongest : Type 0 where
   pub texts : (text : List ℕ) (start end : ℕ) (mode : Mode)
       → AreWholeTexts (take end text) (text_of mode) 0 (tokens_of text start end mode)
   pub c_parts : (text : List ℕ) (start end : ℕ)
-      → AllFitC (take end text) false 0 (tokens_of text start end modes.CPart)
+      → AllFitC (take end text) false false 0 (tokens_of text start end modes.CPart)

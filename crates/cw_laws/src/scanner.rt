@@ -21,8 +21,9 @@ pub fn white_space_law()
 /// constant nor a comment begins, and an other byte where nothing else begins. A code is what the byte behind its `@`
 /// makes. Text in no comment goes up to the next `@`, and TeX text up to the next bar too. The `#` of a `#` line is the
 /// first byte of its line but for blanks, and what ends one is a line's end with no backslash before it. In a C part no
-/// identifier begins a string, outside its comments and `#` lines no `#` that is first on its line is a sign, and the
-/// tokens of `#` lines alone are marked. It does nothing: what it ensures is for proofs.
+/// identifier begins a string; outside its comments and `#` lines no `#` that is first on its line is a sign; the
+/// tokens of `#` lines alone are marked; and include names stand behind their word `include`, as no `<` does that a `>`
+/// follows on its line. It does nothing: what it ensures is for proofs.
 pub fn longest_law()
     ensures { TokensAreLongest }
 {}
