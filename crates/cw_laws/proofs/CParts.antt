@@ -50,7 +50,29 @@ use Rattle.cw_lex.proofs.Walk.{fresh-more}
 use Rattle.cw_laws.specs.Longest.{AllFitC, FitsC, names_file}
 use Rattle.cw_laws.specs.WhiteSpace.{hash_line_by}
 use Rattle.cw_laws.proofs.LongestSigns.{Fits, longest-fits}
-use Rattle.cw_laws.proofs.WholeTexts.{opens, opens-twice, opens-with, twice}
+
+-- ## How much is open
+
+-- at least so many comments and inner texts
+abbrev opens : List Opened → ℕ
+opens [] = 0
+opens (c ∷ comments) = (if c.inner then 2 else 1) + (length comments + length comments)
+
+-- the same where C text stands in the innermost comment, as in all others
+abbrev twice : List Opened → ℕ
+twice comments = length comments + length comments
+
+opens-twice : (comments : List Opened) (depth : ℕ) → twice comments ≤ depth → opens comments ≤ depth
+opens-twice [] depth h = omega arith
+opens-twice (c ∷ comments) depth h = by c.inner
+  where
+    by : (t : Bool) → (if t then 2 else 1) + (length comments + length comments) ≤ depth
+    by true = omega arith
+    by false = omega arith
+
+opens-with : (c : Opened) (comments : List Opened) (depth : ℕ) (inner : Bool) → c.inner ≡ inner
+    → opens (c ∷ comments) ≤ depth → (if inner then 2 else 1) + twice comments ≤ depth
+opens-with c comments depth inner e h = subst (λ t. (if t then 2 else 1) + twice comments ≤ depth) e h
 
 -- ## The parts of a C part
 

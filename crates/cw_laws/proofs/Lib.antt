@@ -11,7 +11,6 @@ pub mod WhiteSpace
 pub mod Strings
 pub mod SectionBytes
 pub mod Wanted
-pub mod WholeTexts
 pub mod LongestSigns
 pub mod CParts
 pub mod Longest

@@ -4,7 +4,7 @@ use Rattle.std.proofs.Common.{codes, List, [], ◌∷◌, ◌++◌, Option, Some
 use Rattle.std.proofs.Common.{take, refl}
 use Rattle.std.proofs.Common.{sym, ap, subst, ◌∙◌, arith}
 use Rattle.std.proofs.lemmas.Bool.{eqb-true}
-use Rattle.cw_base.proofs.TestLaws.{both-left, both-right, not-true}
+use Rattle.cw_base.proofs.TestLaws.{both-failed, both-left, both-right, not-both, not-true}
 use Rattle.cw_rules.specs.declared.bodies.Noted.{Noted}
 use Rattle.cw_rules.specs.declared.classes.Class.TheVariants as classes
 use Rattle.cw_rules.specs.declared.codes.Code.{Code}
@@ -25,7 +25,7 @@ use Rattle.cw_base.specs.Bytes.{newline, backslash}
 use Rattle.cw_rules.specs.Bytes.{apostrophe, slash, star, at_sign, hash, less, comma, equals, plus, left_paren}
 use Rattle.cw_base.specs.Text.{bar}
 use Rattle.cw_rules.specs.Bytes.{right_paren, begins, begins_by, begins_with, is_letter, is_mark, is_in, run}
-use Rattle.cw_rules.specs.Codes.{code_at, begins_section, effect_in_limbo, effect_in_tex, has_control_text}
+use Rattle.cw_rules.specs.Codes.{is_section, code_at, begins_section, effect_in_limbo, effect_in_tex, has_control_text}
 use Rattle.cw_rules.specs.Constants.{constant}
 use Rattle.cw_rules.specs.Prefixes.{prefix_size}
 use Rattle.cw_rules.specs.Signs.{all_signs, longest, spelling}
@@ -54,7 +54,6 @@ use Rattle.cw_laws.proofs.CParts.{c-parts}
 use Rattle.cw_laws.proofs.LongestSigns.{dots-are, longest-most, sign-is, size_of}
 use Rattle.cw_laws.proofs.SectionBytes.{section-is, starred-is}
 use Rattle.cw_laws.proofs.Strings.{prefixed-is, unprefixed-is}
-use Rattle.cw_laws.proofs.WholeTexts.{whole-texts}
 use Rattle.cw_laws.proofs.Wanted.{Wants, WantsIn, sign-here, letter-here, parameter-here, found-goes, beginning-wants}
 
 -- ## What begins at a byte of C text but for its sign
@@ -132,7 +131,7 @@ append-longest : (text : List ℕ) (xs ys : List Answer) → AreLongest text xs 
     → AreLongest text (xs ++ ys)
 append-longest text [] ys h g = g
 append-longest text (Token t ∷ xs) ys h g = (h.0, append-longest text xs ys h.1 g)
-append-longest text (Begin t ∷ xs) ys h g = (h.0, append-longest text xs ys h.1 g)
+append-longest text (Begin t ∷ xs) ys h g = append-longest text xs ys h g
 append-longest text (Finish t ∷ xs) ys h g = append-longest text xs ys h g
 append-longest text (Note kind place ∷ xs) ys h g = append-longest text xs ys h g
 
@@ -159,6 +158,7 @@ module _ (text : List ℕ) where
     here : drop place text ≡ byte ∷ bytes
     freshly : fresh_at text place ≡ fresh
     behind : last_at text place ≡ last
+    plain : (byte == at_sign && begins_section bytes) ≡ false
 
   one-longest : (hash_line : Bool) (next : Where) (place : ℕ) (bytes : List ℕ) (cut : Cut)
       → Says hash_line place cut.size cut.kind → Longest (one hash_line next place bytes cut)
@@ -194,58 +194,25 @@ module _ (text : List ℕ) where
 
   -- ## C text
 
-  -- a code is what the byte behind the `@` makes
-  abbrev IsCodeHere : ℕ → Code → Type 0
-  IsCodeHere place code = (begins at_sign (drop place text) ≡ true) × (code ≡ code_at (drop 1 (drop place text)))
-
-  code-here : (place byte : ℕ) (bytes : List ℕ) → drop place text ≡ byte ∷ bytes → (byte == at_sign) ≡ true
-      → IsCodeHere place (code_at bytes)
-  code-here place byte bytes here h =
-      (ap (begins at_sign) here ∙ h, sym (ap (λ l. code_at (drop 1 l)) here))
-
-  token-here : (hash_line : Bool) (place byte : ℕ) (bytes : List ℕ) → drop place text ≡ byte ∷ bytes
-      → (byte == at_sign) ≡ true
-      → Says hash_line place (code_token (code_at bytes) place (byte ∷ bytes)).size
-      (code_token (code_at bytes) place (byte ∷ bytes)).kind
-  token-here hash_line place byte bytes here h =
-      let c = code_at bytes in
-      let all = byte ∷ bytes in
+  -- a code that is no section code
+  token-here : (hash_line : Bool) (c : Code) (place : ℕ) (bytes : List ℕ) → is_section c ≡ false
+      → Says hash_line place (code_token c place bytes).size (code_token c place bytes).kind
+  token-here hash_line c place bytes q =
       let P : Cut → Type 0 = λ c. Says hash_line place c.size c.kind in
-      let is = code-here place byte bytes here h in
-      if-both P (is_name c) (section_name c place all) _ (λ k. is)
-      (λ k. if-both P (is_quote c) (string (kinds.Code c) 2 apostrophe place all) (control_or_plain c place all)
-      (λ k. is)
-      (λ k. if-both P (has_control_text c) (control_text c place all) (plain (kinds.Code c) (alone_size all))
-      (λ k. is) (λ k. is)))
+      if-both P (is_name c) (section_name c place bytes) _ (λ k s. not-both (is_section c) s q)
+      (λ k. if-both P (is_quote c) (string (kinds.Code c) 2 apostrophe place bytes) (control_or_plain c place bytes)
+      (λ k s. not-both (is_section c) s q)
+      (λ k. if-both P (has_control_text c) (control_text c place bytes) (plain (kinds.Code c) (alone_size bytes))
+      (λ k s. not-both (is_section c) s q) (λ k s. not-both (is_section c) s q)))
 
-  dropped-here : (place byte : ℕ) (bytes : List ℕ) → drop place text ≡ byte ∷ bytes → (byte == at_sign) ≡ true
-      → begins at_sign (drop place text) ≡ true
-  dropped-here place byte bytes here h = ap (begins at_sign) here ∙ h
-
-  code-by-longest : (effect : Effect) (w : Where) (place byte : ℕ) (bytes : List ℕ) → drop place text ≡ byte ∷ bytes
-      → (byte == at_sign) ≡ true → Longest (code_by effect (code_at bytes) w place (byte ∷ bytes))
-  code-by-longest effects.Stands w place byte bytes here h =
-      one-longest (in_hash_line w.part) w place (byte ∷ bytes) (code_token (code_at bytes) place (byte ∷ bytes))
-      (token-here (in_hash_line w.part) place byte bytes here h)
-  code-by-longest (effects.Drops note) w place byte bytes here h = (
-    dropped-here place byte bytes here h,
-    noted-longest text (control_or_plain (code_at bytes) place (byte ∷ bytes)).notes,
-  )
-  code-by-longest effects.Defines w place byte bytes here h = (code-here place byte bytes here h, tt)
-  code-by-longest effects.Formats w place byte bytes here h = (code-here place byte bytes here h, tt)
-  code-by-longest effects.BeginsC w place byte bytes here h = (code-here place byte bytes here h, tt)
-
-  -- two bytes begin a comment
-  comment-here : (second place byte : ℕ) (bytes : List ℕ) → drop place text ≡ byte ∷ bytes
-      → (byte == slash && begins second bytes) ≡ true
-      → ((begins slash (drop place text) && begins second (drop 1 (drop place text))) ≡ true)
-      × ((place + 2) - place ≡ 2)
-  comment-here second place byte bytes here h =
-      (ap (λ l. begins slash l && begins second (drop 1 l)) here ∙ h, omega arith)
-
-  bar-here : (place byte : ℕ) (bytes : List ℕ) → drop place text ≡ byte ∷ bytes → (byte == bar) ≡ true
-      → (begins bar (drop place text) ≡ true) × ((place + 1) - place ≡ 1)
-  bar-here place byte bytes here h = (ap (begins bar) here ∙ h, omega arith)
+  code-by-longest : (effect : Effect) (c : Code) (w : Where) (place : ℕ) (bytes : List ℕ) → is_section c ≡ false
+      → Longest (code_by effect c w place bytes)
+  code-by-longest effects.Stands c w place bytes q =
+      one-longest (in_hash_line w.part) w place bytes (code_token c place bytes) (token-here (in_hash_line w.part) c place bytes q)
+  code-by-longest (effects.Drops note) c w place bytes q = (tt, noted-longest text (control_or_plain c place bytes).notes)
+  code-by-longest effects.Defines c w place bytes q = (λ s. not-both (is_section c) s q, tt)
+  code-by-longest effects.Formats c w place bytes q = (λ s. not-both (is_section c) s q, tt)
+  code-by-longest effects.BeginsC c w place bytes q = (λ s. not-both (is_section c) s q, tt)
 
   word-longest : (hash_line : Bool) (next : Where) (place byte : ℕ) (bytes : List ℕ)
       → drop place text ≡ byte ∷ bytes → is_letter byte ≡ true
@@ -255,9 +222,10 @@ module _ (text : List ℕ) where
       (ap (begins_by is_letter) here ∙ h, ap (run classes.Word) (sym here))
 
   in-code-longest : (bar_ends : Bool) (w : Where) (place byte : ℕ) (bytes : List ℕ) → drop place text ≡ byte ∷ bytes
+      → (byte == at_sign && begins_section bytes) ≡ false
       → begins_space_in (in_hash_line w.part) (byte ∷ bytes) ≡ false
       → Longest (in_code (start_of bar_ends byte bytes) w place (byte ∷ bytes))
-  in-code-longest bar_ends w place byte bytes here space =
+  in-code-longest bar_ends w place byte bytes here unsectioned space =
       let all = byte ∷ bytes in
       let hash_line = in_hash_line w.part in
       let next = moved w (passed w.part) in
@@ -277,11 +245,12 @@ module _ (text : List ℕ) where
       (subst (λ l. IsString l (string-at byte).size) (sym here)
       (unprefixed-is place byte bytes (no-prefix byte bytes letter) h)))
       (λ mark. if-both P (byte == slash && begins star bytes) start.LongComment _
-      (λ h. (comment-here star place byte bytes here h, tt))
+      (λ h. tt)
       (λ long. if-both P (byte == slash && begins slash bytes) start.ShortComment _
-      (λ h. (comment-here slash place byte bytes here h, tt))
+      (λ h. tt)
       (λ short. if-both P (byte == at_sign) (start.Code (code_at bytes)) _
-      (λ h. code-by-longest (effect_in w.part w.comments (code_at bytes)) w place byte bytes here h)
+      (λ h. code-by-longest (effect_in w.part w.comments (code_at bytes)) (code_at bytes) w place all
+      (both-failed (byte == at_sign) (begins_section bytes) unsectioned h))
       (λ code. if-both P (byte == bar && (bar_ends && not (begins bar bytes))) start.EndOfInner
       (sign_or_other (longest all_signs all)) (λ h. tt)
       (λ h. by (longest all_signs all) refl (record {
@@ -328,7 +297,7 @@ module _ (text : List ℕ) where
         closed = both-right (behind_include w.part) (closes_on_line bytes) (both-right (byte == less) closes h);
         whole = refl;
       })))
-      (λ h. in-code-longest (ends_at_bar w.part w.comments) w place byte bytes at.here
+      (λ h. in-code-longest (ends_at_bar w.part w.comments) w place byte bytes at.here at.plain
       (no-space (byte == newline) (is_in classes.Blank byte) _ line space)))))
 
   comment-text-longest : (part : Part) (c : Opened) (comments : List Opened) (fresh : Bool) (last place byte : ℕ)
@@ -342,46 +311,43 @@ module _ (text : List ℕ) where
       (line-end-longest part comments last place
       (ap (begins newline) at.here ∙ both-right (not c.long) (byte == newline) h) at.behind))
       (λ h. if-both Longest (byte == bar && not (is_deep part (c ∷ comments))) _ _
-      (λ h. (bar-here place byte bytes at.here (both-left (byte == bar) (not (is_deep part (c ∷ comments))) h), tt))
+      (λ h. tt)
       (λ h. (tt, noted-longest text (noted (piece_start part comments c place) (byte ∷ bytes))))))
 
   -- ## Limbo, TeX text and heads
 
-  limbo-by-longest : (effect : Effect) (w : Where) (place byte : ℕ) (bytes : List ℕ) → drop place text ≡ byte ∷ bytes
-      → (byte == at_sign) ≡ true → Longest (limbo_by effect (code_at bytes) w place (byte ∷ bytes))
-  limbo-by-longest effects.Stands w place byte bytes here h =
-      one-longest false w place (byte ∷ bytes) (code_token (code_at bytes) place (byte ∷ bytes))
-      (token-here false place byte bytes here h)
-  limbo-by-longest effects.Formats w place byte bytes here h = (code-here place byte bytes here h, tt)
-  limbo-by-longest (effects.Drops note) w place byte bytes here h = (dropped-here place byte bytes here h, tt)
-  limbo-by-longest effects.Defines w place byte bytes here h = tt
-  limbo-by-longest effects.BeginsC w place byte bytes here h = tt
+  limbo-by-longest : (effect : Effect) (c : Code) (w : Where) (place : ℕ) (bytes : List ℕ) → is_section c ≡ false
+      → Longest (limbo_by effect c w place bytes)
+  limbo-by-longest effects.Stands c w place bytes q =
+      one-longest false w place bytes (code_token c place bytes) (token-here false c place bytes q)
+  limbo-by-longest (effects.Drops note) c w place bytes q = (tt, tt)
+  limbo-by-longest effects.Defines c w place bytes q = tt
+  limbo-by-longest effects.Formats c w place bytes q = (λ s. not-both (is_section c) s q, tt)
+  limbo-by-longest effects.BeginsC c w place bytes q = tt
 
-  limbo-text-longest : (w : Where) (place byte : ℕ) (bytes : List ℕ) → drop place text ≡ byte ∷ bytes
+  limbo-text-longest : (w : Where) (place byte : ℕ) (bytes : List ℕ) → (byte == at_sign && begins_section bytes) ≡ false
       → Longest (limbo_text w place byte bytes)
-  limbo-text-longest w place byte bytes here =
+  limbo-text-longest w place byte bytes plain-byte =
       if-both Longest (byte == at_sign) _ _
-      (λ h. limbo-by-longest (effect_in_limbo (code_at bytes)) w place byte bytes here h) (λ h. (tt, tt))
+      (λ h. limbo-by-longest (effect_in_limbo (code_at bytes)) (code_at bytes) w place (byte ∷ bytes)
+      (both-failed (byte == at_sign) (begins_section bytes) plain-byte h)) (λ h. (tt, tt))
 
-  tex-by-longest : (effect : Effect) (w : Where) (place byte : ℕ) (bytes : List ℕ) → drop place text ≡ byte ∷ bytes
-      → (byte == at_sign) ≡ true → Longest (tex_by effect (code_at bytes) w place (byte ∷ bytes))
-  tex-by-longest effects.Stands w place byte bytes here h =
-      one-longest false w place (byte ∷ bytes) (code_token (code_at bytes) place (byte ∷ bytes))
-      (token-here false place byte bytes here h)
-  tex-by-longest (effects.Drops note) w place byte bytes here h = (
-    dropped-here place byte bytes here h,
-    noted-longest text (control_or_plain (code_at bytes) place (byte ∷ bytes)).notes,
-  )
-  tex-by-longest effects.Defines w place byte bytes here h = (code-here place byte bytes here h, tt)
-  tex-by-longest effects.Formats w place byte bytes here h = (code-here place byte bytes here h, tt)
-  tex-by-longest effects.BeginsC w place byte bytes here h = (code-here place byte bytes here h, tt)
+  tex-by-longest : (effect : Effect) (c : Code) (w : Where) (place : ℕ) (bytes : List ℕ) → is_section c ≡ false
+      → Longest (tex_by effect c w place bytes)
+  tex-by-longest effects.Stands c w place bytes q =
+      one-longest false w place bytes (code_token c place bytes) (token-here false c place bytes q)
+  tex-by-longest (effects.Drops note) c w place bytes q = (tt, noted-longest text (control_or_plain c place bytes).notes)
+  tex-by-longest effects.Defines c w place bytes q = (λ s. not-both (is_section c) s q, tt)
+  tex-by-longest effects.Formats c w place bytes q = (λ s. not-both (is_section c) s q, tt)
+  tex-by-longest effects.BeginsC c w place bytes q = (λ s. not-both (is_section c) s q, tt)
 
-  tex-text-longest : (w : Where) (place byte : ℕ) (bytes : List ℕ) → drop place text ≡ byte ∷ bytes
+  tex-text-longest : (w : Where) (place byte : ℕ) (bytes : List ℕ) → (byte == at_sign && begins_section bytes) ≡ false
       → Longest (tex_text w place byte bytes)
-  tex-text-longest w place byte bytes here =
+  tex-text-longest w place byte bytes plain-byte =
       if-both Longest (byte == at_sign) _ _
-      (λ h. tex-by-longest (effect_in_tex (code_at bytes)) w place byte bytes here h)
-      (λ h. if-both Longest (byte == bar) _ _ (λ h. (bar-here place byte bytes here h, tt)) (λ h. (tt, tt)))
+      (λ h. tex-by-longest (effect_in_tex (code_at bytes)) (code_at bytes) w place (byte ∷ bytes)
+      (both-failed (byte == at_sign) (begins_section bytes) plain-byte h))
+      (λ h. if-both Longest (byte == bar) _ _ (λ h. tt) (λ h. (tt, tt)))
 
   macro-name-longest : (code : ℕ) (w : Where) (place byte : ℕ) (bytes : List ℕ) → drop place text ≡ byte ∷ bytes
       → name_follows (byte ∷ bytes) ≡ true → Longest (macro_name code w place byte bytes)
@@ -429,7 +395,7 @@ module _ (text : List ℕ) where
   behind-head-longest : (limbo : Bool) (w : Where) (fresh : Bool) (last place byte : ℕ) (bytes : List ℕ)
       → At fresh last place byte bytes → Longest (behind_head_apart limbo w fresh last place byte bytes)
   behind-head-longest true w fresh last place byte bytes at =
-      limbo-text-longest (moved w parts.Limbo) place byte bytes at.here
+      limbo-text-longest (moved w parts.Limbo) place byte bytes at.plain
   behind-head-longest false w fresh last place byte bytes at =
       code-text-longest (moved w parts.Definition) fresh last place byte bytes at
 
@@ -438,8 +404,8 @@ module _ (text : List ℕ) where
   part-text-longest : (part : Part) (w : Where) (fresh : Bool) (last place byte : ℕ) (bytes : List ℕ)
       → At fresh last place byte bytes → Wants part (byte ∷ bytes)
       → Longest (part_text_apart part w fresh last place byte bytes)
-  part-text-longest parts.Limbo w fresh last place byte bytes at p = limbo-text-longest w place byte bytes at.here
-  part-text-longest parts.Tex w fresh last place byte bytes at p = tex-text-longest w place byte bytes at.here
+  part-text-longest parts.Limbo w fresh last place byte bytes at p = limbo-text-longest w place byte bytes at.plain
+  part-text-longest parts.Tex w fresh last place byte bytes at p = tex-text-longest w place byte bytes at.plain
   part-text-longest parts.Head w fresh last place byte bytes at p =
       let size = if begins equals bytes then 2 else 1 in
       if-both Longest (is_in classes.Blank byte) _ _ (λ h. tt)
@@ -484,18 +450,28 @@ module _ (text : List ℕ) where
       → (byte == at_sign && begins_section bytes) ≡ true → Longest (section w place bytes)
   section-longest w place byte bytes here h =
       let code = section_code (at_sign ∷ bytes) in
-      let P : Cut → Type 0 = λ c. Says false place c.size c.kind in
+      let P : Cut → Type 0 =
+      λ c. c.size ≡ (section_code (drop place text)).size → Says false place c.size c.kind in
       append-longest text (all_cut w.part w.comments place place) _
       (bare-longest text place (all_cut w.part w.comments place place)
       (bare-all-cut w.part w.comments place place))
       (one-longest false w place (at_sign ∷ bytes) code
-      (if-both P (begins star bytes) _ _ (λ k. says at.StarredSection (starred-is bytes k))
-      (λ k. says at.Section (section-is bytes (both-right (byte == at_sign) (begins_section bytes) h) k))))
+      (if-both P (begins star bytes) _ _ (λ k. says at.StarredSection (starred-is bytes k) _)
+      (λ k. says at.Section (section-is bytes (both-right (byte == at_sign) (begins_section bytes) h) k) _) size))
     where
-      says : (c : Code) → code_at bytes ≡ c → IsCodeHere place c
-      says c e =
-          let byte-is = both-left (byte == at_sign) (begins_section bytes) h in
-          (ap (begins at_sign) here ∙ byte-is, sym (ap (λ l. code_at (drop 1 l)) here ∙ e))
+      shown : drop place text ≡ at_sign ∷ bytes
+      shown = here ∙ ap (λ b. b ∷ bytes) (eqb-true byte at_sign (both-left (byte == at_sign) (begins_section bytes) h))
+
+      size : (section_code (at_sign ∷ bytes)).size ≡ (section_code (drop place text)).size
+      size = ap (λ l. (section_code l).size) (sym shown)
+
+      says : (c : Code) → code_at bytes ≡ c → (n : ℕ) → n ≡ (section_code (drop place text)).size
+          → Says false place n (kinds.Code c)
+      says c e n size s = record {
+        sign = ap (begins at_sign) shown;
+        made = sym (ap (λ l. code_at (drop 1 l)) shown ∙ e);
+        whole = size;
+      }
 
   -- what the byte at a place says of the next one
   abbrev Known : Bool → ℕ → ℕ → Type 0
@@ -520,7 +496,7 @@ module _ (text : List ℕ) where
       append-longest text f.answers (answers bytes f.next (still_fresh fresh byte) byte (place + 1) f.more)
       (if-both Longest (byte == at_sign && begins_section bytes) _ _ (λ h. section-longest w place byte bytes here h)
       (λ h. in-text-longest w.part w.comments fresh last place byte bytes
-      (record { here = here; freshly = k.0; behind = k.1 }) p))
+      (record { here = here; freshly = k.0; behind = k.1; plain = h }) p))
       (all-longest bytes f.next (still_fresh fresh byte) byte (place + 1) f.more
       (drop-on text place byte bytes here) (known-on fresh last place byte bytes here k)
       (found-goes w fresh last place byte bytes p))
@@ -533,6 +509,5 @@ tokens-are-longest = record {
   tokens = λ text start end mode. let cut = take end text in
       all-longest cut (drop start cut) (beginning mode) (fresh_at cut start) (last_at cut start) start 0 refl
       (refl, refl) (beginning-wants mode (drop start cut));
-  texts = whole-texts;
   c_parts = c-parts;
 }

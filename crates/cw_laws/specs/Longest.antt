@@ -1,10 +1,9 @@
 -- Each token is the longest that begins at its place, and a sign and an other byte stand where nothing else begins.
 use Rattle.std.specs.Prelude.{◌≡◌, ℕ, ◌+◌, ◌-◌, ◌<◌, ◌≤◌, Bool, true, false, ◌&&◌, ◌||◌, ◌==◌, List, [], ◌∷◌, drop}
-use Rattle.std.specs.Prelude.{take, length, if◌then◌else◌}
+use Rattle.std.specs.Prelude.{take, length}
 use Rattle.cw_base.specs.Bytes.{newline, backslash}
-use Rattle.cw_base.specs.Text.{bar}
-use Rattle.cw_rules.specs.declared.classes.Class.{Class}
-use Rattle.cw_rules.specs.declared.classes.Class.TheVariants.{Word, IncludeName, LimboText, TexText}
+use Rattle.cw_rules.specs.declared.classes.Class.TheVariants.{Word, IncludeName}
+use Rattle.cw_rules.specs.declared.codes.Code.{Code}
 use Rattle.cw_rules.specs.declared.signs.Sign.{Sign}
 use Rattle.cw_rules.specs.declared.signs.Sign.TheVariants as signs
 use Rattle.cw_rules.specs.declared.tokens.Mode.{Mode}
@@ -14,11 +13,11 @@ use Rattle.cw_rules.specs.declared.tokens.TokKind.TheVariants as kinds
 use Rattle.cw_rules.specs.Answers.{Answer, Token, Begin, Finish, Note}
 use Rattle.cw_rules.specs.Bytes.{run, begins, begins_by, begins_with, is_letter, is_mark, at_sign, hash, less, slash}
 use Rattle.cw_rules.specs.Bytes.{star}
-use Rattle.cw_rules.specs.Codes.{code_at}
+use Rattle.cw_rules.specs.Codes.{code_at, is_section}
 use Rattle.cw_rules.specs.Constants.{constant}
 use Rattle.cw_rules.specs.Prefixes.{prefix_size}
 use Rattle.cw_rules.specs.Signs.{spelling, all_signs}
-use Rattle.cw_rules.specs.Tokens.{closes_on_line, head_sign_size, is_include}
+use Rattle.cw_rules.specs.Tokens.{closes_on_line, head_sign_size, is_include, section_code}
 use Rattle.cw_lex.specs.Lexing.{tokens_of, fresh_after, last_after}
 use Rattle.cw_lex.specs.Nested.{is_section_kind}
 use Rattle.cw_laws.specs.Strings.{IsString}
@@ -58,6 +57,12 @@ pub record IsIncludeName (bytes : List ℕ) (size : ℕ) : Type 0 where
   pub closed : closes_on_line (drop 1 bytes) ≡ true
   pub whole : size ≡ 1 + (run IncludeName (drop 1 bytes) + 1)
 
+-- A section code is the one that the byte behind its `@` makes, with its depth and the blanks behind it on its line.
+pub record IsSectionCode (code : Code) (bytes : List ℕ) (size : ℕ) : Type 0 where
+  pub sign : begins at_sign bytes ≡ true
+  pub made : code ≡ code_at (drop 1 bytes)
+  pub whole : size ≡ (section_code bytes).size
+
 -- A token of this size and kind stands behind bytes and before others, in a `#` line or not.
 --   identifier: a letter, and all letters and digits that stand in a row
 --   constant: all that a constant takes
@@ -65,7 +70,7 @@ pub record IsIncludeName (bytes : List ℕ) (size : ℕ) : Type 0 where
 --   `#` of a `#` line: the first byte of its line but for blanks
 --   end of a `#` line: a line's end with no backslash before it
 --   sign of a head: the longest of `==`, `+=` and `=`
---   code: `@`, and what the byte behind it makes
+--   section code: with its depth and blanks
 abbrev pub IsLongest : Bool → List ℕ → List ℕ → ℕ → TokKind → Type 0
 IsLongest hash_line before bytes size kinds.Identifier = (begins_by is_letter bytes ≡ true) × (size ≡ run Word bytes)
 IsLongest hash_line before bytes size kinds.Constant = size ≡ constant bytes
@@ -78,53 +83,17 @@ IsLongest hash_line before bytes size kinds.HashLineEnd =
     (begins newline bytes ≡ true) × (size ≡ 1) × ((last_after 0 before == backslash) ≡ false)
 IsLongest hash_line before bytes size kinds.OtherByte = IsOtherByte hash_line bytes size
 IsLongest hash_line before bytes size kinds.HeadSign = (0 < size) × (size ≡ head_sign_size bytes)
-IsLongest hash_line before bytes size (kinds.Code code) =
-    (begins at_sign bytes ≡ true) × (code ≡ code_at (drop 1 bytes))
-IsLongest hash_line before bytes size kinds.Dropped = begins at_sign bytes ≡ true
+IsLongest hash_line before bytes size (kinds.Code code) = is_section code ≡ true → IsSectionCode code bytes size
 IsLongest hash_line before bytes size kind = Unit {0}
-
--- What has parts begins with `/*` or `//`, or with a bar.
-abbrev pub IsBeginning : List ℕ → ℕ → TokKind → Type 0
-IsBeginning bytes size kinds.LongComment = ((begins slash bytes && begins star (drop 1 bytes)) ≡ true) × (size ≡ 2)
-IsBeginning bytes size kinds.ShortComment = ((begins slash bytes && begins slash (drop 1 bytes)) ≡ true) × (size ≡ 2)
-IsBeginning bytes size kinds.InnerText = (begins bar bytes ≡ true) × (size ≡ 1)
-IsBeginning bytes size kind = ⊥
 
 abbrev pub AreLongest : List ℕ → List Answer → Type 0
 AreLongest text [] = Unit {0}
 AreLongest text (Token t ∷ answers) =
     IsLongest t.hash_line (take t.span.start text) (drop t.span.start text) (t.span.end - t.span.start) t.kind
     × AreLongest text answers
-AreLongest text (Begin t ∷ answers) =
-    IsBeginning (drop t.span.start text) (t.span.end - t.span.start) t.kind × AreLongest text answers
+AreLongest text (Begin t ∷ answers) = AreLongest text answers
 AreLongest text (Finish t ∷ answers) = AreLongest text answers
 AreLongest text (Note kind place ∷ answers) = AreLongest text answers
-
--- ## Text in no comment
-
--- Limbo goes up to the first section code, and all text behind it that stands in no comment is TeX text.
-abbrev pub text_of : Mode → Class
-text_of modes.Limbo = LimboText
-text_of mode = TexText
-
-abbrev pub text_behind : Class → TokKind → Class
-text_behind class kind = if is_section_kind kind then TexText else class
-
--- Where nothing is open, a piece of limbo has all bytes up to the next `@`, and one of TeX text all up to the next `@`
--- or bar.
-abbrev pub IsWholeText : Class → ℕ → List ℕ → ℕ → TokKind → Type 0
-IsWholeText class depth bytes size kinds.Text = depth ≡ 0 → size ≡ run class bytes
-IsWholeText class depth bytes size kind = Unit {0}
-
--- So it is with the texts among answers, before which so many comments and inner texts are open.
-abbrev pub AreWholeTexts : List ℕ → Class → ℕ → List Answer → Type 0
-AreWholeTexts text class depth [] = Unit {0}
-AreWholeTexts text class depth (Token t ∷ answers) =
-    IsWholeText class depth (drop t.span.start text) (t.span.end - t.span.start) t.kind
-    × AreWholeTexts text (text_behind class t.kind) depth answers
-AreWholeTexts text class depth (Begin t ∷ answers) = AreWholeTexts text class (depth + 1) answers
-AreWholeTexts text class depth (Finish t ∷ answers) = AreWholeTexts text class (depth - 1) answers
-AreWholeTexts text class depth (Note kind place ∷ answers) = AreWholeTexts text class depth answers
 
 -- ## C parts
 
@@ -163,7 +132,5 @@ AllFitC text line named depth (Note kind place ∷ answers) = AllFitC text line 
 pub record TokensAreLongest : Type 0 where
   pub tokens : (text : List ℕ) (start end : ℕ) (mode : Mode)
       → AreLongest (take end text) (tokens_of text start end mode)
-  pub texts : (text : List ℕ) (start end : ℕ) (mode : Mode)
-      → AreWholeTexts (take end text) (text_of mode) 0 (tokens_of text start end mode)
   pub c_parts : (text : List ℕ) (start end : ℕ)
       → AllFitC (take end text) false false 0 (tokens_of text start end modes.CPart)
