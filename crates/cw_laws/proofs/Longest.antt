@@ -208,8 +208,10 @@ module _ (text : List ℕ) where
   code-by-longest : (effect : Effect) (c : Code) (w : Where) (place : ℕ) (bytes : List ℕ) → is_section c ≡ false
       → Longest (code_by effect c w place bytes)
   code-by-longest effects.Stands c w place bytes q =
-      one-longest (in_hash_line w.part) w place bytes (code_token c place bytes) (token-here (in_hash_line w.part) c place bytes q)
-  code-by-longest (effects.Drops note) c w place bytes q = (tt, noted-longest text (control_or_plain c place bytes).notes)
+      one-longest (in_hash_line w.part) w place bytes (code_token c place bytes)
+      (token-here (in_hash_line w.part) c place bytes q)
+  code-by-longest (effects.Drops note) c w place bytes q =
+      (tt, noted-longest text (control_or_plain c place bytes).notes)
   code-by-longest effects.Defines c w place bytes q = (λ s. not-both (is_section c) s q, tt)
   code-by-longest effects.Formats c w place bytes q = (λ s. not-both (is_section c) s q, tt)
   code-by-longest effects.BeginsC c w place bytes q = (λ s. not-both (is_section c) s q, tt)
@@ -336,7 +338,8 @@ module _ (text : List ℕ) where
       → Longest (tex_by effect c w place bytes)
   tex-by-longest effects.Stands c w place bytes q =
       one-longest false w place bytes (code_token c place bytes) (token-here false c place bytes q)
-  tex-by-longest (effects.Drops note) c w place bytes q = (tt, noted-longest text (control_or_plain c place bytes).notes)
+  tex-by-longest (effects.Drops note) c w place bytes q =
+      (tt, noted-longest text (control_or_plain c place bytes).notes)
   tex-by-longest effects.Defines c w place bytes q = (λ s. not-both (is_section c) s q, tt)
   tex-by-longest effects.Formats c w place bytes q = (λ s. not-both (is_section c) s q, tt)
   tex-by-longest effects.BeginsC c w place bytes q = (λ s. not-both (is_section c) s q, tt)

@@ -18,11 +18,12 @@ pub fn white_space_law()
 
 /// The law of longest tokens: an identifier, a constant, a sign and the sign of a head has as many bytes as can belong
 /// to one, a string goes up to its end, an include name to the first `>` of its line, and a section code over its depth
-/// and the blanks behind it. A sign stands where neither a constant nor a comment begins, and an other byte where nothing
-/// else begins. The `#` of a `#` line is the first byte of its line but for blanks, and what ends one is a line's end
-/// with no backslash before it. In a C part no identifier begins a string; outside its comments and `#` lines no `#`
-/// that is first on its line is a sign; the tokens of `#` lines alone are marked; and include names stand behind their
-/// word `include`, as no `<` does that a `>` follows on its line. It does nothing: what it ensures is for proofs.
+/// and the blanks behind it. A sign stands where neither a constant nor a comment begins, and an other byte where
+/// nothing else begins. The `#` of a `#` line is the first byte of its line but for blanks, and what ends one is a
+/// line's end with no backslash before it. In a C part no identifier begins a string; outside its comments and `#`
+/// lines no `#` that is first on its line is a sign; the tokens of `#` lines alone are marked; and include names stand
+/// behind their word `include`, as no `<` does that a `>` follows on its line. It does nothing: what it ensures is for
+/// proofs.
 pub fn longest_law()
     ensures { TokensAreLongest }
 {}
