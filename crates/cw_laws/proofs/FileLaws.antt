@@ -1,13 +1,9 @@
--- Each file of a run ends in a line, so all its bytes are written.
-use Rattle.std.proofs.Common.{◌≡◌, ℕ, Bool, true, false, refl, ap, ◌∙◌, List, [], ◌∷◌, ◌++◌, Option, Some, None, codes}
+-- Each file of a run ends in a line, so all its bytes are written; and files that are there already are kept.
+use Rattle.std.proofs.Common.{ℕ, Bool, true, false, refl, List, [], ◌∷◌, ◌++◌, Option, Some, None, codes}
 use Rattle.std.proofs.Common.{inl, inr, map, slice_get}
-use Rattle.std.proofs.lemmas.Cmp.{nat_list_eq_equiv}
 use Rattle.std.specs.List.{AllByRecursion, flat_map, list_any}
-use Rattle.cw_base.specs.declared.event.Event.{Event}
-use Rattle.cw_base.specs.declared.event.Event.TheVariants.{Drafted, Kept}
 use Rattle.cw_input.specs.declared.words.CommandLine.{CommandLine}
-use Rattle.cw_lines.specs.Cut.{CutLine, cut, written}
-use Rattle.cw_lines.specs.Line.{line_events}
+use Rattle.cw_lines.specs.Cut.{cut}
 use Rattle.cw_names.specs.Names.{Entry}
 use Rattle.cw_phase1.specs.declared.book.Book.{Book}
 use Rattle.cw_phase1.specs.declared.sections.Section.{Section}
@@ -21,46 +17,45 @@ use Rattle.cw_index.specs.Index.{entry_bytes, row_bytes, section_bytes}
 use Rattle.cw_index.specs.Mentions.{Row, index_rows}
 use Rattle.cw_index.specs.NameList.{all_listed, listed_done, name_ending, name_span, use_notes}
 use Rattle.cw_index.specs.Standing.{listed_names}
-use Rattle.cw_run.specs.Files.{OutFile, is_same, settled_if}
+use Rattle.cw_run.specs.Files.{OutFile}
 use Rattle.cw_weave.specs.TexFile.{all_sections, left_by, tex_file}
 use Rattle.cw_weave.specs.Woven.{index_files, index_of, index_out, list_out, name_list, tex_out}
-use Rattle.cw_laws.specs.Files.{EndInLine, FilesAreWhole, IsWritten, files_of}
-use Rattle.cw_laws.proofs.Endings.{all-end, behind-any, both-end, none-pending}
-
--- byte 10 is the last
-abbrev Ends : List ℕ → Type 0
-Ends bytes = (front : List ℕ) × (bytes ≡ front ++ 10 ∷ [])
-
-lines-end : (lines : List CutLine) → EndInLine (written lines)
-lines-end lines = all-end (λ (line : CutLine). line.text ++ 10 ∷ []) (λ line. inr (line.text, refl)) lines
+use Rattle.cw_laws.specs.Files.{EndInLine, FilesAreWhole, HasLineEnd, IsWritten, files_of}
+use Rattle.cw_laws.proofs.CutLines.{uncut, written-ends, written-short}
+use Rattle.cw_laws.proofs.Endings.{all-end, behind-any, both-end, ends-then, lines-end, none-pending}
+use Rattle.cw_laws.proofs.FileEvents.{keeps, keeps-by-run}
 
 is-written : (f : OutFile) → EndInLine f.bytes → IsWritten f
-is-written f ended = record { whole = none-pending f.bytes ended; ends = lines-end (cut f.bytes).lines }
+is-written f ended = record {
+  whole = none-pending f.bytes ended;
+  ends = lines-end (cut f.bytes).lines;
+  uncut = written-short f.bytes ended;
+}
 
 -- ## The TeX file
 
-last-line : (starred : Bool) → Ends (last_line starred)
+last-line : (starred : Bool) → HasLineEnd (last_line starred)
 last-line true = (codes "\\con", refl)
 last-line false = (codes "\\end", refl)
 
-closing-ends : (index starred : Bool) → Ends (last_lines index starred)
+closing-ends : (index starred : Bool) → HasLineEnd (last_lines index starred)
 closing-ends true starred = behind-any (codes "\\inx\n\\fin\n") (last_line starred) (last-line starred)
 closing-ends false starred = (codes "\\end", refl)
 
-tex-ends : (line : CommandLine) (text : List ℕ) (b : Book) → EndInLine (tex_file text line.flags b).out
+tex-ends : (line : CommandLine) (text : List ℕ) (b : Book) → HasLineEnd (tex_file text line.flags b).out
 tex-ends line text b =
     let changes : List ℕ = changes_line line.flags b.outline.sections in
     let last : List ℕ = last_lines line.flags.index
     (list_any (λ (section : Section). section.starred) b.outline.sections) in
     let closing : List ℕ = closing_lines line.flags b.outline.sections in
-    inr (behind-any (limbo_bytes text b.outline.limbo) ((all_sections text line.flags b).out ++ closing)
+    behind-any (limbo_bytes text b.outline.limbo) ((all_sections text line.flags b).out ++ closing)
     (behind-any (all_sections text line.flags b).out closing
     (behind-any changes last
-    (closing-ends line.flags.index (list_any (λ (section : Section). section.starred) b.outline.sections)))))
+    (closing-ends line.flags.index (list_any (λ (section : Section). section.starred) b.outline.sections))))
 
 -- ## The index
 
-row-ends : (sections : List Section) (row : Row) → Ends (row_bytes sections row)
+row-ends : (sections : List Section) (row : Row) → HasLineEnd (row_bytes sections row)
 row-ends sections row =
     let refs : List ℕ = flat_map (section_bytes sections) row.sections in
     behind-any (codes "\\I") (entry_bytes row.entry ++ (refs ++ codes ".\n"))
@@ -91,15 +86,11 @@ kept-ends sections (Some name) = uses-end sections name
 names-uses : (s : Setting) (l : _) → EndInLine (use_notes s.book l)
 names-uses s l = kept-ends s.book.outline.sections (slice_get s.book.sec_names l.id.index)
 
-line-then : (bytes : List ℕ) → EndInLine bytes → Ends (codes "\n" ++ bytes)
-line-then bytes (inl is) = ([], ap (λ (bytes : List ℕ). codes "\n" ++ bytes) is)
-line-then bytes (inr ended) = behind-any (codes "\n") bytes ended
-
 name-ends : (s : Setting) (l : _) (names : List Entry) → EndInLine (listed_done s l names).out
 name-ends s l names =
     let text : List ℕ = (text_done s Inner false (name_span s.text l.place) names).out in
     inr (behind-any (codes "\\I") (text ++ name_ending s l)
-    (behind-any text (name_ending s l) (line-then (use_notes s.book l) (names-uses s l))))
+    (behind-any text (name_ending s l) (ends-then (codes "\n") (use_notes s.book l) ([], refl) (names-uses s l))))
 
 names-end : (s : Setting) (ls : List _) (names : List Entry) → EndInLine (all_listed s ls names).out
 names-end s [] names = inl refl
@@ -125,21 +116,15 @@ index-written true line text left = (
 all-written : (line : CommandLine) (text : List ℕ) (b : Book) → AllByRecursion IsWritten (files_of line text b)
 all-written line text b =
     let tex : List ℕ = (tex_file text line.flags b).out in (
-      is-written (tex_out line.outputs tex) (tex-ends line text b),
+      is-written (tex_out line.outputs tex) (inr (tex-ends line text b)),
       index-written line.flags.index line text (left_by text line.flags b (tex_file text line.flags b)),
     )
-
-kept-same : (f : OutFile) (old : Option (List ℕ)) → old ≡ Some (written (cut f.bytes).lines)
-    → settled_if true (is_same old (written (cut f.bytes).lines)) f.out ≡ Kept f.out ∷ []
-kept-same f old is =
-    let bytes : List ℕ = written (cut f.bytes).lines in
-    ap (λ (old : Option (List ℕ)). settled_if true (is_same old bytes) f.out) is
-    ∙ ap (λ (same : Bool). settled_if true same f.out) (nat_list_eq_equiv.refl bytes)
 
 pub files-whole : FilesAreWhole
 files-whole = record {
   all = all-written;
-  kept = λ f named is.
-      ap (λ (end : List Event). Drafted f.out f.name ∷ (line_events f.out (cut f.bytes).lines ++ end))
-      (kept-same f (named f.name) is);
+  tex = λ line text b. written-ends (tex_file text line.flags b).out (tex-ends line text b);
+  kept = keeps;
+  kept_by_run = keeps-by-run;
+  uncut = uncut;
 }

@@ -21,6 +21,8 @@ pub mod EndCodes
 pub mod Ends
 pub mod PlainText
 mod Endings
+mod CutLines
+mod FileEvents
 mod FileLaws
 mod QuietParts
 pub mod ProseLaws

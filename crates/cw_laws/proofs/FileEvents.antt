@@ -1,0 +1,232 @@
+-- A run over files that are there already keeps them all.
+use Rattle.std.proofs.Common.{◌≡◌, ℕ, Bool, true, false, refl, sym, ap, subst, ◌∙◌, List, [], ◌∷◌, ◌++◌, Option}
+use Rattle.std.proofs.Common.{Some, map}
+use Rattle.std.specs.Prelude.{cond, ◌||◌}
+use Rattle.std.specs.List.{AllByRecursion, filter, flat_map, list_any}
+use Rattle.std.proofs.lemmas.Cmp.{nat_list_eq_equiv}
+use Rattle.std.proofs.lemmas.List.{append-nil}
+use Rattle.std.proofs.lemmas.List.Elements.{filter-append}
+use Rattle.std.proofs.lemmas.List.Folds.{list_any-append}
+use Rattle.cw_base.specs.Conditions.{list_if}
+use Rattle.cw_base.specs.Web.{WebState, text_of}
+use Rattle.cw_base.specs.declared.event.Event.{Event}
+use Rattle.cw_base.specs.declared.event.Event.TheVariants.{Byte, Drafted, Kept, Made, Replaced}
+use Rattle.cw_base.specs.declared.event.Out.{Out}
+use Rattle.cw_base.specs.declared.event.Out.TheVariants.{Term, Tex, Idx, Scn}
+use Rattle.cw_base.specs.declared.flags.Flags.{Flags}
+use Rattle.cw_base.specs.declared.notes.Note.{Note}
+use Rattle.cw_desk.specs.Journal.{byte_events}
+use Rattle.cw_desk.specs.Meaning.{NamedFiles}
+use Rattle.cw_input.specs.Merged.{Merged}
+use Rattle.cw_input.specs.declared.words.Command.{Command}
+use Rattle.cw_input.specs.declared.words.CommandLine.{CommandLine}
+use Rattle.cw_lines.specs.Cut.{cut}
+use Rattle.cw_lines.specs.Line.{line_events}
+use Rattle.cw_phase1.specs.declared.book.Book.{Book}
+use Rattle.cw_run.specs.Closing.{closing_by}
+use Rattle.cw_run.specs.Emits.{Run}
+use Rattle.cw_run.specs.Files.{Broken, OutFile, broken_events, broken_in, file_events, is_same, settled_if}
+use Rattle.cw_run.specs.Notes.{note_events, note_line, broken_line}
+use Rattle.cw_run.specs.Saying.{says, says_if}
+use Rattle.cw_run.specs.Statistics.{statistics_if}
+use Rattle.cw_run.specs.declared.statistics.Totals.{Totals}
+use Rattle.cw_secnames.specs.Kept.{SecName}
+use Rattle.cw_run.specs.Terminal.{banner_text, index_text, output_text}
+use Rattle.cw_texpart.specs.Done.{Done}
+use Rattle.cw_weave.specs.Statistics.{totals_of}
+use Rattle.cw_weave.specs.TexFile.{left_by, tex_file}
+use Rattle.cw_weave.specs.Woven.{end_of_run, index_events, index_files, index_of, index_out, list_out}
+use Rattle.cw_weave.specs.Woven.{book_of, name_list, tex_out, weave_book, weave_command_of, weave_unless, weave_web}
+use Rattle.cw_weave.specs.Woven.{with_banner, woven}
+use Rattle.cw_laws.specs.Files.{AskFor, IsThere, KeepEach, files_of, is_of_file, kept_events, rewrites, written_of}
+
+-- ## Events of the terminal
+
+-- none of the events is of a file
+record AreTold (events : List Event) : Type 0 where
+  none : filter is_of_file events ≡ []
+
+told-bytes : (bytes : List ℕ) → filter is_of_file (byte_events Term bytes) ≡ []
+told-bytes [] = refl
+told-bytes (byte ∷ bytes) = told-bytes bytes
+
+told-says : (message : List ℕ) → AreTold (says message)
+unfolding says
+told-says message = record { none = told-bytes (message ++ 10 ∷ []) }
+
+told-both : {first second : List Event} → AreTold first → AreTold second → AreTold (first ++ second)
+told-both {first = first} {second = second} a b = record {
+  none = filter-append is_of_file first second ∙ ap (λ es. es ++ filter is_of_file second) a.none ∙ b.none;
+}
+
+told-if : (t : Bool) {events : List Event} → AreTold events → AreTold (list_if t events)
+told-if true a = a
+told-if false a = record { none = refl }
+
+told-each : {X : Type 0} (tell : X → List Event) → ((x : X) → AreTold (tell x)) → (xs : List X)
+    → AreTold (flat_map tell xs)
+told-each tell each [] = record { none = refl }
+told-each tell each (x ∷ xs) = told-both (each x) (told-each tell each xs)
+
+told-said : (t : Bool) (message : List ℕ) → AreTold (says_if t message)
+told-said t message = told-if t (told-says message)
+
+told-notes : (files : List (List ℕ)) (kept : List SecName) (notes : List Note) → AreTold (note_events files kept notes)
+told-notes files kept notes =
+    told-each (λ note. says (note_line files kept note)) (λ note. told-says (note_line files kept note)) notes
+
+told-broken : (bs : List Broken) → AreTold (flat_map broken_events bs)
+told-broken bs =
+    told-each broken_events
+    (λ b. told-each (λ number. says (broken_line b.name number)) (λ number. told-says (broken_line b.name number))
+    b.numbers) bs
+
+told-statistics : (t : Bool) (totals : Totals) → AreTold (statistics_if t totals)
+told-statistics t totals =
+    told-if t (told-both (told-says _) (told-both (told-says _) (told-both (told-says _) (told-says _))))
+
+told-closing : (faulty any : Bool) (flags : Flags) → AreTold (closing_by faulty any flags)
+told-closing true any flags = told-says _
+told-closing false true flags = told-says _
+told-closing false false flags = told-said flags.happy _
+
+-- ## Events of files
+
+-- the bytes of an output are no bytes of the terminal
+abbrev IsFile : Out → Type 0
+IsFile out = (byte : ℕ) → is_of_file (Byte out byte) ≡ true
+
+file-bytes : (out : Out) → IsFile out → (bytes : List ℕ)
+    → filter is_of_file (byte_events out bytes) ≡ byte_events out bytes
+file-bytes out file [] = refl
+file-bytes out file (byte ∷ bytes) =
+    let rest : List Event = filter is_of_file (byte_events out bytes) in
+    ap (λ t. cond t (Byte out byte ∷ rest) rest) (file byte)
+    ∙ ap (λ (es : List Event). Byte out byte ∷ es) (file-bytes out file bytes)
+
+kept-same : (f : OutFile) (old : Option (List ℕ)) → old ≡ Some (written_of f.bytes)
+    → settled_if true (is_same old (written_of f.bytes)) f.out ≡ Kept f.out ∷ []
+kept-same f old is =
+    ap (λ (old : Option (List ℕ)). settled_if true (is_same old (written_of f.bytes)) f.out) is
+    ∙ ap (λ (same : Bool). settled_if true same f.out) (nat_list_eq_equiv.refl (written_of f.bytes))
+
+file-kept : (keep : Bool) (f : OutFile) (named : NamedFiles) → keep ≡ true → IsFile f.out → IsThere named f
+    → filter is_of_file (file_events keep f named) ≡ kept_events f
+file-kept keep f named asked file is =
+    let lines : List Event = line_events f.out (cut f.bytes).lines in
+    ap (λ k. filter is_of_file (file_events k f named)) asked
+    ∙ ap (λ (end : List Event). filter is_of_file (Drafted f.out f.name ∷ (lines ++ end)))
+    (kept-same f (named f.name) is)
+    ∙ ap (λ (es : List Event). Drafted f.out f.name ∷ es)
+    (filter-append is_of_file lines (Kept f.out ∷ [])
+    ∙ ap (λ (es : List Event). es ++ Kept f.out ∷ []) (file-bytes f.out file (written_of f.bytes)))
+
+-- What is told is left out, and what is done to files is left.
+run-kept : {notes said end a b : List Event} (tex index : List Event) → AreTold notes → AreTold said
+    → filter is_of_file tex ≡ a → filter is_of_file index ≡ b → AreTold end
+    → filter is_of_file (notes ++ (((said ++ tex) ++ index) ++ end)) ≡ a ++ b
+run-kept tex index n s t i e = simp (filter-append is_of_file, n.none, s.none, t, i, e.none, append-nil)
+
+two-kept : {said a b : List Event} (first second : List Event) → AreTold said → filter is_of_file first ≡ a
+    → filter is_of_file second ≡ b → filter is_of_file (said ++ (first ++ (second ++ []))) ≡ a ++ (b ++ [])
+two-kept first second s f g = simp (filter-append is_of_file, s.none, f, g)
+
+-- ## Nothing is rewritten
+
+rewrites-filtered : (events : List Event) → list_any rewrites events ≡ list_any rewrites (filter is_of_file events)
+rewrites-filtered [] = refl
+rewrites-filtered (Made out name ∷ events) = refl
+rewrites-filtered (Byte Term byte ∷ events) = rewrites-filtered events
+rewrites-filtered (Byte Tex byte ∷ events) = rewrites-filtered events
+rewrites-filtered (Byte Idx byte ∷ events) = rewrites-filtered events
+rewrites-filtered (Byte Scn byte ∷ events) = rewrites-filtered events
+rewrites-filtered (Drafted out name ∷ events) = rewrites-filtered events
+rewrites-filtered (Kept out ∷ events) = rewrites-filtered events
+rewrites-filtered (Replaced out ∷ events) = refl
+
+bytes-rewrite : (out : Out) (bytes : List ℕ) (events : List Event)
+    → list_any rewrites (byte_events out bytes ++ events) ≡ list_any rewrites events
+bytes-rewrite out [] events = refl
+bytes-rewrite out (byte ∷ bytes) events = bytes-rewrite out bytes events
+
+kept-rewrite : (files : List OutFile) → list_any rewrites (flat_map kept_events files) ≡ false
+kept-rewrite [] = refl
+kept-rewrite (f ∷ files) =
+    list_any-append rewrites (kept_events f) (flat_map kept_events files)
+    ∙ ap (λ t. t || list_any rewrites (flat_map kept_events files))
+    (bytes-rewrite f.out (written_of f.bytes) (Kept f.out ∷ []))
+    ∙ kept-rewrite files
+
+keep-each : (files : List OutFile) (events : List Event) → filter is_of_file events ≡ flat_map kept_events files
+    → KeepEach files events
+keep-each files events is = record {
+  each = is;
+  unchanged = rewrites-filtered events ∙ ap (list_any rewrites) is ∙ kept-rewrite files;
+}
+
+-- ## Of the run
+
+keeps-index : (t : Bool) (line : CommandLine) (text : List ℕ) (left : Book) (named : NamedFiles)
+    → line.flags.keep ≡ true → AllByRecursion (IsThere named) (index_files t line text left)
+    → filter is_of_file (index_events t line.flags (index_files t line text left) named)
+    ≡ flat_map kept_events (index_files t line text left)
+keeps-index false line text left named asked there = refl
+keeps-index true line text left named asked there =
+    let index : OutFile = index_out line.outputs (index_of left) in
+    let names : OutFile = list_out line.outputs (name_list text line.flags left).out in
+    two-kept (file_events line.flags.keep index named) (file_events line.flags.keep names named)
+    (told-said line.flags.progress index_text)
+    (file-kept line.flags.keep index named asked (λ byte. refl) there.0)
+    (file-kept line.flags.keep names named asked (λ byte. refl) there.1.0)
+
+told-end : (flags : Flags) (broken : List Broken) (totals : Totals) (notes : List Note)
+    → AreTold (end_of_run flags broken totals notes).rest
+told-end flags broken totals notes =
+    told-both (told-said flags.progress _)
+    (told-both (told-broken broken) (told-both (told-statistics flags.stats totals) (told-closing _ _ flags)))
+
+pub keeps : (line : CommandLine) (web : WebState) (b : Book) (named : NamedFiles) → line.flags.keep ≡ true
+    → AllByRecursion (IsThere named) (files_of line (text_of web.lines) b)
+    → KeepEach (files_of line (text_of web.lines) b) (weave_book line web b named).rest
+keeps line web b named asked there =
+    let text : List ℕ = text_of web.lines in
+    let done : Done ℕ = tex_file text line.flags b in
+    let left : Book = left_by text line.flags b done in
+    let tex : OutFile = tex_out line.outputs done.out in
+    let index : List OutFile = index_files line.flags.index line text left in
+    let notes : List Note = web.notes ++ b.outline.notes in
+    let totals : Totals = totals_of line.flags b.outline.sections done in
+    keep-each (files_of line text b) (weave_book line web b named).rest
+    (run-kept (file_events line.flags.keep tex named) (index_events line.flags.index line.flags index named)
+    (told-notes web.files b.sec_names notes) (told-said line.flags.progress output_text)
+    (file-kept line.flags.keep tex named asked (λ byte. refl) there.0)
+    (keeps-index line.flags.index line text left named asked there.1)
+    (told-end line.flags (map broken_in (tex ∷ index)) totals notes))
+
+-- ## Of the run from its words on
+
+told-before : {told : List Event} (events : List Event) (files : List OutFile) → AreTold told → KeepEach files events
+    → KeepEach files (told ++ events)
+told-before {told = told} events files told-alone keep =
+    keep-each files (told ++ events)
+    (filter-append is_of_file told events
+    ∙ ap (λ (es : List Event). es ++ filter is_of_file events) told-alone.none ∙ keep.each)
+
+run-is : (words : List (List ℕ)) (named : NamedFiles) (line : CommandLine) (web : WebState)
+    → AskFor words named line web
+    → woven words named ≡ with_banner line.flags (weave_book line web (book_of line.flags web) named)
+run-is words named line web asked =
+    ap (λ (c : Command). weave_command_of c named) asked.line_is
+    ∙ ap (λ (m : Merged). with_banner line.flags (weave_web line m named)) asked.web_is
+    ∙ ap (λ (o : Option (List ℕ)). with_banner line.flags (weave_unless o line web named)) asked.apart
+
+pub keeps-by-run : (words : List (List ℕ)) (named : NamedFiles) (line : CommandLine) (web : WebState)
+    → AskFor words named line web → line.flags.keep ≡ true
+    → AllByRecursion (IsThere named) (files_of line (text_of web.lines) (book_of line.flags web))
+    → KeepEach (files_of line (text_of web.lines) (book_of line.flags web)) (woven words named).rest
+keeps-by-run words named line web asked keep there =
+    let b : Book = book_of line.flags web in
+    let files : List OutFile = files_of line (text_of web.lines) b in
+    subst (λ (run : Run). KeepEach files run.rest) (sym (run-is words named line web asked))
+    (told-before (weave_book line web b named).rest files (told-said line.flags.banner banner_text)
+    (keeps line web b named keep there))
