@@ -14,6 +14,7 @@ use Rattle.cw_rules.specs.declared.tokens.TokKind.TheVariants as kinds
 use Rattle.cw_rules.specs.declared.parts.Part.TheVariants as parts
 use Rattle.cw_rules.specs.Answers.{Answer, Token, Where, Found, plain as cut_plain, token_of}
 use Rattle.cw_base.specs.Bytes.{newline}
+use Rattle.cw_base.specs.Web.{MergedLine, text_of}
 use Rattle.cw_rules.specs.Bytes.{at_sign, is_in, run}
 use Rattle.cw_base.specs.Text.{bar}
 use Rattle.cw_rules.specs.Codes.{begins_section, code_at, effect_in_limbo, effect_in_tex}
@@ -21,19 +22,19 @@ use Rattle.cw_rules.specs.Tokens.{all_cut, inner_begin, limbo_by, moved, one, se
 use Rattle.cw_rules.specs.Apart.{found_apart}
 use Rattle.cw_lex.specs.Lexing.{answers, beginning, fresh_at, joined, last_after, last_at, still_fresh}
 use Rattle.cw_names.specs.Names.{Entry}
+use Rattle.cw_phase1.specs.Book.{book}
 use Rattle.cw_phase1.specs.declared.sections.Section.{Section}
 use Rattle.cw_texpart.specs.Done.{Done, done_behind, as_it_is, reprinted}
-use Rattle.cw_texpart.specs.Beside.{is_nothing}
 use Rattle.cw_texpart.specs.Heads.{head, head_by, printed_depth}
 use Rattle.cw_print.specs.Walk.{section_number}
 use Rattle.cw_texpart.specs.Inks.{Ink, bytes_of, copied, end_if, ends_empty_line, ink_by, inks, laid}
 use Rattle.cw_texpart.specs.Limbo.{printed_limbo}
 use Rattle.cw_texts.specs.Scans.{scanned}
-use Rattle.cw_texpart.specs.TexParts.{beside_in, pieces_done, head_and_tex, tex_done}
+use Rattle.cw_texpart.specs.TexParts.{pieces_done, head_and_tex, tex_done}
 use Rattle.cw_texts.specs.TexPieces.{Copied, tex_pieces_of, tex_pieces}
 use Rattle.cw_phase1.specs.Sections.{span as span_of}
 use Rattle.cw_texpart.specs.Texts.{Setting}
-use Rattle.cw_laws.specs.TexText.{HasNo, PlainTextIsKept, behind_line_end, is_copied, kept_bytes, last_line_ended}
+use Rattle.cw_laws.specs.TexText.{HasNo, IsPlain, behind_line_end, is_copied, kept_bytes, last_line_ended, plain_tex}
 use Rattle.cw_lex.proofs.Covering.{drop-on}
 
 -- ## What the scanner answers
@@ -290,50 +291,54 @@ behind-head front bytes =
     sym (append_assoc front bytes (end_if (not (last_after (last_after newline front) bytes == newline))))
     ∙ ap (λ b. (front ++ bytes) ++ end_if (not (b == newline))) (sym (last-append newline front bytes))
 
--- ## The law
+-- ## What parts print
 
-pub plain-text-is-kept : PlainTextIsKept
-plain-text-is-kept = record { limbo = limbo; no_c_text = no-c-text; tex = tex }
-  where
-    limbo : (text : List ℕ) (part : Span) → HasNo at_sign (bytes_of text part)
-        → printed_limbo text part ≡ last_line_ended (kept_bytes text part)
-    limbo text part h =
-        let fresh : Bool = fresh_at (take part.end text) part.start in
-        let last : ℕ = last_at (take part.end text) part.start in
-        ap (λ (l : List Answer). laid false (inks text l))
-        (scanned-is modes.Limbo text part ∙ limbo-answers (bytes_of text part) fresh last part.start h)
-        ∙ ap (laid false) (text-inks text part.start (bytes_of text part) (same-bytes text part))
-        ∙ laid-limbo text part.start (bytes_of text part) (stand text part)
+pub limbo-kept : (text : List ℕ) (part : Span) → HasNo at_sign (bytes_of text part)
+    → printed_limbo text part ≡ last_line_ended (kept_bytes text part)
+limbo-kept text part h =
+    let fresh : Bool = fresh_at (take part.end text) part.start in
+    let last : ℕ = last_at (take part.end text) part.start in
+    ap (λ (l : List Answer). laid false (inks text l))
+    (scanned-is modes.Limbo text part ∙ limbo-answers (bytes_of text part) fresh last part.start h)
+    ∙ ap (laid false) (text-inks text part.start (bytes_of text part) (same-bytes text part))
+    ∙ laid-limbo text part.start (bytes_of text part) (stand text part)
 
-    tex-scanned : (text : List ℕ) (part : Span) → HasNo at_sign (bytes_of text part) → HasNo bar (bytes_of text part)
-        → scanned modes.TexText text part ≡ text_answers part.start (bytes_of text part)
-    tex-scanned text part h g =
-        scanned-is modes.TexText text part ∙ tex-answers (bytes_of text part) (fresh_at (take part.end text) part.start)
-        (last_at (take part.end text) part.start) part.start h g
+kept-from-start : (text : List ℕ) (part : Span) → part.start ≡ 0 → kept_bytes text part ≡ bytes_of text part
+kept-from-start text part is =
+    ap (λ (n : ℕ). if n == 0 || slice_index text (n - 1) == newline then bytes_of text part
+    else behind_line_end (bytes_of text part)) is
 
-    no-c-text : (text : List ℕ) (part : Span) → HasNo at_sign (bytes_of text part) → HasNo bar (bytes_of text part)
-        → All (λ piece. is_copied piece ≡ true) (tex_pieces_of text part)
-    no-c-text text part h g =
-        subst (λ (l : List Answer). All (λ piece. is_copied piece ≡ true) (tex_pieces zero zero l))
-        (sym (tex-scanned text part h g)) (text-pieces part.start (bytes_of text part))
+pub limbo-of-web : (lines : List MergedLine)
+    → kept_bytes (text_of lines) (book lines).outline.limbo ≡ bytes_of (text_of lines) (book lines).outline.limbo
+limbo-of-web lines = kept-from-start (text_of lines) (book lines).outline.limbo refl
 
-    tex : (s : Setting) (section : Section) (names : List Entry) → HasNo at_sign (bytes_of s.text section.tex)
-        → HasNo bar (bytes_of s.text section.tex) → is_nothing (beside_in s section) ≡ true
-        → tex_done s section names
-        ≡ as_it_is (last_line_ended (head s.flags.ranged s.text s.section section ++ bytes_of s.text section.tex)) names
-    tex s section names h g none =
-        let front : List ℕ = head s.flags.ranged s.text s.section section in
-        let bytes : List ℕ = bytes_of s.text section.tex in
-        let start : ℕ = section.tex.start in
-        ap (λ (b : Bool). head_and_tex b front s section names) none
-        ∙ ap (λ (l : List Answer). done_behind front
-        (reprinted (laid true) (pieces_done s (tex_pieces zero zero l) names)))
-        (tex-scanned s.text section.tex h g)
-        ∙ ap (λ (d : Done Ink). done_behind front (reprinted (laid true) d))
-        (text-done s start bytes names (same-bytes s.text section.tex))
-        ∙ ap (λ (l : List ℕ). as_it_is (front ++ l) names)
-        (laid-tex s.text start bytes (last_after newline front)
-        (head-last section.starred (printed_depth s.flags.ranged s.text section.depth)
-        (section_number s.section section.changed))
-        (stand s.text section.tex))
-        ∙ ap (λ (l : List ℕ). as_it_is l names) (behind-head front bytes)
+tex-scanned : (text : List ℕ) (part : Span) → HasNo at_sign (bytes_of text part) → HasNo bar (bytes_of text part)
+    → scanned modes.TexText text part ≡ text_answers part.start (bytes_of text part)
+tex-scanned text part h g =
+    scanned-is modes.TexText text part ∙ tex-answers (bytes_of text part) (fresh_at (take part.end text) part.start)
+    (last_at (take part.end text) part.start) part.start h g
+
+pub no-c-text : (text : List ℕ) (part : Span) → HasNo at_sign (bytes_of text part) → HasNo bar (bytes_of text part)
+    → All (λ piece. is_copied piece ≡ true) (tex_pieces_of text part)
+no-c-text text part h g =
+    subst (λ (l : List Answer). All (λ piece. is_copied piece ≡ true) (tex_pieces zero zero l))
+    (sym (tex-scanned text part h g)) (text-pieces part.start (bytes_of text part))
+
+pub tex-kept : (s : Setting) (section : Section) (names : List Entry) → IsPlain s section
+    → tex_done s section names ≡ as_it_is (plain_tex s section) names
+tex-kept s section names plain =
+    let front : List ℕ = head s.flags.ranged s.text s.section section in
+    let bytes : List ℕ = bytes_of s.text section.tex in
+    let start : ℕ = section.tex.start in
+    ap (λ (b : Bool). head_and_tex b front s section names) plain.alone
+    ∙ ap (λ (l : List Answer). done_behind front
+    (reprinted (laid true) (pieces_done s (tex_pieces zero zero l) names)))
+    (tex-scanned s.text section.tex plain.no_code plain.no_bar)
+    ∙ ap (λ (d : Done Ink). done_behind front (reprinted (laid true) d))
+    (text-done s start bytes names (same-bytes s.text section.tex))
+    ∙ ap (λ (l : List ℕ). as_it_is (front ++ l) names)
+    (laid-tex s.text start bytes (last_after newline front)
+    (head-last section.starred (printed_depth s.flags.ranged s.text section.depth)
+    (section_number s.section section.changed))
+    (stand s.text section.tex))
+    ∙ ap (λ (l : List ℕ). as_it_is l names) (behind-head front bytes)
