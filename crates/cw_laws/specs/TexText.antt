@@ -1,4 +1,4 @@
--- TeX text and limbo without an `@`, and TeX text without a bar: what they print, and where that stands in the TeX file.
+-- TeX text and limbo without an `@`, and TeX text without a bar: what they print, and where it stands in the TeX file.
 --
 -- All bytes are printed in their order. Only line ends come or go: the last line is ended where it isn't, and a line's
 -- end with which limbo begins is dropped where other bytes stand before it on its line.

@@ -155,7 +155,8 @@ mentioned (roles.SecondName false) p waits ps k =
     (format k.first Ident p.token.text _ _ _ (entered Ident p.token.text k.names))
 mentioned (roles.SecondName true) p waits ps k = refl
 mentioned (roles.Entry kind) p waits ps k =
-    one (mention kind (text_behind_code p.token.text) p waits) k.names ps (known_behind (roles.Entry kind) p.token.text k)
+    one (mention kind (text_behind_code p.token.text) p waits) k.names ps
+    (known_behind (roles.Entry kind) p.token.text k)
     (entered kind (text_behind_code p.token.text) k.names)
 mentioned roles.SectionCode p waits ps k = refl
 mentioned roles.Underline p waits ps k = refl
