@@ -1,6 +1,5 @@
 -- The classes stand in their order, and a class by its value.
 use Rattle.std.proofs.Common.{◌≡◌, ℕ, refl, sym}
-use Rattle.std.specs.declared.cmp.Ordering.{Ordering}
 use Rattle.std.specs.declared.cmp.Ordering.TheVariants.{Equal}
 use Rattle.std.specs.Cmp.{nat_cmp_is}
 use Rattle.std.specs.Ordering.{nat_cmp}

@@ -8,7 +8,6 @@ use Rattle.cw_rules.specs.declared.codes.Code.{Code}
 use Rattle.cw_rules.specs.declared.codes.Code.TheVariants as at
 use Rattle.cw_rules.specs.declared.parts.Part.TheVariants as parts
 use Rattle.cw_rules.specs.declared.tokens.Mode.TheVariants as modes
-use Rattle.cw_rules.specs.declared.tokens.TokKind.TheVariants as kinds
 use Rattle.cw_rules.specs.Answers.{Answer, Where, Found, note_answers}
 use Rattle.cw_rules.specs.Bodies.{at_start, extent}
 use Rattle.cw_rules.specs.Codes.{code_of}

@@ -1,14 +1,12 @@
 -- Sections leave what their texts leave, one after another.
 use Rattle.std.proofs.Common.{◌≡◌, ℕ, suc, Bool, true, false, ◌||◌, List, [], ◌∷◌, ◌++◌, Option, Some, None}
-use Rattle.std.proofs.Common.{All, map, refl, sym, ap, ◌∙◌, append_assoc}
+use Rattle.std.proofs.Common.{All, refl, sym, ap, ◌∙◌, append_assoc}
 use Rattle.std.specs.Prelude.{is_some}
-use Rattle.std.specs.List.{filter, flat_map}
 use Rattle.std.proofs.lemmas.List.{append-nil}
 use Rattle.std.proofs.lemmas.List.Elements.{All-head, All-tail, filter-append}
 use Rattle.cw_base.specs.Conditions.{list_if}
 use Rattle.cw_base.specs.Web.{text_of}
 use Rattle.cw_base.specs.declared.span.Span.{Span}
-use Rattle.cw_lex.specs.Nest.{IsWell}
 use Rattle.cw_lex.specs.NestLaws.{NestsAreWell}
 use Rattle.cw_lex.specs.Nested.{CTextsAreNested}
 use Rattle.cw_names.specs.Names.{Entry}
@@ -26,7 +24,7 @@ use Rattle.cw_texpart.specs.Done.{Done, as_it_is, reprinted, done_then}
 use Rattle.cw_texpart.specs.Heads.{head}
 use Rattle.cw_texpart.specs.Inks.{prints}
 use Rattle.cw_texpart.specs.TexParts.{beside_in, piece_done, pieces_done, head_and_tex, tex_done}
-use Rattle.cw_texpart.specs.Texts.{Setting, name_done_by, setting, text_done}
+use Rattle.cw_texpart.specs.Texts.{Setting, name_done_by, setting}
 use Rattle.cw_texts.specs.declared.definitions.Definition.{Definition}
 use Rattle.cw_texts.specs.declared.text_list.TextRef.{TextRef}
 use Rattle.cw_texts.specs.Definitions.{printed_definitions}
@@ -35,7 +33,7 @@ use Rattle.cw_texts.specs.Scans.{scanned}
 use Rattle.cw_texts.specs.TexPieces.{TexPiece, Copied, InnerText, Cited, tex_pieces_of}
 use Rattle.cw_texts.specs.Texts.{definition_refs, part_refs, piece_refs, refs_from, section_refs, tex_refs, text_ref}
 use Rattle.cw_translator.specs.Translating.{Ended}
-use Rattle.cw_laws.specs.BookTexts.{EveryTextIsWoven, LeaveTheSame, TextsAreWoven, is_any, is_inner, ref_done}
+use Rattle.cw_laws.specs.BookTexts.{EveryTextIsWoven, LeaveTheSame, TextsAreWoven, is_any, ref_done}
 use Rattle.cw_laws.specs.BookTexts.{refs_done, with_scraps}
 use Rattle.cw_laws.proofs.ProseLaws.{no-prose, no-refs}
 use Rattle.cw_laws.proofs.QuietParts.{quiet-text}

@@ -1,22 +1,18 @@
 -- Blocks are checked one after another.
-use Rattle.std.proofs.Common.{◌≡◌, ◌≢◌, ℕ, zero, suc, ◌+◌, ◌-◌, ◌≤◌, Bool, true, false, ◌&&◌, List, [], ◌∷◌, ◌++◌}
-use Rattle.std.proofs.Common.{inl, inr, length, map, sum_by, All, eqb, cond, refl, sym, ◌∙◌, ap, subst, arith}
+use Rattle.std.proofs.Common.{◌≡◌, ℕ, ◌+◌, ◌-◌, ◌≤◌, Bool, true, false, ◌&&◌, List, [], ◌∷◌, ◌++◌}
+use Rattle.std.proofs.Common.{inl, inr, length, map, sum_by, All, eqb, cond, refl, sym, ◌∙◌, ap, arith}
 use Rattle.std.proofs.Common.{append_assoc}
 use Rattle.std.proofs.lemmas.Bool.Decides.{eqb_tells}
 use Rattle.std.proofs.lemmas.Grind.{flat_map-append}
 use Rattle.std.proofs.lemmas.List.{append-nil, length-append, length-map}
 use Rattle.std.proofs.lemmas.List.Sums.{sum_by-append, sum_by-cons}
 use Rattle.std.specs.Cmp.Lexicographic.{pointwise}
-use Rattle.std.specs.List.{flat_map}
 use Rattle.cw_base.proofs.TestLaws.{both-left, both-right}
 use Rattle.cw_base.specs.Text.{pieces_of, pieces_by}
-use Rattle.cw_base.specs.declared.flags.Flags.{Flags}
 use Rattle.cw_base.specs.Flags.{start_flags}
-use Rattle.cw_check.specs.Judging.{Judges, common, same_item}
-use Rattle.cw_check.specs.declared.checking.Verdict.{Verdict}
+use Rattle.cw_check.specs.Judging.{Judges, same_item}
 use Rattle.cw_check.specs.declared.checking.Verdict.TheVariants as verdicts
 use Rattle.cw_leaves.specs.declared.lines.LeafLine.{LeafLine}
-use Rattle.cw_leaves.specs.declared.lines.TextLog.{TextLog}
 use Rattle.cw_leaves.specs.LeafLines.{leaf_line, log_of_lines, IsTold}
 use Rattle.cw_leaves.specs.Spelling.{line_of, production_of, spelled}
 use Rattle.cw_leaves.proofs.LineFacts.{lines-have-log}
@@ -33,7 +29,6 @@ use Rattle.cw_table.specs.Productions.{productions}
 use Rattle.cw_table.specs.Rewriting.{State}
 use Rattle.cw_trees.specs.Joining.{Scrap}
 use Rattle.cw_log.specs.Checking.{checked, checked_by, from_wrong, is_right, told, IsCheckedAs}
-use Rattle.cw_log.specs.declared.checking.Checked.{Checked}
 use Rattle.cw_log.specs.declared.checking.Checked.TheVariants.{Accepted, Rejected}
 use Rattle.cw_log.proofs.LineLaws.{lines-say-scraps}
 

@@ -1,15 +1,13 @@
 -- A scrap that is made of a leaf line has that leaf line, and keeps a line sound.
-use Rattle.std.proofs.Common.{◌≡◌, ℕ, zero, suc, ◌+◌, ◌<◌, ◌≤◌, Bool, true, false, ◌&&◌, Option, Some, None, List, []}
+use Rattle.std.proofs.Common.{◌≡◌, ℕ, zero, suc, ◌+◌, ◌<◌, Bool, true, false, Option, Some, None, List, []}
 use Rattle.std.proofs.Common.{◌∷◌}
-use Rattle.std.proofs.Common.{◌++◌, length, map, eqb, nat_lt, slice_get, All, refl, sym, ◌∙◌, ap, subst, arith}
-use Rattle.std.proofs.lemmas.List.{map-append}
+use Rattle.std.proofs.Common.{◌++◌, length, map, eqb, slice_get, All, refl, ◌∙◌, ap, arith}
 use Rattle.cw_base.proofs.TestLaws.{both-left, both-right}
 use Rattle.cw_base.specs.declared.category.Cat.{Cat}
 use Rattle.cw_base.specs.declared.category.Cat.TheVariants as cats
 use Rattle.cw_base.specs.declared.mode.MathMode.{MathMode}
-use Rattle.cw_base.specs.declared.mode.MathMode.TheVariants.{Maybe}
 use Rattle.cw_names.specs.declared.entry.NameId.{NameId}
-use Rattle.cw_trees.specs.Joining.{Agrees, leads_on, reads}
+use Rattle.cw_trees.specs.Joining.{reads}
 use Rattle.cw_trees.specs.Tree.{Tree, bare_name}
 use Rattle.cw_table.specs.Normal.{fine_with}
 use Rattle.cw_table.specs.Sound.{is_exp}
@@ -24,7 +22,7 @@ use Rattle.cw_scraps.proofs.LeafForms.{IsGood}
 use Rattle.cw_tokens.specs.declared.token.Token.{Token}
 use Rattle.cw_tokens.specs.References.{token_ref}
 use Rattle.cw_tokens.specs.Shapes.{tree_in}
-use Rattle.cw_log.specs.Making.{ident_token, last_tokens, made_form, made_tokens}
+use Rattle.cw_log.specs.Making.{ident_token, last_tokens, made_form}
 use Rattle.cw_leaves.specs.Spelling.{id_of, line_by}
 
 index_of : NameId → ℕ

@@ -8,7 +8,7 @@ use Rattle.cw_names.specs.declared.entry.NameId.{NameId}
 use Rattle.cw_base.specs.declared.category.Cat.{Cat}
 use Rattle.cw_base.specs.declared.category.Cat.TheVariants.{CaseLike}
 use Rattle.cw_trees.specs.Tree.{Tree, search_word}
-use Rattle.cw_leaves.specs.LeafLines.{said, said_by}
+use Rattle.cw_leaves.specs.LeafLines.{said}
 use Rattle.cw_leaves.specs.Sights.{Heard, followed, silence, told_by}
 use Rattle.cw_tokens.specs.declared.token.Token.{Token}
 use Rattle.cw_tokens.specs.References.{refers, token_ref, IsTied}

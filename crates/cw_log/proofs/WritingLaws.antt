@@ -1,5 +1,5 @@
 -- The log of a web is written text by text.
-use Rattle.std.proofs.Common.{◌≡◌, ℕ, zero, suc, ◌+◌, All, Option, Some, Result, Ok, Err, List, [], ◌∷◌, ◌++◌}
+use Rattle.std.proofs.Common.{◌≡◌, ℕ, zero, suc, ◌+◌, All, Some, Result, Ok, Err, List, [], ◌∷◌, ◌++◌}
 use Rattle.std.proofs.Common.{IsErrAnd, map, take, slice_get, refl, sym, ◌∙◌, ap, subst}
 use Rattle.std.proofs.Common.{arith, append_assoc}
 use Rattle.std.specs.List.{flat_map}
@@ -8,13 +8,12 @@ use Rattle.std.proofs.lemmas.List.{append-nil, take_all}
 use Rattle.std.proofs.lemmas.List.Elements.{All-head, All-tail}
 use Rattle.cw_base.specs.declared.event.Out.TheVariants.{Tex}
 use Rattle.cw_base.specs.declared.flags.Flags.{Flags}
-use Rattle.cw_base.specs.declared.memory.Memory.{Memory}
 use Rattle.cw_desk.specs.Journal.{byte_events}
 use Rattle.cw_desk.specs.Told.{Told}
-use Rattle.cw_each.specs.EachText.{EndedText, Source, each_text, text_ended}
+use Rattle.cw_each.specs.EachText.{EndedText, Source, text_ended}
 use Rattle.cw_each.specs.Forms.{IsWholeRef}
 use Rattle.cw_leaves.specs.declared.lines.TextLog.{TextLog}
-use Rattle.cw_leaves.specs.Spelling.{item_of, line_of, production_of, spelled}
+use Rattle.cw_leaves.specs.Spelling.{item_of, production_of}
 use Rattle.cw_lines.specs.declared.put_error.PutError.{PutError}
 use Rattle.cw_lines.specs.declared.put_error.PutError.TheVariants.{Memory as no_memory}
 use Rattle.cw_lines.specs.Writes.{Adds, HasAdded}

@@ -29,7 +29,7 @@ use Rattle.cw_texpart.specs.declared.beside.Beside.{Beside}
 use Rattle.cw_texpart.specs.declared.counts.Counts.{Counts}
 use Rattle.cw_texpart.specs.Done.{Done, reprinted}
 use Rattle.cw_texpart.specs.Texts.{Setting, ended_done, text_done}
-use Rattle.cw_texpart.specs.Weaving.{Press, Weaves, underlined}
+use Rattle.cw_texpart.specs.Weaving.{Press, Weaves}
 use Rattle.cw_texpart.proofs.WeavingLaws.{underlined-none, weaves-as}
 
 -- ## No tokens

@@ -1,5 +1,5 @@
 -- Worked webs with flag r: what each run writes, and how it ends.
-use Rattle.std.proofs.Common.{◌≡◌, refl, List, [], ◌∷◌, codes}
+use Rattle.std.proofs.Common.{◌≡◌, refl, [], ◌∷◌, codes}
 use Rattle.std.specs.Fmt.{digits}
 use Rattle.cw_base.specs.declared.event.Event.TheVariants.{Made}
 use Rattle.cw_base.specs.declared.event.Out.TheVariants.{Tex}

@@ -1,12 +1,12 @@
 -- What is found of the file decides.
-use Rattle.std.proofs.Common.{◌≡◌, ◌≤◌, ◌<◌, ℕ, List, Option, Some, None, length, refl, sym, ap, ◌∙◌, subst}
+use Rattle.std.proofs.Common.{◌≡◌, ◌≤◌, ◌<◌, ℕ, List, Some, None, length, refl, sym, ap, ◌∙◌, subst}
 use Rattle.std.specs.FinMap.{get}
 use Rattle.cw_run.specs.EmitsLaws.{runs-after, runs-known}
 use Rattle.cw_tool.proofs.Saying.{line-refused}
-use Rattle.cw_log.specs.Check.{check_bytes, check_file, too_long_text}
+use Rattle.cw_log.specs.Check.{check_file, too_long_text}
 use Rattle.cw_log.specs.LogFile.{IsFileOf, IsShort}
 use Rattle.cw_log.specs.declared.file.TheConstants.{LOG_LIMIT}
-use Rattle.cw_log.proofs.RunLaws.{check-long, check-short}
+use Rattle.cw_log.proofs.RunLaws.{check-long}
 use Rattle.cw_log.proofs.command.check.Goals as goal
 
 pub check_whole-requires : goal.check_whole-requires

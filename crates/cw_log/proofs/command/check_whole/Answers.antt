@@ -2,8 +2,7 @@
 use Rattle.cw_base.specs.Text.{pieces_of}
 use Rattle.cw_logtext.proofs.Deciding.{judgement}
 use Rattle.cw_run.specs.EmitsLaws.{runs-known}
-use Rattle.cw_log.specs.Check.{judged}
-use Rattle.cw_log.proofs.RunLaws.{judged-fault, judged-log, judged-real, runs-real}
+use Rattle.cw_log.proofs.RunLaws.{judged-fault, judged-log}
 use Rattle.cw_log.proofs.command.check_whole.Goals as goal
 
 pub returns-in_ok-checked-in-Ok-clause-runs : goal.returns-in_ok-checked-in-Ok-clause-runs

@@ -1,5 +1,5 @@
 -- Each leaf line makes a scrap more.
-use Rattle.std.proofs.Common.{◌≡◌, ◌<◌, ◌++◌, ◌∷◌, [], length, take, sym, ◌∙◌, ap, subst}
+use Rattle.std.proofs.Common.{◌++◌, ◌∷◌, [], take, sym, ◌∙◌, ap, subst}
 use Rattle.std.proofs.lemmas.List.{take_more}
 use Rattle.cw_leaves.specs.Spelling.{spelled}
 use Rattle.cw_logtext.specs.LogText.{IsFineLine}

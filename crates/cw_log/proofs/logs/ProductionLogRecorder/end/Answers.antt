@@ -1,5 +1,5 @@
 -- The text stands behind the others.
-use Rattle.std.proofs.Common.{◌≡◌, ◌++◌, ◌∷◌, [], rules}
+use Rattle.std.proofs.Common.{rules}
 use Rattle.cw_log.proofs.RecordLaws.{text-ended}
 use Rattle.cw_log.proofs.logs.ProductionLogRecorder.end.Goals as goal
 
