@@ -105,16 +105,27 @@ fn printed_in<'a, D: Desk>(
     measured(alloc, held, done.list, desk)
 }
 
+// The same onto a desk on which no output is made yet: the device that keeps nothing is.
+fn printed_to_nothing<D: Desk>(alloc: Global, text: &[u8], desk: &mut D) -> Result<u64, PutError> {
+    if desk.make(Out::Tex, b"/dev/null") != MadeOut::Done {
+        return Err(PutError::Fault);
+    }
+    printed(alloc, text, desk)
+}
+
+// The same onto a desk of its own, which no caller has to let go where it prints.
+fn lines_of(rt: HostRuntime, text: &[u8]) -> Result<u64, PutError> {
+    let alloc = rt.alloc();
+    let mut desk = Batch::new_in(alloc, FileDesk::new_in(rt, alloc));
+    printed_to_nothing(alloc, text, &mut desk)
+}
+
 /// Prints it to no file.
 pub(crate) fn run(rt: HostRuntime, size: Option<usize>) -> io::Result<()> {
-    let alloc = rt.alloc();
-    let text = repeated(alloc, size.unwrap_or(SMALL), ORDINARY, false, b"")?;
-    let mut desk = Batch::new_in(alloc, FileDesk::new_in(rt, alloc));
-    if desk.make(Out::Tex, b"/dev/null") != MadeOut::Done {
-        return println!(rt; "no output");
-    }
-    match printed(alloc, &text, &mut desk) {
+    let text = repeated(rt.alloc(), size.unwrap_or(SMALL), ORDINARY, false, b"")?;
+    match lines_of(rt, &text) {
         Ok(lines) => println!(rt; "{} lines", lines),
-        Err(_) => println!(rt; "no memory"),
+        Err(PutError::Fault) => println!(rt; "no output"),
+        Err(PutError::Memory) => println!(rt; "no memory"),
     }
 }

@@ -7,7 +7,7 @@ use cw_desk::{Desk, MadeOut, MemDesk};
 use std::alloc::Global;
 
 /// A desk on which an output is made.
-pub fn desk_with(alloc: Global, out: Out) -> Result<MemDesk, Memory>
+pub(crate) fn desk_with(alloc: Global, out: Out) -> Result<MemDesk, Memory>
     ensures { IfOk result (λ desk. IsTrue (is_open desk.outputs out)) }
 {
     let mut desk = MemDesk::new_in(alloc);

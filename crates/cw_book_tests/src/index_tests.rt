@@ -15,16 +15,15 @@ use std::cmp::Ordering;
 use std::test::Fail;
 
 // How three pairs of entries stand: a capital and a small letter, a digit and that, and that and itself.
-fn compared(alloc: Global) -> Result<Option<[Ordering; 3]>, Memory> {
-    let mut names = Names::with_words(alloc)?;
+fn compared(names: &mut Names) -> Result<Option<[Ordering; 3]>, Memory> {
     let capital = names.find_or_add(EntryKind::Ident, b"Ab")?;
     let small = names.find_or_add(EntryKind::Roman, b"ab")?;
     let digit = names.find_or_add(EntryKind::Ident, b"a1")?;
     if capital.index < names.len() && small.index < names.len() && digit.index < names.len() {
         return Ok(Some([
-            compare_entries(&names, capital, small),
-            compare_entries(&names, digit, small),
-            compare_entries(&names, small, small),
+            compare_entries(names, capital, small),
+            compare_entries(names, digit, small),
+            compare_entries(names, small, small),
         ]));
     }
     Ok(None)
@@ -33,7 +32,9 @@ fn compared(alloc: Global) -> Result<Option<[Ordering; 3]>, Memory> {
 #[test]
 fn an_entry_stands_before_another(rt: HostRuntime) -> Result<(), Fail> {
     let wanted = [Ordering::Less, Ordering::Greater, Ordering::Equal];
-    assert_eq!(rt; compared(rt.alloc())?, Some(wanted));
+    let mut names = Names::with_words(rt.alloc())?;
+    let seen = compared(&mut names)?;
+    assert_eq!(rt; seen, Some(wanted));
     Ok(())
 }
 

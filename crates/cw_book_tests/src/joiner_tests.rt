@@ -1,7 +1,8 @@
 //! Tests of the joiner: names, signs and runs are printed, and inner texts have a blank for a run.
-ghost use Rattle.std.specs.Prelude.{ℕ, List, OnOk};
+ghost use Rattle.std.specs.Prelude.{ℕ, List, IsTrue, OnOk};
 ghost use Rattle.std.specs.Bool.{OnTrue};
 ghost use Rattle.cw_base.specs.declared.event.Out.TheVariants.{Tex};
+ghost use Rattle.cw_desk.specs.Meaning.{is_open};
 ghost use Rattle.cw_desk.specs.Mem.{tell};
 ghost use Rattle.cw_lines.specs.Writes.{CanWrite};
 ghost use Rattle.cw_trees.specs.Printing.{Printable};
@@ -136,19 +137,42 @@ fn names_with(alloc: Global, identifiers: &[&[u8]]) -> Result<Names, Memory> {
     Ok(names)
 }
 
-/// What a text prints; behind an inner one, a text without items.
+// Puts a text on a new line of the TeX file; behind an inner one, a text without items.
+fn put_text(
+    alloc: Global,
+    inner: bool,
+    names: &Names,
+    items: &[(FlatItem, &[u8])],
+    desk: &mut MemDesk,
+) -> Result<(), PutError>
+    requires { IsTrue (is_open desk.old.outputs Tex) }
+{
+    let mut out = LineOut::new_in(alloc, Out::Tex);
+    push_text(inner, items, names, &mut out, desk)?;
+    out.end_line(desk)
+}
+
+// What a text prints, of which the names are lent.
+fn printed_of(
+    alloc: Global,
+    inner: bool,
+    names: &Names,
+    items: &[(FlatItem, &[u8])],
+) -> Result<Bytes, Fail> {
+    let mut desk = desk_with(alloc, Out::Tex)?;
+    put_text(alloc, inner, names, items, &mut desk)?;
+    Ok(written(alloc, desk.journal())?)
+}
+
+/// What a text prints.
 fn printed(
     alloc: Global,
     inner: bool,
     identifiers: &[&[u8]],
     items: &[(FlatItem, &[u8])],
 ) -> Result<Bytes, Fail> {
-    let mut desk = desk_with(alloc, Out::Tex)?;
-    let mut out = LineOut::new_in(alloc, Out::Tex);
     let names = names_with(alloc, identifiers)?;
-    push_text(inner, items, &names, &mut out, &mut desk)?;
-    out.end_line(&mut desk)?;
-    Ok(written(alloc, desk.journal())?)
+    printed_of(alloc, inner, &names, items)
 }
 
 /// Whether a text is an inner one, its identifiers, its items, and what it prints.

@@ -1,7 +1,8 @@
 //! Tests of the book of small webs: section names, the first phase, joining, printing, parts, the index.
 #![tactic(auto)]
 
-pub mod desks;
+#[cfg(test)]
+mod desks;
 #[cfg(test)]
 mod index_tests;
 #[cfg(test)]

@@ -1,4 +1,6 @@
 //! Pieces of the books of small webs, and what each prints.
+ghost use Rattle.std.specs.Prelude.{IsTrue};
+ghost use Rattle.cw_desk.specs.Meaning.{is_open};
 ghost use Rattle.cw_lines.specs.Writes.{CanWrite};
 ghost use Rattle.cw_translator.specs.NameParts.{AreNamesOf};
 
@@ -52,7 +54,40 @@ fn put_piece<D: Desk>(
     }
 }
 
-/// What a piece of a web's book prints on an output, and the scraps and productions that are counted for it.
+// Puts a piece on a new line of an output that is made.
+fn put_on<D: Desk>(
+    alloc: Global,
+    web: &Web,
+    book: &mut Book,
+    piece: Piece,
+    output: Out,
+    desk: &mut D,
+) -> Result<Counts, PutError>
+    requires made { IsTrue (is_open (D.told desk.old).outputs output) }
+    requires kept { AreNamesOf book.old.sec_names book.old.name_uses }
+{
+    let mut out = LineOut::new_in(alloc, output);
+    put_piece(alloc, web, book, piece, &mut out, desk)
+}
+
+// What a piece of a book prints on an output, and the scraps and productions that are counted for it. The web and its
+// book are lent: a way out is the dearer to prove the more is let go on it.
+fn printed_of(
+    alloc: Global,
+    web: &Web,
+    book: &mut Book,
+    piece: Piece,
+    output: Out,
+) -> Result<(Bytes, (u64, u64)), Fail>
+    requires kept { AreNamesOf book.old.sec_names book.old.name_uses }
+{
+    let mut desk = desk_with(alloc, output)?;
+    let counts = put_on(alloc, web, book, piece, output, &mut desk)?;
+    let text = written(alloc, desk.journal())?;
+    Ok((text, (counts.scraps, counts.productions)))
+}
+
+/// The same of the book of a web.
 fn printed(
     alloc: Global,
     lines: &[&[u8]],
@@ -61,11 +96,7 @@ fn printed(
 ) -> Result<(Bytes, (u64, u64)), Fail> {
     let web = web_of(alloc, lines)?;
     let mut book = book_of(alloc, &web)?;
-    let mut desk = desk_with(alloc, output)?;
-    let mut out = LineOut::new_in(alloc, output);
-    let counts = put_piece(alloc, &web, &mut book, piece, &mut out, &mut desk)?;
-    let text = written(alloc, desk.journal())?;
-    Ok((text, (counts.scraps, counts.productions)))
+    printed_of(alloc, &web, &mut book, piece, output)
 }
 
 /// A web, a piece of its book, and what that has to print.

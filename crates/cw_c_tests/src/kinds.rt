@@ -4,7 +4,7 @@ ghost use Rattle.cw_scraps.specs.Leaves.{MakesLeaf};
 use cw_lex::{Sign, TokKind};
 
 /// A byte stands for a token: a sign for itself, and a letter for an identifier.
-pub fn kind_of(byte: u8) -> TokKind
+pub(crate) fn kind_of(byte: u8) -> TokKind
     ensures { MakesLeaf result }
 {
     match byte {

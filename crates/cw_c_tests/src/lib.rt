@@ -6,7 +6,8 @@
 mod check_tests;
 #[cfg(test)]
 mod kept_tests;
-pub mod kinds;
+#[cfg(test)]
+mod kinds;
 #[cfg(test)]
 mod leaf_tests;
 #[cfg(test)]

@@ -85,19 +85,45 @@ fn blocks(alloc: Global, desk: &Desk) -> Result<Bytes, Memory> {
     Ok(blocks)
 }
 
+// The blocks of two texts, one behind the other, and how many scraps and productions each has.
+fn told_of(
+    alloc: Global,
+    desk: &mut Desk,
+    first: &[u8],
+    second: &[u8],
+) -> Result<(Bytes, [u64; 4]), Memory>
+    requires kept { AreNamesOf desk.old.sec_names desk.old.uses }
+    requires idle { desk.old.store.building ≡ None }
+{
+    let first = logged(alloc, desk, first, Mode::CPart)?;
+    let second = logged(alloc, desk, second, Mode::CPart)?;
+    let written = blocks(alloc, desk)?;
+    let counts = [
+        first.scraps,
+        first.productions,
+        second.scraps,
+        second.productions,
+    ];
+    Ok((written, counts))
+}
+
+fn told(alloc: Global, first: &[u8], second: &[u8]) -> Result<(Bytes, [u64; 4]), Memory> {
+    let mut desk = desk_of(alloc)?;
+    told_of(alloc, &mut desk, first, second)
+}
+
+const STATEMENT: &[u8] = b"i=i+1;";
+
+const NESTED: &[u8] = b"a; /* b |x /* c |y| */| */";
+
+const BLOCKS: &[u8] =
+    b"text 6\nb exp i\ns binop\nb exp i\ns ubinop\ns exp\ns semi\nP6 0\nP6 0\nP8 0\nend\n\
+    text 1\nb exp y\nend\ntext 2\nb exp x\ns insert\nP1 0\nend\n\
+    text 3\nb exp a\ns semi\ns insert\nP8 0\nP1 0\nend\n";
+
 #[test]
 fn a_text_stands_behind_its_inner_texts_and_those_before_it(rt: HostRuntime) -> Result<(), Fail> {
-    let alloc = rt.alloc();
-    let mut desk = desk_of(alloc)?;
-    let sum = logged(alloc, &mut desk, b"i=i+1;", Mode::CPart)?;
-    assert_eq!(rt; (sum.scraps, sum.productions), (6, 3));
-    let comment = logged(alloc, &mut desk, b"a; /* b |x /* c |y| */| */", Mode::CPart)?;
-    assert_eq!(rt; (comment.scraps, comment.productions), (6, 3));
-    let wanted =
-        b"text 6\nb exp i\ns binop\nb exp i\ns ubinop\ns exp\ns semi\nP6 0\nP6 0\nP8 0\nend\n\
-        text 1\nb exp y\nend\ntext 2\nb exp x\ns insert\nP1 0\nend\n\
-        text 3\nb exp a\ns semi\ns insert\nP8 0\nP1 0\nend\n";
-    let written = blocks(alloc, &desk)?;
-    assert_eq!(rt; written.as_slice(), wanted.as_slice());
+    let (written, counts) = told(rt.alloc(), STATEMENT, NESTED)?;
+    assert_eq!(rt; (written.as_slice(), counts), (BLOCKS, [6, 3, 6, 3]));
     Ok(())
 }

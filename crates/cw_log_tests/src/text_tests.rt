@@ -2,14 +2,12 @@
 use cw_base::{Bytes, Cat, Memory};
 use cw_leaves::{LeafKind, LeafLine, LeafLines, LogItem, LogItems, NameList, TextLog};
 use cw_logtext::{append_block, judge};
-use cw_names::{EntryKind, Names};
+use cw_names::{EntryKind, NameId, Names};
 use cw_table::RowNo;
 use std::alloc::Global;
 
-/// The block of `x;`, whose identifier comes behind the words that are known from the start.
-fn statement_text(alloc: Global) -> Result<Bytes, Memory> {
-    let mut names = Names::with_words(alloc)?;
-    let x = names.find_or_add(EntryKind::Ident, b"x")?;
+// The leaf lines of `x;`.
+fn leaves_of(alloc: Global, x: NameId) -> Result<LeafLines, Memory> {
     let expression = LeafLine {
         kind: LeafKind::B,
         cat: Cat::Exp,
@@ -20,13 +18,32 @@ fn statement_text(alloc: Global) -> Result<Bytes, Memory> {
         cat: Cat::Semi,
         names: NameList::from_vec(Vec::new(alloc)),
     };
-    let row = RowNo { number: 8 };
-    let log = TextLog {
-        leaves: LeafLines::from_vec(vec![in alloc; expression, semicolon]?),
-        items: LogItems::from_vec(vec![in alloc; LogItem { row, place: 0 }]?),
+    Ok(LeafLines::from_vec(vec![in alloc; expression, semicolon]?))
+}
+
+// Its log.
+fn log_of(alloc: Global, x: NameId) -> Result<TextLog, Memory> {
+    let item = LogItem {
+        row: RowNo { number: 8 },
+        place: 0,
     };
+    let items = LogItems::from_vec(vec![in alloc; item]?);
+    let leaves = leaves_of(alloc, x)?;
+    Ok(TextLog { leaves, items })
+}
+
+// Appends its block, of which the identifier comes behind the words that are known from the start.
+fn append_statement(alloc: Global, names: &mut Names, text: &mut Bytes) -> Result<(), Memory> {
+    let x = names.find_or_add(EntryKind::Ident, b"x")?;
+    let log = log_of(alloc, x)?;
+    append_block(text, names, &log)
+}
+
+/// The block of `x;` behind an empty one.
+fn statement_text(alloc: Global) -> Result<Bytes, Memory> {
+    let mut names = Names::with_words(alloc)?;
     let mut text = Bytes::from_slice(alloc, b"text 0\nend\n")?;
-    append_block(&mut text, &names, &log)?;
+    append_statement(alloc, &mut names, &mut text)?;
     Ok(text)
 }
 

@@ -56,49 +56,65 @@ fn append_row(text: &mut Bytes, book: &Book, rows: &MiniRows, i: usize) -> Resul
     text.push(b'\n')
 }
 
-/// The rows of a section as a text, where the book has the section.
-fn rows_of(
+/// Appends the rows of a section, where the book has the section.
+fn append_rows(
     alloc: Global,
     book: &Book,
     marks: &SectionMarks,
     section: u32,
-) -> Result<Bytes, Memory> {
-    let mut text = Bytes::new_in(alloc);
+    text: &mut Bytes,
+) -> Result<(), Memory> {
     if section == 0 || section > book.section_count() {
-        return Ok(text);
+        return Ok(());
     }
     let rows = mini_rows(alloc, book, marks, section)?;
     for i in 0..rows.len() {
-        append_row(&mut text, book, &rows, i)?;
+        append_row(text, book, &rows, i)?;
+    }
+    Ok(())
+}
+
+/// The rows of each section of a book as a text, in which an `@` stands before those of each.
+fn rows_by(alloc: Global, book: &Book, marks: &SectionMarks) -> Result<Bytes, Memory> {
+    let mut text = Bytes::new_in(alloc);
+    for before in 0..book.section_count() {
+        text.push(b'@')?;
+        append_rows(alloc, book, marks, before + 1, &mut text)?;
     }
     Ok(text)
 }
 
+/// The same with marks of all names in the first section.
+fn rows_marked(alloc: Global, book: &Book) -> Result<Bytes, Memory> {
+    let marks = marks_of(alloc, book)?;
+    rows_by(alloc, book, &marks)
+}
+
+/// The rows of each section of a web, with these marks or none.
+fn rows_of(alloc: Global, lines: &[&[u8]], marked: bool) -> Result<Bytes, Memory> {
+    let book = book_of(alloc, lines)?;
+    if marked {
+        return rows_marked(alloc, &book);
+    }
+    rows_by(alloc, &book, &SectionMarks::new_in(alloc))
+}
+
 #[test]
 fn rows_of_two_sections(rt: HostRuntime) -> Result<(), Fail> {
-    let alloc = rt.alloc();
-    let book = book_of(alloc, &TWO)?;
-    let marks = marks_of(alloc, &book)?;
-    let first = rows_of(alloc, &book, &marks, 1)?;
-    let second = rows_of(alloc, &book, &marks, 2)?;
-    assert_eq!(rt;
-        (book.section_count(), first.as_slice(), second.as_slice()),
-        (2, b"".as_slice(), b"i 1\n".as_slice())
-    );
+    let rows = rows_of(rt.alloc(), &TWO, true)?;
+    assert_eq!(rt; rows.as_slice(), b"@@i 1\n".as_slice());
     Ok(())
 }
 
 #[test]
 fn nothing_is_listed_without_marks(rt: HostRuntime) -> Result<(), Fail> {
-    let alloc = rt.alloc();
-    let book = book_of(alloc, &TWO)?;
-    let rows = rows_of(alloc, &book, &SectionMarks::new_in(alloc), 2)?;
-    assert_eq!(rt; rows.as_slice(), b"".as_slice());
+    let rows = rows_of(rt.alloc(), &TWO, false)?;
+    assert_eq!(rt; rows.as_slice(), b"@@".as_slice());
     Ok(())
 }
 
-/// The names of the index, one behind the other.
-fn order_of(alloc: Global, book: &Book) -> Result<Bytes, Memory> {
+/// The names of a book's index, one behind the other.
+fn order_by(alloc: Global, book: &Book) -> Result<Bytes, Memory> {
     let mut text = Bytes::new_in(alloc);
     for id in index_order(alloc, &book.names, &book.xrefs)? {
         if id.index < book.names.len() {
@@ -108,12 +124,16 @@ fn order_of(alloc: Global, book: &Book) -> Result<Bytes, Memory> {
     Ok(text)
 }
 
+/// The names of the index of a web.
+fn order_of(alloc: Global, lines: &[&[u8]]) -> Result<Bytes, Memory> {
+    let book = book_of(alloc, lines)?;
+    order_by(alloc, &book)
+}
+
 // Letters stand before digits, and no definition is needed: these names have two bytes.
 #[test]
 fn names_stand_in_the_order_of_the_index(rt: HostRuntime) -> Result<(), Fail> {
-    let alloc = rt.alloc();
-    let book = book_of(alloc, &[b"@ @c a1; aB;"])?;
-    let order = order_of(alloc, &book)?;
+    let order = order_of(rt.alloc(), &[b"@ @c a1; aB;"])?;
     assert_eq!(rt; order.as_slice(), b"aBa1".as_slice());
     Ok(())
 }

@@ -8,7 +8,7 @@ use cw_desk::{Desk, MadeOut, MemDesk};
 use std::alloc::Global;
 
 /// A desk on which the TeX file is made.
-pub fn desk_with_tex(alloc: Global) -> Result<MemDesk, Memory>
+pub(crate) fn desk_with_tex(alloc: Global) -> Result<MemDesk, Memory>
     ensures { IfOk result (λ desk. IsTrue (is_open desk.outputs Tex)) }
 {
     let mut desk = MemDesk::new_in(alloc);

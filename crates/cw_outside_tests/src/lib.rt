@@ -5,7 +5,8 @@
 mod base_tests;
 #[cfg(test)]
 mod desk_tests;
-pub mod desks;
+#[cfg(test)]
+mod desks;
 #[cfg(test)]
 mod draft_tests;
 #[cfg(test)]
