@@ -1,9 +1,10 @@
 -- The table of lines and the text say the same as the list of lines.
-use Rattle.std.proofs.Common.{◌≡◌, ℕ, ◌+◌, ◌-◌, ◌≤◌, List, [], ◌∷◌, ◌++◌, length, take, drop, get_or}
-use Rattle.std.proofs.Common.{slice_range, refl, ap, ◌∙◌, sym, suc, arith, append_assoc, length-append}
-use Rattle.std.proofs.Common.{length-drop, length-take, drop-drop, take-append-drop}
+use Rattle.std.proofs.Common.{◌≡◌, ℕ, ◌+◌, ◌-◌, ◌≤◌, List, [], ◌∷◌, ◌++◌, length, drop, get_or, slice_range, refl, ap}
+use Rattle.std.proofs.Common.{◌∙◌, sym, suc, arith, append_assoc, length-append, length-drop, length-take, drop-drop}
+use Rattle.std.proofs.Common.{take-append-drop}
 use Rattle.std.proofs.lemmas.List.{drop_all, drop_more, drop-append-le, take-append-le, get_or_append_left, get_or_at}
 use Rattle.std.proofs.lemmas.List.{drop_at, take_at}
+use Rattle.std.proofs.lemmas.Bool.Decides.{nat_tests}
 use Rattle.cw_base.specs.declared.web.LineInfo.{LineInfo}
 use Rattle.cw_base.specs.Web.{text_of, info_from, infos_of}
 use Rattle.cw_base.specs.WebLayout.{read_line, read_lines, Covers}
@@ -23,21 +24,14 @@ pub text_of-read_lines : (text : List ℕ) (from : ℕ) (infos : List LineInfo) 
     → text_of (read_lines text infos) ≡ drop from text
 text_of-read_lines text from [] at = sym (drop_all from text (omega arith))
 text_of-read_lines text from (info ∷ infos) (start, ends, within, code, rest) =
-    ap (λ more. slice_range text info.start info.«end» ++ 10 ∷ more) (text_of-read_lines text (info.«end» + 1) infos
-    rest)
-    ∙ ap (λ byte. slice_range text info.start info.«end» ++ byte ∷ drop (info.«end» + 1) text) (sym code)
-    ∙ ap (λ more. slice_range text info.start info.«end» ++ more) (sym (drop_more text info.«end» 0 within))
-    ∙ sym (drop_parts text info.start info.«end» ends)
-    ∙ ap (λ i. drop i text) start
+    grind (arith, nat_tests, text_of-read_lines text (info.«end» + 1) infos rest, slice_range, drop_more, drop_parts)
 
 length-slice_range : (text : List ℕ) (from to : ℕ) → to ≤ length text → length (slice_range text from to) ≡ to - from
 length-slice_range text from to le = omega (arith, length-take (to - from) (drop from text), length-drop from text)
 
 same_info : (info : LineInfo) (start stop : ℕ) → start ≡ info.start → stop ≡ info.«end»
     → record { start = start; «end» = stop; place = info.place; changed = info.changed } ≡ info
-same_info info start stop s e =
-    ap (λ i. record { start = i; «end» = stop; place = info.place; changed = info.changed }) s
-    ∙ ap (λ i. record { start = info.start; «end» = i; place = info.place; changed = info.changed }) e
+same_info info start stop s e = grind (arith, nat_tests)
 
 pub infos_of-read_lines : (text : List ℕ) (from : ℕ) (infos : List LineInfo) → Covers text from infos
     → infos_of from (read_lines text infos) ≡ infos
@@ -53,35 +47,24 @@ infos_of-read_lines text from (info ∷ infos) (start, ends, within, code, rest)
 -- more text behind changes no line
 slice_range-more : (text more : List ℕ) (from to : ℕ) → from ≤ to → to ≤ length text
     → slice_range (text ++ more) from to ≡ slice_range text from to
-slice_range-more text more from to le within =
-    ap (λ rest. take (to - from) rest) (drop-append-le from text more (omega arith))
-    ∙ take-append-le (to - from) (drop from text) more (omega (arith, length-drop from text))
+slice_range-more text more from to le within = grind (arith, nat_tests, drop-append-le, take-append-le, length-drop)
 
 pub read_lines-more : (text more : List ℕ) (from : ℕ) (infos : List LineInfo) → Covers text from infos
     → read_lines (text ++ more) infos ≡ read_lines text infos
 read_lines-more text more from [] at = refl
 read_lines-more text more from (info ∷ infos) (start, ends, within, code, rest) =
-    ap (λ part. record { text = part; place = info.place; changed = info.changed } ∷ read_lines (text ++ more) infos)
-    (slice_range-more text more info.start info.«end» ends (omega arith))
-    ∙ ap (λ lines. read_line text info ∷ lines) (read_lines-more text more (info.«end» + 1) infos rest)
+    grind (arith, nat_tests, read_lines-more text more (info.«end» + 1) infos rest, slice_range-more)
 
 pub read_lines-append : (text : List ℕ) (first second : List LineInfo) → read_lines text (first ++ second)
     ≡ read_lines text first ++ read_lines text second
 read_lines-append text [] second = refl
-read_lines-append text (info ∷ infos) second = ap (λ lines. read_line text info ∷ lines)
-    (read_lines-append text infos second)
+read_lines-append text (info ∷ infos) second = grind (arith, nat_tests, read_lines-append text infos second)
 
 -- one line more, behind all others
 pub Covers-more : (text line : List ℕ) (from : ℕ) (infos : List LineInfo) (info : LineInfo)
     → info.start ≡ length text → info.«end» ≡ length text + length line
     → Covers text from infos → Covers (text ++ line ++ 10 ∷ []) from (infos ++ info ∷ [])
-Covers-more text line from [] info starts ends at = (
-  starts ∙ sym at,
-  omega arith,
-  omega (arith, length-append (text ++ line) (10 ∷ []), length-append text line),
-  get_or_at (text ++ line) 10 [] 0 info.«end» (omega (arith, length-append text line)),
-  omega (arith, length-append (text ++ line) (10 ∷ []), length-append text line),
-)
+Covers-more text line from [] info starts ends at = grind (arith, nat_tests, length-append, get_or_at)
 Covers-more text line from (first ∷ infos) info starts ends (start, stops, within, code, rest) = (
   start,
   stops,
@@ -95,22 +78,11 @@ Covers-more text line from (first ∷ infos) info starts ends (start, stops, wit
 pub read_line-more : (text line : List ℕ) (info : LineInfo) → info.start ≡ length text → info.«end»
     ≡ length text + length line
     → read_line (text ++ line ++ 10 ∷ []) info ≡ record { text = line; place = info.place; changed = info.changed }
-read_line-more text line info starts ends =
-    let size : info.«end» - info.start ≡ length line = omega arith in
-    ap (λ part. record { text = part; place = info.place; changed = info.changed })
-    (ap (λ bytes. take (info.«end» - info.start) (drop info.start bytes)) (append_assoc text line (10 ∷ []))
-    ∙ ap (λ i. take (info.«end» - info.start) (drop i (text ++ (line ++ 10 ∷ [])))) starts
-    ∙ ap (λ rest. take (info.«end» - info.start) rest) (drop_at text (line ++ 10 ∷ []) (length text) refl)
-    ∙ ap (λ n. take n (line ++ 10 ∷ [])) size
-    ∙ take_at line (10 ∷ []) (length line) refl)
+read_line-more text line info starts ends = grind (arith, nat_tests, append_assoc, drop_at, take_at)
 
 pub read_lines-push : (text line : List ℕ) (infos : List LineInfo) (info : LineInfo)
     → info.start ≡ length text → info.«end» ≡ length text + length line → Covers text 0 infos
     → read_lines (text ++ line ++ 10 ∷ []) (infos ++ info ∷ [])
     ≡ read_lines text infos ++ record { text = line; place = info.place; changed = info.changed } ∷ []
 read_lines-push text line infos info starts ends covers =
-    read_lines-append (text ++ line ++ 10 ∷ []) infos (info ∷ [])
-    ∙ ap (λ lines. lines ++ read_line (text ++ line ++ 10 ∷ []) info ∷ [])
-    (ap (λ bytes. read_lines bytes infos) (append_assoc text line (10 ∷ []))
-    ∙ read_lines-more text (line ++ 10 ∷ []) 0 infos covers)
-    ∙ ap (λ last. read_lines text infos ++ last ∷ []) (read_line-more text line info starts ends)
+    grind (arith, nat_tests, read_lines-append, append_assoc, read_lines-more, read_line-more)

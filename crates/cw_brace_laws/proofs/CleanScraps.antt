@@ -1,10 +1,11 @@
 -- Scraps that hold no text where they may become part of an operator.
-use Rattle.std.proofs.Common.{◌≡◌, Bool, true, refl}
+use Rattle.std.proofs.Common.{◌≡◌, Bool, true, arith}
 use Rattle.cw_base.specs.declared.category.Cat.{Cat}
 use Rattle.cw_base.specs.declared.category.Cat.TheVariants.{Binop, Colon}
 use Rattle.cw_table.specs.Braces.{is_binop, is_calm}
 use Rattle.cw_trees.specs.Joining.{Scrap}
 use Rattle.cw_brace_laws.specs.Bracing.{HoldsNoText, IsBraced, IsBracedScrap}
+use Rattle.std.proofs.lemmas.Bool.Decides.{nat_tests}
 
 -- the calm categories, operators and the colon, with which some operators begin
 abbrev pub is_clean : Cat → Bool
@@ -13,13 +14,10 @@ is_clean Colon = true
 is_clean cat = is_calm cat
 
 pub calm-clean : (c : Cat) → is_calm c ≡ true → is_clean c ≡ true
-calm-clean Binop h = refl
-calm-clean Colon h = refl
-calm-clean c h = h
+calm-clean c h = grind (arith, nat_tests)
 
 pub binop-clean : (c : Cat) → is_binop c ≡ true → is_clean c ≡ true
-binop-clean Binop h = refl
-binop-clean c h = absurd cc
+binop-clean c h = grind (arith, nat_tests)
 
 -- a leaf: of each of these categories it holds no text
 pub record IsLeafScrap (scrap : Scrap) : Type 0 where

@@ -1,29 +1,22 @@
 -- A braced tree is braced when it is laid flat and trimmed.
-use Rattle.std.proofs.Common.{◌≡◌, ℕ, zero, suc, Bool, true, false, ◌&&◌, Option, Some, None, List, [], ◌∷◌, ◌++◌, refl}
-use Rattle.std.proofs.Common.{ap, ◌∙◌, sym, append_assoc, if◌then◌else◌}
+use Rattle.std.proofs.Common.{◌≡◌, ℕ, Bool, true, false, ◌&&◌, Option, Some, List, [], ◌∷◌, ◌++◌, refl, ap, ◌∙◌, sym}
+use Rattle.std.proofs.Common.{append_assoc, if◌then◌else◌, arith}
 use Rattle.cw_base.proofs.TestLaws.{both-left, both-right}
-use Rattle.cw_trees.specs.Flat.{Item, SignItem, Close, begins_after}
-use Rattle.cw_trees.specs.Flat.{ends_text, flat, is_break, is_inserted, leaf_item}
-use Rattle.cw_trees.specs.Flat.{trim_back, trim_front, trimmed_items, without_inserted}
-use Rattle.cw_trees.specs.Tree.{Leaf, Source, Ident, Reserved, Sign, Tree, Empty, Then, Sub, Inner}
-use Rattle.cw_trees.specs.declared.Control.TheVariants.{Blank, OptionalBreak, Break, BigBreak, Inserted}
-use Rattle.cw_table.specs.Braces.{is_text}
+use Rattle.cw_trees.specs.Flat.{Item, Close, begins_after, ends_text, flat, is_break, is_inserted, leaf_item, trim_back}
+use Rattle.cw_trees.specs.Flat.{trim_front, trimmed_items, without_inserted}
+use Rattle.cw_trees.specs.Tree.{Leaf, Tree, Empty, Then, Sub, Inner}
 use Rattle.cw_brace_laws.specs.Bracing.{IsBraced, depth_of, leads_on, leaf_depth, outside, outside_if}
 use Rattle.cw_brace_laws.specs.Printed.{AreBraced, item_depth, items_depth}
+use Rattle.std.proofs.lemmas.Bool.Decides.{nat_tests}
 
 -- ## Flat lists
 
 -- what led somewhere in a tree leads there in its item
 outside-leads : (b : Bool) (d e : ℕ) → outside_if b d ≡ Some e → d ≡ e
-outside-leads true zero e h = cc
-outside-leads true (suc d) e h = absurd cc
-outside-leads false d e h = cc
+outside-leads b d e h = grind (arith, nat_tests)
 
 leaf-leads : (leaf : Leaf) (d e : ℕ) → leaf_depth leaf d ≡ Some e → item_depth (leaf_item leaf) d ≡ Some e
-leaf-leads (Source number mode) d e h = ap (λ n. Some n) (outside-leads (is_text mode) d e h)
-leaf-leads (Ident name number) d e h = h
-leaf-leads (Reserved name number cat) d e h = h
-leaf-leads (Sign control) d e h = h
+leaf-leads leaf d e h = grind (arith, nat_tests, outside-leads)
 
 -- something led on to an end by way of a depth
 pub record By (o : Option ℕ) (next : ℕ → Option ℕ) (e : ℕ) : Type 0 where
@@ -32,8 +25,7 @@ pub record By (o : Option ℕ) (next : ℕ → Option ℕ) (e : ℕ) : Type 0 wh
   pub second : next depth ≡ Some e
 
 pub by-way : (o : Option ℕ) (next : ℕ → Option ℕ) (e : ℕ) → leads_on o next ≡ Some e → By o next e
-by-way None next e h = absurd cc
-by-way (Some d) next e h = record { depth = d; first = refl; second = h }
+by-way o next e h = grind (arith, nat_tests)
 
 outside-same : (d e : ℕ) → outside d ≡ Some e → d ≡ e
 outside-same d e h = outside-leads true d e h
@@ -64,26 +56,16 @@ flat-leads (Inner a b) rest d e h =
 -- an item that leads nowhere else can be taken away
 break-leads : (item : Item) (d e : ℕ) (next : ℕ → Option ℕ) → is_break item ≡ true
     → leads_on (item_depth item d) next ≡ Some e → next d ≡ Some e
-break-leads (SignItem Blank) zero e next is h = h
-break-leads (SignItem OptionalBreak) zero e next is h = h
-break-leads (SignItem Break) zero e next is h = h
-break-leads (SignItem BigBreak) zero e next is h = h
-break-leads (SignItem Blank) (suc d) e next is h = absurd cc
-break-leads (SignItem OptionalBreak) (suc d) e next is h = absurd cc
-break-leads (SignItem Break) (suc d) e next is h = absurd cc
-break-leads (SignItem BigBreak) (suc d) e next is h = absurd cc
-break-leads item d e next is h = absurd cc
+break-leads item d e next is h = grind (arith, nat_tests)
 
 inserted-leads : (item : Item) (d e : ℕ) (next : ℕ → Option ℕ) → is_inserted item ≡ true
     → leads_on (item_depth item d) next ≡ Some e → next d ≡ Some e
-inserted-leads (SignItem Inserted) d e next is h = h
-inserted-leads item d e next is h = absurd cc
+inserted-leads item d e next is h = grind (arith, nat_tests)
 
 -- what stands behind an item may be taken for what leads to the same end
 next-leads : (o : Option ℕ) (f g : ℕ → Option ℕ) (e : ℕ) → ((d : ℕ) → f d ≡ Some e → g d ≡ Some e)
     → leads_on o f ≡ Some e → leads_on o g ≡ Some e
-next-leads None f g e rec h = absurd cc
-next-leads (Some d) f g e rec h = rec d h
+next-leads o f g e rec h = grind (arith, nat_tests)
 
 inserted-out : (items : List Item) (d e : ℕ) → items_depth items d ≡ Some e
     → items_depth (without_inserted items) d ≡ Some e

@@ -1,17 +1,13 @@
 -- What is joined of pieces that can stand where they stand is braced.
-use Rattle.std.proofs.Common.{◌≡◌, ℕ, zero, suc, Option, Some, None, IfSome, List, [], ◌∷◌, refl, sym, ap, ◌∙◌, subst}
+use Rattle.std.proofs.Common.{◌≡◌, ℕ, Option, Some, None, IfSome, List, [], ◌∷◌, refl, ap, ◌∙◌, subst, arith}
 use Rattle.cw_base.specs.declared.mode.MathMode.{MathMode}
-use Rattle.cw_base.specs.declared.mode.MathMode.TheVariants.{Text, Math, Maybe}
 use Rattle.cw_trees.specs.Joining.{Joined, Whole, Mark, needs, after, first_mode, toggled, joined_tree, joined_left}
 use Rattle.cw_trees.specs.Joining.{joined_right}
-use Rattle.cw_trees.specs.Tree.{Tree, Then, Sub, Sign}
+use Rattle.cw_trees.specs.Tree.{Tree, Then, Sign}
 use Rattle.cw_trees.specs.declared.Control.{Control}
-use Rattle.cw_trees.specs.declared.Control.TheVariants.{Wall}
-use Rattle.cw_trees.specs.declared.Control.TheVariants.{Indent, Outdent, OptionalLineBreak0, OptionalLineBreak9}
-use Rattle.cw_trees.specs.declared.Control.TheVariants.{ThinSpace, OpenBrace, CloseBrace, OpenRelation, Inserted}
-use Rattle.cw_trees.specs.declared.Control.TheVariants.{NameText, NameEnd}
 use Rattle.cw_brace_laws.specs.Bracing.{leads_on, sign_depth, depth_of, EndsAt, StandsAt}
 use Rattle.cw_brace_laws.proofs.Depths.{ends-maybe, first-ends, after-ends}
+use Rattle.std.proofs.lemmas.Bool.Decides.{nat_tests}
 
 -- it leads somewhere, and there this holds
 abbrev pub Then_ : Option ℕ → (ℕ → Type 0) → Type 0
@@ -28,76 +24,21 @@ Lead e d (Mark control ∷ js) = Then_ (sign_depth control d) (λ n. Lead e n js
 
 -- before a control and behind it no mode between braces is text
 sign-begins : (c : Control) (d : ℕ) → IfSome (sign_depth c d) (λ n. EndsAt d (needs c))
-sign-begins CloseBrace zero = tt
-sign-begins CloseBrace (suc d) = refl
-sign-begins OpenBrace zero = tt
-sign-begins OpenBrace (suc d) = refl
-sign-begins OpenRelation zero = tt
-sign-begins OpenRelation (suc d) = refl
-sign-begins Wall (suc d) = refl
-sign-begins Indent (suc d) = refl
-sign-begins Outdent (suc d) = refl
-sign-begins OptionalLineBreak0 (suc d) = refl
-sign-begins OptionalLineBreak9 (suc d) = refl
-sign-begins ThinSpace (suc d) = refl
-sign-begins Inserted (suc d) = refl
-sign-begins NameText (suc d) = refl
-sign-begins NameEnd (suc d) = refl
-sign-begins _ zero = tt
-sign-begins _ (suc d) = tt
+sign-begins c d = grind (arith, nat_tests)
 
 sign-ends : (c : Control) (d : ℕ) (m : MathMode) → EndsAt d m
     → IfSome (sign_depth c d) (λ n. EndsAt n (after m (needs c) (needs c)))
-sign-ends CloseBrace zero m h = tt
-sign-ends CloseBrace (suc zero) m h = tt
-sign-ends CloseBrace (suc (suc d)) m h = refl
-sign-ends OpenBrace d m h = refl
-sign-ends OpenRelation d m h = refl
-sign-ends Wall (suc d) m h = h
-sign-ends Indent (suc d) m h = h
-sign-ends Outdent (suc d) m h = h
-sign-ends OptionalLineBreak0 (suc d) m h = h
-sign-ends OptionalLineBreak9 (suc d) m h = h
-sign-ends ThinSpace (suc d) m h = h
-sign-ends Inserted (suc d) m h = h
-sign-ends NameText (suc d) m h = h
-sign-ends NameEnd (suc d) m h = h
-sign-ends _ zero m h = tt
-sign-ends _ (suc d) m h = tt
+sign-ends c d m h = grind (arith, nat_tests)
 
 -- the first mode of a control and of what follows
 sign-first : (c : Control) (d : ℕ) (later : MathMode) → Then_ (sign_depth c d) (λ n. EndsAt n later)
     → EndsAt d (first_mode (needs c) later)
-sign-first CloseBrace zero later h = tt
-sign-first CloseBrace (suc d) later h = refl
-sign-first OpenBrace zero later h = tt
-sign-first OpenBrace (suc d) later h = refl
-sign-first OpenRelation zero later h = tt
-sign-first OpenRelation (suc d) later h = refl
-sign-first Wall d later h = h
-sign-first Indent d later h = h
-sign-first Outdent d later h = h
-sign-first OptionalLineBreak0 d later h = h
-sign-first OptionalLineBreak9 d later h = h
-sign-first ThinSpace d later h = h
-sign-first Inserted d later h = h
-sign-first NameText d later h = h
-sign-first NameEnd d later h = h
-sign-first _ zero later h = tt
-sign-first _ (suc d) later h = absurd h
+sign-first c d later h = grind (arith, nat_tests)
 
 -- a toggle stands outside of braces
 toggled-depth : (d : ℕ) (m l : MathMode) (t : Tree) → EndsAt d m → EndsAt d l → depth_of (toggled m l t) d
     ≡ depth_of t d
-toggled-depth zero Math Text t m l = refl
-toggled-depth zero Text Math t m l = refl
-toggled-depth (suc d) Math Text t m l = absurd cc
-toggled-depth (suc d) Text Math t m l = absurd cc
-toggled-depth d Math Math t m l = refl
-toggled-depth d Math Maybe t m l = refl
-toggled-depth d Text Text t m l = refl
-toggled-depth d Text Maybe t m l = refl
-toggled-depth d Maybe l t m h = refl
+toggled-depth d m l t h g = grind (arith, nat_tests)
 
 -- ## Pieces
 
@@ -108,12 +49,7 @@ pub record Led (e d : ℕ) (m : MathMode) (js : List Joined) : Type 0 where
 pub led : (e d : ℕ) (m : MathMode) (js : List Joined) → Lead e d js → EndsAt d m → Led e d m js
 led e d m [] h f = record { tree = ap Some h; ends = subst (λ n. EndsAt n m) h f }
 led e d m (Whole tree l r ∷ js) h f =
-    let rest = led e d (after m l r) js h.1 (after-ends d m l r f h.0.ends) in
-    record {
-      tree = toggled-depth d m l (Sub tree (joined_tree (after m l r) js)) f h.0.begins
-          ∙ ap (λ o. leads_on o (depth_of (joined_tree (after m l r) js))) h.0.back ∙ rest.tree;
-      ends = rest.ends;
-    }
+    grind (arith, nat_tests, led e d (after m l r) js h.1 (after-ends d m l r f h.0.ends), after-ends, toggled-depth)
 led e d m (Mark c ∷ js) h f =
     go (sign_depth c d) refl h (sign-begins c d) (sign-ends c d m f)
     (λ n k g. led e n (after m (needs c) (needs c)) js k g)
@@ -148,5 +84,4 @@ JoinedStands d (Whole tree left right) = StandsAt d tree left right
 JoinedStands d (Mark control) = sign_depth control d ≡ Some d
 
 pub lead-on : (e d : ℕ) (j : Joined) (js : List Joined) → JoinedStands d j → Lead e d js → Lead e d (j ∷ js)
-lead-on e d (Whole tree l r) js h rest = (h, rest)
-lead-on e d (Mark c) js h rest = subst (λ o. Then_ o (λ n. Lead e n js)) (sym h) rest
+lead-on e d j js h rest = grind (arith, nat_tests)

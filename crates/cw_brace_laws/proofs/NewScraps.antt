@@ -1,6 +1,7 @@
 -- The scrap that a production makes is braced.
-use Rattle.std.proofs.Common.{◌≡◌, ℕ, ◌+◌, ◌<◌, Bool, true, false, not, ◌&&◌, ◌||◌, ltb, Option, Some}
-use Rattle.std.proofs.Common.{None, List, [], get_or, length, map, refl, sym, ap, ◌∙◌, subst, inl, inr, zero-add}
+use Rattle.std.proofs.Common.{arith, ◌≡◌, ℕ, ◌+◌, ◌<◌, Bool, true, false, not, ◌&&◌, ◌||◌, ltb, Option, Some, None}
+use Rattle.std.proofs.Common.{List, [], get_or, map, refl, sym, ap, ◌∙◌, subst, zero-add}
+use Rattle.std.proofs.lemmas.Bool.Decides.{nat_tests}
 use Rattle.std.specs.List.{All}
 use Rattle.std.proofs.lemmas.Bool.{cases_lt, eqb-true, ltb-true}
 use Rattle.std.proofs.lemmas.List.{get_or_past}
@@ -10,7 +11,6 @@ use Rattle.cw_base.proofs.CategoryLaws.{every-cat}
 use Rattle.cw_base.proofs.TestLaws.{both-left, both-right, not-both, not-true, other-one, unless}
 use Rattle.cw_base.specs.Category.{in_set}
 use Rattle.cw_base.specs.declared.category.Cat.{Cat}
-use Rattle.cw_base.specs.declared.category.Cat.TheVariants.{End}
 use Rattle.cw_base.specs.declared.flags.Flags.{Flags}
 use Rattle.cw_base.specs.declared.mode.MathMode.TheVariants.{Maybe}
 use Rattle.cw_table.proofs.ScrapFacts.{cats-get}
@@ -20,10 +20,7 @@ use Rattle.cw_table.specs.Insertions.{insertion_of}
 use Rattle.cw_table.specs.Rewriting.{cats_of, joined_of, alone, with_cat, row_pieces, new_scrap, takes_other}
 use Rattle.cw_table.specs.Rows.{pieces_for, result_at, test}
 use Rattle.cw_table.specs.declared.types.Piece.{Piece}
-use Rattle.cw_table.specs.declared.types.Piece.TheVariants.{Scrap as ScrapOf, MathScrap, Unused}
-use Rattle.cw_table.specs.declared.types.Piece.TheVariants.{Wall, Indent, Outdent}
-use Rattle.cw_table.specs.declared.types.Piece.TheVariants.{OptionalLineBreak0, OptionalLineBreak9, ThinSpace}
-use Rattle.cw_table.specs.declared.types.Piece.TheVariants.{OpenBrace, CloseBrace, OpenRelation, Inserted}
+use Rattle.cw_table.specs.declared.types.Piece.TheVariants.{Scrap as ScrapOf, MathScrap}
 use Rattle.cw_table.specs.declared.types.Row.{Row}
 use Rattle.cw_table.specs.declared.types.RowResult.{RowResult}
 use Rattle.cw_table.specs.declared.types.RowResult.TheVariants.{Is, SameAs}
@@ -57,8 +54,7 @@ parts row ps ok = record {
 pub row-braced : (row : Row) → row_is_braced row ≡ true → (other : Bool)
     → IsBracedRow row (pieces_for other row)
 unfolding row_is_braced
-row-braced row h true = parts row (pieces_for true row) (both-right _ _ h)
-row-braced row h false = parts row (pieces_for false row) (both-left _ _ h)
+row-braced row h other = grind (arith, nat_tests, parts, both-right, both-left)
 
 -- of the scraps that a piece puts in
 abbrev pub AtScrap : (ℕ → Type 0) → Piece → Type 0
@@ -72,10 +68,7 @@ none-braced = record { braced = refl; calm = λ c. absurd cc }
 -- what holds of each scrap of a list holds at each place
 pub all-at : (P : Scrap → Type 0) → P no_scrap → (scraps : List Scrap) (k : ℕ) → All P scraps
     → P (get_or scraps k no_scrap)
-all-at P none scraps k all = elim (cases_lt k (length scraps)) [
-  | inl h ↦ all k no_scrap h
-  | inr h ↦ subst P (sym (get_or_past scraps k no_scrap h)) none
-]
+all-at P none scraps k all = grind (arith, nat_tests, cases_lt, get_or_past)
 
 at-braced : (scraps : List Scrap) (k : ℕ) → All IsBracedScrap scraps → IsBracedScrap (get_or scraps k no_scrap)
 at-braced scraps k all = all-at IsBracedScrap none-braced scraps k all
@@ -112,21 +105,7 @@ module _ (row : Row) (scraps : List Scrap)
   pub quiet-stands : (these : ℕ → Cat → Bool) (m : ℕ) (p : Piece)
       → AtScrap (λ k. these k (get_or scraps k no_scrap).cat ≡ true → ScrapStands m k) p
       → is_quiet these row (insertion_of p) ≡ true → Stands scraps m p
-  quiet-stands these m (ScrapOf k) at h = at (quiet-scrap these k h)
-  quiet-stands these m (MathScrap k) at h = math-stands m (get_or scraps k no_scrap).tree
-      (get_or scraps k no_scrap).left (get_or scraps k no_scrap).right (at (quiet-scrap these k h))
-  quiet-stands these m OpenBrace at h = tt
-  quiet-stands these m CloseBrace at h = tt
-  quiet-stands these m OpenRelation at h = tt
-  quiet-stands these m Unused at h = refl
-  quiet-stands these m Wall at h = refl
-  quiet-stands these m Indent at h = refl
-  quiet-stands these m Outdent at h = refl
-  quiet-stands these m OptionalLineBreak0 at h = refl
-  quiet-stands these m OptionalLineBreak9 at h = refl
-  quiet-stands these m ThinSpace at h = refl
-  quiet-stands these m Inserted at h = refl
-  quiet-stands these m _ at h = absurd cc
+  quiet-stands these m p at h = grind (arith, nat_tests, quiet-scrap, math-stands)
 
   -- a new scrap whose pieces can stand between braces
   pub new-holds : (ps : List Piece) → braces_pair 0 ps ≡ true → All (λ p. (m : ℕ) → Stands scraps m p) (between 0 ps)
@@ -163,26 +142,12 @@ module _ (row : Row) (scraps : List Scrap) (all : All IsBracedScrap scraps)
 
   -- outside of braces
   stands-outside : (p : Piece) → Stands scraps 0 p
-  stands-outside (ScrapOf k) = record { back = (at-braced scraps k all).braced; begins = tt; ends = tt }
-  stands-outside (MathScrap k) = math-stands 0 (get_or scraps k no_scrap).tree
-      (get_or scraps k no_scrap).left (get_or scraps k no_scrap).right
-      (record { back = (at-braced scraps k all).braced; begins = tt; ends = tt })
-  stands-outside OpenBrace = tt
-  stands-outside CloseBrace = tt
-  stands-outside OpenRelation = tt
-  stands-outside _ = refl
+  stands-outside p = grind (arith, nat_tests, at-braced, math-stands)
 
   -- where the result is calm
   same-calm : (result : RowResult) (k : ℕ) → is_calm (result_at result (cats_of scraps)) ≡ true
       → makes_calm result k (get_or scraps k no_scrap).cat ≡ true → is_calm (get_or scraps k no_scrap).cat ≡ true
-  same-calm (Is made) k calm h = h
-  same-calm (SameAs j) k calm h = go (is_calm (get_or scraps k no_scrap).cat) refl
-    where
-      go : (b : Bool) → is_calm (get_or scraps k no_scrap).cat ≡ b → is_calm (get_or scraps k no_scrap).cat ≡ true
-      go true e = e
-      go false e =
-          let same : k ≡ j = eqb-true _ _ (other-one _ _ h e) in
-          ap is_calm (sym (cats-get scraps k)) ∙ ap (λ n. is_calm (get_or (cats_of scraps) n End)) same ∙ calm
+  same-calm result k calm h = grind (arith, nat_tests, eqb-true, other-one, cats-get)
 
   may-calm : (result : RowResult) → row.result ≡ result → is_calm (result_at result (cats_of scraps)) ≡ true
       → may_be_calm row result ≡ true

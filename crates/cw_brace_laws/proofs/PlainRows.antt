@@ -1,6 +1,7 @@
 -- In a text without comments, `#` lines, question marks and attributes no production gives text to an operator.
-use Rattle.std.proofs.Common.{◌≡◌, ℕ, ◌<◌, Bool, true, false, not, ◌&&◌, ◌||◌, eqb, ltb, Option, Some, None, List}
-use Rattle.std.proofs.Common.{get_or, map, take, drop, refl, sym, ap, ◌∙◌}
+use Rattle.std.proofs.Common.{arith, ◌≡◌, ℕ, ◌<◌, Bool, true, false, not, ◌&&◌, ◌||◌, eqb, ltb, List, get_or, take}
+use Rattle.std.proofs.Common.{drop, refl, sym, ap, ◌∙◌}
+use Rattle.std.proofs.lemmas.Bool.Decides.{nat_tests}
 use Rattle.std.specs.List.{All, list_all}
 use Rattle.std.proofs.lemmas.Bool.{eqb-true, ltb-true}
 use Rattle.std.proofs.lemmas.List.Elements.{All-append, All-drop, All-take}
@@ -8,19 +9,19 @@ use Rattle.std.proofs.lemmas.List.Sums.{AllPass-from_list_all}
 use Rattle.cw_base.proofs.TestLaws.{both, both-left, both-right, not-both, not-true, other-one, unless}
 use Rattle.cw_base.specs.Category.{in_set}
 use Rattle.cw_base.specs.declared.category.Cat.{Cat}
-use Rattle.cw_base.specs.declared.category.Cat.TheVariants.{End, RawInt}
+use Rattle.cw_base.specs.declared.category.Cat.TheVariants.{RawInt}
 use Rattle.cw_base.specs.declared.flags.Flags.{Flags}
 use Rattle.cw_table.proofs.BraceRows.{rows-braced}
 use Rattle.cw_table.proofs.Examples.{productions-sound}
 use Rattle.cw_table.proofs.ScrapFacts.{at-cats, cats-get}
 use Rattle.cw_table.proofs.Soundness.{sound-row}
-use Rattle.cw_table.specs.Braces.{admits_only, are_quiet, between, is_calm, is_quiet, may_stand, row_is_braced}
+use Rattle.cw_table.specs.Braces.{admits_only, are_quiet, between, is_quiet, may_stand, row_is_braced}
 use Rattle.cw_table.specs.Fitting.{row_fits}
 use Rattle.cw_table.specs.Insertions.{insertion_of}
 use Rattle.cw_table.specs.Normal.{At, next_place, steps}
 use Rattle.cw_table.specs.Productions.{productions}
 use Rattle.cw_table.specs.Rewriting.{State, alone, cats_of, new_scrap, reserved_at, reserved_in, rewrite, rewrite_from}
-use Rattle.cw_table.specs.Rewriting.{joined_of, row_pieces, takes_other, with_cat}
+use Rattle.cw_table.specs.Rewriting.{row_pieces, takes_other, with_cat}
 use Rattle.cw_table.specs.Rows.{pieces_for, result_at, test}
 use Rattle.cw_table.specs.Sound.{IsSound}
 use Rattle.cw_table.specs.declared.types.Piece.{Piece}
@@ -28,7 +29,7 @@ use Rattle.cw_table.specs.declared.types.Piece.TheVariants.{Scrap as ScrapOf, Ma
 use Rattle.cw_table.specs.declared.types.Row.{Row}
 use Rattle.cw_table.specs.declared.types.RowResult.{RowResult}
 use Rattle.cw_table.specs.declared.types.RowResult.TheVariants.{Is, SameAs}
-use Rattle.cw_trees.specs.Joining.{Scrap, join, no_scrap}
+use Rattle.cw_trees.specs.Joining.{Scrap, no_scrap}
 use Rattle.cw_brace_laws.specs.Bracing.{HoldsNoText, StandsAt}
 use Rattle.cw_brace_laws.specs.Operators.{HasCleanOperators, PutsCleanOperator}
 use Rattle.cw_brace_laws.specs.PlainTexts.{IsPlainText, is_plain}
@@ -88,16 +89,10 @@ types-plain s h = record { plain = refl; clean = λ c. absurd cc }
 
 -- what may stand between braces is clean
 stand-clean : (result : RowResult) (k : ℕ) (c : Cat) → may_stand result k c ≡ true → is_clean c ≡ true
-stand-clean (SameAs j) k c h = calm-clean c h
-stand-clean (Is made) k c h = go (is_calm c) refl
-  where
-    go : (b : Bool) → is_calm c ≡ b → is_clean c ≡ true
-    go true e = calm-clean c e
-    go false e = binop-clean c (both-right _ _ (other-one _ _ h e))
+stand-clean result k c h = grind (arith, nat_tests, calm-clean, is_clean, binop-clean, both-right, other-one)
 
 none-of-two : (a b : Bool) → a ≡ false → b ≡ false → (a || b) ≡ false
-none-of-two true b h k = absurd cc
-none-of-two false b h k = k
+none-of-two a b h k = grind (arith, nat_tests)
 
 -- ## A row that fits plain scraps
 
@@ -125,8 +120,7 @@ module _ (row : Row) (scraps : List Scrap) (all : All IsPlainScrap scraps)
       (none-of-two (asks row 0) (asks row 1) (not-asked 0) (not-asked 1)) (not-asked 2)) (not-asked 3))
 
   works-by : row_is_plain row ≡ true → (other : Bool) → plain_pieces row (pieces_for other row) ≡ true
-  works-by h true = both-right _ _ (both-right _ _ (works h))
-  works-by h false = both-left _ _ (both-right _ _ (works h))
+  works-by h other = grind (arith, nat_tests, both-right, works, both-left)
 
   result-plain : (result : RowResult) → plain_result result ≡ true → is_plain (result_at result (cats_of scraps)) ≡ true
   result-plain (Is made) h = h
@@ -134,14 +128,7 @@ module _ (row : Row) (scraps : List Scrap) (all : All IsPlainScrap scraps)
 
   same-clean : (result : RowResult) (k : ℕ) → is_clean (result_at result (cats_of scraps)) ≡ true
       → makes_clean result k (get_or scraps k no_scrap).cat ≡ true → is_clean (get_or scraps k no_scrap).cat ≡ true
-  same-clean (Is made) k clean h = unless _ _ h (at k).plain
-  same-clean (SameAs j) k clean h = go (is_clean (get_or scraps k no_scrap).cat) refl
-    where
-      go : (b : Bool) → is_clean (get_or scraps k no_scrap).cat ≡ b → is_clean (get_or scraps k no_scrap).cat ≡ true
-      go true e = e
-      go false e =
-          let same : k ≡ j = eqb-true _ _ (other-one _ _ (unless _ _ h (at k).plain) e) in
-          ap is_clean (sym (cats-get scraps k)) ∙ ap (λ n. is_clean (get_or (cats_of scraps) n End)) same ∙ clean
+  same-clean result k clean h = grind (arith, nat_tests, unless, at, is_clean, eqb-true, other-one, cats-get)
 
   may-clean : (result : RowResult) → row.result ≡ result → is_clean (result_at result (cats_of scraps)) ≡ true
       → may_be_clean row result ≡ true
@@ -183,15 +170,7 @@ module _ (row : Row) (scraps : List Scrap) (all : All IsPlainScrap scraps)
       (unless _ _ h (may-clean row.result refl clean)) i d lt)
 
   new-cat : (flags : Flags) → (new_scrap flags row scraps).cat ≡ result_at row.result (cats_of scraps)
-  new-cat flags = go (alone row.replaced (row_pieces flags row (cats_of scraps)))
-    where
-      go : (o : Option ℕ) → (elim o as (λ _. Scrap) [
-        | Some k ↦ with_cat (result_at row.result (cats_of scraps)) (get_or scraps k no_scrap)
-        | None ↦ join (result_at row.result (cats_of scraps)) (map (joined_of scraps) (row_pieces flags row
-            (cats_of scraps)))
-      ]).cat ≡ result_at row.result (cats_of scraps)
-      go (Some k) = refl
-      go None = refl
+  new-cat flags = grind (arith, nat_tests)
 
   new-plain : (flags : Flags) → row_is_braced row ≡ true → row_is_plain row ≡ true
       → IsPlainScrap (new_scrap flags row scraps)

@@ -1,30 +1,22 @@
 -- What the signs of a braced list print is braced.
 use Rattle.std.proofs.Common.{◌≡◌, ℕ, zero, suc, Bool, true, false, ◌||◌, ltb, Option, Some, None, List, [], ◌∷◌, ◌++◌}
-use Rattle.std.proofs.Common.{map, refl, ap, ◌∙◌, if◌then◌else◌}
-use Rattle.cw_base.specs.Conditions.{list_if}
-use Rattle.std.specs.List.{list_any}
-use Rattle.std.specs.Prelude.{codes}
+use Rattle.std.proofs.Common.{map, refl, ap, ◌∙◌, if◌then◌else◌, arith}
 use Rattle.cw_trees.specs.Flat.{Item, SourceItem, IdentItem, ReservedItem, SignItem, Open, Close, flat, is_run_sign}
 use Rattle.cw_trees.specs.Flat.{trimmed_items}
-use Rattle.cw_trees.specs.Printing.{backup_bytes, break_bytes, indent_bytes, indents, inner_run, is_backup}
-use Rattle.cw_trees.specs.Printing.{is_cancel, opened, part_run, printed_from, run_bytes, strongest}
+use Rattle.cw_trees.specs.Printing.{backup_bytes, break_bytes, indent_bytes, indents, inner_run, opened, part_run}
+use Rattle.cw_trees.specs.Printing.{printed_from, run_bytes}
 use Rattle.cw_trees.specs.Tree.{Tree}
 use Rattle.cw_trees.specs.declared.Control.{Control}
-use Rattle.cw_trees.specs.declared.Control.TheVariants.{Blank, OptionalBreak, Break, BigBreak, Cancel, Backup, Wall}
-use Rattle.cw_trees.specs.declared.Control.TheVariants.{Indent, Outdent, OptionalLineBreak0, OptionalLineBreak9}
-use Rattle.cw_trees.specs.declared.Control.TheVariants.{ThinSpace, OpenBrace, CloseBrace, OpenRelation, Inserted}
-use Rattle.cw_trees.specs.declared.Control.TheVariants.{ToMath, ToText, Dollar, CommentEnd, NameText, NameEnd}
 use Rattle.cw_brace_laws.specs.Bracing.{IsBraced, leads_on, sign_depth}
-use Rattle.cw_brace_laws.specs.Printed.{PrintsBraced, byte_depth, bytes_depth, items_depth, own_sign}
-use Rattle.cw_brace_laws.specs.Printed.{sign_alone}
+use Rattle.cw_brace_laws.specs.Printed.{PrintsBraced, byte_depth, bytes_depth, items_depth, own_sign, sign_alone}
 use Rattle.cw_brace_laws.proofs.Flats.{by-way, trimmed-braced}
+use Rattle.std.proofs.lemmas.Bool.Decides.{nat_tests}
 
 -- ## Bytes
 
 leads-twice : (o : Option ℕ) (f g h : ℕ → Option ℕ) → ((d : ℕ) → g d ≡ leads_on (f d) h)
     → leads_on o g ≡ leads_on (leads_on o f) h
-leads-twice None f g h e = refl
-leads-twice (Some d) f g h e = e d
+leads-twice o f g h e = grind (arith, nat_tests)
 
 bytes-append : (xs ys : List ℕ) (d : ℕ) → bytes_depth (xs ++ ys) d ≡ leads_on (bytes_depth xs d) (bytes_depth ys)
 bytes-append [] ys d = refl
@@ -41,42 +33,23 @@ plain-append xs ys f g d = bytes-append xs ys d ∙ ap (λ o. leads_on o (bytes_
 -- ## Runs
 
 indent-plain : (c : Control) → ArePlain (indent_bytes c)
-indent-plain Indent d = refl
-indent-plain _ d = refl
+indent-plain c d = grind (arith, nat_tests)
 
 indents-plain : (run : List Control) → ArePlain (indents run)
 indents-plain [] d = refl
 indents-plain (c ∷ run) d = plain-append (indent_bytes c) (indents run) (indent-plain c) (indents-plain run) d
 
 break-plain : (n : ℕ) → ArePlain (break_bytes n)
-break-plain zero d = refl
-break-plain (suc zero) d = refl
-break-plain (suc (suc zero)) d = refl
-break-plain (suc (suc (suc zero))) d = refl
-break-plain (suc (suc (suc (suc n)))) d = refl
+break-plain n d = grind (arith, nat_tests)
 
 backup-plain : (run : List Control) → ArePlain (backup_bytes run)
-backup-plain run d = go (list_any is_backup run)
-  where
-    go : (b : Bool) → bytes_depth (list_if b (codes "\\4")) d ≡ Some d
-    go true = refl
-    go false = refl
+backup-plain run d = grind (arith, nat_tests)
 
 part-plain : (run : List Control) → ArePlain (part_run run)
-part-plain run = plain-append (indents run) _ (indents-plain run) (λ d. go d (list_any is_cancel run))
-  where
-    go : (d : ℕ) (b : Bool) → bytes_depth (if b then [] else break_bytes (strongest run) ++ backup_bytes run) d ≡ Some d
-    go d true = refl
-    go d false = plain-append (break_bytes (strongest run)) (backup_bytes run) (break-plain (strongest run))
-        (backup-plain run) d
+part-plain run = grind (arith, nat_tests, plain-append, indents-plain, break-plain, backup-plain)
 
 inner-plain : (run : List Control) → ArePlain (inner_run run)
-inner-plain run d = go (list_any is_cancel run) (ltb 0 (strongest run))
-  where
-    go : (b c : Bool) → bytes_depth (if b then [] else list_if c (codes " ")) d ≡ Some d
-    go true c = refl
-    go false true = refl
-    go false false = refl
+inner-plain run d = grind (arith, nat_tests)
 
 run-plain : (inner : Bool) (run : List Control) → ArePlain (run_bytes inner run)
 run-plain true run = inner-plain run
@@ -87,54 +60,19 @@ run-plain false run = part-plain run
 -- a sign in no run leads where its bytes lead
 sign-leads : (c : Control) (d e : ℕ) → is_run_sign c ≡ false → sign_depth c d ≡ Some e
     → bytes_depth (own_sign c) d ≡ Some e
-sign-leads OpenBrace d e is h = h
-sign-leads OpenRelation d e is h = h
-sign-leads CloseBrace zero e is h = h
-sign-leads CloseBrace (suc d) e is h = h
-sign-leads ToMath zero e is h = h
-sign-leads ToMath (suc d) e is h = absurd cc
-sign-leads ToText zero e is h = h
-sign-leads ToText (suc d) e is h = absurd cc
-sign-leads Dollar zero e is h = h
-sign-leads Dollar (suc d) e is h = absurd cc
-sign-leads CommentEnd zero e is h = h
-sign-leads CommentEnd (suc d) e is h = absurd cc
-sign-leads Wall d e is h = h
-sign-leads OptionalLineBreak0 d e is h = h
-sign-leads OptionalLineBreak9 d e is h = h
-sign-leads ThinSpace d e is h = h
-sign-leads Inserted d e is h = h
-sign-leads NameText d e is h = h
-sign-leads NameEnd d e is h = h
-sign-leads _ d e is h = absurd cc
+sign-leads c d e is h = grind (arith, nat_tests)
 
 -- a sign of a run leads nowhere else
 run-leads : (c : Control) (d e : ℕ) (next : ℕ → Option ℕ) → is_run_sign c ≡ true
     → leads_on (sign_depth c d) next ≡ Some e → next d ≡ Some e
-run-leads Indent d e next is h = h
-run-leads Outdent d e next is h = h
-run-leads Blank zero e next is h = h
-run-leads OptionalBreak zero e next is h = h
-run-leads Break zero e next is h = h
-run-leads BigBreak zero e next is h = h
-run-leads Cancel zero e next is h = h
-run-leads Backup zero e next is h = h
-run-leads Blank (suc d) e next is h = absurd cc
-run-leads OptionalBreak (suc d) e next is h = absurd cc
-run-leads Break (suc d) e next is h = absurd cc
-run-leads BigBreak (suc d) e next is h = absurd cc
-run-leads Cancel (suc d) e next is h = absurd cc
-run-leads Backup (suc d) e next is h = absurd cc
-run-leads _ d e next is h = absurd cc
+run-leads c d e next is h = grind (arith, nat_tests)
 
 -- ## Lists
 
 -- a run, then the bytes of an item, then the rest
 three-lead : (run bytes rest : List ℕ) (d n e : ℕ) → ArePlain run → bytes_depth bytes d ≡ Some n
     → bytes_depth rest n ≡ Some e → bytes_depth (run ++ (bytes ++ rest)) d ≡ Some e
-three-lead run bytes rest d n e plain here later =
-    bytes-append run (bytes ++ rest) d ∙ ap (λ o. leads_on o (bytes_depth (bytes ++ rest))) (plain d)
-    ∙ bytes-append bytes rest d ∙ ap (λ o. leads_on o (bytes_depth rest)) here ∙ later
+three-lead run bytes rest d n e plain here later = grind (arith, nat_tests, bytes-append)
 
 printed-leads : (inner : Bool) (depth : ℕ) (run : List Control) (items : List Item) (d e : ℕ)
     → items_depth items d ≡ Some e → bytes_depth (printed_from inner depth run (map sign_alone items)) d ≡ Some e

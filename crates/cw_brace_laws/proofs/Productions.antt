@@ -22,14 +22,15 @@ use Rattle.cw_table.specs.Rewriting.{reserved_in, rewrite, rewrite_from, row_pie
 use Rattle.cw_table.specs.Rows.{test, tests_of}
 use Rattle.cw_table.specs.Sound.{IsSound, is_exp, row_is_sound}
 use Rattle.cw_table.specs.declared.types.Piece.{Piece}
-use Rattle.cw_table.specs.declared.types.Piece.TheVariants as piece
 use Rattle.cw_table.specs.declared.types.Row.{Row}
 use Rattle.cw_trees.specs.Joining.{Scrap, no_scrap}
-use Rattle.cw_trees.specs.Tree.{Search, Found as FoundName, Stopped, Nothing, bare_name}
+use Rattle.cw_trees.specs.Tree.{Search, Found as FoundName, bare_name}
 use Rattle.cw_brace_laws.specs.Bracing.{HoldsNoText, IsBracedScrap}
 use Rattle.cw_brace_laws.specs.Operators.{HasCleanOperators, IsCleanOperator, PutsCleanOperator, PutsCleanOperators}
 use Rattle.cw_brace_laws.proofs.Depths.{reserve-depth}
 use Rattle.cw_brace_laws.proofs.NewScraps.{all-at, new-braced, none-braced}
+use Rattle.std.proofs.lemmas.Bool.Decides.{nat_tests}
+use Rattle.cw_table.specs.declared.types.Piece.TheVariants as piece
 
 -- ## Reserving
 
@@ -37,19 +38,14 @@ pub reserve-holds : (s : Scrap) → HoldsNoText s → HoldsNoText (reserved_in s
 reserve-holds s h m = record { back = reserve-depth s.tree m ∙ (h m).back; begins = (h m).begins; ends = (h m).ends }
 
 reserve-braced : (s : Scrap) → IsBracedScrap s → IsBracedScrap (reserved_in s)
-reserve-braced s h = record {
-  braced = reserve-depth s.tree 0 ∙ h.braced;
-  calm = λ c. reserve-holds s (h.calm c);
-}
+reserve-braced s h = grind (arith, nat_tests, reserve-depth, reserve-holds)
 
 -- a scrap at a place is as before, or its first identifier was reserved
 set-at : (Q : Scrap → Type 0) → ((s : Scrap) → Q s → Q (reserved_in s)) → (scraps : List Scrap) (n k : ℕ)
     → Q (get_or scraps k no_scrap) → Q (get_or (set scraps n (reserved_in (get_or scraps n no_scrap))) k no_scrap)
-set-at Q keeps [] n k h = h
 set-at Q keeps (s ∷ scraps) zero zero h = keeps s h
-set-at Q keeps (s ∷ scraps) zero (suc k) h = h
-set-at Q keeps (s ∷ scraps) (suc n) zero h = h
 set-at Q keeps (s ∷ scraps) (suc n) (suc k) h = set-at Q keeps scraps n k h
+set-at _ _ _ _ _ h = h
 
 clean-scrap : (o : Option ℕ) (scraps : List Scrap) (k : ℕ) → IsCleanOperator (get_or scraps k no_scrap)
     → IsCleanOperator (get_or (reserved_at o scraps) k no_scrap)
@@ -74,16 +70,14 @@ module _ (P : Scrap → Type 0) (none : P no_scrap) (reserves : (s : Scrap) → 
 
   scrap-keeps : (b : Bool) (name : ℕ) (s : Scrap) → (is_exp s.cat && is_bare_name name (bare_name s.tree)) ≡ b → P s
       → P (named_scrap name s)
-  scrap-keeps true name s e h = rw (e, named_scrap) (types s h)
-  scrap-keeps false name s e h = rw (e, named_scrap) h
+  scrap-keeps b name s e h = grind (arith, nat_tests)
 
   right-keeps : (found : Search) (scraps : List Scrap) → All P scraps → All P (named_right found scraps)
   right-keeps (FoundName name) scraps all = All-map P (named_scrap name) scraps
       (λ k d h. scrap-keeps (is_exp (get_or scraps k d).cat && is_bare_name name (bare_name (get_or scraps k d).tree))
       name
       (get_or scraps k d) refl (all k d h))
-  right-keeps Stopped scraps all = all
-  right-keeps Nothing scraps all = all
+  right-keeps _ _ all = all
 
   pub rewritten-keeps : (flags : Flags) (row : Row) (scraps : List Scrap) → All P scraps
       → P (new_scrap flags row (reserved_at row.action.reserve scraps)) → All P (rewrite_from flags row scraps)
@@ -164,17 +158,7 @@ pub record Taken (row : Row) (scraps : List Scrap) : Type 0 where
 pub taken : list_all row_is_sound productions ≡ true → (st : State) (i : ℕ) (r : Row)
     → next_place productions st ≡ At i r → Taken r (drop i st.scraps)
 taken sound st i r e =
-    let l = least-at productions 0 (cats_of st.scraps) i r e in
-    let same : l.gone ≡ i = omega (arith, l.place_is) in
-    let found : first_of productions (cats_of (drop i st.scraps)) ≡ Some r =
-    ap (first_of productions) (cats-drop i st.scraps)
-    ∙ ap (λ n. first_of productions (drop n (cats_of st.scraps))) (sym same) ∙ l.found in
-    let first = first-found productions (cats_of (drop i st.scraps)) r sound found in
-    record {
-      fits = first.fits;
-      sound = first.sound;
-      passes = λ p all. first-passes p productions (cats_of (drop i st.scraps)) r all found;
-    }
+    grind (arith, least-at productions 0 (cats_of st.scraps) i r e, cats-drop, first-found, first-passes)
 
 -- what each production keeps is kept by all
 pub steps-keep : (flags : Flags) (Q : State → Type 0)

@@ -1,21 +1,19 @@
 -- The pieces of a row lead from a depth back to it, where they can stand there and those between braces anywhere.
-use Rattle.std.proofs.Common.{◌≡◌, ℕ, zero, suc, ◌+◌, true, Some, List, [], ◌∷◌, map}
-use Rattle.std.proofs.Common.{ap, subst, arith}
+use Rattle.std.proofs.Common.{◌≡◌, ℕ, zero, suc, ◌+◌, true, Some, List, [], ◌∷◌, map, subst, arith}
 use Rattle.std.specs.List.{All}
 use Rattle.std.proofs.lemmas.Bool.{eqb-true}
 use Rattle.std.proofs.lemmas.List.Elements.{All-head, All-tail}
 use Rattle.cw_base.specs.declared.mode.MathMode.{MathMode}
-use Rattle.cw_base.specs.declared.mode.MathMode.TheVariants.{Text, Math, Maybe}
 use Rattle.cw_table.specs.Braces.{braces_pair, between}
 use Rattle.cw_table.specs.Rewriting.{joined_of, math_piece, alone}
 use Rattle.cw_table.specs.declared.types.Piece.{Piece}
-use Rattle.cw_table.specs.declared.types.Piece.TheVariants.{Scrap as ScrapOf}
-use Rattle.cw_table.specs.declared.types.Piece.TheVariants.{OpenBrace, CloseBrace, OpenRelation}
+use Rattle.cw_table.specs.declared.types.Piece.TheVariants.{Scrap as ScrapOf, OpenBrace, CloseBrace, OpenRelation}
 use Rattle.cw_trees.specs.Joining.{Scrap}
 use Rattle.cw_trees.specs.Tree.{Tree}
 use Rattle.cw_brace_laws.specs.Bracing.{StandsAt}
 use Rattle.cw_brace_laws.proofs.Depths.{ends-math}
 use Rattle.cw_brace_laws.proofs.Joins.{JoinedStands, Lead, lead-on}
+use Rattle.std.proofs.lemmas.Bool.Decides.{nat_tests}
 
 -- a piece that is no brace can stand at a depth
 abbrev pub Stands : List Scrap → ℕ → Piece → Type 0
@@ -26,11 +24,7 @@ Stands scraps depth piece = JoinedStands depth (joined_of scraps piece)
 
 pub math-stands : (m : ℕ) (tree : Tree) (l r : MathMode) → StandsAt m tree l r
     → JoinedStands m (math_piece tree l r)
-math-stands m tree Maybe Maybe h = record { back = h.back; begins = ends-math m; ends = ends-math m }
-math-stands m tree Maybe Text h = h
-math-stands m tree Maybe Math h = h
-math-stands m tree Text r h = h
-math-stands m tree Math r h = h
+math-stands m tree l r h = grind (arith, nat_tests, ends-math)
 
 pub pieces-lead : (scraps : List Scrap) (n d e : ℕ) (ps : List Piece) → e ≡ d + n → braces_pair d ps ≡ true
     → All (λ p. (m : ℕ) → Stands scraps m p) (between d ps) → All (Stands scraps n) ps
@@ -59,5 +53,4 @@ pieces-lead scraps n (suc d) e (p ∷ ps) is pair held out =
 
 -- a row that leaves a scrap as it is has this piece alone
 pub alone-pieces : (n : ℕ) (ps : List Piece) (k : ℕ) → alone n ps ≡ Some k → ps ≡ ScrapOf k ∷ []
-alone-pieces (suc zero) (ScrapOf j ∷ []) k e = let same : j ≡ k = cc in ap (λ i. ScrapOf i ∷ []) same
-alone-pieces _ _ k e = absurd cc
+alone-pieces n ps k e = grind (arith, nat_tests)

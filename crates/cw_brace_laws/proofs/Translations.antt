@@ -1,10 +1,11 @@
 -- The tree of a translation is braced, where the operators of all texts that ended hold no text.
-use Rattle.std.proofs.Common.{◌≡◌, ℕ, Bool, true, false, Option, Some, None, List, [], ◌∷◌, ◌++◌, get_or, refl, ap, ◌∙◌}
+use Rattle.std.proofs.Common.{arith, ◌≡◌, ℕ, Bool, true, false, Option, Some, None, List, [], ◌∷◌, ◌++◌, get_or, refl}
+use Rattle.std.proofs.Common.{ap, ◌∙◌}
+use Rattle.std.proofs.lemmas.Bool.Decides.{nat_tests}
 use Rattle.std.specs.List.{All, list_all}
 use Rattle.std.proofs.lemmas.List.Elements.{All-append, All-cons, All-head, All-nil, All-tail}
 use Rattle.cw_base.proofs.TestLaws.{not-both}
 use Rattle.cw_base.specs.declared.category.Cat.{Cat}
-use Rattle.cw_base.specs.declared.category.Cat.TheVariants as cat
 use Rattle.cw_base.specs.declared.flags.Flags.{Flags}
 use Rattle.cw_base.specs.declared.mode.MathMode.{MathMode}
 use Rattle.cw_base.specs.declared.mode.MathMode.TheVariants.{Text, Maybe}
@@ -12,30 +13,31 @@ use Rattle.cw_lex.specs.Heads.{Head, Headed, Headless, Macro, Format, Silent, Na
 use Rattle.cw_lex.specs.Nest.{Nest, End, Leaf, Group, nest}
 use Rattle.cw_names.specs.Names.{Entry}
 use Rattle.cw_rules.specs.Answers.{Answer, Seen}
-use Rattle.cw_rules.specs.declared.codes.Code.TheVariants as code
 use Rattle.cw_rules.specs.declared.tokens.TokKind.{TokKind}
-use Rattle.cw_rules.specs.declared.tokens.TokKind.TheVariants as kind
 use Rattle.cw_scraps.specs.Leaves.{LeafForm, names_with, token_form}
 use Rattle.cw_table.specs.Braces.{row_is_braced}
 use Rattle.cw_table.specs.Rewriting.{State}
 use Rattle.cw_table.specs.Productions.{productions}
 use Rattle.cw_table.specs.Sound.{row_is_sound}
 use Rattle.cw_tokens.specs.declared.token.Token.{Token}
-use Rattle.cw_tokens.specs.declared.token.Token.TheVariants as token
-use Rattle.cw_translator.specs.Translating.{CommentItem, Ended, InnerText, Known, Made, NameTexts, Piece, begin}
-use Rattle.cw_translator.specs.Translating.{beside, comment_rest, comment_scrap, dead, dollared, end_of, first_word}
-use Rattle.cw_translator.specs.Translating.{form_made, group_made, head_made, headed_made, is_macro}
-use Rattle.cw_translator.specs.Translating.{later_words, leaf_of_name, leaf_scrap, made, name_in_text, names_in_text}
-use Rattle.cw_translator.specs.Translating.{no_name, nothing, one_scrap, plain_text, sign_behind, spelled, state_in}
-use Rattle.cw_translator.specs.Translating.{texts_made, texts_named, token_made, translated, with_names, word_tokens}
+use Rattle.cw_translator.specs.Translating.{CommentItem, Ended, InnerText, Known, Made, NameTexts, Piece, begin, beside}
+use Rattle.cw_translator.specs.Translating.{comment_rest, comment_scrap, dead, dollared, end_of, first_word, form_made}
+use Rattle.cw_translator.specs.Translating.{group_made, head_made, headed_made, is_macro, later_words, leaf_of_name}
+use Rattle.cw_translator.specs.Translating.{leaf_scrap, made, name_in_text, names_in_text, no_name, nothing, one_scrap}
+use Rattle.cw_translator.specs.Translating.{plain_text, sign_behind, spelled, state_in, texts_made, texts_named}
+use Rattle.cw_translator.specs.Translating.{token_made, translated, with_names, word_tokens}
 use Rattle.cw_trees.specs.Joining.{Scrap}
 use Rattle.cw_trees.specs.Tree.{Tree, Empty, Then, Inner, Sign}
-use Rattle.cw_trees.specs.declared.Control.TheVariants as control
 use Rattle.cw_brace_laws.specs.Bracing.{IsBraced, depth_of, leads_on, outside}
 use Rattle.cw_brace_laws.specs.Operators.{HasCleanOperators}
 use Rattle.cw_brace_laws.proofs.CleanScraps.{IsLeafScrap, is_clean, leaf-is-braced}
 use Rattle.cw_brace_laws.proofs.Leaves.{AreFlat, FormBraced, IsFlat, flat-append, flat-braced, token-braced, token-flat}
 use Rattle.cw_brace_laws.proofs.Wholes.{reduction-braced}
+use Rattle.cw_base.specs.declared.category.Cat.TheVariants as cat
+use Rattle.cw_rules.specs.declared.codes.Code.TheVariants as code
+use Rattle.cw_rules.specs.declared.tokens.TokKind.TheVariants as kind
+use Rattle.cw_tokens.specs.declared.token.Token.TheVariants as token
+use Rattle.cw_trees.specs.declared.Control.TheVariants as control
 
 -- ## Lists
 
@@ -100,13 +102,11 @@ nothing-made C known clean = record { clean = clean; scraps = All-nil IsLeafScra
 -- with these names behind it
 nothing-named : (C : State → Type 0) (known : Known) (names : List Entry)
     → Makes C known (nothing (with_names names known))
-nothing-named C known names clean =
-    record { clean = clean; scraps = All-nil IsLeafScrap; items = All-nil ItemBraced }
+nothing-named C known names clean = grind (arith, nat_tests)
 
 scrap-named : (C : State → Type 0) (known : Known) (names : List Entry) (scrap : Scrap) → IsLeafScrap scrap
     → Makes C known (one_scrap scrap (with_names names known))
-scrap-named C known names scrap h clean =
-    record { clean = clean; scraps = one IsLeafScrap scrap h; items = All-nil ItemBraced }
+scrap-named C known names scrap h clean = grind (arith, nat_tests, one)
 
 beside-made : (C : State → Type 0) (known : Known) (a b : Made) → Makes C known a → Makes C a.known b
     → Makes C known (beside a b)
@@ -122,13 +122,10 @@ beside-made C known a b first second clean =
 -- ## The tokens of heads
 
 dollared-flat : (tokens : List Token) → AreFlat tokens → AreFlat (dollared tokens)
-dollared-flat [] all = tt
-dollared-flat (t ∷ ts) all =
-    ((λ rest. refl), (all.0, flat-append ts (token.Control control.Dollar ∷ []) all.1 ((λ rest. refl), tt)))
+dollared-flat tokens all = grind (arith, nat_tests, flat-append)
 
 name-flat : (b : Bool) (word : Token) → is_macro word ≡ b → IsFlat word → AreFlat (name_in_text word)
-name-flat true word e h = rw e (dollared-flat (word ∷ []) (h, tt))
-name-flat false word e h = rw e (h, tt)
+name-flat b word e h = grind (arith, nat_tests, dollared-flat)
 
 names-flat : (words : List Token) → AreFlat words → AreFlat (names_in_text words)
 names-flat [] all = tt
@@ -238,12 +235,7 @@ module _ (sound : list_all row_is_sound productions ≡ true) (braced : list_all
       → Makes C known (texts_named flags o c mode behind number known)
   named-made None c mode behind number known other h clean = nothing-made C known clean
   named-made (Some texts) c mode behind number known other h clean =
-      let e = texts-end texts (Then (Sign control.NameEnd) behind) known h clean in
-      record {
-        clean = e.clean;
-        scraps = one IsLeafScrap _ (loud _ other e.tree);
-        items = All-nil ItemBraced;
-      }
+      grind (arith, nat_tests, texts-end texts (Then (Sign control.NameEnd) behind) known h clean)
 
   name-made : (named : NameTexts) → MakesNames C (leaf_of_name flags named)
   name-made named number known = named-made (named number) cat.SectionScrap Maybe Empty number known refl refl

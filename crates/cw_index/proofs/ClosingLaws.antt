@@ -1,6 +1,6 @@
 -- Whether a section of a list is starred, and what is left of the line of changed sections.
-use Rattle.std.proofs.Common.{◌≡◌, ℕ, ◌+◌, ◌-◌, ◌≤◌, ◌&&◌, Bool, true, false, refl, sym, ap, ◌∙◌, subst, List, [], ◌∷◌}
-use Rattle.std.proofs.Common.{◌++◌, Some, append_assoc, arith, drop, length}
+use Rattle.std.proofs.Common.{◌≡◌, ℕ, ◌+◌, ◌-◌, ◌≤◌, ◌&&◌, Bool, true, false, refl, sym, ◌∙◌, List, [], ◌∷◌, ◌++◌, Some}
+use Rattle.std.proofs.Common.{append_assoc, arith, drop, length}
 use Rattle.std.specs.Prelude.{codes, slice_get, if◌then◌else◌}
 use Rattle.std.specs.List.{flat_map, list_any}
 use Rattle.std.proofs.lemmas.List.{drop_all}
@@ -14,9 +14,7 @@ any_starred sections = list_any (λ section. section.starred) sections
 
 here : (sections : List Section) (i : ℕ) (s : Section) → slice_get sections ((i + 1) - 1) ≡ Some s
     → any_starred (drop i sections) ≡ any_starred (s ∷ drop (i + 1) sections)
-here sections i s there =
-    let e : (i + 1) - 1 ≡ i = omega arith in
-    ap any_starred (drop-at sections i s (subst (λ (n : ℕ). slice_get sections n ≡ Some s) e there))
+here sections i s there = grind (arith, drop-at)
 
 pub starred-here : (sections : List Section) (i : ℕ) (s : Section) → slice_get sections ((i + 1) - 1) ≡ Some s
     → s.starred ≡ true
@@ -38,29 +36,22 @@ changes_left false numbers = flat_map (change false) numbers ++ codes ".\n"
 
 left-next : (first : Bool) (n : ℕ) (later : List ℕ)
     → changes_left first (n ∷ later) ≡ change first n ++ changes_left false later
-left-next true n later = refl
-left-next false n later = append_assoc (change false n) (flat_map (change false) later) (codes ".\n")
+left-next first n later = grind (arith, append_assoc)
 
 left-end : (first : Bool) → changes_left first [] ≡ (if first then [] else codes ".\n")
-left-end true = refl
-left-end false = refl
+left-end first = grind arith
 
 -- Behind the last section the line is ended, if it was begun.
 pub left-behind : (first : Bool) (sections : List Section) (i : ℕ) (bytes : List ℕ) → length sections ≤ i
     → bytes ≡ (if first then [] else codes ".\n")
     → changes_left first (changed_from (i + 1) (drop i sections)) ≡ bytes
-left-behind first sections i bytes all is =
-    ap (λ (later : List Section). changes_left first (changed_from (i + 1) later)) (drop_all i sections all)
-    ∙ left-end first ∙ sym is
+left-behind first sections i bytes all is = grind (arith, drop_all, left-end)
 
 left-at : (first : Bool) (sections : List Section) (i : ℕ) (s : Section)
     → slice_get sections ((i + 1) - 1) ≡ Some s
     → changes_left first (changed_from (i + 1) (drop i sections))
     ≡ changes_left first (changed_from (i + 1) (s ∷ drop (i + 1) sections))
-left-at first sections i s there =
-    let e : (i + 1) - 1 ≡ i = omega arith in
-    ap (λ (later : List Section). changes_left first (changed_from (i + 1) later))
-    (drop-at sections i s (subst (λ (n : ℕ). slice_get sections n ≡ Some s) e there))
+left-at first sections i s there = grind (arith, drop-at)
 
 pub left-here : (first : Bool) (sections : List Section) (i : ℕ) (s : Section)
     → slice_get sections ((i + 1) - 1) ≡ Some s → s.changed ≡ true

@@ -1,25 +1,20 @@
 -- The index is complete.
-use Rattle.std.proofs.Common.{◌≡◌, ◌≢◌, ℕ, ◌+◌, ◌<◌, ◌==◌, ◌&&◌, ◌||◌, Bool, true, false, nat_eq, refl, sym, ap}
-use Rattle.std.proofs.Common.{◌∙◌, subst}
-use Rattle.std.proofs.Common.{List, [], ◌∷◌, ◌++◌, length, filter, fold, cond, arith, eq-eqb, ne_eqb}
-use Rattle.std.proofs.Common.{true≢false}
+use Rattle.std.proofs.Common.{◌≡◌, ◌≢◌, ℕ, ◌+◌, ◌<◌, ◌==◌, ◌&&◌, ◌||◌, Bool, true, false, nat_eq, refl, sym, ap, ◌∙◌}
+use Rattle.std.proofs.Common.{subst, List, [], ◌∷◌, ◌++◌, length, filter, fold, arith, eq-eqb, ne_eqb, true≢false}
 use Rattle.std.specs.List.{AllByRecursion, IsDistinct, list_any}
 use Rattle.std.specs.BTreeSet.{insert_key}
 use Rattle.std.specs.declared.cmp.Ordering.{Ordering}
-use Rattle.std.specs.declared.cmp.Ordering.TheVariants.{Less, Equal, Greater}
+use Rattle.std.specs.declared.cmp.Ordering.TheVariants.{Equal}
 use Rattle.std.specs.Cmp.{unsigned_ties}
-use Rattle.std.specs.Ordering.{is_eq, match_ordering, ordering_reverse, ordering_then}
+use Rattle.std.specs.Ordering.{is_eq, ordering_reverse, ordering_then, nat_cmp}
 use Rattle.cw_names.specs.declared.xrefs.Occurrence.{Occurrence}
 use Rattle.cw_names.specs.declared.xrefs.SectionRef.{SectionRef}
 use Rattle.cw_names.specs.MentionLaws.{sections-at}
-use Rattle.cw_names.specs.Mentions.{any_in, any_underlined_in, mention_of, mentions}
-use Rattle.cw_names.specs.Names.{AreDistinct, Entry, is_entry}
-use Rattle.std.specs.Ordering.{nat_cmp}
+use Rattle.cw_names.specs.Mentions.{any_in, mention_of, mentions}
+use Rattle.cw_names.specs.Names.{AreDistinct, Entry, is_entry, same_kind}
 use Rattle.std.specs.Cmp.Lexicographic.{lists_ties, pointwise, slice_cmp}
 use Rattle.cw_base.proofs.TestLaws.{or-false}
 use Rattle.cw_names.specs.declared.entry.EntryKind.{EntryKind}
-use Rattle.cw_names.specs.declared.entry.EntryKind.TheVariants.{Ident, Roman, Typewriter, User}
-use Rattle.cw_names.specs.Names.{same_kind}
 use Rattle.cw_index.specs.Collation.{classes_cmp, entry_cmp, entry_kind_place, text_cmp}
 use Rattle.cw_index.specs.CollationLaws.{entry_cmp-total}
 use Rattle.cw_index.specs.Completeness.{IndexIsComplete, as_mention, is_at, lists, occurs}
@@ -29,9 +24,7 @@ use Rattle.cw_index.specs.Mentions.{with_row}
 -- ## Truth values
 
 or-swap : (a b c : Bool) → (a || (b || c)) ≡ (b || (a || c))
-or-swap true true c = refl
-or-swap true false c = refl
-or-swap false b c = refl
+or-swap a b c = grind arith
 
 -- ## The sections of a name
 
@@ -41,61 +34,20 @@ all-mentions : (only : Bool) (section : ℕ) (os : List Occurrence)
     ≡ list_any (λ (o : Occurrence). is_at only section (as_mention o)) os
 all-mentions true section [] = refl
 all-mentions false section [] = refl
-all-mentions true section (o ∷ os) = by (o.section == section) (all-mentions true section os)
-  where
-    by : (t : Bool) → (any_in os section && any_underlined_in os section) ≡ any_underlined_in os section
-        → ((t || any_in os section) && ((t && o.underlined) || any_underlined_in os section))
-        ≡ ((t && o.underlined) || any_underlined_in os section)
-    by true more = refl
-    by false more = more
-all-mentions false section (o ∷ os) = by (o.section == section) (all-mentions false section os)
-  where
-    by : (t : Bool) → (any_in os section && true) ≡ list_any (λ (o : Occurrence). is_at false section (as_mention o)) os
-        → ((t || any_in os section) && true)
-        ≡ ((t && true) || list_any (λ (o : Occurrence). is_at false section (as_mention o)) os)
-    by true more = refl
-    by false more = more
+all-mentions true section (o ∷ os) = grind (arith, all-mentions true section os)
+all-mentions false section (o ∷ os) = grind (arith, all-mentions false section os)
 
 pub of-name : (only : Bool) (name section : ℕ) (os : List Occurrence)
     → list_any (λ (o : Occurrence). is_at only section (as_mention o))
     (filter (λ (o : Occurrence). o.name.index == name) os)
     ≡ occurs only name section os
 of-name only name section [] = refl
-of-name only name section (o ∷ os) = by (of-name only name section os) (o.name.index == name)
-  where
-    rest : List Occurrence
-    rest = filter (λ (o : Occurrence). o.name.index == name) os
-
-    kept : Bool → List Occurrence
-    kept t = cond t (o ∷ rest) rest
-
-    by : list_any (λ (o : Occurrence). is_at only section (as_mention o)) rest ≡ occurs only name section os
-        → (t : Bool) → list_any (λ (o : Occurrence). is_at only section (as_mention o)) (kept t)
-        ≡ ((t && is_at only section (as_mention o)) || occurs only name section os)
-    by more true = ap (λ b. is_at only section (as_mention o) || b) more
-    by more false = more
+of-name only name section (o ∷ os) = grind (arith, of-name only name section os)
 
 in-listed : (only : Bool) (section : ℕ) (ms : List SectionRef)
     → list_any (λ (m : SectionRef). m.section == section) (listed only ms) ≡ list_any (is_at only section) ms
 in-listed only section [] = refl
-in-listed only section (m ∷ ms) = by (in-listed only section ms) (is_listed only m)
-  where
-    kept : Bool → List SectionRef
-    kept t = cond t (m ∷ listed only ms) (listed only ms)
-
-    and : (a : Bool) → (a || list_any (is_at only section) ms) ≡ ((a && true) || list_any (is_at only section) ms)
-    and true = refl
-    and false = refl
-
-    none : (a : Bool) → list_any (is_at only section) ms ≡ ((a && false) || list_any (is_at only section) ms)
-    none true = refl
-    none false = refl
-
-    by : list_any (λ (m : SectionRef). m.section == section) (listed only ms) ≡ list_any (is_at only section) ms
-        → (t : Bool) → list_any (λ (m : SectionRef). m.section == section) (kept t)
-        ≡ ((m.section == section && t) || list_any (is_at only section) ms)
-    by more true = ap (λ b. (m.section == section) || b) more ∙ and (m.section == section)
-    by more false = more ∙ none (m.section == section)
+in-listed only section (m ∷ ms) = grind (arith, in-listed only section ms)
 
 pub in-row : (name section : ℕ) (entry : Entry) (os : List Occurrence)
     → list_any (λ (m : SectionRef). m.section == section) (row name entry os).sections
@@ -113,77 +65,19 @@ none-later : (name section n : ℕ) (entries : List Entry) (os : List Occurrence
     → list_any (lists name section) (rows_from n entries os) ≡ false
 none-later name section n [] os less = refl
 none-later name section n (entry ∷ entries) os less =
-    by (none-later name section (n + 1) entries os (omega (arith, less))) (has_sections (row n entry os).sections)
-  where
-    other : (n == name) ≡ false
-    other = ne_eqb n name (λ same. omega (arith, less, same))
-
-    by : list_any (lists name section) (rows_from (n + 1) entries os) ≡ false
-        → (t : Bool) → list_any (lists name section) (with_row t (row n entry os) (rows_from (n + 1) entries os))
-        ≡ false
-    by later true = ap (λ t. (t && list_any (λ (m : SectionRef). m.section == section) (row n entry os).sections)
-        || list_any (lists name section) (rows_from (n + 1) entries os)) other ∙ later
-    by later false = later
+    grind (arith, none-later name section (n + 1) entries os (omega (arith, less)), ne_eqb)
 
 -- a row without sections lists none
 empty : (t : Bool) (section : ℕ) (ms : List SectionRef) → has_sections ms ≡ t
     → (t && list_any (λ (m : SectionRef). m.section == section) ms)
     ≡ list_any (λ (m : SectionRef). m.section == section) ms
-empty true section ms is = refl
-empty false section [] is = refl
-empty false section (m ∷ ms) is = absurd (true≢false is)
+empty t section ms is = grind arith
 
 in-rows : (n section : ℕ) (before after : List Entry) (entry : Entry) (os : List Occurrence)
     → list_any (lists (n + length before) section) (rows_from n (before ++ entry ∷ after) os)
     ≡ occurs (needs_underline (n + length before) entry) (n + length before) section os
-in-rows n section [] after entry os =
-    subst (λ (name : ℕ). list_any (lists name section) (rows_from n (entry ∷ after) os)
-    ≡ occurs (needs_underline name entry) name section os) same here
-  where
-    same : n ≡ n + 0
-    same = omega arith
-
-    itself : (n == n) ≡ true
-    itself = eq-eqb n n refl
-
-    sections : List SectionRef
-    sections = (row n entry os).sections
-
-    later : list_any (lists n section) (rows_from (n + 1) after os) ≡ false
-    later = none-later n section (n + 1) after os (omega arith)
-
-    by : (t : Bool) → list_any (lists n section) (with_row t (row n entry os) (rows_from (n + 1) after os))
-        ≡ (t && list_any (λ (m : SectionRef). m.section == section) sections)
-    by true = ap (λ b. ((n == n) && list_any (λ (m : SectionRef). m.section == section) sections) || b) later
-        ∙ or-false ((n == n) && list_any (λ (m : SectionRef). m.section == section) sections)
-        ∙ ap (λ t. t && list_any (λ (m : SectionRef). m.section == section) sections) itself
-    by false = later
-
-    here : list_any (lists n section) (rows_from n (entry ∷ after) os) ≡ occurs (needs_underline n entry) n section os
-    here = by (has_sections sections) ∙ empty (has_sections sections) section sections refl ∙ in-row n section entry os
-in-rows n section (first ∷ before) after entry os =
-    by (has_sections (row n first os).sections)
-    ∙ subst (λ (name : ℕ). list_any (lists name section) (rows_from (n + 1) (before ++ entry ∷ after) os)
-    ≡ occurs (needs_underline name entry) name section os)
-    step (in-rows (n + 1) section before after entry os)
-  where
-    name : ℕ
-    name = n + length (first ∷ before)
-
-    other : (n == name) ≡ false
-    other = ne_eqb n name (λ same. omega (arith, same))
-
-    step : n + 1 + length before ≡ name
-    step = omega arith
-
-    rest : List Row
-    rest = rows_from (n + 1) (before ++ entry ∷ after) os
-
-    by : (t : Bool) → list_any (lists name section) (with_row t (row n first os) rest)
-        ≡ list_any (lists name section) rest
-    by true = ap (λ t. (t && list_any (λ (m : SectionRef). m.section == section) (row n first os).sections)
-        || list_any (lists name section) rest) other
-    by false = refl
+in-rows n section [] after entry os = grind (arith, eq-eqb, none-later, or-false, empty, in-row)
+in-rows n section (first ∷ before) after entry os = grind (arith, in-rows (n + 1) section before after entry os, ne_eqb)
 
 -- ## Rows that are put in order
 
@@ -198,25 +92,12 @@ module _ {X : Type 0} (order : X → X → Ordering) where
   any-inserted : (test : X → Bool) (xs : List X) (k : X) → AllByRecursion (λ (x : X). Apart order x k) xs
       → list_any test (insert_key order xs k) ≡ (test k || list_any test xs)
   any-inserted test [] k apart = refl
-  any-inserted test (x ∷ xs) k apart = by (any-inserted test xs k apart.1) (order k x) apart.0
-    where
-      by : list_any test (insert_key order xs k) ≡ (test k || list_any test xs) → (o : Ordering) → o ≢ Equal
-          → list_any test (match_ordering o (k ∷ x ∷ xs) (x ∷ xs) (x ∷ insert_key order xs k))
-          ≡ (test k || (test x || list_any test xs))
-      by more Less not = refl
-      by more Equal not = absurd (not refl)
-      by more Greater not = ap (λ b. test x || b) more ∙ or-swap (test x) (test k) (list_any test xs)
+  any-inserted test (x ∷ xs) k apart = grind (arith, any-inserted test xs k apart.1, or-swap)
 
   pub each-inserted : (P : X → Type 0) (xs : List X) (k : X) → P k → AllByRecursion P xs
       → AllByRecursion P (insert_key order xs k)
   each-inserted P [] k one each = (one, tt)
-  each-inserted P (x ∷ xs) k one each = by (each-inserted P xs k one each.1) (order k x)
-    where
-      by : AllByRecursion P (insert_key order xs k) → (o : Ordering)
-          → AllByRecursion P (match_ordering o (k ∷ x ∷ xs) (x ∷ xs) (x ∷ insert_key order xs k))
-      by more Less = (one, each)
-      by more Equal = each
-      by more Greater = (each.0, more)
+  each-inserted P (x ∷ xs) k one each = grind (arith, each-inserted P xs k one each.1)
 
   -- each key that is still to come is apart from those that are in their order
   abbrev AreNew : List X → List X → Type 0
@@ -225,21 +106,16 @@ module _ {X : Type 0} (order : X → X → Ordering) where
   new-inserted : (sorted keys : List X) (k : X) → AllByRecursion (Apart order k) keys → AreNew sorted keys
       → AreNew (insert_key order sorted k) keys
   new-inserted sorted [] k apart new = tt
-  new-inserted sorted (key ∷ keys) k apart new =
-      (each-inserted (λ (x : X). Apart order x key) sorted k apart.0 new.0, new-inserted sorted keys k apart.1 new.1)
+  new-inserted sorted (key ∷ keys) k apart new = grind (arith, new-inserted sorted keys k apart.1 new.1, each-inserted)
 
   any-sorted : (test : X → Bool) (sorted keys : List X) → AreNew sorted keys → AreApart order keys
       → list_any test (fold (insert_key order) sorted keys) ≡ (list_any test keys || list_any test sorted)
   any-sorted test sorted [] new apart = refl
-  any-sorted test sorted (k ∷ keys) new apart =
-      any-sorted test (insert_key order sorted k) keys (new-inserted sorted keys k apart.0 new.1) apart.1
-      ∙ ap (λ b. list_any test keys || b) (any-inserted test sorted k new.0)
-      ∙ or-swap (list_any test keys) (test k) (list_any test sorted)
-      ∙ shift (test k) (list_any test keys) (list_any test sorted)
-    where
-      shift : (a b c : Bool) → (a || (b || c)) ≡ ((a || b) || c)
-      shift true b c = refl
-      shift false b c = refl
+  any-sorted test sorted (k ∷ keys) new apart = grind (
+    arith,
+    any-sorted test (insert_key order sorted k) keys (new-inserted sorted keys k apart.0 new.1) apart.1,
+    any-inserted,
+  )
 
   none-new : (keys : List X) → AreNew [] keys
   none-new [] = tt
@@ -248,27 +124,10 @@ module _ {X : Type 0} (order : X → X → Ordering) where
 -- ## Names that differ have rows that differ
 
 both-equal : (a b : Ordering) → is_eq (ordering_then a b) ≡ true → (is_eq a ≡ true) × (is_eq b ≡ true)
-both-equal Less b is = absurd (true≢false (sym is))
-both-equal Equal b is = (refl, is)
-both-equal Greater b is = absurd (true≢false (sym is))
+both-equal a b is = grind arith
 
 same-kinds : (a b : EntryKind) → is_eq (nat_cmp (entry_kind_place a) (entry_kind_place b)) ≡ true → same_kind a b ≡ true
-same-kinds Ident Ident is = refl
-same-kinds Ident Roman is = absurd (true≢false (sym is))
-same-kinds Ident Typewriter is = absurd (true≢false (sym is))
-same-kinds Ident User is = absurd (true≢false (sym is))
-same-kinds Roman Ident is = absurd (true≢false (sym is))
-same-kinds Roman Roman is = refl
-same-kinds Roman Typewriter is = absurd (true≢false (sym is))
-same-kinds Roman User is = absurd (true≢false (sym is))
-same-kinds Typewriter Ident is = absurd (true≢false (sym is))
-same-kinds Typewriter Roman is = absurd (true≢false (sym is))
-same-kinds Typewriter Typewriter is = refl
-same-kinds Typewriter User is = absurd (true≢false (sym is))
-same-kinds User Ident is = absurd (true≢false (sym is))
-same-kinds User Roman is = absurd (true≢false (sym is))
-same-kinds User Typewriter is = absurd (true≢false (sym is))
-same-kinds User User is = refl
+same-kinds a b is = grind arith
 
 alike : (first entry : Entry) → entry_cmp first entry ≡ Equal → is_entry first.kind first.text entry ≡ true
 alike first entry same =
@@ -303,8 +162,7 @@ with-row-apart : (n : ℕ) (entry : Entry) (entries : List Entry) (os : List Occ
     → AllByRecursion (Apart row_cmp (row n entry os)) (rows_from (n + 1) entries os)
     → AreApart row_cmp (rows_from (n + 1) entries os)
     → (t : Bool) → AreApart row_cmp (with_row t (row n entry os) (rows_from (n + 1) entries os))
-with-row-apart n entry entries os here later true = (here, later)
-with-row-apart n entry entries os here later false = later
+with-row-apart n entry entries os here later t = grind arith
 
 rows-apart : (n : ℕ) (entries : List Entry) (os : List Occurrence) → AreDistinct entries
     → AreApart row_cmp (rows_from n entries os)

@@ -1,13 +1,12 @@
 -- Each row of the index is one of a name and its entry, and the rows stand in their order.
-use Rattle.std.proofs.Common.{◌≡◌, ℕ, suc, ◌+◌, ◌<◌, ◌==◌, Bool, true, false, Some, List, [], ◌∷◌, All, fold}
-use Rattle.std.proofs.Common.{IsTrue, get_or, slice_get, refl, sym, ap, subst, ◌∙◌, arith, ne_eqb}
+use Rattle.std.proofs.Common.{◌≡◌, ℕ, suc, ◌+◌, ◌<◌, ◌==◌, Bool, true, false, Some, List, [], ◌∷◌, All, fold, IsTrue}
+use Rattle.std.proofs.Common.{get_or, slice_get, refl, subst, arith, ne_eqb}
 use Rattle.std.specs.List.{AllByRecursion, filter, range_with_len}
 use Rattle.std.specs.List.Sorted.{IsStrictlySortedBy}
 use Rattle.std.specs.BTreeSet.{insert_key}
 use Rattle.std.specs.Cmp.{IsTotalOrder}
-use Rattle.std.specs.Ordering.{match_ordering, ordering_reverse}
 use Rattle.std.specs.declared.cmp.Ordering.{Ordering}
-use Rattle.std.specs.declared.cmp.Ordering.TheVariants.{Less, Equal, Greater}
+use Rattle.std.specs.declared.cmp.Ordering.TheVariants.{Less}
 use Rattle.std.proofs.lemmas.Cmp.{on_total, tied_itself}
 use Rattle.std.proofs.lemmas.List.Elements.{All-cons, All-filter, All-get_or, All-head, All-map, All-nil, All-tail}
 use Rattle.std.proofs.lemmas.List.Kept.{AllPairs-filter}
@@ -18,7 +17,6 @@ use Rattle.cw_names.specs.declared.xrefs.SectionRef.{SectionRef}
 use Rattle.cw_names.specs.MentionLaws.{sections-ascending}
 use Rattle.cw_names.specs.Mentions.{AreAscending, above_all, any_in, mention_of, mentions}
 use Rattle.cw_names.specs.Names.{Entry}
-use Rattle.cw_index.specs.Collation.{entry_cmp}
 use Rattle.cw_index.specs.CollationLaws.{entry_cmp-total}
 use Rattle.cw_index.specs.Completeness.{RowsAreOfNames, are_of_one_name, occurs}
 use Rattle.cw_index.specs.Mentions.{Row, has_sections, index_rows, is_listed, needs_underline, row, row_cmp, rows_from}
@@ -64,11 +62,7 @@ module _ (os : List Occurrence) (P : Row → Type 0) where
   each-row : (names : List Entry)
       → ((name : ℕ) (entry : Entry) → slice_get names name ≡ Some entry → HoldsOfRow name entry)
       → All P (index_rows names os)
-  each-row names each = each-sorted (rows_from 0 names os) [] (All-nil P)
-      (each-from 0 names (λ k entry is. subst (λ (name : ℕ). HoldsOfRow name entry) (from_zero k) (each k entry is)))
-    where
-      from_zero : (k : ℕ) → k ≡ 0 + k
-      from_zero k = omega arith
+  each-row names each = grind (arith, each-sorted, each-from)
 
 -- ## The sections of a row
 
@@ -104,16 +98,7 @@ module _ {X : Type 0} (order : X → X → Ordering) (total : IsTotalOrder order
       → IsStrictlySortedBy order (insert_key order xs k)
   unfolding IsStrictlySortedBy
   sorted-inserted [] k sorted = (tt, tt)
-  sorted-inserted (x ∷ xs) k sorted = by (sorted-inserted xs k sorted.1) (order k x) refl
-    where
-      by : IsStrictlySortedBy order (insert_key order xs k) → (o : Ordering) → order k x ≡ o
-          → IsStrictlySortedBy order (match_ordering o (k ∷ x ∷ xs) (x ∷ xs) (x ∷ insert_key order xs k))
-      by more Less is = ((is, all-behind k x xs is sorted.0), sorted)
-      by more Equal is = sorted
-      by more Greater is = (
-        each-inserted order (λ (y : X). order x y ≡ Less) xs k (total.antisymm x k ∙ ap ordering_reverse is) sorted.0,
-        more,
-      )
+  sorted-inserted (x ∷ xs) k sorted = grind (arith, sorted-inserted xs k sorted.1, all-behind, each-inserted)
 
   all-sorted : (xs sorted : List X) → IsStrictlySortedBy order sorted
       → IsStrictlySortedBy order (fold (insert_key order) sorted xs)
@@ -131,14 +116,7 @@ row_cmp-total = on_total (λ (row : Row). row.entry) entry_cmp-total
 names-differ : (names : List Entry) (first second : Row) → slice_get names first.name ≡ Some first.entry
     → slice_get names second.name ≡ Some second.entry → row_cmp first second ≡ Less
     → are_of_one_name first second ≡ false
-names-differ names first second here there less =
-    ne_eqb first.name second.name (λ same.
-    let entries : Some first.entry ≡ Some second.entry = sym here ∙ ap (slice_get names) same ∙ there in
-    let one : first.entry ≡ second.entry = cc in
-    let tied : entry_cmp first.entry first.entry ≡ Equal = tied_itself entry_cmp-total first.entry in
-    let apart : entry_cmp first.entry first.entry ≡ Less =
-    subst (λ (entry : Entry). entry_cmp first.entry entry ≡ Less) (sym one) less in
-    let never : Less ≡ Equal = sym apart ∙ tied in cc)
+names-differ names first second here there less = grind (arith, ne_eqb, slice_get, tied_itself, entry_cmp-total)
 
 -- ## The law
 

@@ -1,12 +1,12 @@
 -- A name that is entered stays, and entering it again changes nothing.
-use Rattle.std.proofs.Common.{◌≡◌, ℕ, Bool, true, false, ◌⊎◌, inl, inr, refl, sym, ap, ◌∙◌, subst}
-use Rattle.std.proofs.Common.{List, [], ◌∷◌, Option, Some, None, map, get_or}
+use Rattle.std.proofs.Common.{◌≡◌, ℕ, Bool, true, false, ◌⊎◌, inl, inr, refl, sym, ap, ◌∙◌, subst, List, [], ◌∷◌}
+use Rattle.std.proofs.Common.{Option, Some, None, map, get_or, arith}
 use Rattle.std.specs.Prelude.{slice_get}
 use Rattle.std.specs.BTreeSet.{insert_key}
 use Rattle.std.specs.Cmp.{IsTotalOrder}
 use Rattle.std.specs.declared.cmp.Ordering.{Ordering}
 use Rattle.std.specs.declared.cmp.Ordering.TheVariants.{Less, Equal, Greater}
-use Rattle.std.specs.Ordering.{match_ordering, on, ordering_reverse}
+use Rattle.std.specs.Ordering.{on}
 use Rattle.std.proofs.lemmas.Cmp.{alike_right, tied_itself}
 use Rattle.cw_secnames.specs.Kept.{SecName}
 use Rattle.cw_index.specs.declared.standing.Listed.{Listed}
@@ -20,48 +20,28 @@ use Rattle.cw_index.proofs.RowLaws.{inserted}
 
 holds-same : {K : Type 0} (o : K → K → Ordering) (x : K) (keys : List K) → Holds o x keys → insert_key o keys x ≡ keys
 holds-same o x [] h = absurd h
-holds-same o x (k ∷ keys) (inl equal) =
-    ap (λ (r : Ordering). match_ordering r (x ∷ k ∷ keys) (k ∷ keys) (k ∷ insert_key o keys x)) equal
-holds-same o x (k ∷ keys) (inr (greater, later)) =
-    ap (λ (r : Ordering). match_ordering r (x ∷ k ∷ keys) (k ∷ keys) (k ∷ insert_key o keys x)) greater
-    ∙ ap (λ rest. k ∷ rest) (holds-same o x keys later)
+holds-same o x (k ∷ keys) (inl equal) = grind arith
+holds-same o x (k ∷ keys) (inr (greater, later)) = grind (arith, holds-same o x keys later)
 
 holds-new : {K : Type 0} (o : K → K → Ordering) → IsTotalOrder o → (x : K) (keys : List K)
     → Holds o x (insert_key o keys x)
 holds-new o total x [] = inl (tied_itself total x)
-holds-new o total x (k ∷ keys) = by (holds-new o total x keys) (o x k) refl where
-  by : Holds o x (insert_key o keys x) → (r : Ordering) → o x k ≡ r
-      → Holds o x (match_ordering r (x ∷ k ∷ keys) (k ∷ keys) (k ∷ insert_key o keys x))
-  by later Less is = inl (tied_itself total x)
-  by later Equal is = inl is
-  by later Greater is = inr (is, later)
+holds-new o total x (k ∷ keys) = grind (arith, holds-new o total x keys, tied_itself)
 
 -- what is behind a key that comes after another is behind the other
 behind : {K : Type 0} (o : K → K → Ordering) → IsTotalOrder o → (x y k : K) → o y k ≡ Less
     → (o x k ≡ Equal) ⊎ (o x k ≡ Greater) → o x y ≡ Greater
-behind o total x y k less (inl equal) =
-    total.antisymm x y ∙ ap ordering_reverse (alike_right total x k y equal ∙ less)
-behind o total x y k less (inr greater) =
-    total.antisymm x y
-    ∙ ap ordering_reverse (total.trans y k x less (total.antisymm k x ∙ ap ordering_reverse greater))
+behind o total x y k less h = grind (arith, alike_right)
 
 holds-still : {K : Type 0} (o : K → K → Ordering) → IsTotalOrder o → (x y : K) (keys : List K) → Holds o x keys
     → Holds o x (insert_key o keys y)
 holds-still o total x y [] h = absurd h
-holds-still o total x y (k ∷ keys) h = by (holds-still o total x y keys) (o y k) refl h where
-  by : (Holds o x keys → Holds o x (insert_key o keys y)) → (r : Ordering) → o y k ≡ r → Holds o x (k ∷ keys)
-      → Holds o x (match_ordering r (y ∷ k ∷ keys) (k ∷ keys) (k ∷ insert_key o keys y))
-  by still Less is (inl equal) = inr (behind o total x y k is (inl equal), inl equal)
-  by still Less is (inr (greater, later)) = inr (behind o total x y k is (inr greater), inr (greater, later))
-  by still Equal is h = h
-  by still Greater is (inl equal) = inl equal
-  by still Greater is (inr (greater, later)) = inr (greater, still later)
+holds-still o total x y (k ∷ keys) h = grind (arith, holds-still o total x y keys, behind)
 
 -- a name that is entered changes nothing
 kept-by : (b : Bool) (n : SecName) (listed : Listed) (stands : List StandingName) → HoldsName stands n
     → stands ≡ sorted_on stand_cmp stands (stand_by b n listed)
-kept-by true n listed stands h =
-    sym (holds-same stand_cmp (record { kind = n.kind; text = n.text; listed = listed }) stands (h listed))
+kept-by true n listed stands h = grind (arith, holds-same)
 kept-by false n listed stands h = refl
 
 pub entered-same : (found : Option SecName) (listed : Listed) (stands : List StandingName)
@@ -85,11 +65,7 @@ record IsStand (found : Option SecName) (listed : Listed) (s : StandingName) : T
 
 stand-is : (found : Option SecName) (listed : Listed) (s : StandingName) → s ∷ [] ≡ kept_stand found listed
     → IsStand found listed s
-stand-is None listed s h = absurd (cc)
-stand-is (Some n) listed s h = by (has_reference n) h where
-  by : (b : Bool) → s ∷ [] ≡ stand_by b n listed → IsStand (Some n) listed s
-  by true h = record { name = n; here = refl; is = ap (λ (xs : List StandingName). get_or xs 0 s) h }
-  by false h = absurd (cc)
+stand-is found listed s h = grind arith
 
 some-same : {X : Type 0} (a b : X) → Some a ≡ Some b → a ≡ b
 some-same a b h = cc

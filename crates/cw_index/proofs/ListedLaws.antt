@@ -8,8 +8,7 @@ use Rattle.cw_lines.specs.WritesLaws.{puts-stop}
 use Rattle.cw_lines.specs.declared.put_error.PutError.{PutError}
 use Rattle.cw_names.specs.Names.{Entry}
 use Rattle.cw_part.proofs.WovenLaws.{AreSums, Weaving, bytes-refused, no_counts, nothing-more, weaves-bytes}
-use Rattle.cw_part.proofs.WovenLaws.{weaves-stopped, weaving-begun, weaving-last, weaving-last-stopped}
-use Rattle.cw_part.proofs.WovenLaws.{weaving-next}
+use Rattle.cw_part.proofs.WovenLaws.{weaves-stopped, weaving-begun, weaving-last, weaving-last-stopped, weaving-next}
 use Rattle.cw_texpart.proofs.WeavingLaws.{weaves-behind, weaves-refused}
 use Rattle.cw_texpart.specs.declared.counts.Counts.{Counts}
 use Rattle.cw_texpart.specs.Done.{Done, done_behind, as_it_is, done_then}
@@ -27,9 +26,7 @@ behind-text : {s : Setting} (text : List Entry → Done ℕ) (back : List ℕ) {
     → Weaves s (text old.book.names) old mid (Ok counts)
     → Weaving s (as_it_is back) (done_then (text old.book.names) (as_it_is back)) old mid counts
 behind-text {s = s} text back {old = old} {counts = counts} woven =
-    weaving-next text (as_it_is back)
-    (weaving-begun s (λ names. done_then (text names) (as_it_is back)) old no-sums) woven
-    (none-first counts)
+    grind (arith, weaving-next, weaving-begun, no-sums, none-first)
 
 -- The front is refused.
 pub front-refused : {T : Type 0} {s : Setting} {front : List ℕ} (d : Done ℕ) {old : Press} {line : LineState}

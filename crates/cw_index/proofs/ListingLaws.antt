@@ -1,7 +1,9 @@
 -- Listed names are woven one after another.
-use Rattle.std.proofs.Common.{◌≡◌, ℕ, ◌+◌, ◌<◌, ◌≤◌, refl, subst, List, drop, length}
+use Rattle.std.proofs.Common.{◌≡◌, ℕ, ◌+◌, ◌<◌, ◌≤◌, refl, List, drop, length, arith}
 use Rattle.std.specs.Prelude.{Ok, Result, slice_index_or}
 use Rattle.std.proofs.lemmas.List.{drop_all, drop_more}
+use Rattle.std.proofs.lemmas.Bool.Decides.{nat_tests}
+use Rattle.std.proofs.lemmas.Grind.{common_steps}
 use Rattle.cw_lines.specs.declared.put_error.PutError.{PutError}
 use Rattle.cw_names.specs.Names.{Entry}
 use Rattle.cw_part.proofs.WovenLaws.{AreSums, Weaving, weaving-ended}
@@ -21,25 +23,20 @@ pub listed-next : {s : Setting} {all : Done ℕ} {old now : Press} {counts : Cou
     → Weaving s
     (λ names. done_then (listed_done s (slice_index_or ls i d) names) (all_listed s (drop (i + 1) ls)))
     all old now counts
-listed-next {s = s} {all = all} {old = old} {now = now} {counts = counts} ls i d within w =
-    subst (λ (rest : List Listed). Weaving s (all_listed s rest) all old now counts) (drop_more ls i d within) w
+listed-next {s = s} {all = all} {old = old} {now = now} {counts = counts} ls i d within w = grind (arith, drop_more)
 
 pub listed-end : {s : Setting} {all : Done ℕ} {old now : Press} {counts : Counts} (ls : List Listed) (i : ℕ)
     → length ls ≤ i
     → Weaving s (all_listed s (drop i ls)) all old now counts → Weaves s all old now (Ok counts)
 listed-end {s = s} {all = all} {old = old} {now = now} {counts = counts} ls i ended w =
-    weaving-ended
-    (subst (λ (rest : List Listed). Weaving s (all_listed s rest) all old now counts) (drop_all i ls ended) w)
-    (λ names. refl)
+    grind (arith, nat_tests, common_steps, drop_all i ls ended, weaving-ended, drop_all)
 
 -- What stays of the book is the same before each name.
 pub moved : (t : ListText) (l : Listed) (names : List Entry) {before now : Lasting} {old new : Press}
     {result : Result Counts PutError} → now ≡ before
     → Weaves (list_setting t now) (listed_done (list_setting t now) l names) old new result
     → Weaves (list_setting t before) (listed_done (list_setting t before) l names) old new result
-moved t l names {old = old} {new = new} {result = result} same woven =
-    subst (λ (b : Lasting). Weaves (list_setting t b) (listed_done (list_setting t b) l names) old new result) same
-    woven
+moved t l names {old = old} {new = new} {result = result} same woven = grind arith
 
 abbrev pub sum : Counts → Counts → Counts
 sum first more = record { scraps = first.scraps + more.scraps; productions = first.productions + more.productions }

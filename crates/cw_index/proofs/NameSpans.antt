@@ -1,20 +1,20 @@
 -- A section name that begins at a place is whole by itself.
 use Rattle.std.proofs.Common.{◌≡◌, ℕ, suc, ◌+◌, ◌-◌, ◌≤◌, Bool, true, false, ◌||◌, List, [], ◌∷◌, ◌++◌, length, take}
 use Rattle.std.proofs.Common.{drop, refl, sym, ap, subst, ◌∙◌, arith, length-drop}
-use Rattle.std.specs.Prelude.{if◌then◌else◌}
 use Rattle.std.proofs.lemmas.List.{length-take, take_all}
+use Rattle.std.proofs.lemmas.Bool.Decides.{nat_tests}
+use Rattle.std.proofs.lemmas.Grind.{common_steps}
 use Rattle.cw_rules.specs.declared.bodies.Body.TheVariants as bodies
 use Rattle.cw_rules.specs.declared.codes.Code.{Code}
-use Rattle.cw_rules.specs.declared.codes.Code.TheVariants as at
 use Rattle.cw_rules.specs.declared.parts.Part.TheVariants as parts
 use Rattle.cw_rules.specs.declared.tokens.Mode.TheVariants as modes
 use Rattle.cw_rules.specs.Answers.{Answer, Where, Found, note_answers}
 use Rattle.cw_rules.specs.Bodies.{at_start, extent}
 use Rattle.cw_rules.specs.Codes.{code_of}
-use Rattle.cw_lex.specs.Lexing.{still_fresh, joined, answers, fresh_at, last_at, answers_at, tokens_of}
+use Rattle.cw_lex.specs.Lexing.{still_fresh, joined, answers, fresh_at, last_at, tokens_of}
 use Rattle.cw_lex.specs.Nested.{begins_section_in}
-use Rattle.cw_rules.specs.Tokens.{one, effect_in, section_name, is_name, section, code_by}
-use Rattle.cw_rules.specs.Apart.{found_apart, code_text_apart}
+use Rattle.cw_rules.specs.Tokens.{one, effect_in, section_name, is_name, code_by}
+use Rattle.cw_rules.specs.Apart.{found_apart}
 use Rattle.cw_rules.proofs.CodeTwins.{at-code}
 use Rattle.cw_lex.proofs.Covering.{drop-part}
 use Rattle.cw_rules.proofs.NameEnds.{name-take}
@@ -22,7 +22,7 @@ use Rattle.cw_lex.proofs.TexTexts.{all-taken, or-notes, name-kind, name-plain}
 use Rattle.cw_rules.proofs.Sizes.{extent-le}
 use Rattle.cw_phase1.specs.Sections.{span}
 use Rattle.cw_texpart.specs.TexParts.{IsWhole}
-use Rattle.cw_index.specs.NameList.{first_span, name_span}
+use Rattle.cw_index.specs.NameList.{name_span}
 use Rattle.cw_index.proofs.NameTokens.{BeginsName}
 
 abbrev inner : Where
@@ -40,17 +40,11 @@ named c place shown = one false inner place shown (section_name c place shown)
 
 name-stands : (c : Code) (place : ℕ) (shown : List ℕ) → is_name c ≡ true
     → code_by (effect_in parts.Inner [] c) c inner place shown ≡ named c place shown
-name-stands at.SectionName place shown h = refl
-name-stands at.FileName place shown h = refl
-name-stands _ place shown h = absurd cc
+name-stands c place shown h = grind arith
 
 name-found : (d : ℕ) (bs : List ℕ) (fresh : Bool) (last place : ℕ) → is_name (code_of d) ≡ true
     → found_apart inner fresh last place 64 (d ∷ bs) ≡ named (code_of d) place (64 ∷ d ∷ bs)
-name-found d bs fresh last place n =
-    ap (λ t. if t then section inner place (d ∷ bs) else code_text_apart inner fresh last place 64 (d ∷ bs))
-    (name-plain (code_of d) n)
-    ∙ at-code inner fresh last place (d ∷ bs)
-    ∙ name-stands (code_of d) place (64 ∷ d ∷ bs) n
+name-found d bs fresh last place n = grind (arith, name-plain, at-code, name-stands)
 
 -- the answers behind the first byte of a code
 abbrev behind_at : List ℕ → Bool → ℕ → Where → ℕ → List Answer
@@ -61,12 +55,7 @@ behind_at bytes fresh place next more = answers bytes next (still_fresh fresh 64
 name-spans : (text : List ℕ) (place : ℕ) (b : BeginsName text place)
     → name_span text place ≡ span place (place + (2 + name_size place b.behind))
 name-spans text place b =
-    let fresh = fresh_at text place in
-    let last = last_at text place in
-    ap (λ l. first_span place (answers_at l inner place)) (take_all (length text) text (omega arith))
-    ∙ ap (λ l. first_span place (answers l inner fresh last place 0)) b.here
-    ∙ ap (λ (f : Found). first_span place (joined f (behind_at (b.next ∷ b.behind) fresh place)))
-    (name-found b.next b.behind fresh last place b.name)
+    grind (arith, nat_tests, common_steps, take_all (length text) text (omega arith), take_all, name-found)
 
 -- ## It has no section code
 

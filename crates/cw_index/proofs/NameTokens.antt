@@ -4,14 +4,12 @@ use Rattle.std.proofs.Common.{drop, refl, sym, ap, subst, ◌∙◌, arith, appe
 use Rattle.std.specs.Prelude.{if◌then◌else◌}
 use Rattle.std.proofs.lemmas.List.{take_all}
 use Rattle.cw_rules.specs.declared.codes.Code.{Code}
-use Rattle.cw_rules.specs.declared.codes.Code.TheVariants as at
 use Rattle.cw_rules.specs.declared.tokens.Mode.{Mode}
 use Rattle.cw_rules.specs.declared.tokens.TokKind.{TokKind}
-use Rattle.cw_rules.specs.declared.tokens.TokKind.TheVariants as kinds
-use Rattle.cw_rules.specs.Answers.{Answer, Token, Begin, Finish, Note, Where, Cut, Found}
-use Rattle.cw_rules.specs.Bytes.{at_sign, star, begins}
+use Rattle.cw_rules.specs.Answers.{Answer, Token, Begin, Finish, Note, Where, Found}
+use Rattle.cw_rules.specs.Bytes.{at_sign}
 use Rattle.cw_rules.specs.Codes.{code_of, code_at, is_section, begins_section}
-use Rattle.cw_lex.specs.Lexing.{still_fresh, answers, fresh_at, last_at, answers_at, beginning, tokens_of}
+use Rattle.cw_lex.specs.Lexing.{still_fresh, answers, tokens_of}
 use Rattle.cw_lex.specs.Limbo.{is_name_kind}
 use Rattle.cw_lex.proofs.TexTexts.{name-plain}
 use Rattle.cw_lex.proofs.FirstTokens.{bare-code}
@@ -42,30 +40,17 @@ HaveNames text (Note kind place ∷ answers) = HaveNames text answers
 -- ## What begins at a place
 
 name-opens : (c : Code) → is_name c ≡ true → is_opener c ≡ true
-name-opens at.SectionName h = refl
-name-opens at.FileName h = refl
-name-opens _ h = absurd cc
+name-opens c h = grind arith
 
 kind-name : (k : TokKind) → is_name_kind k ≡ true → is_name (kind_code k) ≡ true
-kind-name (kinds.Code c) h = by c h
-  where
-    by : (c : Code) → is_name_kind (kinds.Code c) ≡ true → is_name c ≡ true
-    by at.SectionName h = refl
-    by at.FileName h = refl
-    by _ h = absurd cc
-kind-name _ h = absurd cc
+kind-name k h = grind arith
 
 section-kind : (bytes : List ℕ) → is_section (kind_code (section_code bytes).kind) ≡ true
-section-kind bytes =
-    if-both (λ (cut : Cut). is_section (kind_code cut.kind) ≡ true) (begins star (drop 1 bytes)) _ _
-    (λ e. refl) (λ e. refl)
+section-kind bytes = grind (arith, if-both, kind_code)
 
 section-found : (w : Where) (place : ℕ) (bytes : List ℕ)
     → is_section (code_in (section w place bytes).answers) ≡ true
-section-found w place bytes =
-    let cut : List Answer = all_cut w.part w.comments place place in
-    ap is_section (bare-code place cut _ (bare-all-cut w.part w.comments place place))
-    ∙ section-kind (at_sign ∷ bytes)
+section-found w place bytes = grind (arith, bare-code, bare-all-cut, section-kind)
 
 -- The first byte is that of codes, and the others tell this code.
 abbrev TellsCode : ℕ → List ℕ → Code → Type 0
@@ -96,29 +81,21 @@ found-tells w fresh last place byte bytes c is n = by (byte == at_sign && begins
 name-begins : (text : List ℕ) (place byte : ℕ) (bytes : List ℕ) (c : Code)
     → drop place text ≡ byte ∷ bytes → is_name c ≡ true → TellsCode byte bytes c → BeginsName text place
 name-begins text place byte [] c here n told = absurd (let w : false ≡ true = ap is_name told.1 ∙ n in cc)
-name-begins text place byte (d ∷ bs) c here n told = record {
-  next = d;
-  behind = bs;
-  here = here ∙ ap (λ b. b ∷ d ∷ bs) told.0;
-  name = ap is_name told.1 ∙ n;
-}
+name-begins text place byte (d ∷ bs) c here n told = grind arith
 
 -- ## All answers
 
 bare-names : (text : List ℕ) (place : ℕ) (xs ys : List Answer) → AreBare place xs → HaveNames text ys
     → HaveNames text (xs ++ ys)
 bare-names text place [] ys h g = g
-bare-names text place (Token t ∷ xs) ys h g = absurd h
-bare-names text place (Begin t ∷ xs) ys h g = absurd h
 bare-names text place (Finish t ∷ xs) ys h g = bare-names text place xs ys h.3 g
 bare-names text place (Note kind about ∷ xs) ys h g = bare-names text place xs ys h g
+bare-names _ _ _ _ h _ = absurd h
 
 notes-names : (text : List ℕ) (xs ys : List Answer) → AreNotes xs → HaveNames text ys → HaveNames text (xs ++ ys)
 notes-names text [] ys h g = g
-notes-names text (Token t ∷ xs) ys h g = absurd h
-notes-names text (Begin t ∷ xs) ys h g = absurd h
-notes-names text (Finish t ∷ xs) ys h g = absurd h
 notes-names text (Note kind about ∷ xs) ys h g = notes-names text xs ys h g
+notes-names _ _ _ h _ = absurd h
 
 -- what takes the bytes at a place
 taken-names : (text : List ℕ) (place byte : ℕ) (bytes : List ℕ) (more : ℕ) (xs ys : List Answer)
@@ -167,6 +144,4 @@ answers-names text (byte ∷ bytes) w fresh last place (suc taken) here =
 -- the answers over a text from a place on
 pub text-names : (text : List ℕ) (place : ℕ) (mode : Mode)
     → HaveNames text (tokens_of text place (length text) mode)
-text-names text place mode =
-    subst (λ l. HaveNames text (answers_at l (beginning mode) place)) (sym (take_all (length text) text (omega arith)))
-    (answers-names text (drop place text) (beginning mode) (fresh_at text place) (last_at text place) place 0 refl)
+text-names text place mode = grind (arith, take_all, answers-names)

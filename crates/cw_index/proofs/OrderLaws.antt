@@ -1,24 +1,18 @@
 -- Texts are compared byte by byte.
-use Rattle.std.proofs.Common.{◌≡◌, ℕ, ◌+◌, ◌-◌, ◌<◌, ◌≤◌, true, false, refl, sym, ap, ◌∙◌, List, [], ◌∷◌}
-use Rattle.std.proofs.Common.{length, drop, arith}
+use Rattle.std.proofs.Common.{◌≡◌, ℕ, ◌+◌, ◌-◌, ◌<◌, ◌≤◌, true, false, refl, List, [], ◌∷◌, length, drop, arith}
 use Rattle.std.proofs.lemmas.Bool.Decides.{nat_tests}
 use Rattle.std.proofs.lemmas.List.{drop_all, drop_more, length-drop}
 use Rattle.std.specs.Prelude.{slice_index}
 use Rattle.std.specs.declared.cmp.Ordering.{Ordering}
-use Rattle.std.specs.declared.cmp.Ordering.TheVariants.{Less, Equal, Greater}
 use Rattle.std.specs.Ordering.{is_ne, nat_cmp, ordering_then}
 use Rattle.cw_index.specs.Collation.{class_of, class_cmp, classes_cmp}
 
 -- An answer decides where it isn't Equal, and else the rest does.
 then-ne : (o rest : Ordering) → is_ne o ≡ true → ordering_then o rest ≡ o
-then-ne Less rest h = refl
-then-ne Greater rest h = refl
-then-ne Equal rest h = absurd (let wrong : false ≡ true = h in cc)
+then-ne o rest h = grind arith
 
 then-eq : (o rest : Ordering) → is_ne o ≡ false → ordering_then o rest ≡ rest
-then-eq Equal rest h = refl
-then-eq Less rest h = absurd (let wrong : true ≡ false = h in cc)
-then-eq Greater rest h = absurd (let wrong : true ≡ false = h in cc)
+then-eq o rest h = grind arith
 
 -- the bytes from a place on
 abbrev pub from : ℕ → List ℕ → List ℕ → Ordering
@@ -33,21 +27,16 @@ from-more i xs ys first second = rw (drop_more xs i 0 first, drop_more ys i 0 se
 
 pub from-decided : (i : ℕ) (xs ys : List ℕ) (o : Ordering) → i < length xs → i < length ys → o ≡ at i xs ys
     → is_ne o ≡ true → o ≡ from i xs ys
-from-decided i xs ys o first second is ne =
-    sym (then-ne o (from (i + 1) xs ys) ne) ∙ ap (λ (o : Ordering). ordering_then o (from (i + 1) xs ys)) is
-    ∙ sym (from-more i xs ys first second)
+from-decided i xs ys o first second is ne = grind (arith, then-ne, from-more)
 
 pub from-next : (i : ℕ) (xs ys : List ℕ) (o : Ordering) → i < length xs → i < length ys → o ≡ at i xs ys
     → is_ne o ≡ false
     → from (i + 1) xs ys ≡ from i xs ys
-from-next i xs ys o first second is eq =
-    sym (then-eq o (from (i + 1) xs ys) eq) ∙ ap (λ (o : Ordering). ordering_then o (from (i + 1) xs ys)) is
-    ∙ sym (from-more i xs ys first second)
+from-next i xs ys o first second is eq = grind (arith, then-eq, from-more)
 
 -- Where one text has ended the lengths decide.
 lengths-first : (ys : List ℕ) → classes_cmp [] ys ≡ nat_cmp 0 (length ys)
-lengths-first [] = refl
-lengths-first (y ∷ ys) = grind (arith, nat_tests)
+lengths-first ys = grind (arith, nat_tests)
 
 lengths-second : (xs : List ℕ) → classes_cmp xs [] ≡ nat_cmp (length xs) 0
 lengths-second [] = refl
@@ -58,14 +47,8 @@ shifted a b i first second = grind (arith, nat_tests)
 
 pub from-first : (i : ℕ) (xs ys : List ℕ) → length xs ≤ i → i ≤ length xs → i ≤ length ys
     → from i xs ys ≡ nat_cmp (length xs) (length ys)
-from-first i xs ys ended first second =
-    let none : 0 ≡ length xs - i = omega (arith, ended) in
-    ap (λ (ds : List ℕ). classes_cmp ds (drop i ys)) (drop_all i xs ended) ∙ lengths-first (drop i ys)
-    ∙ (λ j. nat_cmp (none j) (length-drop i ys j)) ∙ shifted (length xs) (length ys) i first second
+from-first i xs ys ended first second = grind (arith, drop_all, lengths-first, length-drop, shifted)
 
 pub from-second : (i : ℕ) (xs ys : List ℕ) → length ys ≤ i → i ≤ length ys → i ≤ length xs
     → from i xs ys ≡ nat_cmp (length xs) (length ys)
-from-second i xs ys ended second first =
-    let none : 0 ≡ length ys - i = omega (arith, ended) in
-    ap (λ (ds : List ℕ). classes_cmp (drop i xs) ds) (drop_all i ys ended) ∙ lengths-second (drop i xs)
-    ∙ (λ j. nat_cmp (length-drop i xs j) (none j)) ∙ shifted (length xs) (length ys) i first second
+from-second i xs ys ended second first = grind (arith, drop_all, lengths-second, length-drop, shifted)

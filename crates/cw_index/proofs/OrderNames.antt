@@ -1,5 +1,5 @@
 -- The names of headings, one behind the other.
-use Rattle.std.proofs.Common.{◌≡◌, ℕ, ◌<◌, ◌∙◌, List, [], ◌∷◌, ◌++◌, ap, append_assoc, length, map}
+use Rattle.std.proofs.Common.{◌≡◌, ℕ, ◌<◌, List, [], ◌∷◌, ◌++◌, append_assoc, length, map, arith}
 use Rattle.std.proofs.lemmas.List.{map-append}
 use Rattle.std.proofs.lemmas.Option.{slice_get_within}
 use Rattle.cw_names.specs.Names.{Entry}
@@ -14,10 +14,7 @@ names_with order later = map (λ id. id.index) order ++ map (λ row. row.name) (
 -- The name of the next heading goes behind those before it.
 pub order-next : (order : List NameId) (h : Heading) (later : List Heading)
     → names_with (order ++ h.id ∷ []) later ≡ names_with order (h ∷ later)
-order-next order h later =
-    ap (λ (names : List ℕ). names ++ map (λ row. row.name) (map row_of later))
-    (map-append (λ (id : NameId). id.index) order (h.id ∷ []))
-    ∙ append_assoc (map (λ (id : NameId). id.index) order) (h.id.index ∷ []) (map (λ row. row.name) (map row_of later))
+order-next order h later = grind (arith, map-append, append_assoc)
 
 pub named-within : (names : List Entry) (h : Heading) → IsNamed names h → h.id.index < length names
 named-within names h is = slice_get_within names h.id.index (entry_of h) is

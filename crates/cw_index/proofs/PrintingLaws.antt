@@ -1,5 +1,5 @@
 -- Bytes are printed piece by piece.
-use Rattle.std.proofs.Common.{◌≡◌, ℕ, sym, ap, ◌∙◌, subst, List, ◌++◌, append_assoc}
+use Rattle.std.proofs.Common.{◌≡◌, ℕ, sym, ap, ◌∙◌, List, ◌++◌, append_assoc, arith}
 use Rattle.std.specs.Prelude.{Result, Ok, Err, IsErrAnd}
 use Rattle.std.proofs.lemmas.List.{append-nil}
 use Rattle.cw_part.proofs.PrintLaws.{Printing}
@@ -12,17 +12,13 @@ use Rattle.cw_lines.specs.declared.sheet.Sheet.{Sheet}
 -- the same bytes, by a call that gives another value
 pub print-giving : {D T U : Type 0} {told : D → Told} {bytes : List ℕ} {old new : Sheet D} {value : T} (other : U)
     → Prints {T = T} told bytes old new (Ok value) → Prints {T = U} told bytes old new (Ok other)
-print-giving {told = told} {new = new} other prints =
-    prints-bytes (append-nil _) (prints-then prints (prints-none told new other))
+print-giving {told = told} {new = new} other prints = grind (arith, prints-bytes, append-nil, prints-then, prints-none)
 
 -- the next bytes
 pub printing-next : {D T : Type 0} {told : D → Told} (xs ys : List ℕ) {all : List ℕ} {old mid new : Sheet D} {value : T}
     → Printing told (xs ++ ys) all old mid → Prints {T = T} told xs mid new (Ok value) → Printing told ys all old new
-printing-next xs ys p prints = record {
-  done = p.done ++ xs;
-  put = print-giving (tt {0}) (prints-then p.put prints);
-  goes = append_assoc p.done xs ys ∙ p.goes;
-}
+printing-next xs ys p prints =
+    grind (arith, print-giving (tt {0}) (prints-then p.put prints), prints-then p.put prints, append_assoc p.done xs ys)
 
 pub printing-stop : {D T U : Type 0} {told : D → Told} (xs ys : List ℕ) {all : List ℕ} {old mid new : Sheet D}
     {error : PutError} {result : Result U PutError} → Printing told (xs ++ ys) all old mid
@@ -41,5 +37,4 @@ printing-end same p prints =
 -- the same sheet
 pub printing-moved : {D : Type 0} {told : D → Told} {rest all : List ℕ} {old mid new : Sheet D} → new ≡ mid
     → Printing told rest all old mid → Printing told rest all old new
-printing-moved {told = told} {rest = rest} {all = all} {old = old} is p =
-    subst (λ (sheet : Sheet _). Printing told rest all old sheet) (sym is) p
+printing-moved {told = told} {rest = rest} {all = all} {old = old} is p = grind arith

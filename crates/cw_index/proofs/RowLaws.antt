@@ -1,13 +1,12 @@
 -- The rows of the names are entered one after another.
-use Rattle.std.proofs.Common.{◌≡◌, ℕ, ◌+◌, Bool, true, false, refl, sym, ap, ◌∙◌, subst, List, [], ◌∷◌, All}
-use Rattle.std.proofs.Common.{Some, drop, map, fold}
+use Rattle.std.proofs.Common.{◌≡◌, ℕ, ◌+◌, Bool, true, refl, sym, ap, ◌∙◌, subst, List, [], ◌∷◌, All, Some, drop, map}
+use Rattle.std.proofs.Common.{fold, arith}
 use Rattle.std.specs.Prelude.{slice_get}
 use Rattle.std.proofs.lemmas.List.{drop_more}
 use Rattle.std.proofs.lemmas.Option.{get_or_from_slice_get, slice_get_within}
 use Rattle.std.proofs.lemmas.Map.Views.{All-insert_key}
 use Rattle.std.specs.BTreeSet.{insert_key}
 use Rattle.std.specs.declared.cmp.Ordering.{Ordering}
-use Rattle.std.specs.declared.cmp.Ordering.TheVariants.{Less, Equal, Greater}
 use Rattle.std.specs.Ordering.{match_ordering, on}
 use Rattle.cw_names.specs.declared.xrefs.Occurrence.{Occurrence}
 use Rattle.cw_names.specs.Names.{Entry}
@@ -20,17 +19,12 @@ use Rattle.cw_index.specs.Mentions.{Row, has_sections, row, row_cmp, rows_from, 
 inserted-by : {X Y : Type 0} (f : X → Y) (o : Ordering) (k x : X) (xs ys : List X)
     → map f (match_ordering o (k ∷ x ∷ xs) (x ∷ xs) (x ∷ ys))
     ≡ match_ordering o (f k ∷ f x ∷ map f xs) (f x ∷ map f xs) (f x ∷ map f ys)
-inserted-by f Less k x xs ys = refl
-inserted-by f Equal k x xs ys = refl
-inserted-by f Greater k x xs ys = refl
+inserted-by f o k x xs ys = grind arith
 
 pub inserted : {X Y : Type 0} (f : X → Y) (order : Y → Y → Ordering) (xs : List X) (k : X)
     → map f (insert_key (on f order) xs k) ≡ insert_key order (map f xs) (f k)
 inserted f order [] k = refl
-inserted f order (x ∷ xs) k =
-    inserted-by f (order (f k) (f x)) k x xs (insert_key (on f order) xs k)
-    ∙ ap (λ rest. match_ordering (order (f k) (f x)) (f k ∷ f x ∷ map f xs) (f x ∷ map f xs) (f x ∷ rest))
-    (inserted f order xs k)
+inserted f order (x ∷ xs) k = grind (arith, inserted f order xs k, inserted-by)
 
 -- The headings so far, with the rows that are still to come, make the index.
 abbrev pub with_later : ℕ → List Entry → List Occurrence → List Row → List Row
@@ -38,31 +32,23 @@ with_later name later occurrences rows = fold (insert_key row_cmp) rows (rows_fr
 
 later-by : (t : Bool) (r : Row) (rows later : List Row)
     → fold (insert_key row_cmp) rows (with_row t r later) ≡ fold (insert_key row_cmp) (entered_by t r rows) later
-later-by true r rows later = refl
-later-by false r rows later = refl
+later-by t r rows later = grind arith
 
 pub later-next : (name : ℕ) (entry : Entry) (later : List Entry) (occurrences : List Occurrence) (rows : List Row)
     → with_later name (entry ∷ later) occurrences rows
     ≡ with_later (name + 1) later occurrences (entered (row name entry occurrences) rows)
-later-next name entry later occurrences rows =
-    later-by (has_sections (row name entry occurrences).sections) (row name entry occurrences) rows
-    (rows_from (name + 1) later occurrences)
+later-next name entry later occurrences rows = grind (arith, later-by)
 
 pub later-step : (names : List Entry) (occurrences : List Occurrence) (rows rows' : List Row) (i : ℕ) (h : Heading)
     → drop i names ≡ entry_of h ∷ drop (i + 1) names
     → row_of h ≡ row i (entry_of h) occurrences → rows' ≡ entered (row_of h) rows
     → with_later (i + 1) (drop (i + 1) names) occurrences rows' ≡ with_later i (drop i names) occurrences rows
-later-step names occurrences rows rows' i h here is more =
-    ap (with_later (i + 1) (drop (i + 1) names) occurrences) (more ∙ ap (λ (r : Row). entered r rows) is)
-    ∙ sym (later-next i (entry_of h) (drop (i + 1) names) occurrences rows)
-    ∙ ap (λ (later : List Entry). with_later i later occurrences rows) (sym here)
+later-step names occurrences rows rows' i h here is more = grind (arith, later-next)
 
 -- a heading that has sections, and one that has none
 pub entered-listed : (h : Heading) (old new : List Heading) → has_sections (row_of h).sections ≡ true
     → new ≡ insert_key (on entry_of entry_cmp) old h → map row_of new ≡ entered (row_of h) (map row_of old)
-entered-listed h old new listed is =
-    ap (map row_of) is ∙ inserted row_of row_cmp old h
-    ∙ ap (λ (t : Bool). entered_by t (row_of h) (map row_of old)) (sym listed)
+entered-listed h old new listed is = grind (arith, inserted row_of row_cmp old h)
 
 pub named-more : (names : List Entry) (h : Heading) (old new : List Heading)
     → new ≡ insert_key (on entry_of entry_cmp) old h

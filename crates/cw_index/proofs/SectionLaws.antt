@@ -1,5 +1,5 @@
 -- The sections that are listed are printed one after another.
-use Rattle.std.proofs.Common.{◌≡◌, ℕ, ◌+◌, ◌<◌, Bool, true, false, refl, ap, ◌∙◌, List, [], ◌∷◌, ◌++◌, drop, length}
+use Rattle.std.proofs.Common.{◌≡◌, ℕ, ◌+◌, ◌<◌, Bool, true, false, refl, List, [], ◌∷◌, ◌++◌, drop, length, arith}
 use Rattle.std.specs.Prelude.{slice_index_or}
 use Rattle.std.specs.List.{flat_map}
 use Rattle.std.proofs.lemmas.Grind.{flat_map-append}
@@ -14,16 +14,14 @@ listed_bytes f only ms = flat_map f (listed only ms)
 
 printed-append : (f : SectionRef → List ℕ) (only : Bool) (xs ys : List SectionRef)
     → listed_bytes f only (xs ++ ys) ≡ listed_bytes f only xs ++ listed_bytes f only ys
-printed-append f only xs ys = ap (flat_map f) (filter-append (is_listed only) xs ys)
-    ∙ flat_map-append f (listed only xs) (listed only ys)
+printed-append f only xs ys = grind (arith, filter-append, flat_map-append)
 
 pub printed-more : (f : SectionRef → List ℕ) (only : Bool) (ms : List SectionRef) (i : ℕ) (d : SectionRef)
     → i < length ms
     → listed_bytes f only (drop i ms) ≡ listed_bytes f only (slice_index_or ms i d ∷ [])
     ++ listed_bytes f only (drop (i + 1) ms)
 printed-more f only ms i d within =
-    ap (listed_bytes f only) (drop_more ms i d within)
-    ∙ printed-append f only (slice_index_or ms i d ∷ []) (drop (i + 1) ms)
+    grind (arith, drop_more ms i d within, printed-append f only (slice_index_or ms i d ∷ []) (drop (i + 1) ms))
 
 pub printed-none : (f : SectionRef → List ℕ) (only : Bool) (m : SectionRef) → is_listed only m ≡ false
     → listed_bytes f only (m ∷ []) ≡ []

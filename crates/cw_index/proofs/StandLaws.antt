@@ -1,5 +1,5 @@
 -- The names for which section names stand are sorted one after another.
-use Rattle.std.proofs.Common.{◌≡◌, ℕ, ◌+◌, sym, ap, ◌∙◌, List, ◌++◌, Some, drop, map}
+use Rattle.std.proofs.Common.{◌≡◌, ℕ, ◌+◌, ap, ◌∙◌, List, ◌++◌, Some, drop, map, arith}
 use Rattle.std.specs.Prelude.{slice_get}
 use Rattle.std.specs.Ordering.{on}
 use Rattle.std.specs.BTreeSet.{insert_key}
@@ -23,10 +23,7 @@ sorted-append xs ys stands = fold-append (insert_key stand_cmp) stands xs ys
 pub stands-step : (kept : List SecName) (uses : List NameUse) (i : ℕ) (u : NameUse) (stands more : List StandingName)
     → slice_get uses i ≡ Some u → more ≡ sorted_on stand_cmp stands (stand_at kept u)
     → with_stands kept (drop (i + 1) uses) more ≡ with_stands kept (drop i uses) stands
-stands-step kept uses i u stands more here is =
-    ap (with_stands kept (drop (i + 1) uses)) is
-    ∙ sym (sorted-append (stand_at kept u) (named_stands kept (drop (i + 1) uses)) stands)
-    ∙ ap (λ (later : List NameUse). with_stands kept later stands) (sym (drop-at uses i u here))
+stands-step kept uses i u stands more here is = grind (arith, sorted-append, drop-at)
 
 pub entered : (s : Standing) (old new : List Standing) → new ≡ insert_key (on stand_of stand_cmp) old s
     → map stand_of new ≡ sorted_on stand_cmp (map stand_of old) (stands_of (Some s))

@@ -1,21 +1,18 @@
 -- The names of a section list are whole.
-use Rattle.std.proofs.Common.{◌≡◌, ℕ, ◌+◌, Bool, true, false, List, [], ◌∷◌, ◌++◌, All, Option, Some, None, refl}
-use Rattle.std.proofs.Common.{ap, drop}
+use Rattle.std.proofs.Common.{arith, ◌≡◌, ℕ, Bool, true, false, List, [], ◌∷◌, ◌++◌, All, Option, None}
 use Rattle.std.specs.Prelude.{slice_get}
 use Rattle.std.specs.BTreeSet.{insert_key}
-use Rattle.std.proofs.lemmas.List.Elements.{All-append, All-cons, All-head, All-map, All-nil, All-tail}
+use Rattle.std.proofs.lemmas.List.Elements.{All-append, All-head, All-map, All-nil, All-tail}
 use Rattle.std.proofs.lemmas.Map.Views.{All-insert_key}
 use Rattle.cw_base.specs.Web.{text_of}
 use Rattle.cw_rules.specs.declared.tokens.Mode.TheVariants as modes
 use Rattle.cw_rules.specs.declared.tokens.TokKind.{TokKind}
 use Rattle.cw_rules.specs.Answers.{Answer, Token, Begin, Finish, Note, Seen, has_sign}
-use Rattle.cw_rules.specs.Names.{is_void}
 use Rattle.cw_lex.specs.Limbo.{is_name_kind}
 use Rattle.cw_phase1.specs.declared.roles.Standing.{Standing}
 use Rattle.cw_phase1.specs.Book.{answers_of, book}
-use Rattle.cw_phase1.specs.Entering.{entered_name, entering, kept_behind, name_of_entering}
+use Rattle.cw_phase1.specs.Entering.{entered_name, kept_behind}
 use Rattle.cw_phase1.specs.Roles.{at_limbo, behind_begin, placed_from, token_step}
-use Rattle.cw_phase1.specs.Texts.{name_text}
 use Rattle.cw_phase1.specs.Uses.{use_by, uses_of}
 use Rattle.cw_phase1.proofs.Passing.{void-by}
 use Rattle.cw_secnames.specs.declared.kinds.SecId.{SecId}
@@ -24,8 +21,7 @@ use Rattle.cw_secnames.specs.Uses.{NameUse}
 use Rattle.cw_index.specs.declared.standing.Listed.{Listed}
 use Rattle.cw_index.specs.NameList.{IsWholeName}
 use Rattle.cw_index.specs.Sorted.{sorted_on}
-use Rattle.cw_index.specs.Standing.{StandingName, has_reference, kept_stand, named_stands, stand_at, stand_by}
-use Rattle.cw_index.specs.Standing.{stand_cmp}
+use Rattle.cw_index.specs.Standing.{StandingName, kept_stand, named_stands, stand_at, stand_by, stand_cmp}
 use Rattle.cw_index.specs.WholeNames.{NamesAreWhole}
 use Rattle.cw_index.proofs.NameSpans.{begun-whole}
 use Rattle.cw_index.proofs.NameTokens.{BeginsName, HaveNames, text-names}
@@ -37,18 +33,12 @@ NamesBegin text [] = Unit {0}
 NamesBegin text (u ∷ uses) = BeginsName text u.place × NamesBegin text uses
 
 unnamed : (t : Seen) (kept : List SecName) → is_name_kind t.kind ≡ false → entered_name t kept ≡ None
-unnamed t kept h = ap (λ n. name_of_entering (entering n kept))
-    (void-by (is_void (drop 2 t.text)) t.kind (name_text t.text) h)
+unnamed t kept h = grind (arith, void-by)
 
 use-begins : (text : List ℕ) (name : Option SecId) (kind : TokKind) (place : ℕ) (uses : List NameUse)
     → (is_name_kind kind ≡ false → name ≡ None) → (is_name_kind kind ≡ true → BeginsName text place)
     → NamesBegin text uses → NamesBegin text (use_by name place ++ uses)
-use-begins text None kind place uses none begins rest = rest
-use-begins text (Some id) kind place uses none begins rest = (by (is_name_kind kind) refl, rest)
-  where
-    by : (t : Bool) → is_name_kind kind ≡ t → BeginsName text place
-    by true e = begins e
-    by false e = absurd (let wrong : ◌≡◌ {A = Option SecId} (Some id) None = none e in cc)
+use-begins text name kind place uses none begins rest = grind arith
 
 uses-begin : (text : List ℕ) (s : Standing) (kept : List SecName) (answers : List Answer) → HaveNames text answers
     → NamesBegin text (uses_of (placed_from s kept answers))
@@ -69,13 +59,11 @@ Whole text s = IsWholeName text s.listed
 
 by-reference : (text : List ℕ) (t : Bool) (n : SecName) (l : Listed) → IsWholeName text l
     → All (Whole text) (stand_by t n l)
-by-reference text true n l whole = All-cons (Whole text) _ [] whole (All-nil (Whole text))
-by-reference text false n l whole = All-nil (Whole text)
+by-reference text t n l whole = grind arith
 
 by-kept : (text : List ℕ) (n : Option SecName) (l : Listed) → IsWholeName text l
     → All (Whole text) (kept_stand n l)
-by-kept text None l whole = All-nil (Whole text)
-by-kept text (Some n) l whole = by-reference text (has_reference n) n l whole
+by-kept text n l whole = grind (arith, by-reference)
 
 stands-whole : (text : List ℕ) (kept : List SecName) (uses : List NameUse) → NamesBegin text uses
     → All (Whole text) (named_stands kept uses)

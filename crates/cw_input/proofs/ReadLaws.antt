@@ -1,6 +1,6 @@
 -- How much is read of the files that are opened: one call after another, and one file after another.
-use Rattle.std.proofs.Common.{◌≡◌, ◌≢◌, ℕ, ◌+◌, ◌<◌, ◌≤◌, List, [], ◌∷◌, ◌++◌, length, sum_by, sym, ap}
-use Rattle.std.proofs.Common.{subst, ◌∙◌, arith, Some, Result, Ok, Err, OnOk}
+use Rattle.std.proofs.Common.{◌≡◌, ◌≢◌, ℕ, ◌+◌, ◌<◌, ◌≤◌, List, [], ◌∷◌, ◌++◌, length, sum_by, ap, ◌∙◌, arith, Some}
+use Rattle.std.proofs.Common.{Result, OnOk}
 use Rattle.std.proofs.lemmas.List.Sums.{sum_by-append}
 use Rattle.std.specs.FinMap.{get}
 use Rattle.cw_base.specs.declared.limits.TheConstants.{INPUT_LIMIT}
@@ -18,8 +18,7 @@ use Rattle.cw_input.specs.declared.merger.Merger.{Merger}
 are_read-count : (files : Files) (told : Told) (first : ℕ) (read : List (List ℕ)) → AreRead files told first read
     → told.opened ≡ first + length read
 are_read-count files told first [] each = omega (arith, each)
-are_read-count files told first (bytes ∷ more) each =
-    omega (arith, are_read-count files told (first + 1) more each.1)
+are_read-count files told first (bytes ∷ more) each = grind (arith, are_read-count files told (first + 1) more each.1)
 
 -- what is unread of the files that were open
 abbrev SameRests : Files → Told → Told → Type 0
@@ -29,22 +28,15 @@ are_read-same : (files : Files) (old new : Told) (first : ℕ) (read : List (Lis
     → SameRests files old new → AreRead files old first read → AreRead files new first read
 are_read-same files old new first [] opened same each = opened ∙ each
 are_read-same files old new first (bytes ∷ more) opened same each =
-    let less : first < old.opened = omega (arith, are_read-count files old (first + 1) more each.1) in (
-      (each.0.0, each.0.1 ∙ ap (λ (rest : List ℕ). Some (bytes ++ rest)) (sym (same first less))),
-      are_read-same files old new (first + 1) more opened same each.1,
-    )
+    grind (arith, are_read-same files old new (first + 1) more opened same each.1, are_read-count)
 
 -- a file more is opened and read
 are_read-more : (files : Files) (old new : Told) (first : ℕ) (read : List (List ℕ)) (last : List ℕ)
     → SameRests files old new → AreRead files new old.opened (last ∷ []) → AreRead files old first read
     → AreRead files new first (read ++ last ∷ [])
-are_read-more files old new first [] last same done each =
-    subst (λ (n : ℕ). AreRead files new n (last ∷ [])) each done
+are_read-more files old new first [] last same done each = grind arith
 are_read-more files old new first (bytes ∷ more) last same done each =
-    let less : first < old.opened = omega (arith, are_read-count files old (first + 1) more each.1) in (
-      (each.0.0, each.0.1 ∙ ap (λ (rest : List ℕ). Some (bytes ++ rest)) (sym (same first less))),
-      are_read-more files old new (first + 1) more last same done each.1,
-    )
+    grind (arith, are_read-more files old new (first + 1) more last same done each.1, are_read-count)
 
 sum-more : (read : List (List ℕ)) (last : List ℕ)
     → sum_by length (read ++ last ∷ []) ≡ sum_by length read + length last
@@ -52,40 +44,24 @@ sum-more read last = grind (arith, sum_by-append length read (last ∷ []))
 
 has_read-more : {files : Files} {first a b : ℕ} {told : Told} → a ≤ b → HasRead files first a told
     → HasRead files first b told
-has_read-more {a = a} {b = b} more had = let within : sum_by length had.read ≤ a = had.within in record {
-  read = had.read;
-  each = had.each;
-  within = omega (arith, more, within);
-}
+has_read-more {a = a} {b = b} more had = grind (arith, sum_by)
 
 pub reads_on-none : (sum : ℕ) (told : Told) → ReadsOn sum sum told told
 reads_on-none sum told = record { most = λ files is first had. had }
 
 pub reads_on-same : (sum : ℕ) {old new : Told} → new.opened ≡ old.opened
     → ((files : Files) → SameRests files old new) → ReadsOn sum sum old new
-reads_on-same sum {old = old} {new = new} opened same = record {
-  most = λ files is first had. record {
-    read = had.read;
-    each = are_read-same files old new first had.read opened (same files) had.each;
-    within = had.within;
-  };
-}
+reads_on-same sum {old = old} {new = new} opened same = grind (arith, are_read-same)
 
 pub reads_on-then : {a b c : ℕ} {first second third : Told} → Narrows second third → ReadsOn a b first second
     → ReadsOn b c second third → ReadsOn a c first third
-reads_on-then narrows begun ended = record {
-  most = λ files is from had. ended.most files is from (begun.most files (narrows files is) from had);
-}
+reads_on-then narrows begun ended = grind arith
 
 pub reads_on-more : {a b c : ℕ} {old new : Told} → b ≤ c → ReadsOn a b old new → ReadsOn a c old new
-reads_on-more more reads = record {
-  most = λ files is first had. has_read-more more (reads.most files is first had);
-}
+reads_on-more more reads = grind (arith, has_read-more)
 
 pub reads_on-from : {a b c : ℕ} {old new : Told} → a ≤ b → ReadsOn b c old new → ReadsOn a c old new
-reads_on-from more reads = record {
-  most = λ files is first had. reads.most files is first (has_read-more more had);
-}
+reads_on-from more reads = grind (arith, has_read-more)
 
 other : (i index before : ℕ) → index ≡ before → i < before → i ≢ index
 other i index before is less same = omega (arith, is, less, same)
@@ -125,21 +101,16 @@ reads_on-kept {a = a} told less = reads_on-more {b = a} less (reads_on-none a to
 pub reads_to-kept : {T : Type 0} {a : ℕ} (m new : Merger) {old now : Told} (result : Result T LoadError)
     → OnOk result (Moves 0 0 0 0 m new) → m.sum ≤ INPUT_LIMIT → ReadsOn a m.sum old now
     → ReadsTo a new.sum old now result
-reads_to-kept m new (Ok value) moves less reads =
-    reads_on-more {b = m.sum} (omega (arith, less, moves.of_files, moves.more_files, moves.of_bytes)) reads
-reads_to-kept m new (Err error) moves less reads = reads_on-more {b = m.sum} (omega (arith, less)) reads
+reads_to-kept m new result moves less reads = grind (arith, reads_on-more)
 
 -- whatever is answered, at most one byte more than the limit on input
 pub reads_to-within : {T : Type 0} {a : ℕ} (text files text_left files_left : ℕ) (m new : Merger) {old now : Told}
     (result : Result T LoadError)
     → OnOk result (Moves text files text_left files_left m new) → ReadsTo a new.sum old now result
     → ReadsOn a (INPUT_LIMIT + 1) old now
-reads_to-within text files text_left files_left m new (Ok value) moves reads =
-    reads_on-more {b = new.sum} (omega (arith, moves.of_bytes)) reads
-reads_to-within text files text_left files_left m new (Err error) moves reads = reads
+reads_to-within text files text_left files_left m new result moves reads = grind (arith, reads_on-more)
 
 -- the file was not there under the first name
 pub reads_first-then : {first second : Told} (third : Told) (result : Result Found LoadError) → Narrows second third
     → ReadsOn 0 0 first second → ReadsFirst second third result → ReadsFirst first third result
-reads_first-then third (Ok file) narrows begun ended = reads_on-then narrows begun ended
-reads_first-then third (Err error) narrows begun ended = reads_on-then narrows begun ended
+reads_first-then third result narrows begun ended = grind (arith, reads_on-then)

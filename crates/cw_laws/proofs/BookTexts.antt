@@ -1,17 +1,18 @@
 -- Sections leave what their texts leave, one after another.
-use Rattle.std.proofs.Common.{◌≡◌, ℕ, suc, Bool, true, false, ◌||◌, List, [], ◌∷◌, ◌++◌, Option, Some, None}
-use Rattle.std.proofs.Common.{All, refl, sym, ap, ◌∙◌, append_assoc}
+use Rattle.std.proofs.Common.{◌≡◌, ℕ, suc, Bool, true, false, ◌||◌, List, [], ◌∷◌, ◌++◌, Option, Some, None, All, refl}
+use Rattle.std.proofs.Common.{sym, ap, ◌∙◌, append_assoc, arith}
 use Rattle.std.specs.Prelude.{is_some}
 use Rattle.std.proofs.lemmas.List.{append-nil}
 use Rattle.std.proofs.lemmas.List.Elements.{All-head, All-tail, filter-append}
+use Rattle.std.proofs.lemmas.Bool.Decides.{nat_tests}
 use Rattle.cw_base.specs.Conditions.{list_if}
 use Rattle.cw_base.specs.Web.{text_of}
 use Rattle.cw_base.specs.declared.span.Span.{Span}
 use Rattle.cw_lex.specs.NestLaws.{NestsAreWell}
 use Rattle.cw_lex.specs.Nested.{CTextsAreNested}
 use Rattle.cw_names.specs.Names.{Entry}
-use Rattle.cw_part.specs.Parts.{definition_done, definitions_done, first_opening, prints_code as is_printed_part}
-use Rattle.cw_part.specs.Parts.{later_opening, paragraph_if, part_done, part_opening}
+use Rattle.cw_part.specs.Parts.{definition_done, definitions_done, first_opening, later_opening, paragraph_if}
+use Rattle.cw_part.specs.Parts.{part_done}
 use Rattle.cw_part.specs.Sections.{at_section, ending, rest_done, section_done, sections_done}
 use Rattle.cw_phase1.specs.declared.sections.Section.{Section}
 use Rattle.cw_phase1.specs.Book.{book}
@@ -32,9 +33,8 @@ use Rattle.cw_texts.specs.Printed.{has_scrap, is_printed}
 use Rattle.cw_texts.specs.Scans.{scanned}
 use Rattle.cw_texts.specs.TexPieces.{TexPiece, Copied, InnerText, Cited, tex_pieces_of}
 use Rattle.cw_texts.specs.Texts.{definition_refs, part_refs, piece_refs, refs_from, section_refs, tex_refs, text_ref}
-use Rattle.cw_translator.specs.Translating.{Ended}
-use Rattle.cw_laws.specs.BookTexts.{EveryTextIsWoven, LeaveTheSame, TextsAreWoven, is_any, ref_done}
-use Rattle.cw_laws.specs.BookTexts.{refs_done, with_scraps}
+use Rattle.cw_laws.specs.BookTexts.{EveryTextIsWoven, LeaveTheSame, TextsAreWoven, is_any, ref_done, refs_done}
+use Rattle.cw_laws.specs.BookTexts.{with_scraps}
 use Rattle.cw_laws.proofs.ProseLaws.{no-prose, no-refs}
 use Rattle.cw_laws.proofs.QuietParts.{quiet-text}
 
@@ -55,16 +55,7 @@ module _ (looked_at : List State → List State)
   across : {X Y : Type 0} (d : Done X) (e : Done Y) (f : List Entry → Done X) (g : List Entry → Done Y)
       → LeaveTheSame looked_at d e → ((names : List Entry) → LeaveTheSame looked_at (f names) (g names))
       → LeaveTheSame looked_at (done_then d f) (done_then e g)
-  across d e f g p q = record {
-    names = (q d.names).names ∙ ap (λ ns. (g ns).names) p.names;
-    marks = ap (λ ms. ms ++ (f d.names).marks) p.marks
-        ∙ ap (λ ms. e.marks ++ ms) ((q d.names).marks ∙ ap (λ ns. (g ns).marks) p.names);
-    ended = apart d.ended (f d.names).ended
-        ∙ ap (λ es. es ++ looked_at (f d.names).ended) p.ended
-        ∙ ap (λ es. looked_at e.ended ++ es)
-        ((q d.names).ended ∙ ap (λ ns. looked_at (g ns).ended) p.names)
-        ∙ sym (apart e.ended (g e.names).ended);
-  }
+  across d e f g p q = grind (arith, nat_tests)
 
   -- texts, and others behind them
   refs-joined : (s : Setting) (rs qs : List TextRef) (names : List Entry)
@@ -86,11 +77,7 @@ module _ (looked_at : List State → List State)
   -- one text is what it leaves
   one-left : {X : Type 0} (s : Setting) (r : TextRef) (print : List ℕ → List X) (names : List Entry)
       → LeaveTheSame looked_at (reprinted print (ref_done s r names)) (refs_done s (r ∷ []) names)
-  one-left s r print names = record {
-    names = refl;
-    marks = sym (append-nil (ref_done s r names).marks);
-    ended = ap looked_at (sym (append-nil (ref_done s r names).ended));
-  }
+  one-left s r print names = grind (arith, nat_tests, append-nil)
 
   -- ## The pieces of a section
 
@@ -133,40 +120,22 @@ module _ (looked_at : List State → List State)
   -- ## The C part
 
   if-left : (b : Bool) (front : List ℕ) (d : Done ℕ) → LeaveTheSame looked_at (paragraph_if b front d) d
-  if-left true front d = record { names = refl; marks = refl; ended = refl }
-  if-left false front d = record { names = refl; marks = refl; ended = refl }
+  if-left b front d = grind (arith, nat_tests)
 
   part-alone : (s : Setting) (n : ℕ) (section : Section) (names : List Entry)
       → LeaveTheSame looked_at (part_done (at_section s n) section names)
       (ref_done s (text_ref n modes.CPart section.c_part) names)
-  part-alone s n section names =
-      if-left (is_printed_part section (ref_done s (text_ref n modes.CPart section.c_part) names))
-      (part_opening (beside_in (at_section s n) section) s.flags.ranged section)
-      (ref_done s (text_ref n modes.CPart section.c_part) names)
+  part-alone s n section names = grind (arith, nat_tests, if-left)
 
   nothing-left : (s : Setting) (d : Done ℕ) (out : List ℕ) (names : List Entry) → LeavesNothing looked_at names d
       → LeaveTheSame looked_at (done_then d (as_it_is out)) (refs_done s [] names)
-  nothing-left s d out names l = record {
-    names = l.names;
-    marks = append-nil d.marks ∙ l.marks;
-    ended = ap looked_at (append-nil d.ended) ∙ l.ended;
-  }
+  nothing-left s d out names l = grind (arith, nat_tests, append-nil)
 
   part-left : (s : Setting) (n : ℕ) (section : Section) (b : Bool) (out : List ℕ) (names : List Entry)
       → (b ≡ false → LeavesNothing looked_at names (ref_done s (text_ref n modes.CPart section.c_part) names))
       → LeaveTheSame looked_at (done_then (part_done (at_section s n) section names) (as_it_is out))
       (refs_done s (part_refs b n section.c_part) names)
-  part-left s n section true out names none =
-      across (part_done (at_section s n) section names) (ref_done s (text_ref n modes.CPart section.c_part) names)
-      (as_it_is out) (refs_done s []) (part-alone s n section names)
-      (λ ns. record { names = refl; marks = refl; ended = refl })
-  part-left s n section false out names none =
-      let d : Done ℕ = ref_done s (text_ref n modes.CPart section.c_part) names in
-      trans (done_then (part_done (at_section s n) section names) (as_it_is out)) (done_then d (as_it_is out))
-      (refs_done s [] names)
-      (across (part_done (at_section s n) section names) d (as_it_is out) (as_it_is out) (part-alone s n section names)
-      (λ ns. record { names = refl; marks = refl; ended = refl }))
-      (nothing-left s d out names (none refl))
+  part-left s n section b out names none = grind (arith, nat_tests, across, part-alone, trans, nothing-left)
 
   -- ## TeX parts
 
@@ -174,11 +143,7 @@ module _ (looked_at : List State → List State)
       → (alone ≡ false → tex_refs s.book.name_uses n (tex_pieces_of s.text section.tex) ≡ [])
       → LeaveTheSame looked_at (head_and_tex alone front (at_section s n) section names)
       (refs_done s (tex_refs s.book.name_uses n (tex_pieces_of s.text section.tex)) names)
-  tex-by-left s n section true front names none =
-      let q = pieces-left s n (tex_pieces_of s.text section.tex) names in
-      record { names = q.names; marks = q.marks; ended = q.ended }
-  tex-by-left s n section false front names none =
-      rw (none refl) (record { names = refl; marks = refl; ended = refl })
+  tex-by-left s n section alone front names none = grind (arith, nat_tests, pieces-left)
 
   tex-left : (s : Setting) (n : ℕ) (section : Section) (names : List Entry)
       → LeaveTheSame looked_at (tex_done (at_section s n) section names)
@@ -249,22 +214,15 @@ every-text-is-woven lines flags =
 -- ## With those that are printed
 
 no-scrap : (a b : Bool) → (a || b) ≡ false → b ≡ false
-no-scrap true b h = absurd cc
-no-scrap false b h = h
+no-scrap a b h = grind (arith, nat_tests)
 
 unprinted : NestsAreWell → CTextsAreNested → (s : Setting) (n : ℕ) (section : Section) → IsWholeSection s.text section
     → is_printed s.text s.book.name_uses section ≡ false → (names : List Entry)
     → LeavesNothing with_scraps names (ref_done s (text_ref n modes.CPart section.c_part) names)
-unprinted well nested s n section whole is names =
-    let quiet = quiet-text s.flags s.book.sec_names s.book.name_uses (scanned modes.CPart s.text section.c_part) names
-    (well (scanned modes.CPart s.text section.c_part)
-    (nested s.text section.c_part.start section.c_part.«end» modes.CPart refl whole.c_part))
-    (no-scrap (is_some section.name) (has_scrap s.book.name_uses (scanned modes.CPart s.text section.c_part)) is) in
-    record {
-      names = ap (λ (t : Ended). t.known.names) quiet;
-      marks = ap (λ (t : Ended). t.known.marks) quiet;
-      ended = ap (λ (t : Ended). with_scraps t.known.ended) quiet;
-    }
+unprinted well nested s n section whole is names = grind (
+  arith,
+  quiet-text s.flags s.book.sec_names s.book.name_uses (scanned modes.CPart s.text section.c_part) names (well (scanned modes.CPart s.text section.c_part) (nested s.text section.c_part.start section.c_part.«end» modes.CPart refl whole.c_part)) (no-scrap (is_some section.name) (has_scrap s.book.name_uses (scanned modes.CPart s.text section.c_part)) is),
+)
 
 pub texts-are-woven : NestsAreWell → CTextsAreNested → SectionsAreWhole → TextsAreWoven
 texts-are-woven well nested whole lines flags =

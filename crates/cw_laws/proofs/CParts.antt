@@ -4,6 +4,7 @@ use Rattle.std.proofs.Common.{◌≡◌, ℕ, zero, suc, ◌+◌, ◌-◌, ◌�
 use Rattle.std.proofs.Common.{[], ◌∷◌, ◌++◌, Option, Some, None, if◌then◌else◌, drop, take, length, slice_index, refl}
 use Rattle.std.proofs.Common.{sym, ap, subst, ◌∙◌, arith, append_assoc}
 use Rattle.std.proofs.lemmas.List.{append-nil}
+use Rattle.std.proofs.lemmas.Bool.Decides.{nat_tests}
 use Rattle.cw_base.proofs.TestLaws.{both-failed, both-left, both-right, not-both, or-true}
 use Rattle.cw_base.specs.Bytes.{newline, backslash}
 use Rattle.cw_base.specs.Text.{bar}
@@ -27,19 +28,17 @@ use Rattle.cw_rules.specs.declared.tokens.TokKind.TheVariants as kinds
 use Rattle.cw_rules.specs.Answers.{Answer, Where, Cut, Found, note_answers, plain}
 use Rattle.cw_rules.specs.Apart.{code_text_apart, comment_text_apart, part_text_apart, in_text_apart, found_apart}
 use Rattle.cw_rules.specs.Bodies.{ended, extent, noted, note_unless, one_note}
-use Rattle.cw_rules.specs.Bytes.{apostrophe, at_sign, equals, hash, less, slash, star}
-use Rattle.cw_rules.specs.Bytes.{begins, begins_with, is_in, is_letter, is_mark}
+use Rattle.cw_rules.specs.Bytes.{apostrophe, at_sign, equals, hash, less, slash, star, begins, begins_with, is_in}
+use Rattle.cw_rules.specs.Bytes.{is_letter, is_mark}
 use Rattle.cw_rules.specs.Codes.{begins_section, code_at, effect_in_c, effect_at_begin, has_control_text}
 use Rattle.cw_rules.specs.Constants.{constant}
 use Rattle.cw_rules.specs.Prefixes.{prefix_size}
 use Rattle.cw_rules.specs.Signs.{all_signs, longest, spelling}
-use Rattle.cw_rules.specs.Tokens.{all_cut, alone_size, behind_include, behind_word, closes_on_line}
-use Rattle.cw_rules.specs.Tokens.{code_by, code_token, comment_begin, control_or_plain}
-use Rattle.cw_rules.specs.Tokens.{control_text, dropped_code, effect_in, ends_at_bar, identifier, in_code}
-use Rattle.cw_rules.specs.Tokens.{in_hash_line, include_name, inner_end, is_deep, is_head}
-use Rattle.cw_rules.specs.Tokens.{is_include, is_name, is_quote, is_space, line_end}
-use Rattle.cw_rules.specs.Tokens.{may_head, moved, one, passed, piece_start}
-use Rattle.cw_rules.specs.Tokens.{section, section_code, section_name, sign_or_other, start_of, string}
+use Rattle.cw_rules.specs.Tokens.{all_cut, alone_size, behind_include, behind_word, closes_on_line, code_by, code_token}
+use Rattle.cw_rules.specs.Tokens.{comment_begin, control_or_plain, control_text, dropped_code, effect_in, ends_at_bar}
+use Rattle.cw_rules.specs.Tokens.{identifier, in_code, in_hash_line, include_name, inner_end, is_deep, is_head}
+use Rattle.cw_rules.specs.Tokens.{is_include, is_name, is_quote, is_space, line_end, may_head, moved, one, passed}
+use Rattle.cw_rules.specs.Tokens.{piece_start, section, section_code, section_name, sign_or_other, start_of, string}
 use Rattle.cw_rules.specs.Tokens.{comment_cut, inner_or_none, part_cut, takes_hash_line}
 use Rattle.cw_rules.proofs.Choices.{if-both}
 use Rattle.cw_lex.specs.Lexing.{still_fresh, answers, beginning, fresh_after, fresh_at, last_at, tokens_of}
@@ -164,8 +163,7 @@ c-none line code.Unknown = tt
 c-none line _ = tt
 
 begin-none : (c : Code) → BeginsNone false (effect_at_begin c)
-begin-none code.Program = refl
-begin-none c = c-none false c
+begin-none c = grind (arith, nat_tests, c-none)
 
 none-in : (part : Part) (comments : List Opened) (c : Code) → is_text part ≡ true
     → BeginsNone (in_hash_line part) (effect_in part comments c)
@@ -398,14 +396,8 @@ module _ (text : List ℕ) where
   inner-end-goes : (part : Part) (comments : List Opened) (place : ℕ) (bytes : List ℕ) (line named : Bool) (depth : ℕ)
       → InText line named part → twice comments ≤ depth → ends_at_bar part comments ≡ true
       → Goes line named depth (inner_end (record { part = part; comments = comments }) place bytes)
-  inner-end-goes parts.Begin [] place bytes line named depth k o h later rest = absurd cc
-  inner-end-goes (parts.Plain hash_line include) [] place bytes line named depth k o h later rest = absurd cc
-  inner-end-goes _ [] place bytes line named depth k o h later rest = not-both false k.c refl
-  inner-end-goes part (c ∷ comments) place bytes line named depth k o h later rest = (
-    k.hash_line,
-    rest line false (depth - 1) (omega arith) (behind-stands line (passed part) _
-        (passed-text line named part k)),
-  )
+  inner-end-goes part comments place bytes line named depth k o h later rest =
+      grind (arith, nat_tests, not-both, behind-stands, passed-text)
 
   in-code-goes : (w : Where) (place byte : ℕ) (bytes : List ℕ) (fresh line named : Bool) (depth : ℕ)
       → drop place text ≡ byte ∷ bytes → fresh_at text place ≡ fresh → InText line named w.part

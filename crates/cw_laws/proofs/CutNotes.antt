@@ -1,6 +1,8 @@
 -- The notes of single tokens are about bytes of these tokens.
-use Rattle.std.proofs.Common.{◌≡◌, ℕ, ◌+◌, ◌-◌, ◌<◌, ◌≤◌, Bool, true, false, List, [], ◌∷◌, ◌++◌, Option, Some, None}
-use Rattle.std.proofs.Common.{length, drop, take, not, refl, ap, arith, length-drop, if◌then◌else◌}
+use Rattle.std.proofs.Common.{ℕ, ◌+◌, ◌<◌, ◌≤◌, Bool, true, false, List, [], ◌∷◌, ◌++◌, Option, length, drop, take}
+use Rattle.std.proofs.Common.{not, arith, length-drop, if◌then◌else◌}
+use Rattle.std.proofs.lemmas.Bool.Decides.{nat_tests}
+use Rattle.std.proofs.lemmas.Grind.{common_steps}
 use Rattle.cw_base.specs.declared.notes.NoteKind.{NoteKind}
 use Rattle.cw_base.specs.declared.notes.NoteKind.TheVariants as notes
 use Rattle.cw_rules.specs.declared.bodies.Body.TheVariants as bodies
@@ -9,14 +11,13 @@ use Rattle.cw_rules.specs.declared.bodies.Noted.{Noted}
 use Rattle.cw_rules.specs.declared.codes.Code.{Code}
 use Rattle.cw_rules.specs.declared.tokens.TokKind.{TokKind}
 use Rattle.cw_rules.specs.declared.tokens.TokKind.TheVariants as kinds
-use Rattle.cw_rules.specs.Answers.{Cut, note_answers, plain}
-use Rattle.cw_rules.specs.Bytes.{apostrophe, star, begins}
-use Rattle.cw_rules.specs.Bodies.{at_start, goes_on, note_here, stepped, with_note, noted, ended, extent, stop_at}
-use Rattle.cw_rules.specs.Bodies.{note_unless, one_note, and_last, all_notes}
-use Rattle.cw_rules.specs.Codes.{has_control_text}
+use Rattle.cw_rules.specs.Answers.{Cut, note_answers}
+use Rattle.cw_rules.specs.Bytes.{apostrophe}
+use Rattle.cw_rules.specs.Bodies.{at_start, goes_on, note_here, stepped, with_note, noted, extent, note_unless}
+use Rattle.cw_rules.specs.Bodies.{one_note, and_last, all_notes}
 use Rattle.cw_rules.specs.Names.{is_void}
-use Rattle.cw_rules.specs.Tokens.{string, include_name, control_text, section_name, is_name, is_quote, alone_size}
-use Rattle.cw_rules.specs.Tokens.{control_or_plain, code_token, dropped_code, section_code}
+use Rattle.cw_rules.specs.Tokens.{string, include_name, control_text, section_name, is_name, is_quote, control_or_plain}
+use Rattle.cw_rules.specs.Tokens.{code_token, dropped_code, section_code}
 use Rattle.cw_rules.proofs.Choices.{if-both}
 use Rattle.cw_rules.proofs.Sizes.{ended-most}
 use Rattle.cw_laws.specs.NotePlaces.{NotesLie}
@@ -41,19 +42,15 @@ wider-in low high last (n ∷ ns) w h = (h.0, omega (arith, h.1, w), wider-in lo
 
 pub one-in : (b : Bool) (kind : NoteKind) (low high place : ℕ) → low ≤ place → place < high
     → NotedIn low high (one_note (note_unless b kind place))
-one-in true kind low high place l h = tt
-one-in false kind low high place l h = (l, h, tt)
+one-in b kind low high place l h = grind (arith, nat_tests)
 
 last-in : (b : Bool) (kind : NoteKind) (low high place : ℕ) (ns : List Noted) → NotedIn low high ns → low ≤ place
     → place < high → NotedIn low high (and_last ns (note_unless b kind place))
-last-in true kind low high place ns n l h = n
-last-in false kind low high place ns n l h =
-    append-in low high ns (record { kind = kind; place = place } ∷ []) n (l, h, tt)
+last-in b kind low high place ns n l h = grind (arith, nat_tests, append-in)
 
 with-in : (o : Option NoteKind) (low high place : ℕ) (ns : List Noted) → low ≤ place → place < high
     → NotedIn low high ns → NotedIn low high (with_note o place ns)
-with-in None low high place ns l h n = n
-with-in (Some kind) low high place ns l h n = (l, h, n)
+with-in o low high place ns l h n = grind (arith, nat_tests)
 
 -- ## Bodies
 
@@ -76,15 +73,7 @@ noted-in low i (b ∷ bs) l =
 -- where a body stopped
 stop-in : (low : ℕ) (i : Inside) (bytes : List ℕ) → low < i.place
     → (low ≤ (extent i bytes).stop) × ((extent i bytes).stop < i.place + length bytes)
-stop-in low i bytes l = by (drop size bytes) refl
-  where
-    size : ℕ
-    size = (ended i bytes).place - i.place
-
-    by : (rest : List ℕ) → drop size bytes ≡ rest
-        → (low ≤ stop_at (i.place + size) rest) × (stop_at (i.place + size) rest < i.place + length bytes)
-    by [] e = (omega (arith, l), omega (arith, l, ended-most i bytes))
-    by (r ∷ rest) e = (omega (arith, l), omega (arith, length-drop size bytes, ap length e))
+stop-in low i bytes l = grind (arith, nat_tests, common_steps, ended-most i bytes, ended-most, length-drop)
 
 all-in : (low : ℕ) (lost : NoteKind) (i : Inside) (bytes : List ℕ) → low < i.place
     → NotedIn low (i.place + length bytes) (all_notes lost i bytes)
@@ -134,9 +123,7 @@ name-in low code place byte next bytes l =
 control-or-plain-in : (low : ℕ) (code : Code) (place byte next : ℕ) (bytes : List ℕ) → low ≤ place
     → NotedIn low (place + length (byte ∷ next ∷ bytes)) (control_or_plain code place (byte ∷ next ∷ bytes)).notes
 control-or-plain-in low code place byte next bytes l =
-    if-both (λ (c : Cut). NotedIn low (place + length (byte ∷ next ∷ bytes)) c.notes) (has_control_text code)
-    (control_text code place (byte ∷ next ∷ bytes)) (plain (kinds.Code code) (alone_size (byte ∷ next ∷ bytes)))
-    (λ h. control-in low code place byte next bytes l) (λ h. tt)
+    grind (arith, nat_tests, control-in low code place byte next bytes l)
 
 pub code-token-in : (low : ℕ) (code : Code) (place byte next : ℕ) (bytes : List ℕ) → low ≤ place
     → NotedIn low (place + length (byte ∷ next ∷ bytes)) (code_token code place (byte ∷ next ∷ bytes)).notes
@@ -154,5 +141,4 @@ dropped-in low note code place byte next bytes l =
     (l, omega arith, control-or-plain-in low code place byte next bytes l)
 
 pub section-in : (low high : ℕ) (bytes : List ℕ) → NotedIn low high (section_code bytes).notes
-section-in low high bytes =
-    if-both (λ (c : Cut). NotedIn low high c.notes) (begins star (drop 1 bytes)) _ _ (λ h. tt) (λ h. tt)
+section-in low high bytes = grind (arith, nat_tests, if-both)

@@ -1,7 +1,8 @@
 -- Each code goes up to its end.
-use Rattle.std.proofs.Common.{◌≡◌, ℕ, ◌+◌, ◌-◌, Bool, true, false, not, ◌&&◌, ◌==◌, List, [], ◌∷◌, ◌++◌, drop, length}
-use Rattle.std.proofs.Common.{take, if◌then◌else◌, refl, sym, ap, subst, ◌∙◌, inr, arith}
+use Rattle.std.proofs.Common.{◌≡◌, ℕ, ◌+◌, ◌-◌, Bool, true, false, ◌==◌, List, [], ◌∷◌, ◌++◌, drop, length, take}
+use Rattle.std.proofs.Common.{if◌then◌else◌, refl, sym, ap, subst, ◌∙◌, arith}
 use Rattle.std.proofs.lemmas.Bool.{eqb-true}
+use Rattle.std.proofs.lemmas.Bool.Decides.{nat_tests}
 use Rattle.cw_base.specs.declared.notes.NoteKind.{NoteKind}
 use Rattle.cw_rules.specs.declared.bodies.Body.TheVariants as bodies
 use Rattle.cw_rules.specs.declared.codes.Code.{Code}
@@ -25,7 +26,7 @@ use Rattle.cw_rules.proofs.Choices.{if-both}
 use Rattle.cw_lex.specs.Nested.{is_section_kind}
 use Rattle.cw_lex.specs.Openings.{is_limbo_mode}
 use Rattle.cw_laws.specs.Strings.{IsString}
-use Rattle.cw_laws.specs.Ends.{BeginsCode, CodeGoesToEnd, GoesToEnd, HasName, HasOwnText, drops_text}
+use Rattle.cw_laws.specs.Ends.{BeginsCode, CodeGoesToEnd, GoesToEnd, HasName, HasOwnText}
 use Rattle.cw_laws.proofs.Insides.{control-whole, name-whole}
 use Rattle.cw_laws.proofs.QuoteCodes.{quote-byte}
 use Rattle.cw_laws.proofs.StillOpen.{IsOrdinary}
@@ -70,10 +71,7 @@ bare-format mode opened bytes b = record {
 }
 
 bare-silent : IsBare at.SilentFormat
-bare-silent mode opened bytes b = record {
-  goes = λ later. (b, record { text = λ k. absurd cc; alone = λ k. two-bytes at.SilentFormat bytes b refl });
-  section = refl;
-}
+bare-silent mode opened bytes b = grind (arith, nat_tests, two-bytes)
 
 bare-program : IsBare at.Program
 bare-program mode opened bytes b = record {
@@ -155,14 +153,11 @@ section-kind _ h = refl
 
 name-goes : (code : Code) (bytes : List ℕ) (size : ℕ) (answers : List Answer) → is_name code ≡ true
     → BeginsCode code bytes → HasName bytes size answers → CodeGoesToEnd code bytes size answers
-name-goes at.SectionName bytes size answers h b n = (b, n)
-name-goes at.FileName bytes size answers h b n = (b, n)
-name-goes _ bytes size answers h b n = absurd cc
+name-goes code bytes size answers h b n = grind (arith, nat_tests)
 
 quote-goes : (code : Code) (bytes : List ℕ) (size : ℕ) (answers : List Answer) → is_quote code ≡ true
     → BeginsCode code bytes → IsString (drop 1 bytes) (size - 1) → CodeGoesToEnd code bytes size answers
-quote-goes at.Quote bytes size answers h b s = (b, s)
-quote-goes _ bytes size answers h b s = absurd cc
+quote-goes code bytes size answers h b s = grind (arith, nat_tests)
 
 own-goes : (code : Code) (bytes : List ℕ) (size : ℕ) (answers : List Answer) → is_name code ≡ false
     → is_quote code ≡ false → BeginsCode code bytes → HasOwnText (has_control_text code) bytes size answers
@@ -259,45 +254,15 @@ code-whole mode opened place byte (next ∷ bytes) sign other =
 -- one more note before
 noted-on : (has_text : Bool) (bytes : List ℕ) (size : ℕ) (note : NoteKind) (place : ℕ) (answers : List Answer)
     → HasOwnText has_text bytes size answers → HasOwnText has_text bytes size (Note note place ∷ answers)
-noted-on has_text bytes size note place answers h = record {
-  text = λ k. record {
-    whole = (h.text k).whole;
-    noted = λ lost. inr ((h.text k).noted lost);
-    singles = λ less. inr ((h.text k).singles less);
-  };
-  alone = h.alone;
-}
+noted-on has_text bytes size note place answers h = grind (arith, nat_tests)
 
 pub dropped-whole : (mode : Mode) (opened : List TokKind) (note : NoteKind) (place byte : ℕ) (bytes : List ℕ)
     → (byte == at_sign) ≡ true → is_limbo_mode mode ≡ false
     → IsWhole mode opened (byte ∷ bytes) (dropped_code note (code_at bytes) place (byte ∷ bytes))
-dropped-whole mode opened note place byte bytes sign other =
-    let cut = control_or_plain (code_at bytes) place (byte ∷ bytes) in
-    let drops : drops_text mode (byte ∷ bytes) ≡ has_control_text (code_at bytes) =
-    ap (λ t. not t && has_control_text (code_at bytes)) other in
-    record {
-      goes = λ later. (
-        sign,
-        subst (λ t. HasOwnText t (byte ∷ bytes) cut.size (Note note place ∷ (note_answers cut.notes ++ later)))
-            (sym drops)
-            (noted-on (has_control_text (code_at bytes)) (byte ∷ bytes) cut.size note place
-            (note_answers cut.notes ++ later)
-            (own-text (code_at bytes) place byte bytes later refl)),
-      );
-      section = refl;
-    }
+dropped-whole mode opened note place byte bytes sign other = grind (arith, nat_tests, noted-on, own-text)
 
 pub limbo-dropped-whole : (mode : Mode) (opened : List TokKind) (note : NoteKind) (place byte : ℕ) (bytes : List ℕ)
     → (byte == at_sign) ≡ true → is_limbo_mode mode ≡ true
     → IsWhole mode opened (byte ∷ bytes)
     (dropped note place (plain (kinds.Code (code_at bytes)) (alone_size (byte ∷ bytes))))
-limbo-dropped-whole mode opened note place byte bytes sign h =
-    let none : drops_text mode (byte ∷ bytes) ≡ false =
-    ap (λ t. not t && has_control_text (code_at bytes)) h in
-    record {
-      goes = λ later. (
-        sign,
-        record { text = λ k. not-both _ k none; alone = λ k. size-alone byte bytes },
-      );
-      section = refl;
-    }
+limbo-dropped-whole mode opened note place byte bytes sign h = grind (arith, nat_tests, not-both, size-alone)

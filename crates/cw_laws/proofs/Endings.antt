@@ -1,9 +1,9 @@
 -- Bytes that a line's end ends, and how they are cut.
-use Rattle.std.proofs.Common.{◌≡◌, ℕ, ◌==◌, Bool, true, false, refl, sym, ap, ◌∙◌, subst, List, [], ◌∷◌, ◌++◌}
-use Rattle.std.proofs.Common.{append_assoc, inl, inr}
+use Rattle.std.proofs.Common.{◌≡◌, ℕ, ◌==◌, Bool, refl, ap, List, [], ◌∷◌, ◌++◌, append_assoc, inl, inr, arith}
 use Rattle.std.proofs.lemmas.List.{append-nil}
 use Rattle.std.specs.List.{flat_map}
-use Rattle.cw_lines.specs.Cut.{CutLine, TextPieces, behind, cut, cut_behind, cut_pieces, split, split_by, written}
+use Rattle.std.proofs.lemmas.Bool.Decides.{nat_tests}
+use Rattle.cw_lines.specs.Cut.{CutLine, TextPieces, cut, cut_behind, split, split_by, written}
 use Rattle.cw_laws.specs.Files.{EndInLine, HasLineEnd}
 
 -- ## How they are split
@@ -15,16 +15,7 @@ pub record AreEnded (pieces : TextPieces) : Type 0 where
   pub is : pieces ≡ record { ended = first ∷ more; last = [] }
 
 one-more : (byte : ℕ) (pieces : TextPieces) → AreEnded pieces → (t : Bool) → AreEnded (split_by t byte pieces)
-one-more byte pieces each true = record {
-  first = [];
-  more = each.first ∷ each.more;
-  is = ap (split_by true byte) each.is;
-}
-one-more byte pieces each false = record {
-  first = byte ∷ each.first;
-  more = each.more;
-  is = ap (split_by false byte) each.is;
-}
+one-more byte pieces each t = grind (arith, nat_tests)
 
 pub split-ended : (front : List ℕ) → AreEnded (split (front ++ 10 ∷ []))
 split-ended [] = record { first = []; more = []; is = refl }
@@ -33,24 +24,18 @@ split-ended (byte ∷ front) = one-more byte (split (front ++ 10 ∷ [])) (split
 pub none-pending : (bytes : List ℕ) → EndInLine bytes → (cut bytes).pending ≡ []
 unfolding cut_behind
 none-pending bytes (inl is) = ap (λ (bytes : List ℕ). (cut bytes).pending) is
-none-pending bytes (inr ended) =
-    ap (λ (bytes : List ℕ). (cut bytes).pending) ended.1
-    ∙ ap (λ (pieces : TextPieces). (cut_pieces (behind [] pieces)).pending) (split-ended ended.0).is
+none-pending bytes (inr ended) = grind (arith, nat_tests, split-ended ended.0)
 
 -- ## What is put together
 
 pub behind-any : (front bytes : List ℕ) → HasLineEnd bytes → HasLineEnd (front ++ bytes)
-behind-any front bytes ended =
-    (front ++ ended.0, ap (λ (bytes : List ℕ). front ++ bytes) ended.1 ∙ sym (append_assoc front ended.0 (10 ∷ [])))
+behind-any front bytes ended = grind (arith, nat_tests, append_assoc front ended.0 (10 ∷ []))
 
 pub ends-then : (first second : List ℕ) → HasLineEnd first → EndInLine second → HasLineEnd (first ++ second)
-ends-then first second one (inr ended) = behind-any first second ended
-ends-then first second one (inl is) =
-    subst HasLineEnd (sym (ap (λ (bytes : List ℕ). first ++ bytes) is ∙ append-nil first)) one
+ends-then first second one h = grind (arith, nat_tests, behind-any, append-nil)
 
 pub both-end : (first second : List ℕ) → EndInLine first → EndInLine second → EndInLine (first ++ second)
-both-end first second (inr one) other = inr (ends-then first second one other)
-both-end first second (inl is) other = subst (λ (f : List ℕ). EndInLine (f ++ second)) (sym is) other
+both-end first second h other = grind (arith, nat_tests, ends-then)
 
 pub all-end : {X : Type 0} (print : X → List ℕ) → ((x : X) → EndInLine (print x)) → (xs : List X)
     → EndInLine (flat_map print xs)

@@ -1,13 +1,13 @@
 -- Each text of a code, comment and inner text goes up to its end.
-use Rattle.std.proofs.Common.{◌≡◌, ℕ, zero, suc, ◌+◌, ◌-◌, Bool, true, false, ◌&&◌, not, ◌==◌, nat_lt, List, []}
-use Rattle.std.proofs.Common.{◌∷◌, ◌++◌, Option, Some, None, if◌then◌else◌, drop, take, refl, sym, ap, subst, ◌∙◌}
-use Rattle.std.proofs.Common.{arith, append_assoc, slice_index, inl, inr, length}
+use Rattle.std.proofs.Common.{◌≡◌, ℕ, zero, suc, ◌+◌, ◌-◌, Bool, true, false, ◌&&◌, not, ◌==◌, nat_lt, List, [], ◌∷◌}
+use Rattle.std.proofs.Common.{◌++◌, Option, Some, None, if◌then◌else◌, drop, refl, sym, ap, subst, ◌∙◌, arith}
+use Rattle.std.proofs.Common.{append_assoc, slice_index, inl, inr, length}
 use Rattle.std.proofs.lemmas.Bool.{eqb-true}
 use Rattle.std.proofs.lemmas.List.{append-nil}
+use Rattle.std.proofs.lemmas.Bool.Decides.{nat_tests}
 use Rattle.cw_base.specs.declared.notes.NoteKind.{NoteKind}
 use Rattle.cw_base.proofs.TestLaws.{both-left, both-right}
 use Rattle.cw_rules.specs.declared.bodies.Noted.{Noted}
-use Rattle.cw_rules.specs.declared.classes.Class.{Class}
 use Rattle.cw_rules.specs.declared.classes.Class.TheVariants as classes
 use Rattle.cw_rules.specs.declared.codes.Effect.{Effect}
 use Rattle.cw_rules.specs.declared.codes.Effect.TheVariants as effects
@@ -19,45 +19,38 @@ use Rattle.cw_rules.specs.declared.parts.Start.TheVariants as start
 use Rattle.cw_rules.specs.declared.signs.Sign.{Sign}
 use Rattle.cw_rules.specs.declared.signs.Sign.TheVariants as signs
 use Rattle.cw_rules.specs.declared.tokens.Mode.{Mode}
-use Rattle.cw_rules.specs.declared.tokens.Mode.TheVariants as modes
 use Rattle.cw_rules.specs.declared.tokens.TokKind.{TokKind}
 use Rattle.cw_rules.specs.declared.tokens.TokKind.TheVariants as kinds
-use Rattle.cw_rules.specs.Answers.{Answer, Where, Cut, Found, before, note_answers}
-use Rattle.cw_rules.specs.Answers.{plain}
+use Rattle.cw_rules.specs.Answers.{Answer, Where, Cut, Found, before, note_answers, plain}
 use Rattle.cw_rules.specs.Bodies.{note_unless, one_note, noted, ended, extent}
 use Rattle.cw_base.specs.Text.{bar}
-use Rattle.cw_base.specs.Bytes.{newline, backslash}
-use Rattle.cw_rules.specs.Bytes.{slash, star, at_sign, hash, less, comma}
-use Rattle.cw_rules.specs.Bytes.{equals, right_paren, left_paren, run, begins, is_letter, is_mark, is_in}
-use Rattle.cw_rules.specs.Codes.{code_at, begins_section, is_section, effect_in_limbo, effect_in_tex}
+use Rattle.cw_base.specs.Bytes.{newline}
+use Rattle.cw_rules.specs.Bytes.{slash, star, at_sign, hash, less, equals, left_paren, run, begins, is_letter, is_mark}
+use Rattle.cw_rules.specs.Bytes.{is_in}
+use Rattle.cw_rules.specs.Codes.{code_at, begins_section, is_section}
 use Rattle.cw_rules.specs.Constants.{constant}
 use Rattle.cw_rules.specs.Prefixes.{prefix_size}
 use Rattle.cw_rules.specs.Signs.{all_signs, longest, spelling}
 use Rattle.cw_rules.specs.Tokens.{in_hash_line, takes_hash_line, behind_include, is_space, is_deep, ends_at_bar}
-use Rattle.cw_rules.specs.Tokens.{closes_on_line, moved, passed, one, string}
-use Rattle.cw_rules.specs.Tokens.{line_end, sign_or_other, start_of, with_inner, skipped_byte}
-use Rattle.cw_rules.specs.Tokens.{comment_kind, all_cut, comment_cut, comment_end, inner_or_none, part_cut}
-use Rattle.cw_rules.specs.Tokens.{section, section_code, inner_cut}
-use Rattle.cw_rules.specs.Tokens.{behind_word, comment_begin, comment_closed, inner_end, inner_begin}
-use Rattle.cw_rules.specs.Tokens.{effect_in, may_head, is_head, identifier, code_by, in_code}
+use Rattle.cw_rules.specs.Tokens.{closes_on_line, moved, passed, one, string, line_end, sign_or_other, start_of}
+use Rattle.cw_rules.specs.Tokens.{with_inner, skipped_byte, comment_kind, all_cut, comment_end, part_cut, section}
+use Rattle.cw_rules.specs.Tokens.{inner_cut, behind_word, comment_begin, comment_closed, inner_end, inner_begin}
+use Rattle.cw_rules.specs.Tokens.{effect_in, may_head, is_head, identifier, code_by, in_code, limbo_by, limbo_text}
+use Rattle.cw_rules.specs.Tokens.{tex_by, tex_text, name_follows, macro_name, parameter_follows, parameter, format_name}
+use Rattle.cw_rules.specs.Tokens.{is_name, include_name, piece_start}
 use Rattle.cw_rules.specs.Apart.{code_text_apart, comment_text_apart, behind_head_apart, part_text_apart, in_text_apart}
 use Rattle.cw_rules.specs.Apart.{found_apart}
-use Rattle.cw_rules.specs.Tokens.{limbo_by, limbo_text, tex_by, tex_text}
-use Rattle.cw_rules.specs.Tokens.{name_follows, macro_name, parameter_follows, parameter, format_name}
-use Rattle.cw_rules.specs.Tokens.{is_name, include_name, piece_start}
 use Rattle.cw_rules.proofs.Choices.{if-both}
-use Rattle.cw_lex.specs.Lexing.{still_fresh, answers, fresh_at, last_at, beginning}
-use Rattle.cw_lex.specs.Nested.{is_section_kind}
-use Rattle.cw_laws.specs.Ends.{BeginsCode, begins_two, IsNoted, IsPieceIn, EndsAt, BeginsAt, CutsAll}
-use Rattle.cw_laws.specs.Ends.{bars_begin, is_in_short, GoesToEnd, AllEnd, TextsGoToTheirEnds}
+use Rattle.cw_lex.specs.Lexing.{still_fresh, answers}
+use Rattle.cw_laws.specs.Ends.{BeginsCode, begins_two, IsPieceIn, EndsAt, BeginsAt, CutsAll, bars_begin, is_in_short}
+use Rattle.cw_laws.specs.Ends.{AllEnd, TextsGoToTheirEnds}
 use Rattle.cw_laws.proofs.Insides.{piece-whole}
 use Rattle.cw_laws.proofs.StillOpen.{base, limbo_part, Agrees, Like, like-passed, like-hash, like-word, IsOrdinary}
 use Rattle.cw_laws.proofs.StillOpen.{like-ordinary, agrees-like, with_inner_text, InComment, Around, Fits, fits}
 use Rattle.cw_laws.proofs.StillOpen.{around-like, not-limbo, Stands, InCode, code-like, code-stands, deep-in}
 use Rattle.cw_laws.proofs.StillOpen.{beginning-stands}
-use Rattle.cw_laws.proofs.EndCodes.{not-both, IsWhole, IsBare, Suits, suits}
-use Rattle.cw_laws.proofs.EndCodes.{tex-suits, SuitsLimbo, limbo-suits, may-ordinary}
-use Rattle.cw_laws.proofs.EndCodes.{code-whole, dropped-whole, limbo-dropped-whole}
+use Rattle.cw_laws.proofs.EndCodes.{not-both, IsWhole, IsBare, Suits, suits, tex-suits, SuitsLimbo, limbo-suits}
+use Rattle.cw_laws.proofs.EndCodes.{may-ordinary, code-whole, dropped-whole, limbo-dropped-whole}
 use Rattle.cw_lex.proofs.Covering.{drop-on}
 
 -- a place outside comments
@@ -66,8 +59,7 @@ bare part = record { part = part; comments = [] }
 
 bare-like : (part other : Part) (mode : Mode) (opened : List TokKind) → Like part other
     → Stands (bare part) mode opened → Stands (bare other) mode opened
-bare-like part other mode opened l s =
-    record { fit = s.fit ∙ sym l.base; agrees = agrees-like part other mode l s.agrees }
+bare-like part other mode opened l s = grind (arith, nat_tests, agrees-like)
 
 bare-code : (part : Part) (mode : Mode) (opened : List TokKind) → limbo_part part ≡ false
     → Stands (bare part) mode opened → InCode (bare part) mode opened
@@ -116,26 +108,14 @@ module _ (text : List ℕ) where
   one-goes : (mode : Mode) (opened : List TokKind) (hash_line : Bool) (next : Where) (place : ℕ) (bytes : List ℕ)
       (cut : Cut) → Stands next mode opened → IsWhole mode opened (drop place text) cut
       → Goes mode opened (one hash_line next place bytes cut)
-  one-goes mode opened hash_line next place bytes cut s w later rest = (
-    subst (λ n. GoesToEnd mode opened cut.kind (drop place text) n (note_answers cut.notes ++ later))
-        (same-size place cut.size) (w.goes later),
-    λ is. not-both (is_section_kind cut.kind) is w.section,
-    subst (λ m. AllEnd text m opened (note_answers cut.notes ++ later))
-        (sym (ap (λ b. if b then modes.TexText else mode) w.section))
-        (notes-end mode opened cut.notes later (rest mode opened s)),
-  )
+  one-goes mode opened hash_line next place bytes cut s w later rest =
+      grind (arith, nat_tests, same-size, not-both, notes-end)
 
   whole-here : (mode : Mode) (opened : List TokKind) (place : ℕ) (bytes : List ℕ) (cut : Cut)
       → drop place text ≡ bytes → IsWhole mode opened bytes cut → IsWhole mode opened (drop place text) cut
   whole-here mode opened place bytes cut here w = subst (λ l. IsWhole mode opened l cut) (sym here) w
 
   -- ## Ends
-
-  cut-off : (place : ℕ) (long : Bool) (around : List TokKind) (more : List Answer) → CutsAll (drop place text)
-      → IsNoted NoteKind.CommentUnended more
-      → EndsAt (comment_kind long) around (drop place text) ((place + 0) - place) more
-  cut-off place true around more h n = inr (h, (omega arith, n))
-  cut-off place false around more h n = inr (h, (omega arith, n))
 
   part-cut : (part : Part) (place about : ℕ) (mode : Mode) (opened : List TokKind) (later : List Answer)
       → CutsAll (drop place text) → opened ≡ base part → AllEnd text mode [] later
@@ -158,41 +138,11 @@ module _ (text : List ℕ) where
       → AllEnd text mode opened (all_cut part cs place about ++ later)
   all-cut part [] place about mode opened later h f rest = part-cut part place about mode opened later h f rest
   all-cut part (c ∷ cs) place about mode opened later h f rest =
-      by c.inner f.whole (all-cut part cs place about mode f.rest later h (fits part cs f.rest f.around) rest)
-    where
-      ends : AllEnd text mode f.rest (all_cut part cs place about ++ later)
-          → AllEnd text mode (comment_kind c.long ∷ f.rest)
-          ((comment_cut (in_hash_line part) c place about ++ all_cut part cs place about) ++ later)
-      ends more = (
-        refl,
-        cut-off place c.long f.rest _ h (inl refl),
-        notes-between mode f.rest (missing c about) (all_cut part cs place about) later more,
-      )
-
-      cuts : Bool → List Answer
-      cuts inner = (inner_or_none inner (in_hash_line part) place about
-          ++ (comment_cut (in_hash_line part) c place about ++ all_cut part cs place about)) ++ later
-
-      by : (inner : Bool) → opened ≡ with_inner_text inner (comment_kind c.long ∷ f.rest)
-          → AllEnd text mode f.rest (all_cut part cs place about ++ later) → AllEnd text mode opened (cuts inner)
-      by true is more =
-          subst (λ o. AllEnd text mode o (cuts true)) (sym is)
-          (refl, inr (inl h, (omega arith, inl refl)), ends more)
-      by false is more = subst (λ o. AllEnd text mode o (cuts false)) (sym is) (ends more)
+      grind (arith, all-cut part cs place about mode f.rest later h (fits part cs f.rest f.around) rest)
 
   section-goes : (w : Where) (place : ℕ) (bytes : List ℕ) (mode : Mode) (opened : List TokKind)
       → CutsAll (drop place text) → Stands w mode opened → Goes mode opened (section w place bytes)
-  section-goes w place bytes mode opened h s later rest =
-      let all = at_sign ∷ bytes in
-      let token : Found = one false (bare parts.Tex) place all (section_code all) in
-      let P : Cut → Type 0 =
-      λ c. AllEnd text mode [] ((one false (bare parts.Tex) place all c).answers ++ later) in
-      let tex : AllEnd text modes.TexText [] later =
-      rest modes.TexText [] (record { fit = refl; agrees = record { limbo = refl; inner = refl } }) in
-      subst (AllEnd text mode opened) (sym (append_assoc (all_cut w.part w.comments place place) token.answers later))
-      (all-cut w.part w.comments place place mode opened (token.answers ++ later) h s.fit
-      (if-both P (begins star (drop 1 all)) _ _ (λ h. (tt, λ e. refl, tex))
-      (λ h. (tt, λ e. refl, tex))))
+  section-goes w place bytes mode opened h s later rest = grind (arith, nat_tests, append_assoc, all-cut, if-both)
 
   -- the bytes at a line's end
   short-ends : (place : ℕ) (long : Bool) (around : List TokKind) (bytes : List ℕ) (more : List Answer)
@@ -205,14 +155,7 @@ module _ (text : List ℕ) where
       (opened : List TokKind) → drop place text ≡ newline ∷ bytes → Agrees part mode → Around part cs opened
       → Goes mode opened (line_end part cs last place)
   line-end-goes part [] last place bytes mode opened here a f =
-      let s : Stands (bare part) mode opened = record { fit = f.0; agrees = a } in
-      let ends = not (last == backslash) in
-      if-both (Goes mode opened) (in_hash_line part && ends) _ _
-      (λ h. one-goes mode opened true (bare (parts.Plain false false)) place (newline ∷ []) (plain kinds.HashLineEnd 1)
-      (bare-like part (parts.Plain false false) mode opened
-      (like-hash part false false (both-left (in_hash_line part) ends h)) s)
-      (record { goes = λ later. tt; section = refl }))
-      (λ h. skip-goes mode opened (bare part) s)
+      grind (arith, nat_tests, if-both, one-goes, bare-like, like-hash, both-left, skip-goes)
   line-end-goes part (c ∷ cs) last place bytes mode opened here a f =
       let hash_line = in_hash_line part in
       let more = line_end (passed part) cs last place in
@@ -307,50 +250,16 @@ module _ (text : List ℕ) where
   begin-goes : (long : Bool) (w : Where) (place : ℕ) (bytes : List ℕ) (mode : Mode) (opened : List TokKind)
       → begins_two slash (if long then star else slash) (drop place text) ≡ true → InCode w mode opened
       → Goes mode opened (comment_begin long w place bytes)
-  begin-goes long w place bytes mode opened h c later rest = (
-    begins-here long place mode opened h,
-    rest mode (comment_kind long ∷ opened)
-        (record {
-          fit = record {
-            rest = opened;
-            is = refl;
-            whole = refl;
-            around = around-like w.part (passed w.part) w.comments opened (like-passed w.part) c.around;
-          };
-          agrees = agrees-like w.part (passed w.part) mode (like-passed w.part) c.agrees;
-        }),
-  )
+  begin-goes long w place bytes mode opened h c later rest =
+      grind (arith, nat_tests, begins-here, around-like, like-passed, agrees-like)
 
   inner-end-goes : (part : Part) (cs : List Opened) (place : ℕ) (bytes : List ℕ) (mode : Mode)
       (opened : List TokKind) → begins bar (drop place text) ≡ true → ends_at_bar part cs ≡ true
       → InCode (record { part = part; comments = cs }) mode opened
       → Goes mode opened (inner_end (record { part = part; comments = cs }) place bytes)
-  inner-end-goes parts.TexInner [] place bytes mode opened b e c =
-      let ended : Found = inner_end (bare parts.TexInner) place bytes in
-      subst (λ o. Goes mode o ended) (sym c.around.0)
-      (λ later rest. (
-        refl,
-        inl (b, omega arith),
-        rest mode [] (record { fit = refl; agrees = record { limbo = c.agrees.limbo; inner = c.agrees.inner } }),
-      ))
+  inner-end-goes parts.TexInner [] place bytes mode opened b e c = grind (arith, nat_tests)
   inner-end-goes part (o ∷ cs) place bytes mode opened b e c =
-      let ended : Found = inner_end (record { part = part; comments = o ∷ cs }) place bytes in
-      let f = c.around in
-      subst (λ o. Goes mode o ended) (sym f.whole)
-      (λ later rest. (
-        refl,
-        inl (b, omega arith),
-        rest mode (comment_kind o.long ∷ f.rest)
-            (record {
-              fit = record {
-                rest = f.rest;
-                is = refl;
-                whole = refl;
-                around = around-like part (passed part) cs f.rest (like-passed part) f.around;
-              };
-              agrees = agrees-like part (passed part) mode (like-passed part) c.agrees;
-            }),
-      ))
+      grind (arith, nat_tests, around-like, like-passed, agrees-like)
   inner-end-goes _ [] place bytes mode opened b e c = absurd cc
 
   in-code-goes : (w : Where) (place byte : ℕ) (bytes : List ℕ) (mode : Mode) (opened : List TokKind)
@@ -519,16 +428,7 @@ module _ (text : List ℕ) where
       → base part ≡ [] → drop place text ≡ bytes → Stands (bare part) mode opened
       → Goes mode opened (one false (bare part) place bytes (plain kinds.Text
       (run (if limbo_part part then classes.LimboText else classes.TexText) bytes)))
-  text-goes part place bytes mode opened none here s =
-      let class : Bool → Class = λ t. if t then classes.LimboText else classes.TexText in
-      let size = run (class (limbo_part part)) bytes in
-      one-goes mode opened false (bare part) place bytes (plain kinds.Text size) s
-      (record {
-        goes = λ later. subst (λ o. IsPieceIn mode o (drop place text) size) (sym (s.fit ∙ none))
-            (ap (λ l. run (class (limbo_part part)) l) (sym here)
-            ∙ ap (λ t. run (class t) (drop place text)) s.agrees.limbo);
-        section = refl;
-      })
+  text-goes part place bytes mode opened none here s = grind (arith, nat_tests, limbo_part, one-goes)
 
   limbo-by-goes : (effect : Effect) (place byte : ℕ) (bytes : List ℕ) (mode : Mode) (opened : List TokKind)
       → drop place text ≡ byte ∷ bytes → (byte == at_sign) ≡ true → is_section (code_at bytes) ≡ false
@@ -555,10 +455,7 @@ module _ (text : List ℕ) where
       → drop place text ≡ byte ∷ bytes → (byte == at_sign && begins_section bytes) ≡ false
       → Stands (bare parts.Limbo) mode opened → Goes mode opened (limbo_text (bare parts.Limbo) place byte bytes)
   limbo-text-goes place byte bytes mode opened here other s =
-      if-both (Goes mode opened) (byte == at_sign) _ _
-      (λ h. limbo-by-goes (effect_in_limbo (code_at bytes)) place byte bytes mode opened here h
-      (sym (ap (λ t. t && begins_section bytes) h) ∙ other) s (limbo-suits (code_at bytes)))
-      (λ h. text-goes parts.Limbo place (byte ∷ bytes) mode opened refl here s)
+      grind (arith, nat_tests, if-both, limbo-by-goes, limbo-suits, text-goes)
 
   tex-by-goes : (effect : Effect) (place byte : ℕ) (bytes : List ℕ) (mode : Mode) (opened : List TokKind)
       → drop place text ≡ byte ∷ bytes → (byte == at_sign) ≡ true → is_section (code_at bytes) ≡ false
@@ -592,22 +489,7 @@ module _ (text : List ℕ) where
       → drop place text ≡ byte ∷ bytes → (byte == at_sign && begins_section bytes) ≡ false
       → Stands (bare parts.Tex) mode opened → Goes mode opened (tex_text (bare parts.Tex) place byte bytes)
   tex-text-goes place byte bytes mode opened here other s =
-      let inner : Found = inner_begin false (bare parts.TexInner) place (byte ∷ bytes) in
-      if-both (Goes mode opened) (byte == at_sign) _ _
-      (λ h. tex-by-goes (effect_in_tex (code_at bytes)) place byte bytes mode opened here h
-      (sym (ap (λ t. t && begins_section bytes) h) ∙ other) s (tex-suits (code_at bytes)))
-      (λ h. if-both (Goes mode opened) (byte == bar) inner _
-      (λ h. subst (λ o. Goes mode o inner) (sym s.fit)
-      (λ later rest. (
-        (ap (begins bar) here ∙ h, omega arith, bars-in-tex mode s.agrees),
-        rest mode (kinds.InnerText ∷ [])
-            (record { fit = refl; agrees = record { limbo = s.agrees.limbo; inner = s.agrees.inner } }),
-      )))
-      (λ h. text-goes parts.Tex place (byte ∷ bytes) mode opened refl here s))
-    where
-      bars-in-tex : (mode : Mode) → Agrees parts.Tex mode → bars_begin mode [] ≡ true
-      bars-in-tex modes.Inner a = refl
-      bars-in-tex _ a = refl
+      grind (arith, nat_tests, if-both, tex-by-goes, tex-suits, text-goes)
 
   -- an identifier behind which a head goes on in some part
   word-goes : (next : Where) (place : ℕ) (bytes : List ℕ) (mode : Mode) (opened : List TokKind)
@@ -633,40 +515,19 @@ module _ (text : List ℕ) where
 
   like-behind-format : (code : ℕ) (second limbo : Bool)
       → Like (parts.FormatName code second limbo) (if limbo then parts.Limbo else parts.Definition)
-  like-behind-format code second true = record { base = refl; limbo = refl; inner = refl }
-  like-behind-format code second false = record { base = refl; limbo = refl; inner = refl }
+  like-behind-format code second limbo = grind (arith, nat_tests, base)
 
   format-name-goes : (code : ℕ) (second limbo : Bool) (place byte : ℕ) (bytes : List ℕ) (mode : Mode)
       (opened : List TokKind) → Stands (bare (parts.FormatName code second limbo)) mode opened
       → Goes mode opened (format_name code second limbo (bare (parts.FormatName code second limbo)) place byte bytes)
   format-name-goes code second limbo place byte bytes mode opened s =
-      let here = parts.FormatName code second limbo in
-      let behind = if limbo then parts.Limbo else parts.Definition in
-      if-both (Goes mode opened) (is_in classes.White byte) _ _ (λ h. skip-goes mode opened (bare here) s)
-      (λ h. word-goes (if second then bare behind else bare (parts.FormatName code true limbo)) place (byte ∷ bytes)
-      mode opened
-      (either-stands second (bare behind) (bare (parts.FormatName code true limbo)) mode opened
-      (λ h. bare-like here behind mode opened (like-behind-format code second limbo) s)
-      (λ h. bare-like here (parts.FormatName code true limbo) mode opened
-      (record { base = refl; limbo = refl; inner = refl }) s)))
+      grind (arith, nat_tests, if-both, skip-goes, word-goes, either-stands, bare-like, like-behind-format, base)
 
   parameter-goes : (code place byte : ℕ) (bytes : List ℕ) (mode : Mode) (opened : List TokKind)
       → Stands (bare (parts.Parameters code)) mode opened
       → Goes mode opened (parameter (bare (parts.Parameters code)) place byte bytes)
   parameter-goes code place byte bytes mode opened s =
-      let here = parts.Parameters code in
-      let all = byte ∷ bytes in
-      if-both (Goes mode opened) (is_in classes.White byte) _ _ (λ h. skip-goes mode opened (bare here) s)
-      (λ h. if-both (Goes mode opened) (is_letter byte) _ _ (λ h. word-goes (bare here) place all mode opened s)
-      (λ h. if-both (Goes mode opened) (byte == comma) _ _
-      (λ h. one-goes mode opened false (bare here) place all (plain (kinds.Sign signs.Comma) 1) s
-      (record { goes = λ later. tt; section = refl }))
-      (λ h. if-both (Goes mode opened) (byte == right_paren) _ _
-      (λ h. one-goes mode opened false (bare parts.Definition) place all (plain (kinds.Sign signs.RightParen) 1)
-      (bare-like here parts.Definition mode opened (record { base = refl; limbo = refl; inner = refl }) s)
-      (record { goes = λ later. tt; section = refl }))
-      (λ h. one-goes mode opened false (bare here) place all (plain (kinds.Sign signs.Ellipsis) 3) s
-      (record { goes = λ later. tt; section = refl })))))
+      grind (arith, nat_tests, if-both, skip-goes, word-goes, one-goes, bare-like, base)
 
   -- an improper head of a section, and one in limbo
   behind-head-goes : (part : Part) (fresh : Bool) (last place byte : ℕ) (bytes : List ℕ) (mode : Mode)
@@ -748,8 +609,7 @@ module _ (text : List ℕ) where
       → (byte == at_sign && begins_section bytes) ≡ false
       → Stands (record { part = part; comments = comments }) mode opened
       → Goes mode opened (in_text_apart part comments fresh last place byte bytes)
-  in-text-goes part [] fresh last place byte bytes mode opened here other s =
-      part-text-goes part fresh last place byte bytes mode opened here other s
+  in-text-goes part [] fresh last place byte bytes mode opened here other s = grind (arith, nat_tests, part-text-goes)
   in-text-goes part (c ∷ cs) fresh last place byte bytes mode opened here other s =
       if-both (Goes mode opened) c.inner _ _
       (λ h. code-text-goes (record { part = part; comments = c ∷ cs }) fresh last place byte bytes mode opened here
@@ -784,7 +644,4 @@ module _ (text : List ℕ) where
       all-go bytes w (still_fresh fresh byte) byte (place + 1) taken mode opened (drop-on text place byte bytes here) s
 
 pub texts-go-to-their-ends : TextsGoToTheirEnds
-texts-go-to-their-ends text start end mode =
-    let cut = take end text in
-    all-go cut (drop start cut) (beginning mode) (fresh_at cut start) (last_at cut start) start 0 mode [] refl
-    (beginning-stands mode)
+texts-go-to-their-ends text start end mode = grind (arith, nat_tests, all-go, beginning-stands)

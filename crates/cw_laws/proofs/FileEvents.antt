@@ -1,12 +1,13 @@
 -- A run over files that are there already keeps them all.
-use Rattle.std.proofs.Common.{◌≡◌, ℕ, Bool, true, false, refl, sym, ap, subst, ◌∙◌, List, [], ◌∷◌, ◌++◌, Option}
-use Rattle.std.proofs.Common.{Some, map}
-use Rattle.std.specs.Prelude.{cond, ◌||◌}
+use Rattle.std.proofs.Common.{◌≡◌, ℕ, Bool, true, false, refl, sym, ap, subst, ◌∙◌, List, [], ◌∷◌, ◌++◌, Option, Some}
+use Rattle.std.proofs.Common.{map, arith}
 use Rattle.std.specs.List.{AllByRecursion, filter, flat_map, list_any}
 use Rattle.std.proofs.lemmas.Cmp.{nat_list_eq_equiv}
 use Rattle.std.proofs.lemmas.List.{append-nil}
 use Rattle.std.proofs.lemmas.List.Elements.{filter-append}
 use Rattle.std.proofs.lemmas.List.Folds.{list_any-append}
+use Rattle.std.proofs.lemmas.Bool.Decides.{nat_tests}
+use Rattle.std.proofs.lemmas.Grind.{common_steps}
 use Rattle.cw_base.specs.Conditions.{list_if}
 use Rattle.cw_base.specs.Web.{WebState, text_of}
 use Rattle.cw_base.specs.declared.event.Event.{Event}
@@ -17,16 +18,12 @@ use Rattle.cw_base.specs.declared.flags.Flags.{Flags}
 use Rattle.cw_base.specs.declared.notes.Note.{Note}
 use Rattle.cw_desk.specs.Journal.{byte_events}
 use Rattle.cw_desk.specs.Meaning.{NamedFiles}
-use Rattle.cw_input.specs.Merged.{Merged}
-use Rattle.cw_input.specs.declared.words.Command.{Command}
 use Rattle.cw_input.specs.declared.words.CommandLine.{CommandLine}
-use Rattle.cw_lines.specs.Cut.{cut}
-use Rattle.cw_lines.specs.Line.{line_events}
 use Rattle.cw_phase1.specs.declared.book.Book.{Book}
 use Rattle.cw_run.specs.Closing.{closing_by}
 use Rattle.cw_run.specs.Emits.{Run}
 use Rattle.cw_run.specs.Files.{Broken, OutFile, broken_events, broken_in, file_events, is_same, settled_if}
-use Rattle.cw_run.specs.Notes.{note_events, note_line, broken_line}
+use Rattle.cw_run.specs.Notes.{note_events}
 use Rattle.cw_run.specs.Saying.{says, says_if}
 use Rattle.cw_run.specs.Statistics.{statistics_if}
 use Rattle.cw_run.specs.declared.statistics.Totals.{Totals}
@@ -35,9 +32,8 @@ use Rattle.cw_run.specs.Terminal.{banner_text, index_text, output_text}
 use Rattle.cw_texpart.specs.Done.{Done}
 use Rattle.cw_weave.specs.Statistics.{totals_of}
 use Rattle.cw_weave.specs.TexFile.{left_by, tex_file}
-use Rattle.cw_weave.specs.Woven.{end_of_run, index_events, index_files, index_of, index_out, list_out}
-use Rattle.cw_weave.specs.Woven.{book_of, name_list, tex_out, weave_book, weave_command_of, weave_unless, weave_web}
-use Rattle.cw_weave.specs.Woven.{with_banner, woven}
+use Rattle.cw_weave.specs.Woven.{end_of_run, index_events, index_files, index_of, index_out, list_out, book_of}
+use Rattle.cw_weave.specs.Woven.{name_list, tex_out, weave_book, with_banner, woven}
 use Rattle.cw_laws.specs.Files.{AskFor, IsThere, KeepEach, files_of, is_of_file, kept_events, rewrites, written_of}
 
 -- ## Events of the terminal
@@ -55,13 +51,10 @@ unfolding says
 told-says message = record { none = told-bytes (message ++ 10 ∷ []) }
 
 told-both : {first second : List Event} → AreTold first → AreTold second → AreTold (first ++ second)
-told-both {first = first} {second = second} a b = record {
-  none = filter-append is_of_file first second ∙ ap (λ es. es ++ filter is_of_file second) a.none ∙ b.none;
-}
+told-both {first = first} {second = second} a b = grind (arith, nat_tests, filter-append)
 
 told-if : (t : Bool) {events : List Event} → AreTold events → AreTold (list_if t events)
-told-if true a = a
-told-if false a = record { none = refl }
+told-if t a = grind (arith, nat_tests)
 
 told-each : {X : Type 0} (tell : X → List Event) → ((x : X) → AreTold (tell x)) → (xs : List X)
     → AreTold (flat_map tell xs)
@@ -72,23 +65,16 @@ told-said : (t : Bool) (message : List ℕ) → AreTold (says_if t message)
 told-said t message = told-if t (told-says message)
 
 told-notes : (files : List (List ℕ)) (kept : List SecName) (notes : List Note) → AreTold (note_events files kept notes)
-told-notes files kept notes =
-    told-each (λ note. says (note_line files kept note)) (λ note. told-says (note_line files kept note)) notes
+told-notes files kept notes = grind (arith, nat_tests, told-each, told-says)
 
 told-broken : (bs : List Broken) → AreTold (flat_map broken_events bs)
-told-broken bs =
-    told-each broken_events
-    (λ b. told-each (λ number. says (broken_line b.name number)) (λ number. told-says (broken_line b.name number))
-    b.numbers) bs
+told-broken bs = grind (arith, nat_tests, told-each, told-says)
 
 told-statistics : (t : Bool) (totals : Totals) → AreTold (statistics_if t totals)
-told-statistics t totals =
-    told-if t (told-both (told-says _) (told-both (told-says _) (told-both (told-says _) (told-says _))))
+told-statistics t totals = grind (arith, nat_tests, told-if, told-both, told-says)
 
 told-closing : (faulty any : Bool) (flags : Flags) → AreTold (closing_by faulty any flags)
-told-closing true any flags = told-says _
-told-closing false true flags = told-says _
-told-closing false false flags = told-said flags.happy _
+told-closing faulty any flags = grind (arith, nat_tests, told-says, told-said)
 
 -- ## Events of files
 
@@ -99,10 +85,7 @@ IsFile out = (byte : ℕ) → is_of_file (Byte out byte) ≡ true
 file-bytes : (out : Out) → IsFile out → (bytes : List ℕ)
     → filter is_of_file (byte_events out bytes) ≡ byte_events out bytes
 file-bytes out file [] = refl
-file-bytes out file (byte ∷ bytes) =
-    let rest : List Event = filter is_of_file (byte_events out bytes) in
-    ap (λ t. cond t (Byte out byte ∷ rest) rest) (file byte)
-    ∙ ap (λ (es : List Event). Byte out byte ∷ es) (file-bytes out file bytes)
+file-bytes out file (byte ∷ bytes) = grind (arith, nat_tests, file-bytes out file bytes)
 
 kept-same : (f : OutFile) (old : Option (List ℕ)) → old ≡ Some (written_of f.bytes)
     → settled_if true (is_same old (written_of f.bytes)) f.out ≡ Kept f.out ∷ []
@@ -112,14 +95,7 @@ kept-same f old is =
 
 file-kept : (keep : Bool) (f : OutFile) (named : NamedFiles) → keep ≡ true → IsFile f.out → IsThere named f
     → filter is_of_file (file_events keep f named) ≡ kept_events f
-file-kept keep f named asked file is =
-    let lines : List Event = line_events f.out (cut f.bytes).lines in
-    ap (λ k. filter is_of_file (file_events k f named)) asked
-    ∙ ap (λ (end : List Event). filter is_of_file (Drafted f.out f.name ∷ (lines ++ end)))
-    (kept-same f (named f.name) is)
-    ∙ ap (λ (es : List Event). Drafted f.out f.name ∷ es)
-    (filter-append is_of_file lines (Kept f.out ∷ [])
-    ∙ ap (λ (es : List Event). es ++ Kept f.out ∷ []) (file-bytes f.out file (written_of f.bytes)))
+file-kept keep f named asked file is = grind (arith, nat_tests, kept-same, filter-append, file-bytes)
 
 -- What is told is left out, and what is done to files is left.
 run-kept : {notes said end a b : List Event} (tex index : List Event) → AreTold notes → AreTold said
@@ -151,18 +127,11 @@ bytes-rewrite out (byte ∷ bytes) events = bytes-rewrite out bytes events
 
 kept-rewrite : (files : List OutFile) → list_any rewrites (flat_map kept_events files) ≡ false
 kept-rewrite [] = refl
-kept-rewrite (f ∷ files) =
-    list_any-append rewrites (kept_events f) (flat_map kept_events files)
-    ∙ ap (λ t. t || list_any rewrites (flat_map kept_events files))
-    (bytes-rewrite f.out (written_of f.bytes) (Kept f.out ∷ []))
-    ∙ kept-rewrite files
+kept-rewrite (f ∷ files) = grind (arith, nat_tests, kept-rewrite files, list_any-append, bytes-rewrite)
 
 keep-each : (files : List OutFile) (events : List Event) → filter is_of_file events ≡ flat_map kept_events files
     → KeepEach files events
-keep-each files events is = record {
-  each = is;
-  unchanged = rewrites-filtered events ∙ ap (list_any rewrites) is ∙ kept-rewrite files;
-}
+keep-each files events is = grind (arith, nat_tests, rewrites-filtered, kept-rewrite)
 
 -- ## Of the run
 
@@ -182,8 +151,7 @@ keeps-index true line text left named asked there =
 told-end : (flags : Flags) (broken : List Broken) (totals : Totals) (notes : List Note)
     → AreTold (end_of_run flags broken totals notes).rest
 told-end flags broken totals notes =
-    told-both (told-said flags.progress _)
-    (told-both (told-broken broken) (told-both (told-statistics flags.stats totals) (told-closing _ _ flags)))
+    grind (arith, nat_tests, told-both, told-said, told-broken, told-statistics, told-closing)
 
 pub keeps : (line : CommandLine) (web : WebState) (b : Book) (named : NamedFiles) → line.flags.keep ≡ true
     → AllByRecursion (IsThere named) (files_of line (text_of web.lines) b)
@@ -208,17 +176,12 @@ keeps line web b named asked there =
 told-before : {told : List Event} (events : List Event) (files : List OutFile) → AreTold told → KeepEach files events
     → KeepEach files (told ++ events)
 told-before {told = told} events files told-alone keep =
-    keep-each files (told ++ events)
-    (filter-append is_of_file told events
-    ∙ ap (λ (es : List Event). es ++ filter is_of_file events) told-alone.none ∙ keep.each)
+    grind (arith, nat_tests, common_steps, filter-append is_of_file told events, keep-each, filter-append)
 
 run-is : (words : List (List ℕ)) (named : NamedFiles) (line : CommandLine) (web : WebState)
     → AskFor words named line web
     → woven words named ≡ with_banner line.flags (weave_book line web (book_of line.flags web) named)
-run-is words named line web asked =
-    ap (λ (c : Command). weave_command_of c named) asked.line_is
-    ∙ ap (λ (m : Merged). with_banner line.flags (weave_web line m named)) asked.web_is
-    ∙ ap (λ (o : Option (List ℕ)). with_banner line.flags (weave_unless o line web named)) asked.apart
+run-is words named line web asked = grind (arith, nat_tests)
 
 pub keeps-by-run : (words : List (List ℕ)) (named : NamedFiles) (line : CommandLine) (web : WebState)
     → AskFor words named line web → line.flags.keep ≡ true

@@ -1,9 +1,9 @@
 -- Each file of a run ends in a line, so all its bytes are written; and files that are there already are kept.
-use Rattle.std.proofs.Common.{ℕ, Bool, true, false, refl, List, [], ◌∷◌, ◌++◌, Option, Some, None, codes}
-use Rattle.std.proofs.Common.{inl, inr, map, slice_get}
+use Rattle.std.proofs.Common.{arith, ℕ, Bool, true, false, refl, List, [], ◌∷◌, ◌++◌, Option, codes, inl, inr, map}
+use Rattle.std.proofs.Common.{slice_get}
 use Rattle.std.specs.List.{AllByRecursion, flat_map, list_any}
+use Rattle.std.proofs.lemmas.Bool.Decides.{nat_tests}
 use Rattle.cw_input.specs.declared.words.CommandLine.{CommandLine}
-use Rattle.cw_lines.specs.Cut.{cut}
 use Rattle.cw_names.specs.Names.{Entry}
 use Rattle.cw_phase1.specs.declared.book.Book.{Book}
 use Rattle.cw_phase1.specs.declared.sections.Section.{Section}
@@ -14,7 +14,7 @@ use Rattle.cw_texpart.specs.Limbo.{limbo_bytes}
 use Rattle.cw_texpart.specs.Texts.{Setting, setting, text_done}
 use Rattle.cw_index.specs.Closing.{changes_line, closing_lines, last_line, last_lines}
 use Rattle.cw_index.specs.Index.{entry_bytes, row_bytes, section_bytes}
-use Rattle.cw_index.specs.Mentions.{Row, index_rows}
+use Rattle.cw_index.specs.Mentions.{Row}
 use Rattle.cw_index.specs.NameList.{all_listed, listed_done, name_ending, name_span, use_notes}
 use Rattle.cw_index.specs.Standing.{listed_names}
 use Rattle.cw_run.specs.Files.{OutFile}
@@ -26,11 +26,7 @@ use Rattle.cw_laws.proofs.Endings.{all-end, behind-any, both-end, ends-then, lin
 use Rattle.cw_laws.proofs.FileEvents.{keeps, keeps-by-run}
 
 is-written : (f : OutFile) → EndInLine f.bytes → IsWritten f
-is-written f ended = record {
-  whole = none-pending f.bytes ended;
-  ends = lines-end (cut f.bytes).lines;
-  uncut = written-short f.bytes ended;
-}
+is-written f ended = grind (arith, nat_tests, none-pending, lines-end, uncut, written-short)
 
 -- ## The TeX file
 
@@ -62,9 +58,7 @@ row-ends sections row =
     (behind-any (entry_bytes row.entry) (refs ++ codes ".\n") (behind-any refs (codes ".\n") (codes ".", refl)))
 
 index-ends : (left : Book) → EndInLine (index_of left)
-index-ends left =
-    all-end (row_bytes left.outline.sections) (λ row. inr (row-ends left.outline.sections row))
-    (index_rows left.names left.xrefs)
+index-ends left = grind (arith, nat_tests, all-end, row-ends)
 
 -- ## The list of section names
 
@@ -80,8 +74,7 @@ uses-end sections name =
     (footnote-ends sections (codes "\\Q") name.cited) (footnote-ends sections (codes "\\U") name.used)
 
 kept-ends : (sections : List Section) (name : Option SecName) → EndInLine (of_kept (use_footnotes sections) name)
-kept-ends sections None = inl refl
-kept-ends sections (Some name) = uses-end sections name
+kept-ends sections name = grind (arith, nat_tests, uses-end)
 
 names-uses : (s : Setting) (l : _) → EndInLine (use_notes s.book l)
 names-uses s l = kept-ends s.book.outline.sections (slice_get s.book.sec_names l.id.index)
@@ -103,14 +96,10 @@ names-end s (l ∷ ls) names =
 index-written : (t : Bool) (line : CommandLine) (text : List ℕ) (left : Book)
     → AllByRecursion IsWritten (index_files t line text left)
 index-written false line text left = tt
-index-written true line text left = (
+index-written true line text left = grind (
+  arith,
   is-written (index_out line.outputs (index_of left)) (index-ends left),
-  (
-    is-written (list_out line.outputs (name_list text line.flags left).out)
-        (names-end (setting text line.flags 0 left)
-        (listed_names left.sec_names left.name_uses) left.names),
-    tt,
-  ),
+  is-written (list_out line.outputs (name_list text line.flags left).out) (names-end (setting text line.flags 0 left) (listed_names left.sec_names left.name_uses) left.names),
 )
 
 all-written : (line : CommandLine) (text : List ℕ) (b : Book) → AllByRecursion IsWritten (files_of line text b)

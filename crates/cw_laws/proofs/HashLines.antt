@@ -1,6 +1,7 @@
 -- A `#` line goes on behind what begins at a place only as its tokens say, and a backslash is passed over only in one.
-use Rattle.std.proofs.Common.{◌≡◌, ℕ, Bool, true, false, ◌&&◌, not, ◌==◌, nat_lt, List, [], ◌∷◌, ◌++◌, Option, Some}
-use Rattle.std.proofs.Common.{None, if◌then◌else◌, drop, refl, sym, ap, ◌∙◌, ◌⊎◌, inl, inr}
+use Rattle.std.proofs.Common.{arith, ◌≡◌, ℕ, Bool, true, false, ◌&&◌, not, ◌==◌, List, [], ◌∷◌, ◌++◌, Option, Some}
+use Rattle.std.proofs.Common.{None, if◌then◌else◌, drop, refl, sym, ap, ◌∙◌, ◌⊎◌}
+use Rattle.std.proofs.lemmas.Bool.Decides.{nat_tests}
 use Rattle.cw_base.proofs.TestLaws.{both-left, both-right}
 use Rattle.cw_base.specs.declared.notes.NoteKind.{NoteKind}
 use Rattle.cw_rules.specs.declared.bodies.Noted.{Noted}
@@ -12,28 +13,20 @@ use Rattle.cw_rules.specs.declared.parts.Part.{Part}
 use Rattle.cw_rules.specs.declared.parts.Part.TheVariants as parts
 use Rattle.cw_rules.specs.declared.parts.Opened.{Opened}
 use Rattle.cw_rules.specs.declared.parts.Start.{Start}
-use Rattle.cw_rules.specs.declared.parts.Start.TheVariants as start
-use Rattle.cw_rules.specs.declared.signs.Sign.{Sign}
 use Rattle.cw_rules.specs.declared.tokens.TokKind.{TokKind}
-use Rattle.cw_rules.specs.declared.tokens.TokKind.TheVariants as kinds
-use Rattle.cw_rules.specs.Answers.{Answer, Token, Begin, Finish, Note, Where, Cut, Found, note_answers, plain}
+use Rattle.cw_rules.specs.Answers.{Answer, Token, Begin, Finish, Note, Where, Cut, Found, note_answers}
 use Rattle.cw_rules.specs.Bodies.{note_unless, one_note}
-use Rattle.cw_base.specs.Bytes.{newline, backslash}
-use Rattle.cw_rules.specs.Bytes.{quote, apostrophe, slash, star, at_sign, hash, less, comma}
+use Rattle.cw_base.specs.Bytes.{newline}
+use Rattle.cw_rules.specs.Bytes.{slash, star, at_sign, hash, less, comma, right_paren, left_paren, run, begins}
+use Rattle.cw_rules.specs.Bytes.{is_letter, is_in}
 use Rattle.cw_base.specs.Text.{bar}
-use Rattle.cw_rules.specs.Bytes.{right_paren, left_paren, run, begins, is_letter, is_in}
-use Rattle.cw_rules.specs.Codes.{code_at, effect_in_limbo, effect_in_tex, has_control_text}
-use Rattle.cw_rules.specs.Constants.{constant}
-use Rattle.cw_rules.specs.Signs.{all_signs, longest}
+use Rattle.cw_rules.specs.Codes.{code_at, effect_in_tex}
 use Rattle.cw_rules.specs.Tokens.{in_hash_line, behind_include, takes_hash_line, is_space, is_deep, ends_at_bar}
-use Rattle.cw_rules.specs.Tokens.{closes_on_line, moved, passed, one, section_name, string, control_text, alone_size}
-use Rattle.cw_rules.specs.Tokens.{is_quote, control_or_plain, line_end, sign_or_other, start_of, is_include}
-use Rattle.cw_rules.specs.Tokens.{behind_inner, effect_in, may_head, is_head, identifier, code_by, in_code}
+use Rattle.cw_rules.specs.Tokens.{closes_on_line, moved, passed, one, line_end, start_of, may_head, is_head, identifier}
+use Rattle.cw_rules.specs.Tokens.{code_by, in_code, code_token, limbo_by, limbo_text, tex_by, tex_text, head_text}
+use Rattle.cw_rules.specs.Tokens.{name_follows, macro_name, parameter_follows, parameter, format_name, is_name}
 use Rattle.cw_rules.specs.Apart.{code_text_apart, comment_text_apart, behind_head_apart, part_text_apart, in_text_apart}
 use Rattle.cw_rules.specs.Apart.{found_apart}
-use Rattle.cw_rules.specs.Tokens.{code_token, limbo_by, limbo_text, tex_by, tex_text, head_text}
-use Rattle.cw_rules.specs.Tokens.{name_follows, macro_name, parameter_follows, parameter, behind_format, format_name}
-use Rattle.cw_rules.specs.Tokens.{is_name}
 use Rattle.cw_rules.proofs.Choices.{if-both}
 use Rattle.cw_laws.specs.WhiteSpace.{hash_line_by}
 
@@ -56,9 +49,7 @@ abbrev Lined : Bool → Found → Type 0
 Lined line f = in_hash_line f.next.part ≡ true → line_with line (kind_in f.answers) ≡ true
 
 passed-same : (part : Part) → in_hash_line (passed part) ≡ in_hash_line part
-passed-same parts.Begin = refl
-passed-same (parts.Plain hash_line include) = refl
-passed-same _ = refl
+passed-same part = grind (arith, nat_tests)
 
 passed-line : (part : Part) → in_hash_line (passed part) ≡ true → in_hash_line part ≡ true
 passed-line part e = sym (passed-same part) ∙ e
@@ -81,8 +72,7 @@ one-lined line hash_line next place bytes cut p h e = p line ∙ h e
 
 line-end-lined : (part : Part) (comments : List Opened) (last place : ℕ)
     → Lined (in_hash_line part) (line_end part comments last place)
-line-end-lined part [] last place =
-    if-both (Lined (in_hash_line part)) (in_hash_line part && not (last == backslash)) _ _ (λ h e. absurd cc) (λ h e. e)
+line-end-lined part [] last place = grind (arith, nat_tests, if-both)
 line-end-lined part (c ∷ comments) last place =
     let rest = line_end (passed part) comments last place in
     let missing = one_note (note_unless (c.braces == 0) NoteKind.MissingBrace place) in
@@ -93,13 +83,7 @@ line-end-lined part (c ∷ comments) last place =
 -- ## C text
 
 code-token-plain : (code : Code) (place : ℕ) (bytes : List ℕ) → IsPlain (code_token code place bytes).kind
-code-token-plain code place bytes =
-    let P : Cut → Type 0 = λ c. IsPlain c.kind in
-    if-both P (is_name code) (section_name code place bytes) _ (λ h line. refl)
-    (λ h. if-both P (is_quote code) (string (kinds.Code code) 2 apostrophe place bytes)
-    (control_or_plain code place bytes) (λ h line. refl)
-    (λ h. if-both P (has_control_text code) (control_text code place bytes)
-    (plain (kinds.Code code) (alone_size bytes)) (λ h line. refl) (λ h line. refl)))
+code-token-plain code place bytes = grind (arith, nat_tests, if-both)
 
 code-by-lined : (effect : Effect) (code : Code) (w : Where) (place : ℕ) (bytes : List ℕ)
     → Lined (in_hash_line w.part) (code_by effect code w place bytes)
@@ -111,29 +95,11 @@ code-by-lined effects.Stands code w place bytes =
     (if-both (λ (n : Where). in_hash_line n.part ≡ true → in_hash_line w.part ≡ true) headed (moved w parts.Head)
     (moved w (passed w.part)) (λ h e. absurd cc) (λ h e. passed-line w.part e))
 code-by-lined (effects.Drops note) code w place bytes = λ e. passed-line w.part e
-code-by-lined effects.Defines code w place bytes = λ e. absurd cc
-code-by-lined effects.Formats code w place bytes = λ e. absurd cc
-code-by-lined effects.BeginsC code w place bytes = λ e. absurd cc
+code-by-lined _ _ _ _ _ = λ e. absurd cc
 
 in-code-lined : (begins : Start) (w : Where) (place : ℕ) (bytes : List ℕ)
     → Lined (in_hash_line w.part) (in_code begins w place bytes)
-in-code-lined start.Identifier w place bytes =
-    if-both (λ (p : Part). in_hash_line p ≡ true → in_hash_line w.part ≡ true)
-    (in_hash_line w.part && is_include bytes) (parts.Plain true true) (passed w.part)
-    (λ h e. both-left (in_hash_line w.part) (is_include bytes) h) (λ h e. passed-line w.part e)
-in-code-lined start.Constant w place bytes = λ e. passed-line w.part e
-in-code-lined (start.Quoted quote) w place bytes = λ e. passed-line w.part e
-in-code-lined start.LongComment w place bytes = λ e. passed-line w.part e
-in-code-lined start.ShortComment w place bytes = λ e. passed-line w.part e
-in-code-lined (start.Code code) w place bytes = code-by-lined (effect_in w.part w.comments code) code w place bytes
-in-code-lined start.EndOfInner w place bytes = behind w.part w.comments
-  where
-    behind : (part : Part) (comments : List Opened) → in_hash_line (behind_inner part comments).part ≡ true
-        → in_hash_line part ≡ true
-    behind part [] e = absurd cc
-    behind part (c ∷ comments) e = passed-line part e
-in-code-lined (start.Sign sign) w place bytes = λ e. passed-line w.part e
-in-code-lined start.OtherByte w place bytes = λ e. passed-line w.part e
+in-code-lined begins w place bytes = grind (arith, nat_tests, if-both, both-left, passed-line, code-by-lined)
 
 code-text-lined : (w : Where) (fresh : Bool) (last place byte : ℕ) (bytes : List ℕ)
     → Lined (in_hash_line w.part) (code_text_apart w fresh last place byte bytes)
@@ -166,16 +132,10 @@ within part = record { part = part; comments = [] }
 
 limbo-by-lined : (effect : Effect) (code : Code) (place : ℕ) (bytes : List ℕ)
     → Lined false (limbo_by effect code (within parts.Limbo) place bytes)
-limbo-by-lined effects.Stands code place bytes = λ e. absurd cc
-limbo-by-lined effects.Formats code place bytes = λ e. absurd cc
-limbo-by-lined (effects.Drops note) code place bytes = λ e. absurd cc
-limbo-by-lined effects.Defines code place bytes = λ e. absurd cc
-limbo-by-lined effects.BeginsC code place bytes = λ e. absurd cc
+limbo-by-lined effect code place bytes = grind (arith, nat_tests)
 
 limbo-text-lined : (place byte : ℕ) (bytes : List ℕ) → Lined false (limbo_text (within parts.Limbo) place byte bytes)
-limbo-text-lined place byte bytes =
-    if-both (Lined false) (byte == at_sign) _ _
-    (λ h. limbo-by-lined (effect_in_limbo (code_at bytes)) (code_at bytes) place (byte ∷ bytes)) (λ h e. absurd cc)
+limbo-text-lined place byte bytes = grind (arith, nat_tests, if-both, limbo-by-lined)
 
 tex-by-lined : (effect : Effect) (code : Code) (place : ℕ) (bytes : List ℕ)
     → Lined false (tex_by effect code (within parts.Tex) place bytes)
@@ -221,18 +181,7 @@ parameter-lined code place byte bytes =
 
 format-name-lined : (code : ℕ) (second limbo : Bool) (place byte : ℕ) (bytes : List ℕ)
     → Lined false (format_name code second limbo (within (parts.FormatName code second limbo)) place byte bytes)
-format-name-lined code second limbo place byte bytes =
-    if-both (Lined false) (is_in classes.White byte) _ _ (λ h e. absurd cc)
-    (λ h. let w = within (parts.FormatName code second limbo) in
-    one-lined false false (if second then behind_format limbo w else within (parts.FormatName code true limbo)) place
-    (byte ∷ bytes) (identifier (byte ∷ bytes)) (λ line. refl)
-    (if-both (λ (n : Where). in_hash_line n.part ≡ true → false ≡ true) second (behind_format limbo w)
-    (within (parts.FormatName code true limbo)) (λ h. behind limbo) (λ h e. e)))
-  where
-    behind : (l : Bool) → in_hash_line (behind_format l (within (parts.FormatName code second limbo))).part ≡ true
-        → false ≡ true
-    behind true e = e
-    behind false e = e
+format-name-lined code second limbo place byte bytes = grind (arith, nat_tests, if-both, one-lined)
 
 behind-head-lined : (limbo fresh : Bool) (part : Part) (last place byte : ℕ) (bytes : List ℕ)
     → Lined false (behind_head_apart limbo (within part) fresh last place byte bytes)
@@ -301,49 +250,15 @@ code-by-starts effects.BeginsC code w place bytes = refl
 
 code-text-starts : (w : Where) (fresh : Bool) (last place : ℕ) (bytes : List ℕ)
     → Starts (in_hash_line w.part) (code_text_apart w fresh last place 92 bytes)
-code-text-starts w fresh last place bytes =
-    let P : Start → Type 0 = λ s. Starts (in_hash_line w.part) (in_code s w place (92 ∷ bytes)) in
-    if-both (Starts (in_hash_line w.part)) (is_space w.part 92 bytes) _ _
-    (λ h. inr (both-left (in_hash_line w.part) (begins newline bytes) h))
-    (λ h. if-both P (nat_lt 0 (constant (92 ∷ bytes))) start.Constant
-    (sign_or_other (longest all_signs (92 ∷ bytes))) (λ h. inl refl)
-    (λ h. by (longest all_signs (92 ∷ bytes))))
-  where
-    by : (s : Option Sign) → Starts (in_hash_line w.part) (in_code (sign_or_other s) w place (92 ∷ bytes))
-    by None = inl refl
-    by (Some sign) = inl refl
+code-text-starts w fresh last place bytes = grind (arith, nat_tests, if-both, both-left)
 
 comment-text-starts : (part : Part) (c : Opened) (comments : List Opened) (last place : ℕ) (bytes : List ℕ)
     → Starts (in_hash_line part) (comment_text_apart part c comments last place 92 bytes)
-comment-text-starts part c comments last place bytes =
-    let P : Found → Type 0 = Starts (in_hash_line part) in
-    if-both P (c.long && false) _ _ (λ h. absurd (wrong (both-right c.long false h)))
-    (λ h. if-both P (not c.long && false) _ _ (λ h. absurd (wrong (both-right (not c.long) false h))) (λ h. inl refl))
-  where
-    wrong : false ≡ true → ⊥
-    wrong h = cc
+comment-text-starts part c comments last place bytes = grind (arith, nat_tests, if-both, both-right)
 
 part-text-starts : (part : Part) (fresh : Bool) (last place : ℕ) (bytes : List ℕ)
     → Starts (in_hash_line part) (part_text_apart part (within part) fresh last place 92 bytes)
-part-text-starts parts.Limbo fresh last place bytes = inl refl
-part-text-starts parts.Tex fresh last place bytes = inl refl
-part-text-starts parts.Head fresh last place bytes = inl refl
-part-text-starts (parts.MacroName code) fresh last place bytes =
-    code-text-starts (within parts.Definition) fresh last place bytes
-part-text-starts (parts.MacroParen code) fresh last place bytes = inl refl
-part-text-starts (parts.Parameters code) fresh last place bytes =
-    code-text-starts (within parts.Definition) fresh last place bytes
-part-text-starts (parts.FormatName code second true) fresh last place bytes = inl refl
-part-text-starts (parts.FormatName code second false) fresh last place bytes =
-    code-text-starts (within parts.Definition) fresh last place bytes
-part-text-starts parts.TexInner fresh last place bytes =
-    code-text-starts (within parts.TexInner) fresh last place bytes
-part-text-starts parts.Begin fresh last place bytes = code-text-starts (within parts.Begin) fresh last place bytes
-part-text-starts (parts.Plain hash_line include) fresh last place bytes =
-    code-text-starts (within (parts.Plain hash_line include)) fresh last place bytes
-part-text-starts parts.Definition fresh last place bytes =
-    code-text-starts (within parts.Definition) fresh last place bytes
-part-text-starts parts.Inner fresh last place bytes = code-text-starts (within parts.Inner) fresh last place bytes
+part-text-starts part fresh last place bytes = grind (arith, nat_tests, code-text-starts)
 
 pub found-starts : (w : Where) (fresh : Bool) (last place : ℕ) (bytes : List ℕ)
     → Starts (in_hash_line w.part) (found_apart w fresh last place 92 bytes)

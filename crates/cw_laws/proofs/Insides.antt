@@ -2,6 +2,7 @@
 use Rattle.std.proofs.Common.{◌≡◌, ℕ, ◌+◌, ◌-◌, Bool, true, false, ◌&&◌, ◌||◌, not, ◌==◌, List, [], ◌∷◌, ◌++◌, drop}
 use Rattle.std.proofs.Common.{if◌then◌else◌, refl, sym, subst, ap, ◌∙◌, ◌<◌, ◌⊎◌, arith, inl, inr, Option, Some, None}
 use Rattle.std.proofs.Common.{length}
+use Rattle.std.proofs.lemmas.Bool.Decides.{nat_tests}
 use Rattle.cw_base.specs.declared.notes.NoteKind.{NoteKind}
 use Rattle.cw_rules.specs.declared.bodies.Body.{Body}
 use Rattle.cw_rules.specs.declared.bodies.Body.TheVariants as bodies
@@ -12,8 +13,7 @@ use Rattle.cw_rules.specs.declared.codes.Code.{Code}
 use Rattle.cw_rules.specs.Bytes.{at_sign, greater, begins, begins_with}
 use Rattle.cw_rules.specs.Codes.{begins_section}
 use Rattle.cw_rules.specs.Bodies.{stops, takes_next, stepped, goes_on, ended, and_last, note_unless, at_start, extent}
-use Rattle.cw_rules.specs.Bodies.{noted, note_here, note_on, is_single, with_note}
-use Rattle.cw_rules.specs.Bodies.{all_notes, closing_bytes, one_note}
+use Rattle.cw_rules.specs.Bodies.{noted, note_here, note_on, is_single, with_note, all_notes, closing_bytes, one_note}
 use Rattle.cw_rules.specs.declared.tokens.Mode.{Mode}
 use Rattle.cw_rules.specs.declared.tokens.TokKind.{TokKind}
 use Rattle.cw_rules.specs.Tokens.{comment_kind, section_name}
@@ -147,8 +147,7 @@ noted-behind kind (m ∷ ns) n later e = inr (noted-behind kind ns n later e)
 
 unended-noted : (kind : NoteKind) (ns : List Noted) (closed : Bool) (stop : ℕ) (later : List Answer) → closed ≡ false
     → IsNoted kind (note_answers (and_last ns (note_unless closed kind stop)) ++ later)
-unended-noted kind ns true stop later e = absurd cc
-unended-noted kind ns false stop later e = noted-behind kind ns (record { kind = kind; place = stop }) later refl
+unended-noted kind ns closed stop later e = grind (arith, nat_tests, noted-behind)
 
 -- ## A single `@`
 

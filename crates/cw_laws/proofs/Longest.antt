@@ -1,8 +1,7 @@
 -- Each token is the longest that begins at its place.
-use Rattle.std.proofs.Common.{◌≡◌, ℕ, zero, suc, ◌+◌, ◌-◌, ◌<◌, Bool, true, false, ◌&&◌, ◌||◌, not, ◌==◌, nat_lt}
-use Rattle.std.proofs.Common.{codes, List, [], ◌∷◌, ◌++◌, Option, Some, None, if◌then◌else◌, length, slice_index, drop}
-use Rattle.std.proofs.Common.{take, refl}
-use Rattle.std.proofs.Common.{sym, ap, subst, ◌∙◌, arith}
+use Rattle.std.proofs.Common.{◌≡◌, ℕ, zero, suc, ◌+◌, ◌-◌, ◌<◌, Bool, true, false, ◌&&◌, ◌||◌, not, ◌==◌, nat_lt, codes}
+use Rattle.std.proofs.Common.{List, [], ◌∷◌, ◌++◌, Option, Some, None, if◌then◌else◌, length, slice_index, drop, take}
+use Rattle.std.proofs.Common.{refl, sym, ap, subst, ◌∙◌, arith}
 use Rattle.std.proofs.lemmas.Bool.{eqb-true}
 use Rattle.cw_base.proofs.TestLaws.{both-failed, both-left, both-right, not-both, not-true}
 use Rattle.cw_rules.specs.declared.bodies.Noted.{Noted}
@@ -23,8 +22,8 @@ use Rattle.cw_rules.specs.declared.tokens.TokKind.TheVariants as kinds
 use Rattle.cw_rules.specs.Answers.{Answer, Token, Begin, Finish, Note, Where, Cut, Found, note_answers, plain}
 use Rattle.cw_base.specs.Bytes.{newline, backslash}
 use Rattle.cw_rules.specs.Bytes.{apostrophe, slash, star, at_sign, hash, less, comma, equals, plus, left_paren}
-use Rattle.cw_base.specs.Text.{bar}
 use Rattle.cw_rules.specs.Bytes.{right_paren, begins, begins_by, begins_with, is_letter, is_mark, is_in, run}
+use Rattle.cw_base.specs.Text.{bar}
 use Rattle.cw_rules.specs.Codes.{is_section, code_at, begins_section, effect_in_limbo, effect_in_tex, has_control_text}
 use Rattle.cw_rules.specs.Constants.{constant}
 use Rattle.cw_rules.specs.Prefixes.{prefix_size}
@@ -33,11 +32,11 @@ use Rattle.cw_rules.specs.Tokens.{in_hash_line, behind_include, takes_hash_line,
 use Rattle.cw_rules.specs.Tokens.{closes_on_line, moved, passed, one, comment_end, inner_cut, all_cut, section}
 use Rattle.cw_rules.specs.Tokens.{is_quote, section_code, section_name, string, control_text, alone_size}
 use Rattle.cw_rules.specs.Tokens.{control_or_plain, line_end, sign_or_other, start_of, effect_in, code_by, in_code}
-use Rattle.cw_rules.specs.Tokens.{code_token, limbo_by, limbo_text, tex_by, tex_text}
+use Rattle.cw_rules.specs.Tokens.{code_token, limbo_by, limbo_text, tex_by, tex_text, name_follows, macro_name}
+use Rattle.cw_rules.specs.Tokens.{parameter_follows, parameter, format_name, is_name, include_name, piece_start}
+use Rattle.cw_rules.specs.Tokens.{identifier, behind_word, head_sign_size}
 use Rattle.cw_rules.specs.Apart.{code_text_apart, comment_text_apart, behind_head_apart, part_text_apart, in_text_apart}
 use Rattle.cw_rules.specs.Apart.{found_apart}
-use Rattle.cw_rules.specs.Tokens.{name_follows, macro_name, parameter_follows, parameter, format_name}
-use Rattle.cw_rules.specs.Tokens.{is_name, include_name, piece_start, identifier, behind_word, head_sign_size}
 use Rattle.cw_rules.specs.Bodies.{one_note, note_unless, noted}
 use Rattle.cw_base.specs.declared.notes.NoteKind.{NoteKind}
 use Rattle.cw_rules.proofs.Choices.{if-both}

@@ -1,7 +1,8 @@
 -- The longest sign of the table is one with which the bytes begin, and none of those is longer.
-use Rattle.std.proofs.Common.{◌≡◌, ℕ, ◌≤◌, Bool, true, false, ◌==◌, nat_lt, codes, List, [], ◌∷◌, ◌++◌, Option}
-use Rattle.std.proofs.Common.{Some, None, if◌then◌else◌, length, drop, refl, sym, subst, arith}
+use Rattle.std.proofs.Common.{◌≡◌, ℕ, ◌≤◌, Bool, true, false, ◌==◌, nat_lt, codes, List, [], ◌∷◌, ◌++◌, Option, Some}
+use Rattle.std.proofs.Common.{None, if◌then◌else◌, length, drop, refl, sym, subst, arith}
 use Rattle.std.proofs.lemmas.Bool.{eqb-true}
+use Rattle.std.proofs.lemmas.Bool.Decides.{nat_tests}
 use Rattle.cw_base.proofs.TestLaws.{both-left, both-right}
 use Rattle.cw_rules.specs.declared.signs.Sign.{Sign}
 use Rattle.cw_rules.specs.declared.signs.Sign.TheVariants as signs
@@ -14,8 +15,7 @@ use Rattle.cw_laws.specs.Longest.{NoneIsLonger, begins_comment, IsSign}
 longer-sizes : (more : List Sign) (bytes : List ℕ) (small large : ℕ) → small ≤ large → NoneIsLonger more bytes small
     → NoneIsLonger more bytes large
 longer-sizes [] bytes small large w h = tt
-longer-sizes (sign ∷ more) bytes small large w h =
-    (λ fits. omega (arith, h.0 fits, w), longer-sizes more bytes small large w h.1)
+longer-sizes (sign ∷ more) bytes small large w h = grind (arith, nat_tests, longer-sizes more bytes small large w h.1)
 
 abbrev pub size_of : Option Sign → ℕ
 size_of None = 0

@@ -1,8 +1,9 @@
 -- Each note is about a byte of what was scanned: of the token that begins, or of what is open.
-use Rattle.std.proofs.Common.{◌≡◌, ℕ, zero, suc, ◌+◌, ◌-◌, ◌<◌, ◌≤◌, Bool, true, false, ◌&&◌, not, ◌==◌, nat_lt}
-use Rattle.std.proofs.Common.{List, [], ◌∷◌, ◌++◌, Option, Some, None, length, drop, take, refl, sym, subst, arith}
+use Rattle.std.proofs.Common.{◌≡◌, ℕ, zero, suc, ◌+◌, ◌-◌, ◌<◌, ◌≤◌, Bool, true, false, ◌&&◌, not, ◌==◌, nat_lt, List}
+use Rattle.std.proofs.Common.{[], ◌∷◌, ◌++◌, Option, Some, None, length, drop, take, refl, sym, subst, arith}
 use Rattle.std.proofs.Common.{length-drop}
 use Rattle.std.proofs.lemmas.List.{length-take}
+use Rattle.std.proofs.lemmas.Bool.Decides.{nat_tests}
 use Rattle.cw_base.specs.declared.notes.NoteKind.{NoteKind}
 use Rattle.cw_base.specs.declared.notes.NoteKind.TheVariants as notes
 use Rattle.cw_rules.specs.declared.classes.Class.TheVariants as classes
@@ -22,9 +23,9 @@ use Rattle.cw_rules.specs.declared.tokens.TokKind.TheVariants as kinds
 use Rattle.cw_rules.specs.Answers.{Answer, Token, Begin, Finish, Note, Where, Cut, Found, before, plain}
 use Rattle.cw_rules.specs.Bodies.{note_unless, one_note, noted, extent}
 use Rattle.cw_base.specs.Bytes.{newline, backslash}
-use Rattle.cw_rules.specs.Bytes.{slash, star, at_sign, hash, less, comma}
+use Rattle.cw_rules.specs.Bytes.{slash, star, at_sign, hash, less, comma, right_paren, left_paren, run, begins}
+use Rattle.cw_rules.specs.Bytes.{is_letter, is_mark, is_in}
 use Rattle.cw_base.specs.Text.{bar}
-use Rattle.cw_rules.specs.Bytes.{right_paren, left_paren, run, begins, is_letter, is_mark, is_in}
 use Rattle.cw_rules.specs.Codes.{code_at, begins_section, effect_in_limbo, effect_in_tex}
 use Rattle.cw_rules.specs.Constants.{constant}
 use Rattle.cw_rules.specs.Prefixes.{prefix_size}
@@ -34,12 +35,12 @@ use Rattle.cw_rules.specs.Tokens.{in_hash_line, behind_include, takes_hash_line,
 use Rattle.cw_rules.specs.Tokens.{closes_on_line, moved, passed, one, skipped_byte, missing_brace, comment_end}
 use Rattle.cw_rules.specs.Tokens.{inner_cut, comment_cut, part_cut, inner_or_none, all_cut, section, section_code}
 use Rattle.cw_rules.specs.Tokens.{line_end, sign_or_other, start_of, is_include, behind_word, behind_inner, effect_in}
-use Rattle.cw_rules.specs.Tokens.{may_head, is_head, code_by, in_code, identifier, string, code_token}
+use Rattle.cw_rules.specs.Tokens.{may_head, is_head, code_by, in_code, identifier, string, code_token, dropped_code}
+use Rattle.cw_rules.specs.Tokens.{include_name, piece_start, limbo_by, limbo_text, tex_by, tex_text, head_text}
+use Rattle.cw_rules.specs.Tokens.{name_follows, macro_name, parameter_follows, parameter, behind_format, format_name}
+use Rattle.cw_rules.specs.Tokens.{is_name}
 use Rattle.cw_rules.specs.Apart.{code_text_apart, comment_text_apart, behind_head_apart, part_text_apart, in_text_apart}
 use Rattle.cw_rules.specs.Apart.{found_apart}
-use Rattle.cw_rules.specs.Tokens.{dropped_code, include_name, piece_start, limbo_by, limbo_text, tex_by}
-use Rattle.cw_rules.specs.Tokens.{tex_text, head_text, name_follows, macro_name, parameter_follows, parameter}
-use Rattle.cw_rules.specs.Tokens.{behind_format, format_name, is_name}
 use Rattle.cw_rules.proofs.Choices.{if-both}
 use Rattle.cw_lex.specs.Lexing.{still_fresh, answers, fresh_at, last_at, beginning, tokens_of}
 use Rattle.cw_lex.specs.Starts.{CodeIs}
@@ -227,15 +228,9 @@ code-by-lies low place (effects.Drops note) code w byte next bytes l o =
     one-lies low place (length (byte ∷ next ∷ bytes)) (in_hash_line w.part) (moved w (passed w.part))
     (byte ∷ next ∷ bytes) (dropped_code note code place (byte ∷ next ∷ bytes))
     (dropped-in low note code place byte next bytes l) (passed-on low (place + 1) w o)
-code-by-lies low place effects.Defines code w byte next bytes l o =
-    one-lies low place (length (byte ∷ next ∷ bytes)) false (moved w (parts.MacroName place)) (byte ∷ next ∷ bytes)
-    (plain (kinds.Code code) 2) tt ((l, omega arith), o.1)
-code-by-lies low place effects.Formats code w byte next bytes l o =
-    one-lies low place (length (byte ∷ next ∷ bytes)) false (moved w (parts.FormatName place false false))
-    (byte ∷ next ∷ bytes) (plain (kinds.Code code) 2) tt ((l, omega arith), o.1)
-code-by-lies low place effects.BeginsC code w byte next bytes l o =
-    one-lies low place (length (byte ∷ next ∷ bytes)) false (moved w (parts.Plain false false)) (byte ∷ next ∷ bytes)
-    (plain (kinds.Code code) 2) tt (tt, o.1)
+code-by-lies low place effects.Defines code w byte next bytes l o = grind (arith, nat_tests, one-lies)
+code-by-lies low place effects.Formats code w byte next bytes l o = grind (arith, nat_tests, one-lies)
+code-by-lies low place effects.BeginsC code w byte next bytes l o = grind (arith, nat_tests, one-lies)
 
 effect-unknown : (part : Part) (comments : List Opened)
     → effect_in part comments at.Unknown ≡ effects.Drops notes.UnknownCode

@@ -1,17 +1,16 @@
 -- Each code with which definitions or a C part begin is the one that stands at its place.
-use Rattle.std.proofs.Common.{◌≡◌, ℕ, zero, suc, ◌+◌, ◌-◌, Bool, true, false, ◌&&◌, ◌||◌, ◌==◌, List, [], ◌∷◌, ◌++◌}
-use Rattle.std.proofs.Common.{drop, refl, Some, if◌then◌else◌, sym, ap, subst, ◌∙◌}
+use Rattle.std.proofs.Common.{◌≡◌, ℕ, zero, suc, ◌+◌, Bool, true, false, ◌&&◌, ◌||◌, ◌==◌, List, [], ◌∷◌, ◌++◌}
+use Rattle.std.proofs.Common.{drop, Some, if◌then◌else◌, sym, ap, subst, ◌∙◌, arith}
+use Rattle.std.proofs.lemmas.Bool.Decides.{nat_tests}
 use Rattle.cw_base.proofs.TestLaws.{not-both}
 use Rattle.cw_rules.specs.declared.bodies.Noted.{Noted}
 use Rattle.cw_rules.specs.declared.codes.Code.{Code}
-use Rattle.cw_rules.specs.declared.codes.Code.TheVariants as at
 use Rattle.cw_rules.specs.declared.tokens.Mode.TheVariants as modes
 use Rattle.cw_rules.specs.declared.tokens.TokKind.{TokKind}
-use Rattle.cw_rules.specs.declared.tokens.TokKind.TheVariants as kinds
-use Rattle.cw_rules.specs.Answers.{Answer, Token, Begin, Finish, Note, Seen, Where, Cut, Found, note_answers}
-use Rattle.cw_rules.specs.Bytes.{at_sign, star, begins}
+use Rattle.cw_rules.specs.Answers.{Answer, Token, Begin, Finish, Note, Seen, Where, Found, note_answers}
+use Rattle.cw_rules.specs.Bytes.{at_sign, begins}
 use Rattle.cw_rules.specs.Codes.{code_at, begins_section}
-use Rattle.cw_rules.specs.Tokens.{all_cut, section, section_code}
+use Rattle.cw_rules.specs.Tokens.{section, section_code}
 use Rattle.cw_rules.specs.Apart.{in_text_apart, found_apart}
 use Rattle.cw_rules.proofs.Choices.{if-both}
 use Rattle.cw_rules.proofs.CodeStarts.{kind_code, code_in, is_opener, in-text-tells}
@@ -49,17 +48,14 @@ append-openers text (Note kind place ∷ xs) ys h g = append-openers text xs ys 
 
 bare-openers : (text : List ℕ) (place : ℕ) (xs : List Answer) → AreBare place xs → AreOpeners text xs
 bare-openers text place [] h = tt
-bare-openers text place (Token t ∷ xs) h = absurd h
-bare-openers text place (Begin t ∷ xs) h = absurd h
 bare-openers text place (Finish t ∷ xs) h = bare-openers text place xs h.3
 bare-openers text place (Note kind about ∷ xs) h = bare-openers text place xs h
+bare-openers _ _ _ h = absurd h
 
 notes-openers : (text : List ℕ) (xs : List Answer) → AreNotes xs → AreOpeners text xs
 notes-openers text [] h = tt
-notes-openers text (Token t ∷ xs) h = absurd h
-notes-openers text (Begin t ∷ xs) h = absurd h
-notes-openers text (Finish t ∷ xs) h = absurd h
 notes-openers text (Note kind about ∷ xs) h = notes-openers text xs h
+notes-openers _ _ h = absurd h
 
 noted-openers : (text : List ℕ) (ns : List Noted) → AreOpeners text (note_answers ns)
 noted-openers text [] = tt
@@ -68,26 +64,15 @@ noted-openers text (n ∷ ns) = noted-openers text ns
 -- ## What begins at a place
 
 section-opens-none : (bytes : List ℕ) → opens_part (kind_code (section_code bytes).kind) ≡ false
-section-opens-none bytes =
-    if-both (λ (c : Cut). opens_part (kind_code c.kind) ≡ false) (begins star (drop 1 bytes)) _ _ (λ h. refl)
-    (λ h. refl)
+section-opens-none bytes = grind (arith, nat_tests, if-both, kind_code)
 
 section-openers : (text : List ℕ) (w : Where) (place : ℕ) (bytes : List ℕ)
     → AreOpeners text (section w place bytes).answers
 section-openers text w place bytes =
-    let cut = section_code (at_sign ∷ bytes) in
-    append-openers text (all_cut w.part w.comments place place) _
-    (bare-openers text place (all_cut w.part w.comments place place) (bare-all-cut w.part w.comments place place))
-    (λ k. not-both _ k (section-opens-none (at_sign ∷ bytes)), noted-openers text cut.notes)
+    grind (arith, nat_tests, append-openers, bare-openers, bare-all-cut, not-both, section-opens-none, noted-openers)
 
 part-opens : (c : Code) → opens_part c ≡ true → is_opener c ≡ true
-part-opens at.Define h = refl
-part-opens at.Format h = refl
-part-opens at.SilentFormat h = refl
-part-opens at.Program h = refl
-part-opens at.SectionName h = refl
-part-opens at.FileName h = refl
-part-opens _ h = absurd cc
+part-opens c h = grind (arith, nat_tests)
 
 taking-openers : (text : List ℕ) (place byte : ℕ) (bytes : List ℕ) (more : ℕ) (xs : List Answer)
     → drop place text ≡ byte ∷ bytes
@@ -124,8 +109,7 @@ plain-openers text w fresh last place byte bytes here h =
 
 pub openers : (text bytes : List ℕ) (w : Where) (fresh : Bool) (last place taken : ℕ) → drop place text ≡ bytes
     → AreOpeners text (answers bytes w fresh last place taken)
-openers text [] w fresh last place taken here = bare-openers text place (all_cut w.part w.comments place (place - 1))
-    (bare-all-cut w.part w.comments place (place - 1))
+openers text [] w fresh last place taken here = grind (arith, nat_tests, bare-openers, bare-all-cut)
 openers text (byte ∷ bytes) w fresh last place zero here =
     let f = found_apart w fresh last place byte bytes in
     append-openers text f.answers (answers bytes f.next (still_fresh fresh byte) byte (place + 1) f.more)
@@ -140,28 +124,8 @@ openers text (byte ∷ bytes) w fresh last place (suc taken) here =
 
 pub definition-code : (kind : TokKind) (headed : Bool) → opened_by kind headed ≡ Some modes.Definition
     → (opens_part (kind_code kind) ≡ true) × (opens_definitions (kind_code kind) ≡ true)
-definition-code (kinds.Code code) headed e = by code headed e
-  where
-    by : (code : Code) (headed : Bool) → opened_by (kinds.Code code) headed ≡ Some modes.Definition
-        → (opens_part code ≡ true) × (opens_definitions code ≡ true)
-    by at.Define headed e = (refl, refl)
-    by at.Format headed e = (refl, refl)
-    by at.SilentFormat headed e = (refl, refl)
-    by at.SectionName true e = absurd cc
-    by at.SectionName false e = absurd cc
-    by at.FileName true e = absurd cc
-    by at.FileName false e = absurd cc
-    by _ headed e = absurd cc
-definition-code _ headed e = absurd cc
+definition-code kind headed e = grind (arith, nat_tests)
 
 pub program-code : (kind : TokKind) (headed : Bool) → opened_by kind headed ≡ Some modes.CPart
     → (opens_part (kind_code kind) ≡ true) × (opens_c_part (kind_code kind) ≡ true)
-program-code (kinds.Code code) headed e = by code e
-  where
-    by : (code : Code) → opened_by (kinds.Code code) headed ≡ Some modes.CPart
-        → (opens_part code ≡ true) × (opens_c_part code ≡ true)
-    by at.Program e = (refl, refl)
-    by at.SectionName e = (refl, refl)
-    by at.FileName e = (refl, refl)
-    by _ e = absurd cc
-program-code _ headed e = absurd cc
+program-code kind headed e = grind (arith, nat_tests)

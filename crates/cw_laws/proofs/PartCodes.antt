@@ -1,12 +1,11 @@
 -- The definitions and the C part of a section begin with codes of theirs, where they aren't empty.
-use Rattle.std.proofs.Common.{◌≡◌, ℕ, ◌+◌, Bool, true, false, ◌||◌, not, List, [], ◌∷◌, Some, None, drop, refl, sym, ap}
-use Rattle.std.proofs.Common.{subst, ◌∙◌, inl, inr, if◌then◌else◌}
+use Rattle.std.proofs.Common.{◌≡◌, ℕ, Bool, true, false, ◌||◌, not, List, [], ◌∷◌, Some, None, refl, sym, ap, subst}
+use Rattle.std.proofs.Common.{◌∙◌, inl, if◌then◌else◌, arith}
+use Rattle.std.proofs.lemmas.Bool.Decides.{nat_tests}
 use Rattle.cw_base.proofs.TestLaws.{both}
 use Rattle.cw_rules.specs.declared.codes.Code.{Code}
 use Rattle.cw_rules.specs.declared.tokens.Mode.TheVariants as modes
 use Rattle.cw_rules.specs.Answers.{Answer, Token, Begin, Finish, Note, Seen, has_sign}
-use Rattle.cw_rules.specs.Bytes.{at_sign, begins}
-use Rattle.cw_rules.specs.Codes.{code_at}
 use Rattle.cw_rules.proofs.CodeStarts.{kind_code}
 use Rattle.cw_secnames.specs.Kept.{SecName}
 use Rattle.cw_phase1.specs.declared.roles.Part.{Part}
@@ -24,9 +23,7 @@ use Rattle.cw_laws.proofs.Openers.{CodeStands, AreOpeners, definition-code, prog
 -- the code of a token of that kind stands where a part begins
 stands : (text : List ℕ) (opens : Code → Bool) (t : Seen) (end : ℕ) → CodeStands text t
     → opens (kind_code t.kind) ≡ true → BeginsBy text opens (span t.span.start end)
-stands text opens t end s h =
-    inr (both (begins at_sign (drop t.span.start text)) (opens (code_at (drop (t.span.start + 1) text))) s.sign
-    (ap opens s.code ∙ h))
+stands text opens t end s h = grind (arith, nat_tests, both)
 
 abbrev at_test : Bool → ℕ → ℕ → ℕ
 at_test passes here later = if passes then here else later
@@ -38,16 +35,10 @@ IsBefore parts.Definitions = Unit {0}
 IsBefore part = ⊥
 
 defining-is : (part : Part) → IsBefore part → defining part ≡ parts.Definitions
-defining-is parts.Tex h = refl
-defining-is parts.Definitions h = refl
-defining-is parts.Limbo h = absurd h
-defining-is parts.Program h = absurd h
+defining-is part h = grind (arith, nat_tests)
 
 no-program : (part : Part) → IsBefore part → is_program part ≡ false
-no-program parts.Tex h = refl
-no-program parts.Definitions h = refl
-no-program parts.Limbo h = absurd h
-no-program parts.Program h = absurd h
+no-program part h = grind (arith, nat_tests)
 
 module _ (text : List ℕ) (size : ℕ) where
   -- ## Definitions

@@ -1,10 +1,11 @@
 -- TeX text and limbo without an `@`, and TeX text without a bar, are one token, which is copied.
-use Rattle.std.proofs.Common.{◌≡◌, ◌≢◌, ℕ, zero, suc, ◌+◌, ◌-◌, ◌==◌, Bool, true, false, ◌&&◌, ◌||◌, not, All, List}
-use Rattle.std.proofs.Common.{[], ◌∷◌, ◌++◌, if◌then◌else◌, length, drop, take, slice_index, slice_range, codes}
-use Rattle.std.proofs.Common.{refl, sym, ap, subst, ◌∙◌, arith, append_assoc, ne_eqb, eqb-true}
+use Rattle.std.proofs.Common.{◌≡◌, ◌≢◌, ℕ, zero, suc, ◌+◌, ◌-◌, ◌==◌, Bool, true, false, ◌&&◌, ◌||◌, not, All, List, []}
+use Rattle.std.proofs.Common.{◌∷◌, ◌++◌, if◌then◌else◌, length, drop, take, slice_index, slice_range, codes, refl, sym}
+use Rattle.std.proofs.Common.{ap, subst, ◌∙◌, arith, append_assoc, ne_eqb, eqb-true}
 use Rattle.std.proofs.Math.Seq.{drop-nil}
 use Rattle.std.proofs.lemmas.List.{append-nil, length-take, take_min}
 use Rattle.std.proofs.lemmas.List.Elements.{All-cons, All-head, All-nil, All-tail}
+use Rattle.std.proofs.lemmas.Bool.Decides.{nat_tests}
 use Rattle.cw_base.specs.declared.span.Span.{Span}
 use Rattle.cw_rules.specs.declared.classes.Class.{Class}
 use Rattle.cw_rules.specs.declared.classes.Class.TheVariants as classes
@@ -239,28 +240,7 @@ laid-behind text (byte ∷ bytes) place last before at =
 laid-limbo : (text : List ℕ) (start : ℕ) (bytes : List ℕ) → StandAt text start bytes
     → laid false (copied text start bytes)
     ≡ last_line_ended (if ends_empty_line text start then bytes else behind_line_end bytes)
-laid-limbo text start [] at = by (ends_empty_line text start)
-  where
-    by : (t : Bool) → [] ≡ last_line_ended (if t then [] else [])
-    by true = refl
-    by false = refl
-laid-limbo text start (byte ∷ bytes) at = by (ends_empty_line text start) (byte == newline) refl refl
-  where
-    rest : laid (not (byte == newline)) (copied text (start + 1) bytes)
-        ≡ bytes ++ end_if (not (last_after byte bytes == newline))
-    rest = laid-behind text bytes start byte at.0 at.1
-
-    by : (t u : Bool) → ends_empty_line text start ≡ t → (byte == newline) ≡ u
-        → laid false (ink_by u text start byte ∷ copied text (start + 1) bytes)
-        ≡ last_line_ended (if t then byte ∷ bytes else if u then bytes else byte ∷ bytes)
-    by true u e f =
-        ap (λ k. laid false (ink_by k text start byte ∷ copied text (start + 1) bytes)) (sym f)
-        ∙ one-laid text false byte bytes (bytes ++ end_if (not (last_after byte bytes == newline))) start e rest
-    by false true e f =
-        ap (λ b. end_if b ++ laid false (copied text (start + 1) bytes)) e
-        ∙ ap (λ k. laid (not k) (copied text (start + 1) bytes)) (sym f) ∙ rest
-        ∙ ap (λ b. bytes ++ end_if (not (last_after b bytes == newline))) (eqb-true byte newline f)
-    by false false e f = ap (λ (l : List ℕ). byte ∷ l) rest
+laid-limbo text start bytes at = grind (arith, nat_tests, laid-behind, one-laid, eqb-true)
 
 laid-tex : (text : List ℕ) (start : ℕ) (bytes : List ℕ) (last : ℕ) → (last == newline) ≡ false
     → StandAt text start bytes

@@ -1,34 +1,30 @@
 -- A C part without a scrap leaves nothing.
-use Rattle.std.proofs.Common.{◌≡◌, ℕ, Bool, true, false, ◌||◌, List, [], ◌∷◌, Option, Some, None, refl, ap, ◌∙◌}
-use Rattle.std.proofs.Common.{if◌then◌else◌}
+use Rattle.std.proofs.Common.{◌≡◌, ℕ, Bool, false, ◌||◌, List, [], ◌∷◌, Option, None, refl, ap, ◌∙◌, if◌then◌else◌}
+use Rattle.std.proofs.Common.{arith}
 use Rattle.std.specs.Prelude.{is_some}
-use Rattle.cw_base.specs.declared.category.Cat.TheVariants as cat
+use Rattle.std.proofs.lemmas.Bool.Decides.{nat_tests}
 use Rattle.cw_base.specs.declared.flags.Flags.{Flags}
-use Rattle.cw_base.specs.declared.mode.MathMode.TheVariants.{Text, Maybe}
 use Rattle.cw_lex.specs.Heads.{Headed, Named, headed, headed_by, headless, named_headed}
-use Rattle.cw_lex.specs.Nest.{Nest, End, Leaf, Group, IsGroupOf, IsWell, first_nest, group, is_text_kind, leaf}
-use Rattle.cw_lex.specs.Nest.{nest, nests}
+use Rattle.cw_lex.specs.Nest.{Nest, End, Leaf, Group, IsGroupOf, IsWell, first_nest, group, is_text_kind, leaf, nest}
+use Rattle.cw_lex.specs.Nest.{nests}
 use Rattle.cw_names.specs.Names.{Entry}
-use Rattle.cw_rules.specs.Answers.{Answer, Token, Begin, Finish, Note, Seen, is_head_sign}
+use Rattle.cw_rules.specs.Answers.{Answer, Token, Begin, Finish, Note, Seen}
 use Rattle.cw_rules.specs.declared.codes.Code.{Code}
-use Rattle.cw_rules.specs.declared.codes.Code.TheVariants as code
 use Rattle.cw_rules.specs.declared.tokens.TokKind.{TokKind}
 use Rattle.cw_rules.specs.declared.tokens.TokKind.TheVariants as kind
 use Rattle.cw_scraps.specs.Applying.{categories}
 use Rattle.cw_table.specs.Normal.{normal}
 use Rattle.cw_secnames.specs.Kept.{SecName}
-use Rattle.cw_secnames.specs.Uses.{NameUse, name_at}
+use Rattle.cw_secnames.specs.Uses.{NameUse}
 use Rattle.cw_texts.specs.Printed.{group_makes, has_scrap, is_kept, token_makes}
 use Rattle.cw_translator.specs.NameParts.{name_texts, texts_kept}
 use Rattle.cw_translator.specs.Translating.{Ended, Known, Made, made_before, begin, beside, end_of, headed_made}
-use Rattle.cw_translator.specs.Translating.{leaf_of_name, made, nothing, sign_behind, state_in, texts_named}
-use Rattle.cw_translator.specs.Translating.{token_made, translated, with_categories}
+use Rattle.cw_translator.specs.Translating.{leaf_of_name, made, nothing, state_in, token_made, translated}
+use Rattle.cw_translator.specs.Translating.{with_categories}
 use Rattle.cw_trees.specs.Joining.{whole}
-use Rattle.cw_trees.specs.Tree.{Empty}
 
 neither : (a b : Bool) → (a || b) ≡ false → (a ≡ false) × (b ≡ false)
-neither true b h = absurd cc
-neither false b h = (refl, h)
+neither a b h = grind (arith, nat_tests)
 
 -- ## Nests in which nothing makes a scrap
 
@@ -43,14 +39,11 @@ AreQuiet uses (n ∷ ns) = Quiet uses n × AreQuiet uses ns
 
 leaf-quiet : (uses : List NameUse) (token : Seen) (ns : List Nest)
     → token_makes uses token.kind token.span.start ≡ false → AreQuiet uses ns → AreQuiet uses (leaf token ns)
-leaf-quiet uses token [] m q = q
-leaf-quiet uses token (rest ∷ outer) m q = ((m, q.0), q.1)
+leaf-quiet uses token ns m q = grind (arith, nat_tests)
 
 group-quiet : (uses : List NameUse) (token : Seen) (ns : List Nest) → group_makes token.kind ≡ false → AreQuiet uses ns
     → AreQuiet uses (group token ns)
-group-quiet uses token [] m q = q
-group-quiet uses token (inner ∷ []) m q = ((m, tt), tt)
-group-quiet uses token (inner ∷ rest ∷ outer) m q = ((m, q.1.0), q.1.1)
+group-quiet uses token ns m q = grind (arith, nat_tests)
 
 nests-quiet : (uses : List NameUse) (answers : List Answer) → has_scrap uses answers ≡ false
     → AreQuiet uses (nests answers)
@@ -65,71 +58,34 @@ nests-quiet uses (Finish token ∷ answers) h = (tt, nests-quiet uses answers h)
 nests-quiet uses (Note note place ∷ answers) h = nests-quiet uses answers h
 
 first-quiet : (uses : List NameUse) (ns : List Nest) → AreQuiet uses ns → Quiet uses (first_nest ns)
-first-quiet uses [] q = tt
-first-quiet uses (n ∷ ns) q = q.0
+first-quiet uses ns q = grind (arith, nat_tests)
 
 -- ## What is made of them
 
 no-text : (kept : List SecName) (o : Option ℕ) → is_some o ≡ false → texts_kept kept o ≡ None
-no-text kept None h = refl
-no-text kept (Some k) h = absurd cc
+no-text kept o h = grind (arith, nat_tests)
 
 group-none : {A : Type 0} (k : TokKind) → IsGroupOf false k → group_makes k ≡ false → A
-group-none kind.LongComment g m = absurd cc
-group-none kind.ShortComment g m = absurd cc
-group-none _ g m = absurd g
+group-none k g m = grind (arith, nat_tests)
 
 module _ (flags : Flags) (kept : List SecName) (uses : List NameUse) where
   unnamed : (number : ℕ) (known : Known) → is_kept uses number ≡ false
       → leaf_of_name flags (name_texts kept uses) number known ≡ nothing known
-  unnamed number known m =
-      ap (λ (o : Option (List (List Answer))). texts_named flags o cat.SectionScrap Maybe Empty number known)
-      (no-text kept (name_at number uses) m)
+  unnamed number known m = grind (arith, nat_tests, no-text)
 
   code-quiet : (c : Code) (token : Seen) (known : Known) → token_makes uses (kind.Code c) token.span.start ≡ false
       → token_made (leaf_of_name flags (name_texts kept uses)) (kind.Code c) token known ≡ nothing known
-  code-quiet code.SectionName token known m = unnamed token.span.start known m
-  code-quiet code.FileName token known m = unnamed token.span.start known m
-  code-quiet code.Define token known m = absurd cc
-  code-quiet code.Format token known m = absurd cc
-  code-quiet code.SilentFormat token known m = absurd cc
-  code-quiet code.TexBox token known m = absurd cc
-  code-quiet code.Verbatim token known m = absurd cc
-  code-quiet code.Quote token known m = absurd cc
-  code-quiet code.Join token known m = absurd cc
-  code-quiet code.ThinSpace token known m = absurd cc
-  code-quiet code.LineBreak token known m = absurd cc
-  code-quiet code.BigBreak token known m = absurd cc
-  code-quiet code.OptionalBreak token known m = absurd cc
-  code-quiet code.NoBreak token known m = absurd cc
-  code-quiet code.HeaderFile token known m = absurd cc
-  code-quiet code.InvisibleSemicolon token known m = absurd cc
-  code-quiet code.BeginArgument token known m = absurd cc
-  code-quiet code.EndArgument token known m = absurd cc
-  code-quiet _ token known m = refl
+  code-quiet c token known m = grind (arith, nat_tests, unnamed)
 
   token-quiet : (k : TokKind) (token : Seen) (known : Known) → is_text_kind k ≡ false
       → token_makes uses k token.span.start ≡ false
       → token_made (leaf_of_name flags (name_texts kept uses)) k token known ≡ nothing known
-  token-quiet kind.Text token known t m = absurd cc
-  token-quiet kind.Identifier token known t m = absurd cc
-  token-quiet kind.Constant token known t m = absurd cc
-  token-quiet kind.Quoted token known t m = absurd cc
-  token-quiet kind.IncludeName token known t m = absurd cc
-  token-quiet kind.OtherByte token known t m = absurd cc
-  token-quiet (kind.Sign s) token known t m = absurd cc
-  token-quiet kind.HashLine token known t m = absurd cc
-  token-quiet kind.HashLineEnd token known t m = absurd cc
-  token-quiet (kind.Code c) token known t m = code-quiet c token known m
-  token-quiet _ token known t m = refl
+  token-quiet k token known t m = grind (arith, nat_tests, code-quiet)
 
   made-quiet : (n : Nest) → IsWell false n → Quiet uses n → (known : Known)
       → made flags (leaf_of_name flags (name_texts kept uses)) n known ≡ nothing known
   made-quiet End w q known = refl
-  made-quiet (Leaf token rest) w q known =
-      ap (λ (m : Made). made_before m (made flags (leaf_of_name flags (name_texts kept uses)) rest))
-      (token-quiet token.kind token known w.0 q.0)
-      ∙ ap (λ (m : Made). beside (nothing known) m) (made-quiet rest w.1 q.1 known)
+  made-quiet (Leaf token rest) w q known = grind (arith, nat_tests, made-quiet rest w.1 q.1 known, token-quiet)
   made-quiet (Group token inner rest) w q known = group-none token.kind w.0 q.0
 
   -- without a head, and with one
@@ -145,40 +101,24 @@ module _ (flags : Flags) (kept : List SecName) (uses : List NameUse) where
       → Quiet uses (Leaf name (Leaf token rest)) → is_kept uses name.span.start ≡ false → (known : Known)
       → Rests (if b then record { head = Named name.span.start token.span.start; rest = rest }
       else headless (Leaf name (Leaf token rest))) known
-  by-sign true name token rest w q m known =
-      ap (λ (o : Option (List (List Answer))). made_before
-      (texts_named flags o cat.Dead Text (sign_behind token.span.start) name.span.start known)
-      (made flags (leaf_of_name flags (name_texts kept uses)) rest))
-      (no-text kept (name_at name.span.start uses) m)
-      ∙ headless-quiet rest w.1.1 q.1.1 known
-  by-sign false name token rest w q m known = headless-quiet (Leaf name (Leaf token rest)) w q known
+  by-sign b name token rest w q m known = grind (arith, nat_tests, no-text, headless-quiet)
 
   name-headed : (name : Seen) (rest : Nest) → IsWell false (Leaf name rest) → Quiet uses (Leaf name rest)
       → is_kept uses name.span.start ≡ false → (known : Known) → Rests (named_headed name rest) known
-  name-headed name End w q m known = headless-quiet (Leaf name End) w q known
-  name-headed name (Group token inner rest) w q m known = headless-quiet (Leaf name (Group token inner rest)) w q known
-  name-headed name (Leaf token rest) w q m known = by-sign (is_head_sign token.kind) name token rest w q m known
+  name-headed name rest w q m known = grind (arith, nat_tests, headless-quiet, by-sign)
 
   code-headed : (c : Code) (token : Seen) (rest : Nest) → IsWell false (Leaf token rest) → Quiet uses (Leaf token rest)
       → token_makes uses (kind.Code c) token.span.start ≡ false → (known : Known)
       → Rests (headed_by (kind.Code c) token rest) known
-  code-headed code.Define token rest w q m known = absurd cc
-  code-headed code.Format token rest w q m known = absurd cc
-  code-headed code.SilentFormat token rest w q m known = absurd cc
-  code-headed code.SectionName token rest w q m known = name-headed token rest w q m known
-  code-headed code.FileName token rest w q m known = name-headed token rest w q m known
-  code-headed _ token rest w q m known = headless-quiet (Leaf token rest) w q known
+  code-headed c token rest w q m known = grind (arith, nat_tests, name-headed, headless-quiet)
 
   kind-headed : (k : TokKind) (token : Seen) (rest : Nest) → IsWell false (Leaf token rest)
       → Quiet uses (Leaf token rest) → token_makes uses k token.span.start ≡ false → (known : Known)
       → Rests (headed_by k token rest) known
-  kind-headed (kind.Code c) token rest w q m known = code-headed c token rest w q m known
-  kind-headed _ token rest w q m known = headless-quiet (Leaf token rest) w q known
+  kind-headed k token rest w q m known = grind (arith, nat_tests, code-headed, headless-quiet)
 
   headed-quiet : (n : Nest) → IsWell false n → Quiet uses n → (known : Known) → Rests (headed n) known
-  headed-quiet End w q known = headless-quiet End w q known
-  headed-quiet (Group token inner rest) w q known = headless-quiet (Group token inner rest) w q known
-  headed-quiet (Leaf token rest) w q known = kind-headed token.kind token rest w q q.0 known
+  headed-quiet n w q known = grind (arith, nat_tests, headless-quiet, kind-headed)
 
 -- ## The end of a text in which nothing was made
 

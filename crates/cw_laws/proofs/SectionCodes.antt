@@ -1,8 +1,9 @@
 -- Each section code among the answers is the one that the bytes at its place make.
-use Rattle.std.proofs.Common.{◌≡◌, ℕ, zero, suc, ◌+◌, ◌-◌, Bool, true, false, ◌&&◌, ◌==◌, List, [], ◌∷◌, ◌++◌, drop}
-use Rattle.std.proofs.Common.{refl, sym, ap, subst, ◌∙◌}
+use Rattle.std.proofs.Common.{◌≡◌, ℕ, zero, suc, ◌+◌, Bool, true, false, ◌&&◌, ◌==◌, List, [], ◌∷◌, ◌++◌, drop}
+use Rattle.std.proofs.Common.{refl, sym, ap, subst, ◌∙◌, arith}
 use Rattle.std.specs.Prelude.{if◌then◌else◌}
 use Rattle.std.proofs.lemmas.Bool.{eqb-true}
+use Rattle.std.proofs.lemmas.Bool.Decides.{nat_tests}
 use Rattle.cw_base.proofs.TestLaws.{both-left, both, not-both}
 use Rattle.cw_rules.specs.declared.bodies.Noted.{Noted}
 use Rattle.cw_rules.specs.Answers.{Answer, Token, Begin, Finish, Note, Seen, Where, Found, note_answers, token_of}
@@ -43,17 +44,14 @@ append-coded text (Note kind place ∷ xs) ys h g = append-coded text xs ys h g
 
 bare-coded : (text : List ℕ) (place : ℕ) (xs : List Answer) → AreBare place xs → AreCoded text xs
 bare-coded text place [] h = tt
-bare-coded text place (Token t ∷ xs) h = absurd h
-bare-coded text place (Begin t ∷ xs) h = absurd h
 bare-coded text place (Finish t ∷ xs) h = bare-coded text place xs h.3
 bare-coded text place (Note kind about ∷ xs) h = bare-coded text place xs h
+bare-coded _ _ _ h = absurd h
 
 notes-coded : (text : List ℕ) (xs : List Answer) → AreNotes xs → AreCoded text xs
 notes-coded text [] h = tt
-notes-coded text (Token t ∷ xs) h = absurd h
-notes-coded text (Begin t ∷ xs) h = absurd h
-notes-coded text (Finish t ∷ xs) h = absurd h
 notes-coded text (Note kind about ∷ xs) h = notes-coded text xs h
+notes-coded _ _ h = absurd h
 
 noted-coded : (text : List ℕ) (notes : List Noted) → AreCoded text (note_answers notes)
 noted-coded text [] = tt
@@ -83,14 +81,7 @@ section-coded text w place byte bytes here h =
 -- answers that take bytes and are no section code
 taking-coded : (text : List ℕ) (place : ℕ) (bytes : List ℕ) (more : ℕ) (xs : List Answer)
     → is_section (code_in xs) ≡ false → TakesAll place bytes more xs → AreCoded text xs
-taking-coded text place bytes more [] h t = tt
-taking-coded text place bytes more (Token x ∷ xs) h t = (
-  λ k. not-both _ k (section-kind-is x.kind ∙ h),
-  notes-coded text xs t.1,
-)
-taking-coded text place bytes more (Begin x ∷ xs) h t = notes-coded text xs t.1
-taking-coded text place bytes more (Finish x ∷ xs) h t = notes-coded text xs t.1
-taking-coded text place bytes more (Note kind about ∷ xs) h t = absurd t
+taking-coded text place bytes more xs h t = grind (arith, nat_tests, not-both, section-kind-is, notes-coded)
 
 pub no-section : (w : Where) (fresh : Bool) (last place byte : ℕ) (bytes : List ℕ)
     → (byte == at_sign && begins_section bytes) ≡ false
@@ -126,8 +117,7 @@ plain-coded text w fresh last place byte bytes h =
 
 pub coded : (text bytes : List ℕ) (w : Where) (fresh : Bool) (last place taken : ℕ) → drop place text ≡ bytes
     → AreCoded text (answers bytes w fresh last place taken)
-coded text [] w fresh last place taken here = bare-coded text place (all_cut w.part w.comments place (place - 1))
-    (bare-all-cut w.part w.comments place (place - 1))
+coded text [] w fresh last place taken here = grind (arith, nat_tests, bare-coded, bare-all-cut)
 coded text (byte ∷ bytes) w fresh last place zero here =
     let f = found_apart w fresh last place byte bytes in
     append-coded text f.answers (answers bytes f.next (still_fresh fresh byte) byte (place + 1) f.more)

@@ -1,9 +1,10 @@
 -- What is open among the answers, where the scanner stands so.
-use Rattle.std.proofs.Common.{◌≡◌, ℕ, ◌+◌, Bool, true, false, not, ◌&&◌, List, [], ◌∷◌, refl, sym, ap}
-use Rattle.std.proofs.Common.{◌∙◌, arith, length, nat_lt, if◌then◌else◌}
+use Rattle.std.proofs.Common.{◌≡◌, ℕ, ◌+◌, Bool, true, false, not, ◌&&◌, List, [], ◌∷◌, refl, sym, ap, ◌∙◌, arith}
+use Rattle.std.proofs.Common.{length, nat_lt, if◌then◌else◌}
 use Rattle.std.proofs.lemmas.List.Sums.{sum_by-cons}
 use Rattle.std.specs.List.{count_by}
 use Rattle.std.specs.Prelude.{cond}
+use Rattle.std.proofs.lemmas.Bool.Decides.{nat_tests}
 use Rattle.cw_base.proofs.TestLaws.{both-left}
 use Rattle.cw_rules.specs.declared.parts.Part.{Part}
 use Rattle.cw_rules.specs.declared.parts.Part.TheVariants as parts
@@ -52,14 +53,11 @@ pub record Like (part other : Part) : Type 0 where
   pub inner : inner_part other ≡ inner_part part
 
 pub like-passed : (part : Part) → Like part (passed part)
-like-passed parts.Begin = record { base = refl; limbo = refl; inner = refl }
-like-passed (parts.Plain hash_line include) = record { base = refl; limbo = refl; inner = refl }
-like-passed _ = record { base = refl; limbo = refl; inner = refl }
+like-passed part = grind (arith, nat_tests)
 
 pub like-hash : (part : Part) (hash_line include : Bool) → in_hash_line part ≡ true
     → Like part (parts.Plain hash_line include)
-like-hash (parts.Plain _ _) hash_line include h = record { base = refl; limbo = refl; inner = refl }
-like-hash _ hash_line include h = absurd cc
+like-hash part hash_line include h = grind (arith, nat_tests)
 
 pub like-word : (part : Part) (bytes : List ℕ) → Like part (behind_word part bytes)
 like-word part bytes =
@@ -106,23 +104,12 @@ Fits part [] opened = opened ≡ base part
 Fits part (c ∷ cs) opened = InComment c c.inner (Around part cs) opened
 
 pub fits : (part : Part) (cs : List Opened) (opened : List TokKind) → Around part cs opened → Fits part cs opened
-fits part [] opened h = h.0
-fits part (c ∷ cs) opened h = record {
-  rest = h.rest;
-  is = refl;
-  whole = h.whole ∙ ap (λ b. with_inner_text b (comment_kind c.long ∷ h.rest)) (sym h.is);
-  around = h.around;
-}
+fits part cs opened h = grind (arith, nat_tests)
 
 pub around-like : (part other : Part) (cs : List Opened) (opened : List TokKind) → Like part other
     → Around part cs opened → Around other cs opened
 around-like part other [] opened l h = (h.0 ∙ sym l.base, l.limbo ∙ h.1)
-around-like part other (c ∷ cs) opened l h = record {
-  rest = h.rest;
-  is = h.is;
-  whole = h.whole;
-  around = around-like part other cs h.rest l h.around;
-}
+around-like part other (c ∷ cs) opened l h = grind (arith, nat_tests, around-like part other cs h.rest l h.around)
 
 pub not-limbo : (part : Part) (cs : List Opened) (opened : List TokKind) → Around part cs opened
     → limbo_part part ≡ false
@@ -141,10 +128,7 @@ pub record InCode (w : Where) (mode : Mode) (opened : List TokKind) : Type 0 whe
 
 pub code-like : (w : Where) (other : Part) (mode : Mode) (opened : List TokKind) → Like w.part other
     → InCode w mode opened → Stands (moved w other) mode opened
-code-like w other mode opened l h = record {
-  fit = fits other w.comments opened (around-like w.part other w.comments opened l h.around);
-  agrees = agrees-like w.part other mode l h.agrees;
-}
+code-like w other mode opened l h = grind (arith, nat_tests, fits, around-like, agrees-like)
 
 pub code-stands : (w : Where) (mode : Mode) (opened : List TokKind) → InCode w mode opened → Stands w mode opened
 code-stands w mode opened h = record { fit = fits w.part w.comments opened h.around; agrees = h.agrees }
@@ -156,12 +140,7 @@ none-and n = omega arith
 
 comment-counts : (long : Bool) (opened : List TokKind)
     → count_by is_inner_text (comment_kind long ∷ opened) ≡ count_by is_inner_text opened
-comment-counts true opened =
-    sum_by-cons (λ kind. cond (is_inner_text kind) 1 0) kinds.LongComment opened
-    ∙ none-and (count_by is_inner_text opened)
-comment-counts false opened =
-    sum_by-cons (λ kind. cond (is_inner_text kind) 1 0) kinds.ShortComment opened
-    ∙ none-and (count_by is_inner_text opened)
+comment-counts long opened = grind (arith, nat_tests, sum_by-cons, none-and)
 
 inner-counts : (opened : List TokKind)
     → count_by is_inner_text (kinds.InnerText ∷ opened) ≡ 1 + count_by is_inner_text opened
@@ -169,8 +148,7 @@ inner-counts opened = sum_by-cons (λ kind. cond (is_inner_text kind) 1 0) kinds
 
 depth-is : (mode : Mode) (opened : List TokKind)
     → inner_depth mode opened ≡ (if inner_mode mode then 1 else 0) + count_by is_inner_text opened
-depth-is modes.Inner opened = refl
-depth-is _ opened = sym (none-and (count_by is_inner_text opened))
+depth-is mode opened = grind (arith, nat_tests, none-and)
 
 base-counts : (part : Part)
     → (if inner_part part then 1 else 0) + count_by is_inner_text (base part) ≡ first_depth part

@@ -1,16 +1,16 @@
 -- A string ends with its quote, before a line's end or with the text.
-use Rattle.std.proofs.Common.{◌≡◌, ℕ, ◌+◌, ◌-◌, Bool, true, false, ◌&&◌, ◌||◌, not, ◌==◌, List, [], ◌∷◌, ◌++◌}
-use Rattle.std.proofs.Common.{nat_lt, codes, true≢false, slice_index, if◌then◌else◌, length, drop, refl, sym, ap, subst}
-use Rattle.std.proofs.Common.{◌∙◌, arith, ◌⊎◌, inl, inr}
+use Rattle.std.proofs.Common.{◌≡◌, ℕ, ◌+◌, ◌-◌, Bool, true, false, ◌&&◌, ◌||◌, not, ◌==◌, List, [], ◌∷◌, ◌++◌, nat_lt}
+use Rattle.std.proofs.Common.{codes, true≢false, slice_index, if◌then◌else◌, length, drop, refl, sym, ap, subst, ◌∙◌}
+use Rattle.std.proofs.Common.{arith, ◌⊎◌, inl, inr}
 use Rattle.std.proofs.lemmas.Bool.{eqb-true}
 use Rattle.std.specs.List.{AllByRecursion, concat}
 use Rattle.cw_base.proofs.TestLaws.{both-left, both-right}
 use Rattle.std.proofs.Math.Seq.{drop-append_seam, drop-append-add}
+use Rattle.std.proofs.lemmas.Bool.Decides.{nat_tests}
 use Rattle.cw_rules.specs.declared.bodies.Body.TheVariants as bodies
 use Rattle.cw_rules.specs.declared.bodies.Inside.{Inside}
 use Rattle.cw_base.specs.Bytes.{newline, backslash}
-use Rattle.cw_rules.specs.Bytes.{at_sign, quote, apostrophe, begins, begins_by, begins_with}
-use Rattle.cw_rules.specs.Bytes.{is_mark}
+use Rattle.cw_rules.specs.Bytes.{at_sign, quote, apostrophe, begins, begins_by, begins_with, is_mark}
 use Rattle.cw_rules.specs.Prefixes.{is_prefix_letter, prefix_size}
 use Rattle.cw_rules.specs.Bodies.{stops, takes_next, stepped, goes_on, ended, at_start, extent}
 use Rattle.cw_rules.proofs.Inside.{ended-le}
@@ -36,27 +36,16 @@ record Split (mark : ℕ) (i : Inside) (bytes : List ℕ) : Type 0 where
 
 more-stops : (mark last more inside size all : ℕ) (rest : List ℕ) → all ≡ more + size
     → Stops mark last inside size rest → Stops mark last (more + inside) all rest
-more-stops mark last more inside size all [] e h = omega (arith, e, h)
-more-stops mark last more inside size all (byte ∷ bytes) e (inl h) = inl (h.0, omega (arith, e, h.1))
-more-stops mark last more inside size all (byte ∷ bytes) e (inr (inl h)) =
-    inr (inl (h.0, h.1, omega (arith, e, h.2)))
-more-stops mark last more inside size all (byte ∷ bytes) e (inr (inr h)) =
-    inr (inr (h.0, h.1, omega (arith, e, h.2)))
+more-stops mark last more inside size all rest e h = grind (arith, nat_tests)
 
 step-ended : (i : Inside) (byte : ℕ) (bytes : List ℕ) → goes_on i (byte ∷ bytes) ≡ true
     → ended i (byte ∷ bytes) ≡ ended (stepped i byte bytes) bytes
-step-ended i byte bytes h =
-    ap (λ t. if t then ended (stepped i byte bytes) bytes else i) h
+step-ended i byte bytes h = grind (arith, nat_tests)
 
 pub step-size : (i : Inside) (byte : ℕ) (bytes : List ℕ) → goes_on i (byte ∷ bytes) ≡ true
     → (ended i (byte ∷ bytes)).place - i.place
     ≡ 1 + ((ended (stepped i byte bytes) bytes).place - (stepped i byte bytes).place)
-step-size i byte bytes h =
-    omega (
-      arith,
-      ap (λ (j : Inside). j.place) (step-ended i byte bytes h),
-      ended-le (stepped i byte bytes) bytes,
-    )
+step-size i byte bytes h = grind (arith, nat_tests, step-ended, ended-le)
 
 -- one byte, behind which no byte is taken along
 one-on : (mark : ℕ) (i : Inside) (byte : ℕ) (bytes : List ℕ) → goes_on i (byte ∷ bytes) ≡ true
@@ -102,41 +91,12 @@ two-on mark i byte next bytes h g p line s = record {
 
 stop-here : (mark : ℕ) (i : Inside) (byte : ℕ) (bytes : List ℕ) → i.body ≡ bodies.Quoted mark → i.along ≡ false
     → goes_on i (byte ∷ bytes) ≡ false → Split mark i (byte ∷ bytes)
-stop-here mark i byte bytes b a h = record {
-  pieces = [];
-  are = tt;
-  rest = byte ∷ bytes;
-  lines = tt;
-  whole = refl;
-  stops-so = why (byte == mark) (byte == newline) (i.before == backslash) refl refl refl
-      (sym (λ k. a k || not (stops (b k) i.before byte bytes)) ∙ h);
-}
-  where
-    none : (ended i (byte ∷ bytes)).place - i.place ≡ 0
-    none =
-        let same : ended i (byte ∷ bytes) ≡ i =
-        ap (λ t. if t then ended (stepped i byte bytes) bytes else i) h in
-        omega (arith, ap (λ (j : Inside). j.place) same)
-
-    why : (m n k : Bool) → (byte == mark) ≡ m → (byte == newline) ≡ n → (i.before == backslash) ≡ k
-        → (false || not (m || (n && not k))) ≡ false
-        → Stops mark i.before 0 ((ended i (byte ∷ bytes)).place - i.place) (byte ∷ bytes)
-    why true n k e f g h = inl (eqb-true byte mark e, none)
-    why false true false e f g h = inr (inl (eqb-true byte newline f, g, none))
-    why false true true e f g h = absurd cc
-    why false false k e f g h = absurd cc
+stop-here mark i byte bytes b a h = grind (arith, nat_tests, eqb-true)
 
 -- a backslash as the last byte
 last-on : (mark : ℕ) (i : Inside) (byte : ℕ) → goes_on i (byte ∷ []) ≡ true → byte ≡ backslash
     → Split mark i (byte ∷ [])
-last-on mark i byte h e = record {
-  pieces = [];
-  are = tt;
-  rest = byte ∷ [];
-  lines = tt;
-  whole = refl;
-  stops-so = inr (inr (e, refl, omega (arith, step-size i byte [] h)));
-}
+last-on mark i byte h e = grind (arith, nat_tests, step-size)
 
 -- what a byte that goes on is
 record GoesOn (mark : ℕ) (i : Inside) (byte : ℕ) (bytes : List ℕ) : Type 0 where
@@ -146,25 +106,7 @@ record GoesOn (mark : ℕ) (i : Inside) (byte : ℕ) (bytes : List ℕ) : Type 0
 
 going : (mark : ℕ) (i : Inside) (byte : ℕ) (bytes : List ℕ) → i.body ≡ bodies.Quoted mark → i.along ≡ false
     → goes_on i (byte ∷ bytes) ≡ true → GoesOn mark i byte bytes
-going mark i byte bytes b a h = record {
-  not-mark = by (byte == mark) (byte == newline && not (i.before == backslash)) on;
-  line = λ e. kept (byte == mark) (byte == newline) (i.before == backslash) (ap (λ b. b == newline) e) refl on;
-  along = λ k. not (a k) && takes_next (b k) byte bytes;
-}
-  where
-    on : (false || not (byte == mark || (byte == newline && not (i.before == backslash)))) ≡ true
-    on = sym (λ k. a k || not (stops (b k) i.before byte bytes)) ∙ h
-
-    by : (m n : Bool) → (false || not (m || n)) ≡ true → m ≡ false
-    by true n h = absurd cc
-    by false n h = refl
-
-    kept : (m n k : Bool) → n ≡ true → (i.before == backslash) ≡ k → (false || not (m || (n && not k))) ≡ true
-        → i.before ≡ backslash
-    kept m n true e f h = eqb-true i.before backslash f
-    kept true n false e f h = absurd cc
-    kept false true false e f h = absurd cc
-    kept false false false e f h = absurd cc
+going mark i byte bytes b a h = grind (arith, nat_tests, eqb-true)
 
 piece-one : (mark byte : ℕ) → (byte == backslash) ≡ false → (byte == mark) ≡ false
     → is_piece mark (byte ∷ []) ≡ true
@@ -232,11 +174,7 @@ split mark k i (x ∷ y ∷ ys) b a =
 -- ## Whole strings
 
 mark-is : (P : ℕ → Type 0) (mark : ℕ) → is_mark mark ≡ true → P quote → P apostrophe → P mark
-mark-is P mark h p q = by (mark == quote) refl
-  where
-    by : (t : Bool) → (mark == quote) ≡ t → P mark
-    by true e = subst P (sym (eqb-true mark quote e)) p
-    by false e = subst P (sym (eqb-true mark apostrophe ((λ j. sym e j || (mark == apostrophe)) ∙ h))) q
+mark-is P mark h p q = grind (arith, nat_tests, eqb-true)
 
 pub string-is : (prefix : List ℕ) → is_prefix prefix ≡ true → (mark place : ℕ) (bytes : List ℕ) → is_mark mark ≡ true
     → IsString (prefix ++ mark ∷ bytes) ((length prefix + 1)
@@ -328,9 +266,8 @@ one-is place byte (mark ∷ rest) p m = string-is (byte ∷ []) p mark (place + 
 
 two-is : (place byte : ℕ) (bytes : List ℕ) → begins_with (codes "u8") (byte ∷ bytes) ≡ true
     → begins_by is_mark (drop 1 bytes) ≡ true → Prefixed place (byte ∷ bytes) 2
-two-is place byte [] p m = absurd (true≢false (sym m))
-two-is place byte (next ∷ []) p m = absurd (true≢false (sym m))
 two-is place byte (next ∷ mark ∷ rest) p m = string-is (byte ∷ next ∷ []) p mark (place + 3) rest m
+two-is _ _ _ _ m = absurd (true≢false (sym m))
 
 pub prefixed-is : (place byte : ℕ) (bytes : List ℕ) → nat_lt 0 (prefix_size (byte ∷ bytes)) ≡ true
     → Prefixed place (byte ∷ bytes) (prefix_size (byte ∷ bytes))

@@ -3,6 +3,7 @@ use Rattle.std.proofs.Common.{◌≡◌, ℕ, zero, suc, ◌+◌, ◌==◌, Bool
 use Rattle.std.proofs.Common.{codes, slice_get, take, inl, inr, refl, sym, ap, subst, ◌∙◌, arith, append_assoc}
 use Rattle.std.proofs.Common.{eqb-true}
 use Rattle.std.proofs.lemmas.Option.{none-some}
+use Rattle.std.proofs.lemmas.Bool.Decides.{nat_tests}
 use Rattle.cw_base.specs.Bytes.{newline}
 use Rattle.cw_base.specs.declared.flags.Flags.{Flags}
 use Rattle.cw_base.specs.declared.span.Span.{Span}
@@ -36,8 +37,7 @@ use Rattle.cw_laws.proofs.PlainText.{limbo-kept, limbo-of-web, no-c-text, tex-ke
 -- ## Limbo and sections end in lines
 
 newline-ends : (byte : ℕ) (bytes : List ℕ) → byte ≡ newline → EndInLine bytes → HasLineEnd (byte ∷ bytes)
-newline-ends byte bytes is (inl none) =
-    ([], ap (λ (l : List ℕ). byte ∷ l) none ∙ ap (λ (b : ℕ). b ∷ []) is)
+newline-ends byte bytes is (inl none) = grind (arith, nat_tests)
 newline-ends byte bytes is (inr ended) = behind-any (byte ∷ []) bytes ended
 
 -- what is laid, where the line of the book holds bytes or not
@@ -46,28 +46,20 @@ EndsBy true bytes = HasLineEnd bytes
 EndsBy false bytes = EndInLine bytes
 
 any-ends : (holds : Bool) (bytes : List ℕ) → HasLineEnd bytes → EndsBy holds bytes
-any-ends true bytes ended = ended
-any-ends false bytes ended = inr ended
+any-ends holds bytes ended = grind (arith, nat_tests)
 
 print-ends : (t : Bool) (byte : ℕ) (is : List Ink) → (byte == newline) ≡ t → EndsBy (not t) (laid (not t) is)
     → HasLineEnd (byte ∷ laid (not (byte == newline)) is)
-print-ends true byte is e rest =
-    subst (λ (u : Bool). HasLineEnd (byte ∷ laid (not u) is)) (sym e)
-    (newline-ends byte (laid false is) (eqb-true byte newline e) rest)
-print-ends false byte is e rest =
-    subst (λ (u : Bool). HasLineEnd (byte ∷ laid (not u) is)) (sym e) (behind-any (byte ∷ []) (laid true is) rest)
+print-ends true byte is e rest = grind (arith, nat_tests, newline-ends, eqb-true)
+print-ends false byte is e rest = grind (arith, nat_tests, behind-any (byte ∷ []) (laid true is) rest)
 
 line-end-ends : (holds empty : Bool) (rest : List ℕ) → EndInLine rest → EndsBy holds (end_if (holds || empty) ++ rest)
-line-end-ends true empty rest e = ends-then (newline ∷ []) rest ([], refl) e
-line-end-ends false true rest e = inr (ends-then (newline ∷ []) rest ([], refl) e)
-line-end-ends false false rest e = e
+line-end-ends holds empty rest e = grind (arith, nat_tests, ends-then)
 
 laid-ends : (is : List Ink) (holds : Bool) → EndsBy holds (laid holds is)
 laid-ends [] true = ([], refl)
 laid-ends [] false = inl refl
-laid-ends (Print byte ∷ is) holds =
-    any-ends holds (byte ∷ laid (not (byte == newline)) is)
-    (print-ends (byte == newline) byte is refl (laid-ends is (not (byte == newline))))
+laid-ends (Print byte ∷ is) holds = grind (arith, nat_tests, laid-ends is (not (byte == newline)), any-ends, print-ends)
 laid-ends (LineEnd empty ∷ is) holds = line-end-ends holds empty (laid false is) (laid-ends is false)
 
 limbo-ends : (text : List ℕ) (part : Span) → HasLineEnd (limbo_bytes text part)
@@ -109,12 +101,7 @@ ends-after last (byte ∷ bytes) is = inr (by (ends-after byte bytes is))
     by (inr ended) = behind-any (byte ∷ []) bytes ended
 
 last-ends : (bytes : List ℕ) → EndInLine (last_line_ended bytes)
-last-ends bytes = by (last_after newline bytes == newline) refl
-  where
-    by : (t : Bool) → (last_after newline bytes == newline) ≡ t → EndInLine (bytes ++ end_if (not t))
-    by true e =
-        both-end bytes [] (ends-after newline bytes (eqb-true (last_after newline bytes) newline e)) (inl refl)
-    by false e = inr (bytes, refl)
+last-ends bytes = grind (arith, nat_tests, both-end, ends-after, eqb-true)
 
 -- ## Where they stand in the file
 

@@ -3,6 +3,7 @@
 use Rattle.std.proofs.Common.{◌≡◌, ℕ, suc, ◌+◌, ◌-◌, Bool, true, false, ◌&&◌, ◌||◌, not, ◌==◌, nat_lt, List, [], ◌∷◌}
 use Rattle.std.proofs.Common.{if◌then◌else◌, drop, sym, ap, ◌∙◌, arith}
 use Rattle.std.proofs.lemmas.List.{drop-drop}
+use Rattle.std.proofs.lemmas.Bool.Decides.{nat_tests}
 use Rattle.cw_base.proofs.TestLaws.{both-left, both-right}
 use Rattle.cw_base.specs.Bytes.{newline, backslash}
 use Rattle.cw_base.specs.Text.{bar}
@@ -23,15 +24,15 @@ use Rattle.cw_rules.specs.Answers.{Where, Found}
 use Rattle.cw_rules.specs.Apart.{code_text_apart, comment_text_apart, behind_head_apart, part_text_apart, in_text_apart}
 use Rattle.cw_rules.specs.Apart.{found_apart}
 use Rattle.cw_rules.specs.Bodies.{at_start, extent}
-use Rattle.cw_rules.specs.Bytes.{at_sign, apostrophe, comma, hash, less, right_paren, left_paren, slash, star}
-use Rattle.cw_rules.specs.Bytes.{begins, begins_by, is_digit, is_in, is_letter, run}
-use Rattle.cw_rules.specs.Codes.{begins_section, code_at, effect_in_limbo, effect_in_tex}
-use Rattle.cw_rules.specs.Tokens.{behind_include, behind_inner, closes_on_line, code_by, code_token}
-use Rattle.cw_rules.specs.Tokens.{control_or_plain, effect_in, ends_at_bar, format_name, head_sign_size, in_code}
-use Rattle.cw_rules.specs.Tokens.{in_hash_line, is_deep, is_head, is_include, is_name, is_quote, is_signed, is_space}
-use Rattle.cw_rules.specs.Tokens.{limbo_by, limbo_text, line_end, macro_name, may_head, moved, name_follows, parameter}
-use Rattle.cw_rules.specs.Tokens.{parameter_follows, passed, section_name, start_of, string, takes_hash_line, tex_by}
-use Rattle.cw_rules.specs.Tokens.{behind_format, is_parameter, tex_text}
+use Rattle.cw_rules.specs.Bytes.{at_sign, apostrophe, comma, hash, less, right_paren, left_paren, slash, star, begins}
+use Rattle.cw_rules.specs.Bytes.{begins_by, is_digit, is_in, is_letter, run}
+use Rattle.cw_rules.specs.Codes.{begins_section, code_at, effect_in_tex}
+use Rattle.cw_rules.specs.Tokens.{behind_include, behind_inner, closes_on_line, code_by, code_token, control_or_plain}
+use Rattle.cw_rules.specs.Tokens.{effect_in, ends_at_bar, format_name, head_sign_size, in_code, in_hash_line, is_deep}
+use Rattle.cw_rules.specs.Tokens.{is_head, is_include, is_name, is_quote, is_signed, is_space, limbo_by, limbo_text}
+use Rattle.cw_rules.specs.Tokens.{line_end, macro_name, may_head, moved, name_follows, parameter, parameter_follows}
+use Rattle.cw_rules.specs.Tokens.{passed, section_name, start_of, string, takes_hash_line, tex_by, behind_format}
+use Rattle.cw_rules.specs.Tokens.{is_parameter, tex_text}
 use Rattle.cw_rules.proofs.Choices.{if-both}
 use Rattle.cw_lex.specs.Lexing.{beginning}
 
@@ -103,10 +104,7 @@ sign-behind code place byte bytes named h =
 
 head-wants : (part : Part) (comments : List Opened) (bytes : List ℕ) → may_head part comments ≡ true
     → is_signed bytes ≡ true → WantsIn parts.Head comments bytes
-head-wants part [] bytes m h = h
-head-wants parts.Definition (c ∷ comments) bytes m h = absurd cc
-head-wants parts.Begin (c ∷ comments) bytes m h = absurd cc
-head-wants _ (c ∷ comments) bytes m h = absurd cc
+head-wants part comments bytes m h = grind (arith, nat_tests)
 
 code-by-goes : (effect : Effect) (code : Code) (w : Where) (place byte : ℕ) (bytes : List ℕ) → IsFree w.part
     → Goes bytes (code_by effect code w place (byte ∷ bytes))
@@ -186,16 +184,10 @@ within part = record { part = part; comments = [] }
 
 limbo-by-goes : (effect : Effect) (code : Code) (place : ℕ) (bytes behind : List ℕ)
     → Goes behind (limbo_by effect code (within parts.Limbo) place bytes)
-limbo-by-goes effects.Stands code place bytes behind = tt
-limbo-by-goes effects.Formats code place bytes behind = tt
-limbo-by-goes (effects.Drops note) code place bytes behind = tt
-limbo-by-goes effects.Defines code place bytes behind = tt
-limbo-by-goes effects.BeginsC code place bytes behind = tt
+limbo-by-goes effect code place bytes behind = grind (arith, nat_tests)
 
 limbo-text-goes : (place byte : ℕ) (bytes : List ℕ) → Goes bytes (limbo_text (within parts.Limbo) place byte bytes)
-limbo-text-goes place byte bytes =
-    if-both (Goes bytes) (byte == at_sign) _ _
-    (λ h. limbo-by-goes (effect_in_limbo (code_at bytes)) (code_at bytes) place (byte ∷ bytes) bytes) (λ h. tt)
+limbo-text-goes place byte bytes = grind (arith, nat_tests, if-both, limbo-by-goes)
 
 tex-by-goes : (effect : Effect) (code : Code) (place byte : ℕ) (bytes : List ℕ)
     → Goes bytes (tex_by effect code (within parts.Tex) place (byte ∷ bytes))
@@ -229,9 +221,7 @@ blank-before byte bytes h signed =
 -- no blank before it
 pub sign-here : (byte : ℕ) (bytes : List ℕ) → is_in classes.Blank byte ≡ false → is_signed (byte ∷ bytes) ≡ true
     → nat_lt 0 (head_sign_size (byte ∷ bytes)) ≡ true
-sign-here byte bytes h signed =
-    sym (ap (λ t. nat_lt 0 (head_sign_size (drop (if t then 1 + run classes.Blank bytes else 0) (byte ∷ bytes)))) h)
-    ∙ signed
+sign-here byte bytes h signed = grind (arith, nat_tests)
 
 -- a letter where a head wants one
 pub letter-here : (byte : ℕ) (bytes : List ℕ) → is_in classes.White byte ≡ false → name_follows (byte ∷ bytes) ≡ true

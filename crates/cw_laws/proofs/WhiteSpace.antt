@@ -1,18 +1,15 @@
 -- Between the bytes of answers stands only white space, and a backslash only in a `#` line.
-use Rattle.std.proofs.Common.{◌≡◌, ℕ, zero, suc, ◌+◌, ◌-◌, ◌<◌, ◌≤◌, Bool, true, false, ◌&&◌, ◌||◌, ◌==◌, List, [], ◌∷◌}
-use Rattle.std.proofs.Common.{◌++◌, Option, Some, None, if◌then◌else◌, length, take, drop, refl, sym, ap, subst, ◌∙◌}
-use Rattle.std.proofs.Common.{arith, append_assoc, length-drop, append-nil, ◌⊎◌, inl, inr}
+use Rattle.std.proofs.Common.{◌≡◌, ℕ, zero, suc, ◌+◌, ◌-◌, ◌≤◌, Bool, true, false, ◌&&◌, ◌||◌, ◌==◌, List, [], ◌∷◌}
+use Rattle.std.proofs.Common.{◌++◌, Option, Some, None, length, take, drop, refl, sym, ap, subst, ◌∙◌}
+use Rattle.std.proofs.Common.{arith, append_assoc, length-drop, append-nil}
 use Rattle.std.proofs.lemmas.Bool.{cases_lt, eqb-true}
 use Rattle.std.proofs.lemmas.List.{length-take}
+use Rattle.std.proofs.lemmas.Bool.Decides.{nat_tests}
 use Rattle.cw_base.proofs.TestLaws.{both, not-both}
-use Rattle.cw_rules.specs.declared.classes.Class.TheVariants as classes
 use Rattle.cw_rules.specs.declared.tokens.Mode.{Mode}
-use Rattle.cw_rules.specs.declared.tokens.Mode.TheVariants as modes
 use Rattle.cw_rules.specs.declared.tokens.TokKind.{TokKind}
-use Rattle.cw_rules.specs.declared.tokens.TokKind.TheVariants as kinds
 use Rattle.cw_rules.specs.Answers.{Answer, Token, Begin, Finish, Note, Where, Found}
-use Rattle.cw_base.specs.Bytes.{newline, backslash}
-use Rattle.cw_rules.specs.Bytes.{at_sign, begins, is_in}
+use Rattle.cw_rules.specs.Bytes.{at_sign}
 use Rattle.cw_rules.specs.Codes.{is_section, begins_section}
 use Rattle.cw_rules.specs.Order.{begins_space, AreWithin}
 use Rattle.cw_rules.specs.Tokens.{all_cut, in_hash_line, section}
@@ -27,7 +24,7 @@ use Rattle.cw_lex.proofs.Covering.{drop-part, begins-take, drop-on}
 use Rattle.cw_lex.proofs.TokensWithin.{tokens-within}
 use Rattle.cw_laws.specs.WhiteSpace.{hash_line_by, hash_line_behind, begins_space_in, IsSpaceIn, LeavesSpace}
 use Rattle.cw_laws.specs.WhiteSpace.{BackslashesContinueHashLines}
-use Rattle.cw_laws.proofs.HashLines.{kind_in, line_with, in-text-lined, has_start, Starts, found-starts}
+use Rattle.cw_laws.proofs.HashLines.{kind_in, line_with, in-text-lined, has_start, found-starts}
 use Rattle.cw_laws.proofs.SectionCodes.{no-section}
 use Rattle.cw_lex.proofs.Openings.{section-kind-is}
 
@@ -50,15 +47,11 @@ no-section-in (Note kind place ∷ xs) h = no-section-in xs h
 
 line-grows : (a line : Bool) (kind : TokKind) → (a ≡ true → line ≡ true) → hash_line_by a kind ≡ true
     → hash_line_by line kind ≡ true
-line-grows a line kinds.HashLine h e = refl
-line-grows a line kinds.HashLineEnd h e = absurd cc
-line-grows a line _ h e = h e
+line-grows a line kind h e = grind (arith, nat_tests)
 
 after-grows : (a line : Bool) (o : Option TokKind) → (a ≡ true → line ≡ true) → IsNoSection o → line_with a o ≡ true
     → line_after line o ≡ true
-after-grows a line None h s e = h e
-after-grows a line (Some kind) h s e =
-    ap (λ b. if b then false else hash_line_by line kind) s ∙ line-grows a line kind h e
+after-grows a line o h s e = grind (arith, nat_tests, line-grows)
 
 found-line : (w : Where) (fresh : Bool) (last place byte : ℕ) (bytes : List ℕ) (line : Bool)
     → (in_hash_line w.part ≡ true → line ≡ true)
@@ -74,44 +67,32 @@ found-line w fresh last place byte bytes line h =
 
 space-by : (white slash next line : Bool) → (white || (slash && next)) ≡ true → (slash ≡ true → line ≡ true)
     → (white || (line && (slash && next))) ≡ true
-space-by true slash next line h k = refl
-space-by false true next line h k = both line next (k refl) h
-space-by false false next line h k = absurd cc
+space-by white slash next line h k = grind (arith, nat_tests, both)
 
 found-space : (w : Where) (fresh : Bool) (last place byte : ℕ) (bytes : List ℕ) (line : Bool)
     → (in_hash_line w.part ≡ true → line ≡ true) → has_start (found_apart w fresh last place byte bytes).answers ≡ false
     → begins_space (byte ∷ bytes) ≡ true → begins_space_in line (byte ∷ bytes) ≡ true
 found-space w fresh last place byte bytes line h none space =
-    space-by (is_in classes.White byte) (byte == backslash) (begins newline bytes) line space
-    (λ k. by (subst (λ b. Starts (in_hash_line w.part) (found_apart w fresh last place b bytes))
-    (sym (eqb-true byte backslash k)) (found-starts w fresh last place bytes)))
-  where
-    by : Starts (in_hash_line w.part) (found_apart w fresh last place byte bytes) → line ≡ true
-    by (inl k) = not-both _ k none
-    by (inr k) = h k
+    grind (arith, nat_tests, space-by, eqb-true, found-starts, not-both)
 
 -- ## Answers one behind another
 
 bare-kind : (place : ℕ) (xs ys : List Answer) → AreBare place xs → kind_in (xs ++ ys) ≡ kind_in ys
 bare-kind place [] ys h = refl
-bare-kind place (Token t ∷ xs) ys h = absurd h
-bare-kind place (Begin t ∷ xs) ys h = absurd h
 bare-kind place (Finish t ∷ xs) ys h = bare-kind place xs ys h.3
 bare-kind place (Note kind about ∷ xs) ys h = bare-kind place xs ys h
+bare-kind _ _ _ h = absurd h
 
 bare-start : (place : ℕ) (xs ys : List Answer) → AreBare place xs → has_start (xs ++ ys) ≡ has_start ys
 bare-start place [] ys h = refl
-bare-start place (Token t ∷ xs) ys h = absurd h
-bare-start place (Begin t ∷ xs) ys h = absurd h
 bare-start place (Finish t ∷ xs) ys h = bare-start place xs ys h.3
 bare-start place (Note kind about ∷ xs) ys h = bare-start place xs ys h
+bare-start _ _ _ h = absurd h
 
 notes-kind : (xs : List Answer) → AreNotes xs → kind_in xs ≡ None
 notes-kind [] h = refl
-notes-kind (Token t ∷ xs) h = absurd h
-notes-kind (Begin t ∷ xs) h = absurd h
-notes-kind (Finish t ∷ xs) h = absurd h
 notes-kind (Note kind about ∷ xs) h = notes-kind xs h
+notes-kind _ h = absurd h
 
 no-space : (text : List ℕ) (line : Bool) (from place : ℕ) → from ≡ place → IsSpaceIn text line from place
 no-space text line from place e p low high = absurd (omega arith)
@@ -122,19 +103,13 @@ more-space text line from to end e s p low high = s p low (omega arith)
 
 space-on : (text : List ℕ) (line : Bool) (from place : ℕ) → IsSpaceIn text line from place
     → begins_space_in line (drop place text) ≡ true → IsSpaceIn text line from (place + 1)
-space-on text line from place s h p low high = by (cases_lt p place)
-  where
-    by : (p < place) ⊎ (place ≤ p) → begins_space_in line (drop p text) ≡ true
-    by (inl before) = s p low before
-    by (inr here) = let e : place ≡ p = omega arith in ap (λ k. begins_space_in line (drop k text)) (sym e) ∙ h
+space-on text line from place s h p low high = grind (arith, nat_tests, cases_lt)
 
 bare-leaves : (text : List ℕ) (line : Bool) (from place end : ℕ) (xs ys : List Answer) → AreBare place xs
     → from ≤ place → IsSpaceIn text line from place
     → ((low : ℕ) → low ≤ place → IsSpaceIn text line low place → LeavesSpace text line low end ys)
     → LeavesSpace text line from end (xs ++ ys)
 bare-leaves text line from place end [] ys h low space rest = rest from low space
-bare-leaves text line from place end (Token t ∷ xs) ys h low space rest = absurd h
-bare-leaves text line from place end (Begin t ∷ xs) ys h low space rest = absurd h
 bare-leaves text line from place end (Finish t ∷ xs) ys h low space rest = (
   more-space text line from place t.span.start (sym h.0) space,
   bare-leaves text line t.span.end place end xs ys h.3 (omega (arith, h.1))
@@ -142,14 +117,13 @@ bare-leaves text line from place end (Finish t ∷ xs) ys h low space rest = (
 )
 bare-leaves text line from place end (Note kind about ∷ xs) ys h low space rest =
     bare-leaves text line from place end xs ys h low space rest
+bare-leaves _ _ _ _ _ _ _ h _ _ _ = absurd h
 
 notes-leave : (text : List ℕ) (line : Bool) (from end : ℕ) (xs ys : List Answer) → AreNotes xs
     → LeavesSpace text line from end ys → LeavesSpace text line from end (xs ++ ys)
 notes-leave text line from end [] ys h c = c
-notes-leave text line from end (Token t ∷ xs) ys h c = absurd h
-notes-leave text line from end (Begin t ∷ xs) ys h c = absurd h
-notes-leave text line from end (Finish t ∷ xs) ys h c = absurd h
 notes-leave text line from end (Note kind about ∷ xs) ys h c = notes-leave text line from end xs ys h c
+notes-leave _ _ _ _ _ _ h _ = absurd h
 
 whole-leaves : (text : List ℕ) (line : Bool) (from place more end : ℕ) (bytes : List ℕ) (xs ys : List Answer)
     → TakesAll place bytes more xs
@@ -242,22 +216,11 @@ space-take : (line : Bool) (n : ℕ) (bytes : List ℕ) → begins_space_in line
     → begins_space_in line bytes ≡ true
 space-take line zero bytes h = absurd cc
 space-take line (suc n) [] h = h
-space-take line (suc n) (b ∷ bytes) h =
-    by (is_in classes.White b) line (b == backslash) (begins newline (take n bytes)) (begins newline bytes) h
-    (begins-take newline n bytes)
-  where
-    by : (white line cut next all : Bool) → (white || (line && (cut && next))) ≡ true → (next ≡ true → all ≡ true)
-        → (white || (line && (cut && all))) ≡ true
-    by true line cut next all h g = refl
-    by false true true next all h g = g h
-    by false true false next all h g = absurd cc
-    by false false cut next all h g = absurd cc
+space-take line (suc n) (b ∷ bytes) h = grind (arith, nat_tests, begins-take)
 
 part-space : (text : List ℕ) (line : Bool) (end from to : ℕ) → to ≤ end → IsSpaceIn (take end text) line from to
     → IsSpaceIn text line from to
-part-space text line end from to h s p low high =
-    space-take line (end - p) (drop p text)
-    (ap (begins_space_in line) (sym (drop-part text end p (omega (arith, h, high)))) ∙ s p low high)
+part-space text line end from to h s p low high = grind (arith, nat_tests, space-take, drop-part)
 
 part-leaves : (text : List ℕ) (line : Bool) (start end from : ℕ) (xs : List Answer) → AreWithin start end xs
     → LeavesSpace (take end text) line from end xs → LeavesSpace text line from end xs
@@ -277,11 +240,7 @@ part-leaves text line start end from (Finish t ∷ xs) a c = (
 part-leaves text line start end from (Note kind about ∷ xs) a c = part-leaves text line start end from xs a c
 
 begins-outside : (mode : Mode) → in_hash_line (beginning mode).part ≡ true → false ≡ true
-begins-outside modes.Limbo e = e
-begins-outside modes.TexText e = e
-begins-outside modes.CPart e = e
-begins-outside modes.Definition e = e
-begins-outside modes.Inner e = e
+begins-outside mode e = grind (arith, nat_tests)
 
 pub backslashes-continue : BackslashesContinueHashLines
 backslashes-continue text start end mode order within =

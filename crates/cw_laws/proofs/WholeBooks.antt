@@ -5,6 +5,7 @@ use Rattle.std.specs.Prelude.{cond, slice_range}
 use Rattle.std.proofs.lemmas.Bool.{cases_lt}
 use Rattle.std.proofs.lemmas.List.Sums.{sum_by-cons}
 use Rattle.std.proofs.lemmas.List.{take_all, take-append-drop, drop-drop, drop-take, take-take}
+use Rattle.std.proofs.lemmas.Bool.Decides.{nat_tests}
 use Rattle.cw_base.specs.declared.span.Span.{Span}
 use Rattle.cw_base.specs.Web.{MergedLine, text_of}
 use Rattle.cw_base.proofs.TestLaws.{not-both}
@@ -19,8 +20,7 @@ use Rattle.cw_phase1.specs.declared.sections.Section.{Section}
 use Rattle.cw_phase1.specs.Book.{answers_of}
 use Rattle.cw_phase1.specs.Entering.{kept_behind}
 use Rattle.cw_phase1.specs.Roles.{Placed, at_limbo, token_step, behind_begin, placed, placed_from}
-use Rattle.cw_phase1.specs.Sections.{span, is_starred, is_section_code, ends_section, first_start, section_at}
-use Rattle.cw_phase1.specs.Sections.{sections_of}
+use Rattle.cw_phase1.specs.Sections.{span, is_section_code, ends_section, first_start, section_at, sections_of}
 use Rattle.cw_phase1.specs.Sound.{LiesIn}
 use Rattle.cw_phase1.specs.declared.roles.Part.TheVariants as parts
 use Rattle.cw_phase1.proofs.PartEnds.{plain-role, section-part}
@@ -28,7 +28,7 @@ use Rattle.cw_phase1.proofs.SpanLaws.{Follow, follows, all-lie}
 use Rattle.cw_laws.specs.Pieces.{pieces_from, book_pieces, EndToEnd, BeginsAt, AreBegun, piece_bytes, has_byte}
 use Rattle.cw_laws.specs.Pieces.{pieces_with, IsAllOf, BooksAreWhole}
 use Rattle.cw_laws.proofs.Openers.{AreOpeners, openers}
-use Rattle.cw_laws.proofs.PartCodes.{IsBefore, definitions-begin, c-part-begins}
+use Rattle.cw_laws.proofs.PartCodes.{definitions-begin, c-part-begins}
 use Rattle.cw_laws.proofs.SectionCodes.{IsCodeAt, AreCoded, coded}
 
 -- ## Pieces lie end to end
@@ -39,21 +39,7 @@ lie-by : (b : Bool) (start later size : ℕ) (s : Section) (rest : List Section)
     → EndToEnd (if b then start else later) size
     (pieces_from (if b then start else later)
     (if b then s ∷ rest else rest))
-lie-by true start later size s rest h e a k =
-    let l : LiesIn size s = a 0 s (omega arith) in (
-      refl,
-      h,
-      (
-        refl,
-        l.tex,
-        (
-          sym l.tex_ends,
-          l.definitions,
-          (sym l.definitions_end, l.c_part, subst (λ n. EndToEnd n size (pieces_from n rest)) (sym e) k),
-        ),
-      ),
-    )
-lie-by false start later size s rest h e a k = k
+lie-by b start later size s rest h e a k = grind (arith, nat_tests)
 
 lie : (lines : List MergedLine) (from size : ℕ) (ps : List Placed) → Follow from size ps
     → EndToEnd (first_start ends_section size ps) size
@@ -70,29 +56,18 @@ begun-by : (text : List ℕ) (b : Bool) (start later : ℕ) (s : Section) (rest 
     → (b ≡ true → BeginsAt text start s) → s.c_part.end ≡ later → AreBegun text later rest
     → AreBegun text (if b then start else later)
     (if b then s ∷ rest else rest)
-begun-by text true start later s rest h e k = (h refl, subst (λ n. AreBegun text n rest) (sym e) k)
-begun-by text false start later s rest h e k = k
+begun-by text b start later s rest h e k = grind (arith, nat_tests)
 
 -- only a section code has its role
 kind-of-role : (s : Standing) (t : Seen) (answers : List Answer)
     → is_section_code (token_step t.kind (has_sign answers) s t.span).role ≡ true → is_section_kind t.kind ≡ true
-kind-of-role s t answers h = by (is_section_kind t.kind) refl
-  where
-    by : (b : Bool) → is_section_kind t.kind ≡ b → is_section_kind t.kind ≡ true
-    by true e = e
-    by false e = not-both _ h (plain-role s t answers e)
+kind-of-role s t answers h = grind (arith, nat_tests, not-both, plain-role)
 
 -- a section begins with its code, and its parts with codes of theirs
 section-begins : (text : List ℕ) (lines : List MergedLine) (size : ℕ) (t : Seen) (next : Standing)
     (kept : List SecName) (answers : List Answer) → next.part ≡ parts.Tex → IsCodeAt text t → AreOpeners text answers
     → BeginsAt text t.span.start (section_at lines size t (placed_from next kept answers))
-section-begins text lines size t next kept answers e c o = record {
-  code = c.stands;
-  behind = c.size;
-  starred = ap is_starred c.kind;
-  definitions = definitions-begin text size next kept answers e o;
-  c_part = c-part-begins text size next kept answers (subst IsBefore (sym e) tt) o;
-}
+section-begins text lines size t next kept answers e c o = grind (arith, nat_tests, definitions-begin, c-part-begins)
 
 begun : (text : List ℕ) (lines : List MergedLine) (size : ℕ) (s : Standing) (kept : List SecName)
     (answers : List Answer) → AreCoded text answers → AreOpeners text answers
@@ -131,14 +106,9 @@ ends-behind from end (piece ∷ pieces) e = omega (arith, e.0, e.1, ends-behind 
 
 bytes-join : (text : List ℕ) (from end : ℕ) (pieces : List Span) → EndToEnd from end pieces
     → piece_bytes text pieces ≡ slice_range text from end
-bytes-join text from end [] e = sym (none (end - from) (omega (arith, e)))
-  where
-    none : (n : ℕ) → n ≡ 0 → take n (drop from text) ≡ []
-    none n e = ap (λ n. take n (drop from text)) e
+bytes-join text from end [] e = grind (arith, nat_tests)
 bytes-join text from end (piece ∷ pieces) e =
-    ap (λ l. slice_range text piece.start piece.end ++ l) (bytes-join text piece.end end pieces e.2)
-    ∙ slices-join text piece.start piece.end end e.1 (ends-behind piece.end end pieces e.2)
-    ∙ ap (λ n. slice_range text n end) e.0
+    grind (arith, nat_tests, bytes-join text piece.end end pieces e.2, slices-join, ends-behind)
 
 -- ## No byte stands in two pieces
 

@@ -1,28 +1,20 @@
 -- Names are told apart by their entries.
-use Rattle.std.proofs.Common.{◌≡◌, ℕ, zero, suc, true, false, ◌&&◌, nat_eq, eqb, slice_get, Option, Some, None, List}
-use Rattle.std.proofs.Common.{[], ◌∷◌, refl, sym, ◌∙◌, ap}
+use Rattle.std.proofs.Common.{◌≡◌, ℕ, zero, suc, true, false, ◌&&◌, nat_eq, eqb, slice_get, Option, List, [], ◌∷◌, refl}
+use Rattle.std.proofs.Common.{sym, ◌∙◌, ap, arith}
 use Rattle.std.specs.List.{AllByRecursion}
 use Rattle.std.proofs.lemmas.Map.Keys.{IsDistinct-head, IsDistinct-tail}
 use Rattle.std.specs.Cmp.Lexicographic.{pointwise}
 use Rattle.std.proofs.Math.Dec.{eqb-suc-suc, eqb-suc-zero, eqb-zero-suc}
 use Rattle.std.proofs.lemmas.Cmp.{nat_list_eq_equiv}
 use Rattle.cw_names.specs.declared.entry.EntryKind.{EntryKind}
-use Rattle.cw_names.specs.declared.entry.EntryKind.TheVariants as kinds
 use Rattle.cw_names.specs.Names.{Entry, same_kind, is_entry, AreDistinct}
-use Rattle.cw_leaves.specs.LeafLines.{Called, Entered, Unknown, called_by, called, same_called}
+use Rattle.cw_leaves.specs.LeafLines.{Called, Entered, called_by, called, same_called}
 
 kind-self : (k : EntryKind) → same_kind k k ≡ true
-kind-self kinds.Ident = refl
-kind-self kinds.Roman = refl
-kind-self kinds.Typewriter = refl
-kind-self kinds.User = refl
+kind-self k = grind arith
 
 kind-flips : (k l : EntryKind) → same_kind k l ≡ same_kind l k
-kind-flips kinds.Ident kinds.Ident = refl
-kind-flips kinds.Roman kinds.Roman = refl
-kind-flips kinds.Typewriter kinds.Typewriter = refl
-kind-flips kinds.User kinds.User = refl
-kind-flips _ _ = refl
+kind-flips k l = grind arith
 
 text-self : (t : List ℕ) → pointwise nat_eq t t ≡ true
 text-self t = nat_list_eq_equiv.refl t
@@ -34,15 +26,11 @@ self : (e : Entry) → is_entry e.kind e.text e ≡ true
 self e = ap (λ b. b && pointwise nat_eq e.text e.text) (kind-self e.kind) ∙ text-self e.text
 
 flips : (e d : Entry) → is_entry e.kind e.text d ≡ is_entry d.kind d.text e
-flips e d = ap (λ b. b && pointwise nat_eq e.text d.text) (kind-flips e.kind d.kind)
-    ∙ ap (λ b. same_kind d.kind e.kind && b) (text-flips e.text d.text)
+flips e d = grind (arith, nat_eq, kind-flips, text-flips)
 
 shifted : (a b : ℕ) (o p : Option Entry)
     → same_called (called_by (suc a) o) (called_by (suc b) p) ≡ same_called (called_by a o) (called_by b p)
-shifted a b None None = eqb-suc-suc a b
-shifted a b None (Some d) = refl
-shifted a b (Some e) None = refl
-shifted a b (Some e) (Some d) = refl
+shifted a b o p = grind (arith, eqb-suc-suc)
 
 apart : (e : Entry) (es : List Entry) (b n : ℕ) → AllByRecursion (λ d. is_entry e.kind e.text d ≡ false) es
     → same_called (Entered e.kind e.text) (called_by n (slice_get es b)) ≡ false
@@ -57,11 +45,7 @@ eqb-flips (suc m) zero = eqb-suc-zero m ∙ sym (eqb-zero-suc m)
 eqb-flips (suc m) (suc n) = eqb-suc-suc m n ∙ (eqb-flips m n ∙ sym (eqb-suc-suc n m))
 
 called-flips : (c d : Called) → same_called c d ≡ same_called d c
-called-flips (Entered k t) (Entered l u) = ap (λ b. b && pointwise nat_eq t u) (kind-flips k l)
-    ∙ ap (λ b. same_kind l k && b) (text-flips t u)
-called-flips (Entered k t) (Unknown n) = refl
-called-flips (Unknown m) (Entered l u) = refl
-called-flips (Unknown m) (Unknown n) = eqb-flips m n
+called-flips c d = grind (arith, nat_eq, kind-flips, text-flips, eqb-flips)
 
 pub called-apart : (names : List Entry) → AreDistinct names → (a b : ℕ)
     → same_called (called names a) (called names b) ≡ eqb a b

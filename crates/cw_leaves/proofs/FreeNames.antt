@@ -1,29 +1,23 @@
 -- Other names leave the log as it is, where no two become one.
-use Rattle.std.proofs.Common.{◌≡◌, ℕ, zero, suc, ◌+◌, Bool, true, false, ◌&&◌, Option, Some, None, List, [], ◌∷◌}
-use Rattle.std.proofs.Common.{◌++◌, refl, sym, ◌∙◌, ap, map, take, drop, set, get_or, if◌then◌else◌}
+use Rattle.std.proofs.Common.{◌≡◌, ℕ, zero, suc, ◌+◌, Bool, Option, List, [], ◌∷◌, ◌++◌, refl, sym, ◌∙◌, ap, map, take}
+use Rattle.std.proofs.Common.{drop, get_or, if◌then◌else◌, arith}
 use Rattle.std.proofs.lemmas.List.{map-append, map-set}
 use Rattle.std.specs.List.{take-map, drop-map}
 use Rattle.std.proofs.Math.ListN.{get_or-map}
 use Rattle.cw_base.specs.declared.category.Cat.{Cat}
-use Rattle.cw_base.specs.declared.category.Cat.TheVariants.{Exp, RawInt}
+use Rattle.cw_base.specs.declared.category.Cat.TheVariants.{RawInt}
 use Rattle.cw_base.specs.declared.flags.Flags.{Flags}
 use Rattle.cw_table.specs.declared.types.Piece.{Piece}
-use Rattle.cw_table.specs.declared.types.Piece.TheVariants as piece
 use Rattle.cw_table.specs.declared.types.Row.{Row}
-use Rattle.cw_table.specs.Rows.{result_at}
-use Rattle.cw_table.specs.Sound.{is_exp}
-use Rattle.cw_table.specs.Rewriting.{row_pieces, alone}
 use Rattle.cw_table.specs.Normal.{Place, Nowhere, At, least_place, Production}
-use Rattle.cw_leaves.specs.Sights.{Heard, behind, followed, Sight, no_sight, seen_cats, heard_in}
-use Rattle.cw_leaves.specs.Sights.{heard_all, seen_as, seen_from, seen_new, seen_reserved, seen_reserved_at, is_same}
-use Rattle.cw_leaves.specs.Sights.{seen_named, seen_named_by, names_at, seen_rewritten_from, seen_rewritten}
-use Rattle.cw_leaves.specs.Sights.{seen_rank, seen_weight, seen_log_of, seen_log, renamed_heard, renamed_bare, renamed}
-use Rattle.cw_leaves.specs.Sights.{without_first}
+use Rattle.cw_leaves.specs.Sights.{Heard, behind, Sight, no_sight, seen_cats, heard_in, heard_all, seen_as, seen_from}
+use Rattle.cw_leaves.specs.Sights.{seen_new, seen_reserved, seen_reserved_at, is_same, seen_named, seen_named_by}
+use Rattle.cw_leaves.specs.Sights.{names_at, seen_rewritten_from, seen_rewritten, seen_rank, seen_weight, seen_log_of}
+use Rattle.cw_leaves.specs.Sights.{seen_log, renamed_heard, renamed_bare, renamed, without_first}
 
 behind-renamed : {M N : Type 0} (f : M → N) (names : List M) (stops : Bool) (rest : Heard M)
     → renamed_heard f (behind names stops rest) ≡ behind (map f names) stops (renamed_heard f rest)
-behind-renamed f names true rest = refl
-behind-renamed f names false rest = ap (λ xs. record { names = xs; stops = rest.stops }) (map-append f names rest.names)
+behind-renamed f names stops rest = grind (arith, map-append)
 
 get-renamed : {M N : Type 0} (f : M → N) (ss : List (Sight M)) (k : ℕ)
     → get_or (map (renamed f) ss) k no_sight ≡ renamed f (get_or ss k no_sight)
@@ -31,17 +25,12 @@ get-renamed f ss k = get_or-map (renamed f) ss k no_sight
 
 in-renamed : {M N : Type 0} (f : M → N) (ss : List (Sight M)) (p : Piece)
     → renamed_heard f (heard_in ss p) ≡ heard_in (map (renamed f) ss) p
-in-renamed f ss (piece.Scrap k) = ap (λ s. s.heard) (sym (get-renamed f ss k))
-in-renamed f ss (piece.MathScrap k) = ap (λ s. s.heard) (sym (get-renamed f ss k))
-in-renamed f ss _ = refl
+in-renamed f ss p = grind (arith, get-renamed)
 
 all-renamed : {M N : Type 0} (f : M → N) (ss : List (Sight M)) (ps : List Piece)
     → renamed_heard f (heard_all ss ps) ≡ heard_all (map (renamed f) ss) ps
 all-renamed f ss [] = refl
-all-renamed f ss (p ∷ ps) =
-    behind-renamed f (heard_in ss p).names (heard_in ss p).stops (heard_all ss ps)
-    ∙ (ap (λ h. followed h (renamed_heard f (heard_all ss ps))) (in-renamed f ss p)
-    ∙ ap (followed (heard_in (map (renamed f) ss) p)) (all-renamed f ss ps))
+all-renamed f ss (p ∷ ps) = grind (arith, all-renamed f ss ps, behind-renamed, in-renamed)
 
 cats-renamed : {M N : Type 0} (f : M → N) (ss : List (Sight M)) → seen_cats (map (renamed f) ss) ≡ seen_cats ss
 cats-renamed f [] = refl
@@ -49,72 +38,52 @@ cats-renamed f (s ∷ ss) = ap (λ cs. s.cat ∷ cs) (cats-renamed f ss)
 
 from-renamed : {M N : Type 0} (f : M → N) (c : Cat) (o : Option ℕ) (ps : List Piece) (ss : List (Sight M))
     → renamed f (seen_from c o ps ss) ≡ seen_from c o ps (map (renamed f) ss)
-from-renamed f c (Some k) ps ss = ap (seen_as c) (sym (get-renamed f ss k))
-from-renamed f c None ps ss = ap (λ h. record { cat = c; bare = None; heard = h }) (all-renamed f ss ps)
+from-renamed f c o ps ss = grind (arith, get-renamed, all-renamed)
 
 new-renamed : {M N : Type 0} (f : M → N) (flags : Flags) (r : Row) (ss : List (Sight M))
     → renamed f (seen_new flags r ss) ≡ seen_new flags r (map (renamed f) ss)
-new-renamed f flags r ss =
-    from-renamed f (result_at r.result (seen_cats ss)) (alone r.replaced (row_pieces flags r (seen_cats ss)))
-    (row_pieces flags r (seen_cats ss)) ss
-    ∙ ap (λ cs. seen_from (result_at r.result cs) (alone r.replaced (row_pieces flags r cs)) (row_pieces flags r cs)
-    (map (renamed f) ss)) (sym (cats-renamed f ss))
+new-renamed f flags r ss = grind (arith, from-renamed, cats-renamed)
 
 without-renamed : {M N : Type 0} (f : M → N) (names : List M)
     → map f (without_first names) ≡ without_first (map f names)
-without-renamed f [] = refl
-without-renamed f (n ∷ names) = refl
+without-renamed f names = grind arith
 
 reserved-renamed : {M N : Type 0} (f : M → N) (s : Sight M) → renamed f (seen_reserved s) ≡ seen_reserved (renamed f s)
-reserved-renamed f s =
-    ap (λ names. record { cat = s.cat; bare = None; heard = record { names = names; stops = s.heard.stops } })
-    (without-renamed f s.heard.names)
+reserved-renamed f s = grind (arith, without-renamed)
 
 reserved-at-renamed : {M N : Type 0} (f : M → N) (o : Option ℕ) (ss : List (Sight M))
     → map (renamed f) (seen_reserved_at o ss) ≡ seen_reserved_at o (map (renamed f) ss)
-reserved-at-renamed f None ss = refl
-reserved-at-renamed f (Some k) ss =
-    map-set (renamed f) ss k (seen_reserved (get_or ss k no_sight))
-    ∙ ap (λ s. set (map (renamed f) ss) k s)
-    (reserved-renamed f (get_or ss k no_sight) ∙ ap seen_reserved (sym (get-renamed f ss k)))
+reserved-at-renamed f o ss = grind (arith, map-set, reserved-renamed, get-renamed)
 
 is-renamed : {M N : Type 0} (same : M → M → Bool) (other : N → N → Bool) (f : M → N)
     → ((a b : M) → other (f a) (f b) ≡ same a b) → (n : M) (o : Option M)
     → is_same same n o ≡ is_same other (f n) (renamed_bare f o)
-is-renamed same other f free n None = refl
-is-renamed same other f free n (Some b) = sym (free b n)
+is-renamed same other f free n o = grind arith
 
 turned-renamed : {M N : Type 0} (f : M → N) (b : Bool) (s : Sight M)
     → renamed f (if b then seen_as RawInt (seen_reserved s) else s)
     ≡ (if b then seen_as RawInt (seen_reserved (renamed f s)) else renamed f s)
-turned-renamed f true s = ap (seen_as RawInt) (reserved-renamed f s)
-turned-renamed f false s = refl
+turned-renamed f b s = grind (arith, reserved-renamed)
 
 named-renamed : {M N : Type 0} (same : M → M → Bool) (other : N → N → Bool) (f : M → N)
     → ((a b : M) → other (f a) (f b) ≡ same a b) → (n : M) (s : Sight M)
     → renamed f (seen_named same n s) ≡ seen_named other (f n) (renamed f s)
-named-renamed same other f free n s = turned-renamed f (is_exp s.cat && is_same same n s.bare) s
-    ∙ ap (λ b. if is_exp s.cat && b then seen_as RawInt (seen_reserved (renamed f s)) else renamed f s)
-    (is-renamed same other f free n s.bare)
+named-renamed same other f free n s = grind (arith, turned-renamed, is-renamed)
 
 all-named-renamed : {M N : Type 0} (same : M → M → Bool) (other : N → N → Bool) (f : M → N)
     → ((a b : M) → other (f a) (f b) ≡ same a b) → (n : M) (ss : List (Sight M))
     → map (renamed f) (map (seen_named same n) ss) ≡ map (seen_named other (f n)) (map (renamed f) ss)
 all-named-renamed same other f free n [] = refl
-all-named-renamed same other f free n (s ∷ ss) =
-    ap (λ x. x ∷ map (renamed f) (map (seen_named same n) ss)) (named-renamed same other f free n s)
-    ∙ ap (λ xs. seen_named other (f n) (renamed f s) ∷ xs) (all-named-renamed same other f free n ss)
+all-named-renamed same other f free n (s ∷ ss) = grind (arith, all-named-renamed same other f free n ss, named-renamed)
 
 named-by-renamed : {M N : Type 0} (same : M → M → Bool) (other : N → N → Bool) (f : M → N)
     → ((a b : M) → other (f a) (f b) ≡ same a b) → (names : List M) (ss : List (Sight M))
     → map (renamed f) (seen_named_by same names ss) ≡ seen_named_by other (map f names) (map (renamed f) ss)
-named-by-renamed same other f free [] ss = refl
-named-by-renamed same other f free (n ∷ names) ss = all-named-renamed same other f free n ss
+named-by-renamed same other f free names ss = grind (arith, all-named-renamed)
 
 names-at-renamed : {M N : Type 0} (f : M → N) (o : Option ℕ) (ss : List (Sight M))
     → map f (names_at o ss) ≡ names_at o (map (renamed f) ss)
-names-at-renamed f None ss = refl
-names-at-renamed f (Some k) ss = ap (λ s. s.heard.names) (sym (get-renamed f ss k))
+names-at-renamed f o ss = grind (arith, get-renamed)
 
 rewritten-from-renamed : {M N : Type 0} (same : M → M → Bool) (other : N → N → Bool) (f : M → N)
     → ((a b : M) → other (f a) (f b) ≡ same a b) → (flags : Flags) (r : Row) (ss : List (Sight M))
@@ -148,14 +117,11 @@ rewritten-renamed same other f free flags r place ss =
     ∙ ap (seen_rewritten_from other flags r) (sym (drop-map (renamed f) place ss))))
 
 rank-renamed : {M N : Type 0} (f : M → N) (c : Cat) (b : Option M) → seen_rank c (renamed_bare f b) ≡ seen_rank c b
-rank-renamed f Exp (Some n) = refl
-rank-renamed f Exp None = refl
-rank-renamed f _ _ = refl
+rank-renamed f c b = grind arith
 
 weight-renamed : {M N : Type 0} (f : M → N) (ss : List (Sight M)) → seen_weight (map (renamed f) ss) ≡ seen_weight ss
 weight-renamed f [] = refl
-weight-renamed f (s ∷ ss) = ap (λ n. 4 + n + seen_weight (map (renamed f) ss)) (rank-renamed f s.cat s.bare)
-    ∙ ap (λ n. 4 + seen_rank s.cat s.bare + n) (weight-renamed f ss)
+weight-renamed f (s ∷ ss) = grind (arith, weight-renamed f ss, rank-renamed)
 
 log-renamed-of : {M N : Type 0} (same : M → M → Bool) (other : N → N → Bool) (f : M → N)
     → ((a b : M) → other (f a) (f b) ≡ same a b) → (rows : List Row) (flags : Flags) (n : ℕ) (ss : List (Sight M))
@@ -190,6 +156,4 @@ pub log-renamed : {M N : Type 0} (same : M → M → Bool) (other : N → N → 
     → ((a b : M) → other (f a) (f b) ≡ same a b) → (rows : List Row) (flags : Flags) (ss : List (Sight M))
     → seen_log other rows flags (map (renamed f) ss) ≡ seen_log same rows flags ss
 unfolding seen_log
-log-renamed same other f free rows flags ss =
-    log-renamed-of same other f free rows flags (seen_weight (map (renamed f) ss)) ss
-    ∙ ap (λ n. seen_log_of same rows flags n ss) (weight-renamed f ss)
+log-renamed same other f free rows flags ss = grind (arith, log-renamed-of, weight-renamed)

@@ -1,31 +1,25 @@
 -- A production changes what is seen of scraps as it changes the scraps, and so the two have the same log.
-use Rattle.std.proofs.Common.{◌≡◌, ℕ, zero, suc, ◌+◌, Bool, true, false, ◌&&◌, eqb, Option, Some, None, List, [], ◌∷◌}
-use Rattle.std.proofs.Common.{◌++◌, refl, sym, ◌∙◌, ap, map, take, drop, set, get_or, if◌then◌else◌}
+use Rattle.std.proofs.Common.{◌≡◌, ℕ, zero, suc, ◌+◌, Bool, eqb, Option, Some, None, List, [], ◌∷◌, ◌++◌, refl, sym}
+use Rattle.std.proofs.Common.{◌∙◌, ap, map, take, drop, get_or, if◌then◌else◌, arith}
 use Rattle.std.proofs.lemmas.List.{map-append, map-set}
 use Rattle.std.specs.List.{take-map, drop-map}
 use Rattle.std.proofs.Math.ListN.{get_or-map}
 use Rattle.cw_base.specs.declared.category.Cat.{Cat}
-use Rattle.cw_base.specs.declared.category.Cat.TheVariants.{Exp, RawInt}
+use Rattle.cw_base.specs.declared.category.Cat.TheVariants.{RawInt}
 use Rattle.cw_base.specs.declared.flags.Flags.{Flags}
 use Rattle.cw_base.specs.declared.mode.MathMode.{MathMode}
-use Rattle.cw_base.specs.declared.mode.MathMode.TheVariants.{Text, Math, Maybe}
-use Rattle.cw_trees.specs.Tree.{Tree, Empty, Then, Sub, Inner, Source, Ident, Reserved, Sign, Search, Found, Stopped}
-use Rattle.cw_trees.specs.Tree.{Nothing, search_sign, search_word, first_ident, reserve_first, bare_name}
+use Rattle.cw_trees.specs.Tree.{Tree, Empty, Then, Sub, Inner, Source, Ident, Reserved, Sign, search_sign}
+use Rattle.cw_trees.specs.Tree.{reserve_first, bare_name}
 use Rattle.cw_trees.specs.Joining.{Scrap, no_scrap, Joined, Whole, Mark, joined_tree, toggled, needs, after, join}
 use Rattle.cw_table.specs.declared.types.Piece.{Piece}
-use Rattle.cw_table.specs.declared.types.Piece.TheVariants as piece
 use Rattle.cw_table.specs.declared.types.Row.{Row}
-use Rattle.cw_table.specs.Rows.{result_at}
-use Rattle.cw_table.specs.Sound.{is_exp}
-use Rattle.cw_table.specs.Rewriting.{cats_of, row_pieces, math_piece, joined_of, alone, with_cat, new_scrap}
-use Rattle.cw_table.specs.Rewriting.{search_in, reserved_in, reserved_at, is_bare_name, named_scrap, named_right}
-use Rattle.cw_table.specs.Rewriting.{rewrite_from}
-use Rattle.cw_table.specs.Rewriting.{State, rewrite}
+use Rattle.cw_table.specs.Rewriting.{cats_of, math_piece, joined_of, with_cat, new_scrap, search_in, reserved_in}
+use Rattle.cw_table.specs.Rewriting.{reserved_at, is_bare_name, named_scrap, named_right, rewrite_from, State, rewrite}
 use Rattle.cw_table.specs.Normal.{Place, Nowhere, At, least_place, rank_with, weight, Production, log_of, log}
-use Rattle.cw_leaves.specs.Sights.{Heard, silence, followed, told_by, heard, Sight, sight, no_sight}
-use Rattle.cw_leaves.specs.Sights.{seen_cats, heard_in, heard_all, seen_as, seen_from, seen_new, seen_reserved}
-use Rattle.cw_leaves.specs.Sights.{seen_reserved_at, is_same, seen_named, seen_named_by, names_at}
-use Rattle.cw_leaves.specs.Sights.{seen_rewritten_from, seen_rewritten, seen_rank, seen_weight, seen_log_of, seen_log}
+use Rattle.cw_leaves.specs.Sights.{Heard, silence, followed, told_by, heard, Sight, sight, no_sight, seen_cats}
+use Rattle.cw_leaves.specs.Sights.{heard_in, heard_all, seen_as, seen_from, seen_new, seen_reserved, seen_reserved_at}
+use Rattle.cw_leaves.specs.Sights.{is_same, seen_named, seen_named_by, names_at, seen_rewritten_from, seen_rewritten}
+use Rattle.cw_leaves.specs.Sights.{seen_rank, seen_weight, seen_log_of, seen_log}
 use Rattle.cw_leaves.proofs.SightFacts.{found_in, first-heard, heard-reserved, heard-toggled}
 
 -- these two stand in ScrapFacts of cw_table
@@ -33,42 +27,13 @@ reserve-bare : (t : Tree) → bare_name (reserve_first t) ≡ None
 reserve-bare Empty = refl
 reserve-bare (Then (Source number mode) rest) = refl
 reserve-bare (Then (Ident name number) rest) = refl
-reserve-bare (Then (Reserved name number cat) rest) = go (search_word cat)
-  where
-    go : (s : Search) → bare_name (elim s [
-      | Found n ↦ Then (Reserved name number cat) rest
-      | Stopped ↦ Then (Reserved name number cat) rest
-      | Nothing ↦ Then (Reserved name number cat) (reserve_first rest)
-    ]) ≡ None
-    go (Found n) = refl
-    go Stopped = refl
-    go Nothing = refl
-reserve-bare (Then (Sign control) rest) = go (search_sign control)
-  where
-    go : (s : Search) → bare_name (elim s [
-      | Found n ↦ Then (Sign control) rest
-      | Stopped ↦ Then (Sign control) rest
-      | Nothing ↦ Then (Sign control) (reserve_first rest)
-    ]) ≡ None
-    go (Found n) = refl
-    go Stopped = refl
-    go Nothing = refl
-reserve-bare (Sub tree rest) = go (first_ident tree)
-  where
-    go : (s : Search) → bare_name (elim s [
-      | Found n ↦ Sub (reserve_first tree) rest
-      | Stopped ↦ Sub tree rest
-      | Nothing ↦ Sub tree (reserve_first rest)
-    ]) ≡ None
-    go (Found n) = refl
-    go Stopped = refl
-    go Nothing = refl
+reserve-bare (Then (Reserved name number cat) rest) = grind arith
+reserve-bare (Then (Sign control) rest) = grind arith
+reserve-bare (Sub tree rest) = grind arith
 reserve-bare (Inner tree rest) = refl
 
 toggled-bare : (m n : MathMode) (t : Tree) → bare_name t ≡ None → bare_name (toggled m n t) ≡ None
-toggled-bare Math Text t h = refl
-toggled-bare Text Math t h = refl
-toggled-bare _ _ t h = h
+toggled-bare m n t h = grind arith
 
 joined-bare : (m : MathMode) (js : List Joined) → bare_name (joined_tree m js) ≡ None
 joined-bare m [] = refl
@@ -86,32 +51,22 @@ pieces_heard (j ∷ js) = followed (piece_heard j) (pieces_heard js)
 
 joined-heard : (m : MathMode) (js : List Joined) → heard (joined_tree m js) ≡ pieces_heard js
 joined-heard m [] = refl
-joined-heard m (Whole t l r ∷ js) =
-    heard-toggled m l _ ∙ ap (followed (heard t)) (joined-heard (after m l r) js)
-joined-heard m (Mark c ∷ js) =
-    heard-toggled m (needs c) _
-    ∙ ap (followed (told_by (search_sign c))) (joined-heard (after m (needs c) (needs c)) js)
+joined-heard m (Whole t l r ∷ js) = grind (arith, joined-heard (after m l r) js, heard-toggled)
+joined-heard m (Mark c ∷ js) = grind (arith, joined-heard (after m (needs c) (needs c)) js, heard-toggled)
 
 -- the scrap of a number
 get-sight : (ss : List Scrap) (k : ℕ) → get_or (map sight ss) k no_sight ≡ sight (get_or ss k no_scrap)
 get-sight ss k = get_or-map sight ss k no_scrap
 
 math-heard : (t : Tree) (l r : MathMode) → piece_heard (math_piece t l r) ≡ heard t
-math-heard t Maybe Maybe = refl
-math-heard t _ _ = refl
+math-heard t l r = grind arith
 
 piece-heard : (ss : List Scrap) (p : Piece) → piece_heard (joined_of ss p) ≡ heard_in (map sight ss) p
-piece-heard ss (piece.Scrap k) = ap (λ (s : Sight ℕ). s.heard) (sym (get-sight ss k))
-piece-heard ss (piece.MathScrap k) =
-    math-heard (get_or ss k no_scrap).tree (get_or ss k no_scrap).left (get_or ss k no_scrap).right
-    ∙ ap (λ (s : Sight ℕ). s.heard) (sym (get-sight ss k))
-piece-heard ss _ = refl
+piece-heard ss p = grind (arith, get-sight, math-heard)
 
 pieces-heard : (ss : List Scrap) (ps : List Piece) → pieces_heard (map (joined_of ss) ps) ≡ heard_all (map sight ss) ps
 pieces-heard ss [] = refl
-pieces-heard ss (p ∷ ps) =
-    ap (λ h. followed h (pieces_heard (map (joined_of ss) ps))) (piece-heard ss p)
-    ∙ ap (followed (heard_in (map sight ss) p)) (pieces-heard ss ps)
+pieces-heard ss (p ∷ ps) = grind (arith, pieces-heard ss ps, piece-heard)
 
 -- categories
 pub seen-cats : (ss : List Scrap) → seen_cats (map sight ss) ≡ cats_of ss
@@ -124,66 +79,39 @@ new-seen : (c : Cat) (o : Option ℕ) (ps : List Piece) (ss : List Scrap)
       | Some k ↦ with_cat c (get_or ss k no_scrap)
       | None ↦ join c (map (joined_of ss) ps)
     ]) ≡ seen_from c o ps (map sight ss)
-new-seen c (Some k) ps ss = ap (seen_as c) (sym (get-sight ss k))
-new-seen c None ps ss =
-    ap (λ b. record { cat = c; bare = b; heard = heard (joined_tree Maybe (map (joined_of ss) ps)) })
-    (joined-bare Maybe (map (joined_of ss) ps))
-    ∙ ap (λ h. record { cat = c; bare = None; heard = h })
-    (joined-heard Maybe (map (joined_of ss) ps) ∙ pieces-heard ss ps)
+new-seen c o ps ss = grind (arith, get-sight, joined-bare, joined-heard, pieces-heard)
 
 scrap-seen : (f : Flags) (r : Row) (ss : List Scrap) → sight (new_scrap f r ss) ≡ seen_new f r (map sight ss)
-scrap-seen f r ss =
-    new-seen (result_at r.result (cats_of ss)) (alone r.replaced (row_pieces f r (cats_of ss)))
-    (row_pieces f r (cats_of ss)) ss
-    ∙ ap (λ cs. seen_from (result_at r.result cs) (alone r.replaced (row_pieces f r cs)) (row_pieces f r cs)
-    (map sight ss))
-    (sym (seen-cats ss))
+scrap-seen f r ss = grind (arith, new-seen, seen-cats)
 
 -- reserving
 reserved-seen : (s : Scrap) → sight (reserved_in s) ≡ seen_reserved (sight s)
-reserved-seen s =
-    ap (λ b. record { cat = s.cat; bare = b; heard = heard (reserve_first s.tree) }) (reserve-bare s.tree)
-    ∙ ap (λ h. record { cat = s.cat; bare = None; heard = h }) (heard-reserved s.tree)
+reserved-seen s = grind (arith, reserve-bare, heard-reserved)
 
 reserved-at-seen : (o : Option ℕ) (ss : List Scrap) → map sight (reserved_at o ss) ≡ seen_reserved_at o (map sight ss)
-reserved-at-seen None ss = refl
-reserved-at-seen (Some k) ss =
-    map-set sight ss k (reserved_in (get_or ss k no_scrap))
-    ∙ ap (λ s. set (map sight ss) k s)
-    (reserved-seen (get_or ss k no_scrap) ∙ ap seen_reserved (sym (get-sight ss k)))
+reserved-at-seen o ss = grind (arith, map-set, reserved-seen, get-sight)
 
 name-same : (n : ℕ) (o : Option ℕ) → is_bare_name n o ≡ is_same eqb n o
-name-same n None = refl
-name-same n (Some b) = refl
+name-same n o = grind arith
 
 turned-seen : (b : Bool) (s : Scrap) → sight (if b then with_cat RawInt (reserved_in s) else s)
     ≡ (if b then seen_as RawInt (seen_reserved (sight s)) else sight s)
-turned-seen true s = ap (seen_as RawInt) (reserved-seen s)
-turned-seen false s = refl
+turned-seen b s = grind (arith, reserved-seen)
 
 named-seen : (n : ℕ) (s : Scrap) → sight (named_scrap n s) ≡ seen_named eqb n (sight s)
-named-seen n s = turned-seen (is_exp s.cat && is_bare_name n (bare_name s.tree)) s
-    ∙ ap (λ b. if is_exp s.cat && b then seen_as RawInt (seen_reserved (sight s)) else sight s)
-    (name-same n (bare_name s.tree))
+named-seen n s = grind (arith, turned-seen, name-same)
 
 all-named : (n : ℕ) (ss : List Scrap) → map sight (map (named_scrap n) ss) ≡ map (seen_named eqb n) (map sight ss)
 all-named n [] = refl
-all-named n (s ∷ ss) = ap (λ x. x ∷ map sight (map (named_scrap n) ss)) (named-seen n s)
-    ∙ ap (λ xs. seen_named eqb n (sight s) ∷ xs) (all-named n ss)
+all-named n (s ∷ ss) = grind (arith, all-named n ss, named-seen)
 
 right-seen : (names : List ℕ) (stops : Bool) (ss : List Scrap)
     → map sight (named_right (found_in names stops) ss) ≡ seen_named_by eqb names (map sight ss)
-right-seen [] true ss = refl
-right-seen [] false ss = refl
-right-seen (n ∷ names) stops ss = all-named n ss
+right-seen names stops ss = grind (arith, all-named)
 
 names-right : (o : Option ℕ) (ss later : List Scrap)
     → map sight (named_right (search_in o ss) later) ≡ seen_named_by eqb (names_at o (map sight ss)) (map sight later)
-names-right None ss later = refl
-names-right (Some k) ss later =
-    ap (λ s. map sight (named_right s later)) (first-heard (get_or ss k no_scrap).tree)
-    ∙ right-seen (heard (get_or ss k no_scrap).tree).names (heard (get_or ss k no_scrap).tree).stops later
-    ∙ ap (λ (s : Sight ℕ). seen_named_by eqb s.heard.names (map sight later)) (sym (get-sight ss k))
+names-right o ss later = grind (arith, first-heard, right-seen, get-sight)
 
 -- one production
 from-seen : (f : Flags) (r : Row) (ss : List Scrap)
@@ -214,13 +142,11 @@ rewrite-seen f r place state =
 
 -- the weight
 rank-seen : (c : Cat) (b : Option ℕ) → rank_with c b ≡ seen_rank c b
-rank-seen Exp (Some n) = refl
-rank-seen _ _ = refl
+rank-seen c b = grind arith
 
 pub weight-seen : (ss : List Scrap) → weight ss ≡ seen_weight (map sight ss)
 weight-seen [] = refl
-weight-seen (s ∷ ss) = ap (λ n. 4 + n + weight ss) (rank-seen s.cat (bare_name s.tree))
-    ∙ ap (λ n. 4 + seen_rank s.cat (bare_name s.tree) + n) (weight-seen ss)
+weight-seen (s ∷ ss) = grind (arith, weight-seen ss, rank-seen)
 
 -- the log
 pub log-seen-of : (rows : List Row) (f : Flags) (n : ℕ) (state : State)
@@ -253,6 +179,4 @@ log-seen-of rows f (suc n) state =
 pub log-seen : (rows : List Row) (f : Flags) (state : State)
     → log rows f state ≡ seen_log eqb rows f (map sight state.scraps)
 unfolding log seen_log
-log-seen rows f state =
-    log-seen-of rows f (weight state.scraps) state
-    ∙ ap (λ n. seen_log_of eqb rows f n (map sight state.scraps)) (weight-seen state.scraps)
+log-seen rows f state = grind (arith, log-seen-of, weight-seen)

@@ -1,14 +1,13 @@
 -- The answers cover the bytes that are scanned, whatever the text.
-use Rattle.std.proofs.Common.{◌≡◌, ℕ, zero, suc, ◌+◌, ◌-◌, ◌<◌, ◌≤◌, Bool, true, false, ◌||◌, ◌&&◌, ◌==◌, List, [], ◌∷◌}
-use Rattle.std.proofs.Common.{◌++◌, length, take, drop, refl, sym, ap, subst, ◌∙◌, arith, append_assoc, length-drop}
-use Rattle.std.proofs.Common.{append-nil, ◌⊎◌, inl, inr}
+use Rattle.std.proofs.Common.{◌≡◌, ℕ, zero, suc, ◌+◌, ◌-◌, ◌≤◌, Bool, true, List, [], ◌∷◌, ◌++◌, length, take, drop}
+use Rattle.std.proofs.Common.{refl, sym, ap, subst, ◌∙◌, arith, append_assoc, length-drop, append-nil}
 use Rattle.std.specs.Prelude.{slice_range}
 use Rattle.std.proofs.lemmas.Bool.{cases_lt}
 use Rattle.std.proofs.lemmas.List.{drop-drop, length-take, drop-take, take-take}
+use Rattle.std.proofs.lemmas.Bool.Decides.{nat_tests}
+use Rattle.std.proofs.lemmas.Grind.{common_steps}
 use Rattle.cw_rules.specs.declared.tokens.Mode.{Mode}
-use Rattle.cw_base.specs.Bytes.{newline, backslash}
-use Rattle.cw_rules.specs.Bytes.{begins, is_in}
-use Rattle.cw_rules.specs.declared.classes.Class.TheVariants as classes
+use Rattle.cw_rules.specs.Bytes.{begins}
 use Rattle.cw_rules.specs.Answers.{Answer, Token, Begin, Finish, Note, Seen, Where, Found}
 use Rattle.cw_lex.specs.Lexing.{still_fresh, answers, fresh_at, last_at, beginning, tokens_of}
 use Rattle.cw_rules.specs.Tokens.{all_cut}
@@ -27,11 +26,7 @@ more-space text from to end e s p low high = s p low (omega arith)
 -- one byte more
 space-on : (text : List ℕ) (from place : ℕ) → IsSpace text from place → begins_space (drop place text) ≡ true
     → IsSpace text from (place + 1)
-space-on text from place s h p low high = by (cases_lt p place)
-  where
-    by : (p < place) ⊎ (place ≤ p) → begins_space (drop p text) ≡ true
-    by (inl before) = s p low before
-    by (inr here) = let e : place ≡ p = omega arith in ap (λ k. begins_space (drop k text)) (sym e) ∙ h
+space-on text from place s h p low high = grind (arith, nat_tests, cases_lt)
 
 -- ## What one place gives
 
@@ -42,28 +37,18 @@ bare-covers : (text : List ℕ) (from place end : ℕ) (xs ys : List Answer) →
 bare-covers text from place end [] ys h low space rest = rest from low space
 bare-covers text from place end (Token t ∷ xs) ys h low space rest = absurd h
 bare-covers text from place end (Begin t ∷ xs) ys h low space rest = absurd h
-bare-covers text from place end (Finish t ∷ xs) ys h low space rest = (
-  record {
-    order = omega (arith, h.0);
-    span = omega (arith, h.0, h.1);
-    slice = h.2 ∙ sym (none t.span.start t.span.end (drop t.span.start text) (h.0 ∙ sym h.1));
-    space = more-space text from place t.span.start (sym h.0) space;
-  },
+bare-covers text from place end (Finish t ∷ xs) ys h low space rest = grind (
+  arith,
   bare-covers text t.span.end place end xs ys h.3 (omega (arith, h.1)) (no-space text place t.span.end h.1) rest,
 )
-  where
-    none : (a b : ℕ) (l : List ℕ) → a ≡ b → take (b - a) l ≡ []
-    none a b l e = let k : b - a ≡ 0 = omega arith in ap (λ n. take n l) k
 bare-covers text from place end (Note kind about ∷ xs) ys h low space rest =
     bare-covers text from place end xs ys h low space rest
 
 notes-cover : (text : List ℕ) (from end : ℕ) (xs ys : List Answer) → AreNotes xs → Covers text from end ys
     → Covers text from end (xs ++ ys)
 notes-cover text from end [] ys h c = c
-notes-cover text from end (Token t ∷ xs) ys h c = absurd h
-notes-cover text from end (Begin t ∷ xs) ys h c = absurd h
-notes-cover text from end (Finish t ∷ xs) ys h c = absurd h
 notes-cover text from end (Note kind about ∷ xs) ys h c = notes-cover text from end xs ys h c
+notes-cover _ _ _ _ _ h _ = absurd h
 
 whole-stands : (text : List ℕ) (from place more : ℕ) (bytes : List ℕ) (t : Seen) → drop place text ≡ bytes
     → from ≤ place → IsSpace text from place → IsWhole place bytes more t → Stands text from t
@@ -81,37 +66,15 @@ whole-covers : (text : List ℕ) (from place more end : ℕ) (bytes : List ℕ) 
     → TakesAll place bytes more xs → drop place text ≡ bytes → from ≤ place → IsSpace text from place
     → ((low : ℕ) → low ≤ (place + 1) + more → IsSpace text low ((place + 1) + more) → Covers text low end ys)
     → Covers text from end (xs ++ ys)
-whole-covers text from place more end bytes [] ys h here low space rest =
-    let e : place + 1 ≡ (place + 1) + more = omega (arith, h.0) in
-    rest from (omega arith) (more-space text from (place + 1) ((place + 1) + more) e
-    (space-on text from place space (ap begins_space here ∙ h.1)))
-whole-covers text from place more end bytes (Token t ∷ xs) ys h here low space rest = (
-  whole-stands text from place more bytes t here low space h.0,
-  omega (arith, h.0.from, h.0.to),
-  notes-cover text t.span.end end xs ys h.1 (rest t.span.end (omega (arith, h.0.to))
-      (no-space text ((place + 1) + more) t.span.end h.0.to)),
-)
-whole-covers text from place more end bytes (Begin t ∷ xs) ys h here low space rest = (
-  whole-stands text from place more bytes t here low space h.0,
-  notes-cover text t.span.end end xs ys h.1 (rest t.span.end (omega (arith, h.0.to))
-      (no-space text ((place + 1) + more) t.span.end h.0.to)),
-)
-whole-covers text from place more end bytes (Finish t ∷ xs) ys h here low space rest = (
-  whole-stands text from place more bytes t here low space h.0,
-  notes-cover text t.span.end end xs ys h.1 (rest t.span.end (omega (arith, h.0.to))
-      (no-space text ((place + 1) + more) t.span.end h.0.to)),
-)
-whole-covers text from place more end bytes (Note kind about ∷ xs) ys h here low space rest = absurd h
+whole-covers text from place more end bytes xs ys h here low space rest =
+    grind (arith, nat_tests, more-space, space-on, whole-stands, notes-cover, no-space)
 
 found-covers : (text : List ℕ) (from place end : ℕ) (bytes : List ℕ) (f : Found) (ys : List Answer)
     → Takes place bytes f → drop place text ≡ bytes → from ≤ place → IsSpace text from place
     → ((low : ℕ) → low ≤ (place + 1) + f.more → IsSpace text low ((place + 1) + f.more) → Covers text low end ys)
     → Covers text from end (f.answers ++ ys)
 found-covers text from place end bytes f ys t here low space rest =
-    let P : List Answer → Type 0 = Covers text from end in
-    subst P (sym (ap (λ l. l ++ ys) t.split ∙ append_assoc t.first t.rest ys))
-    (bare-covers text from place end t.first (t.rest ++ ys) t.bare low space
-    (λ low least space. whole-covers text low place f.more end bytes t.rest ys t.whole here least space rest))
+    grind (arith, nat_tests, append_assoc, bare-covers, whole-covers)
 
 -- ## All answers
 
@@ -160,39 +123,25 @@ begins-take wanted (suc n) [] h = h
 begins-take wanted (suc n) (b ∷ bytes) h = h
 
 space-take : (n : ℕ) (bytes : List ℕ) → begins_space (take n bytes) ≡ true → begins_space bytes ≡ true
-space-take zero bytes h = absurd cc
-space-take (suc n) [] h = h
-space-take (suc n) (b ∷ bytes) h = by (is_in classes.White b) (b == backslash) (begins newline (take n bytes))
-    (begins newline bytes) h (begins-take newline n bytes)
-  where
-    by : (white cut line all : Bool) → (white || (cut && line)) ≡ true → (line ≡ true → all ≡ true)
-        → (white || (cut && all)) ≡ true
-    by true cut line all h g = refl
-    by false true line all h g = g h
-    by false false line all h g = absurd cc
+space-take n bytes h = grind (arith, nat_tests, begins-take)
 
 pub drop-part : (text : List ℕ) (end p : ℕ) → p ≤ end → drop p (take end text) ≡ take (end - p) (drop p text)
-drop-part text end p h = let e : end ≡ p + (end - p) = omega arith in ap (λ k. drop p (take k text)) e
-    ∙ drop-take p (end - p) text
+drop-part text end p h = grind (arith, nat_tests, common_steps, drop-take p (end - p) text, drop-take)
 
 part-space : (text : List ℕ) (end from to : ℕ) → to ≤ end → IsSpace (take end text) from to → IsSpace text from to
-part-space text end from to h s p low high =
-    space-take (end - p) (drop p text) (ap begins_space (sym (drop-part text end p (omega arith))) ∙ s p low high)
+part-space text end from to h s p low high = grind (arith, nat_tests, space-take, drop-part)
 
 part-slice : (text : List ℕ) (end from to : ℕ) → from ≤ to → to ≤ end → slice_range (take end text) from to
     ≡ slice_range text from to
-part-slice text end from to h g =
-    ap (take (to - from)) (drop-part text end from (omega arith))
-    ∙ take-take (to - from) (end - from) (drop from text) (omega arith)
+part-slice text end from to h g = grind (arith, nat_tests, drop-part, take-take)
 
 part-stands : (text : List ℕ) (end from : ℕ) (t : Seen) → t.span.end ≤ end → Stands (take end text) from t
     → Stands text from t
-part-stands text end from t h s = record {
-  order = s.order;
-  span = s.span;
-  slice = s.slice ∙ part-slice text end t.span.start t.span.end s.span h;
-  space = part-space text end from t.span.start (omega (arith, s.span, h)) s.space;
-}
+part-stands text end from t h s = grind (
+  arith,
+  part-slice text end t.span.start t.span.end s.span h,
+  part-space text end from t.span.start (omega (arith, s.span, h)) s.space,
+)
 
 part-covers : (text : List ℕ) (end from : ℕ) (xs : List Answer) → Covers (take end text) from end xs
     → Covers text from end xs

@@ -1,28 +1,26 @@
 -- The answers behind a head are nested, and their nest is what stands behind the head.
 use Rattle.std.proofs.Common.{◌≡◌, Bool, true, false, Option, Some, None, List, [], ◌∷◌, refl, sym, ◌∙◌, ap, subst}
-use Rattle.std.proofs.Common.{if◌then◌else◌}
+use Rattle.std.proofs.Common.{if◌then◌else◌, arith}
+use Rattle.std.proofs.lemmas.Bool.Decides.{nat_tests}
+use Rattle.std.proofs.lemmas.Grind.{common_steps}
 use Rattle.cw_rules.specs.declared.codes.Code.TheVariants as code
 use Rattle.cw_lex.specs.declared.heads.Wanted.{Wanted}
 use Rattle.cw_lex.specs.declared.heads.Wanted.TheVariants as wants
 use Rattle.cw_rules.specs.declared.tokens.TokKind.{TokKind}
 use Rattle.cw_rules.specs.declared.tokens.TokKind.TheVariants as kind
-use Rattle.cw_rules.specs.Answers.{Answer, Token, Begin, Finish, Note, Seen, is_head_sign}
-use Rattle.cw_lex.specs.Nested.{Level, InCode, after_token, levels_after, IsNested}
+use Rattle.cw_rules.specs.Answers.{Answer, Token, Begin, Note, Seen, is_head_sign}
+use Rattle.cw_lex.specs.Nested.{Level, InCode, after_token, IsNested}
 use Rattle.cw_lex.specs.Nest.{Nest, Leaf, leaf, group, nests, first_nest, nest}
-use Rattle.cw_lex.specs.Heads.{head_behind, behind_sign, Named, headless, Headed, Words, no_word, word_before}
-use Rattle.cw_lex.specs.Heads.{head_words, named_headed, headed_by, headed, without_words, without_name}
-use Rattle.cw_lex.specs.Heads.{without_head_of, without_head}
+use Rattle.cw_lex.specs.Heads.{head_behind, behind_sign, Words, no_word, word_before, head_words, named_headed}
+use Rattle.cw_lex.specs.Heads.{headed_by, headed, without_words, without_name, without_head_of, without_head}
 use Rattle.cw_lex.proofs.Nests.{some-levels, first-levels, nests-nested}
 
 stays : (k : TokKind) (l : List Level) → after_token k (InCode ∷ []) ≡ Some l → l ≡ InCode ∷ []
-stays kind.Text l h = absurd cc
-stays _ l h = sym (some-levels (InCode ∷ []) l h)
+stays k l h = grind (arith, some-levels)
 
 -- a token of C text, and what stands behind it
 pub nested-behind : (t : Seen) (answers : List Answer) → IsNested (Token t ∷ answers) → IsNested answers
-nested-behind t answers h =
-    let f = first-levels (Token t) answers (InCode ∷ []) (levels_after (Token t) (InCode ∷ [])) refl h in
-    rw (stays t.kind f.0 f.1.0) at f.1.1
+nested-behind t answers h = grind (arith, nat_tests, first-levels, stays)
 
 pub nest-token : (t : Seen) (answers : List Answer) → IsNested (Token t ∷ answers) → nest (Token t ∷ answers)
     ≡ Leaf t (nest answers)
@@ -32,9 +30,7 @@ nest-token t answers h = ap (λ ns. first_nest (leaf t ns)) (nests-nested answer
 
 group-words : (wanted : Wanted) (t : Seen) (ns : List Nest) → (head_words wanted (first_nest (group t ns))).rest
     ≡ first_nest (group t ns)
-group-words wanted t [] = refl
-group-words wanted t (n ∷ []) = refl
-group-words wanted t (n ∷ m ∷ ns) = refl
+group-words wanted t ns = grind arith
 
 -- the rest behind words is that of the answers without them
 abbrev Leaves : List Answer → Nest → Type 0
@@ -42,7 +38,6 @@ Leaves answers rest = IsNested answers × (nest answers ≡ rest)
 
 pub words-leave : (wanted : Wanted) (answers : List Answer) → IsNested answers
     → Leaves (without_words wanted answers) (head_words wanted (nest answers)).rest
-words-leave wanted [] h = (h, refl)
 words-leave wanted (Token t ∷ answers) h = by (head_behind wanted t.kind t.span) refl
     (λ next. words-leave next answers (nested-behind t answers h))
   where
@@ -80,16 +75,14 @@ words-leave wanted (Token t ∷ answers) h = by (head_behind wanted t.kind t.spa
         let P : List Answer → Type 0 = λ l. Leaves l (head_words wanted (nest (Token t ∷ answers))).rest in
         subst P (sym without) (h, nest-token t answers h ∙ sym (leaf-words None e))
 words-leave wanted (Begin t ∷ answers) h = (h, sym (group-words wanted t (nests answers)))
-words-leave wanted (Finish t ∷ answers) h = (h, refl)
 words-leave wanted (Note note place ∷ answers) h = words-leave wanted answers h
+words-leave _ _ h = (h, refl)
 
 -- ## A name and its sign
 
 group-named : (name t : Seen) (ns : List Nest) → (named_headed name (first_nest (group t ns))).rest
     ≡ Leaf name (first_nest (group t ns))
-group-named name t [] = refl
-group-named name t (n ∷ []) = refl
-group-named name t (n ∷ m ∷ ns) = refl
+group-named name t ns = grind arith
 
 abbrev Signed : Seen → List Answer → Option (List Answer) → Type 0
 Signed name answers None = (named_headed name (nest answers)).rest ≡ Leaf name (nest answers)
@@ -97,39 +90,18 @@ Signed name answers (Some rest) = Leaves rest (named_headed name (nest answers))
 
 named-rest : (name t : Seen) (rest : Nest) (b : Bool) → is_head_sign t.kind ≡ b → (named_headed name (Leaf t rest)).rest
     ≡ (if b then rest else Leaf name (Leaf t rest))
-named-rest name t rest true e = ap (λ b. (if b then
-    record { head = Named name.span.start t.span.start; rest = rest }
-    else headless (Leaf name (Leaf t rest))).rest) e
-named-rest name t rest false e = ap (λ b. (if b then
-    record { head = Named name.span.start t.span.start; rest = rest }
-    else headless (Leaf name (Leaf t rest))).rest) e
+named-rest name t rest b e = grind (arith, nat_tests)
 
 sign-leaves : (name : Seen) (answers : List Answer) → IsNested answers → Signed name answers (behind_sign answers)
-sign-leaves name [] h = refl
-sign-leaves name (Token t ∷ answers) h = by (is_head_sign t.kind) refl
-  where
-    by : (b : Bool) → is_head_sign t.kind ≡ b → Signed name (Token t ∷ answers)
-        (if b then Some answers else None)
-    by true e = (
-      nested-behind t answers h,
-      sym (ap (λ n. (named_headed name n).rest) (nest-token t answers h)
-          ∙ named-rest name t (nest answers) true e),
-    )
-    by false e = ap (λ n. (named_headed name n).rest) (nest-token t answers h)
-        ∙ named-rest name t (nest answers) false e ∙ sym (ap (Leaf name) (nest-token t answers h))
+sign-leaves name (Token t ∷ answers) h = grind (arith, nat_tests, nested-behind, nest-token, named-rest)
 sign-leaves name (Begin t ∷ answers) h = group-named name t (nests answers)
-sign-leaves name (Finish t ∷ answers) h = refl
 sign-leaves name (Note note place ∷ answers) h = sign-leaves name answers h
+sign-leaves _ _ _ = refl
 
 name-leaves : (name : Seen) (answers : List Answer) → IsNested (Token name ∷ answers)
     → Leaves (without_name name answers) (named_headed name (nest answers)).rest
-name-leaves name answers h = by (behind_sign answers) (sign-leaves name answers (nested-behind name answers h))
-  where
-    by : (o : Option (List Answer)) → Signed name answers o
-        → Leaves (elim o as (λ o. List Answer) [ Some rest ↦ rest | None ↦ Token name ∷ answers ])
-        (named_headed name (nest answers)).rest
-    by (Some rest) s = s
-    by None s = (h, nest-token name answers h ∙ sym s)
+name-leaves name answers h =
+    grind (arith, sign-leaves name answers (nested-behind name answers h), nest-token name answers h)
 
 -- ## Any head
 
@@ -143,16 +115,12 @@ head-by (kind.Code code.FileName) t answers h = name-leaves t answers h
 head-by _ t answers h = (h, nest-token t answers h)
 
 group-head : (t : Seen) (ns : List Nest) → first_nest (group t ns) ≡ (headed (first_nest (group t ns))).rest
-group-head t [] = refl
-group-head t (n ∷ []) = refl
-group-head t (n ∷ m ∷ ns) = refl
+group-head t ns = grind arith
 
 pub head-leaves : (answers : List Answer) → IsNested answers → IsNested (without_head answers)
     × (nest (without_head answers) ≡ (headed (nest answers)).rest)
-head-leaves [] h = (h, refl)
 head-leaves (Token t ∷ answers) h =
-    let l = head-by t.kind t answers h in
-    (l.0, l.1 ∙ sym (ap (λ n. (headed n).rest) (nest-token t answers h)))
+    grind (arith, nat_tests, common_steps, head-by t.kind t answers h, nest-token t answers h, head-by, nest-token)
 head-leaves (Begin t ∷ answers) h = (h, group-head t (nests answers))
-head-leaves (Finish t ∷ answers) h = (h, refl)
 head-leaves (Note note place ∷ answers) h = head-leaves answers h
+head-leaves _ h = (h, refl)

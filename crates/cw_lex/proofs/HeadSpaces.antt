@@ -1,24 +1,24 @@
 -- The white space before what a head wants.
-use Rattle.std.proofs.Common.{◌≡◌, ℕ, zero, suc, ◌+◌, ◌-◌, ◌<◌, ◌≤◌, Bool, true, false, true≢false, ◌&&◌, ◌==◌, nat_lt}
-use Rattle.std.proofs.Common.{List, [], ◌∷◌, ◌++◌, length, slice_index, drop, refl, sym, ap, ◌∙◌, arith, add-zero}
-use Rattle.std.proofs.Common.{if◌then◌else◌, length-drop}
+use Rattle.std.proofs.Common.{◌≡◌, ℕ, zero, suc, ◌+◌, ◌-◌, ◌<◌, ◌≤◌, Bool, true, false, ◌&&◌, ◌==◌, List, [], ◌∷◌, ◌++◌}
+use Rattle.std.proofs.Common.{length, slice_index, drop, refl, sym, ap, ◌∙◌, arith, add-zero, if◌then◌else◌}
+use Rattle.std.proofs.Common.{length-drop}
 use Rattle.std.proofs.lemmas.Bool.{eqb-true, ltb-true, ltb-false}
 use Rattle.std.proofs.lemmas.List.{drop-drop, drop_all}
-use Rattle.cw_base.specs.declared.notes.NoteKind.TheVariants as notes
+use Rattle.std.proofs.lemmas.Bool.Decides.{nat_tests}
+use Rattle.std.proofs.lemmas.Grind.{common_steps}
 use Rattle.cw_rules.specs.declared.classes.Class.{Class}
 use Rattle.cw_rules.specs.declared.classes.Class.TheVariants as classes
 use Rattle.cw_rules.specs.declared.parts.Part.TheVariants as parts
-use Rattle.cw_rules.specs.Answers.{Where, Note, before, plain, note_answers}
+use Rattle.cw_rules.specs.Answers.{Where, plain, note_answers}
 use Rattle.cw_rules.specs.Bytes.{is_in, is_letter, run, begins, begins_by}
 use Rattle.cw_rules.specs.Codes.{begins_section}
 use Rattle.cw_lex.specs.Lexing.{fresh_at, last_at, answers_at}
 use Rattle.cw_rules.specs.Tokens.{section, macro_name, format_name, parameter, is_parameter, behind_white}
-use Rattle.cw_rules.specs.Apart.{in_text_apart, behind_head_apart}
 use Rattle.cw_rules.specs.Tokens.{behind_format, identifier, skipped_byte, one, moved, is_head_part}
-use Rattle.cw_rules.specs.Tokens.{is_code}
+use Rattle.cw_rules.specs.Apart.{in_text_apart}
 use Rattle.cw_rules.specs.declared.signs.Sign.TheVariants as signs
 use Rattle.cw_rules.specs.declared.tokens.TokKind.TheVariants as kinds
-use Rattle.cw_lex.specs.Coming.{found_at, where_of, coming, is_skipped, is_white_here}
+use Rattle.cw_lex.specs.Coming.{found_at, where_of, coming, is_skipped}
 use Rattle.cw_rules.specs.Cuttings.{bytes_at}
 use Rattle.cw_rules.specs.declared.parts.Part.{Part}
 use Rattle.cw_rules.specs.declared.parts.Opened.{Opened}
@@ -31,24 +31,12 @@ use Rattle.cw_lex.proofs.White.{other-byte}
 run-some : (class : Class) (bytes : List ℕ) → 0 < run class bytes
     → (0 < length bytes) × (is_in class (slice_index bytes 0) ≡ true)
 run-some class [] h = absurd (omega arith)
-run-some class (b ∷ bs) h = by (is_in class b) refl
-  where
-    by : (t : Bool) → is_in class b ≡ t → (0 < length (b ∷ bs)) × (is_in class b ≡ true)
-    by true e = (omega arith, e)
-    by false e =
-        let none : run class (b ∷ bs) ≡ 0 = ap (λ t. if t then 1 + run class bs else 0) e in
-        absurd (omega arith)
+run-some class (b ∷ bs) h = grind (arith, nat_tests)
 
 run-none : (class : Class) (bytes : List ℕ) → run class bytes ≡ 0 → 0 < length bytes → is_in class (slice_index bytes 0)
     ≡ false
 run-none class [] h g = absurd (omega arith)
-run-none class (b ∷ bs) h g = by (is_in class b) refl
-  where
-    by : (t : Bool) → is_in class b ≡ t → is_in class b ≡ false
-    by true e =
-        let some : run class (b ∷ bs) ≡ 1 + run class bs = ap (λ t. if t then 1 + run class bs else 0) e in
-        absurd (omega arith)
-    by false e = e
+run-none class (b ∷ bs) h g = grind (arith, nat_tests)
 
 first-byte : (text : List ℕ) (p : ℕ) → p < length text → slice_index (drop p text) 0 ≡ slice_index text p
 first-byte text p h = ap (λ l. slice_index l 0) (drop-here text p h)
@@ -97,39 +85,23 @@ not-section text w p h =
 pub head-blank : (text : List ℕ) (p : ℕ) → is_in classes.Blank (slice_index text p) ≡ true
     → found_at text (record { part = parts.Head; comments = [] }) p
     ≡ skipped_byte (record { part = parts.Head; comments = [] })
-head-blank text p h =
-    let w : Where = record { part = parts.Head; comments = [] } in
-    not-section text w p (other-byte (is_in classes.Blank) (slice_index text p) 64 h refl)
-    ∙ ap (λ t. if t then skipped_byte w else one false (moved w (parts.Plain false false)) p (slice_index text p
-    ∷ drop (p + 1) text) (plain kinds.HeadSign (if begins 61 (drop (p + 1) text) then 2 else 1))) h
+head-blank text p h = grind (arith, nat_tests, not-section, other-byte)
 
 -- What a head wants stands behind the white space, which is so at each byte of it and right behind.
 module _ (text : List ℕ) (place size : ℕ) (test : List ℕ → Bool) (run-is : size ≡ run classes.White (drop place text))
     (follows : test (drop (place + size) text) ≡ true) where
   behind-same : (p : ℕ) → place ≤ p → p ≤ place + size → behind_white (drop p text) ≡ drop (place + size) text
   behind-same p low high =
-      let rest : p + ((place + size) - p) ≡ place + size = omega arith in
-      ap (λ n. drop n (drop p text)) (run-inside classes.White text place size p run-is low high)
-      ∙ drop-drop ((place + size) - p) p text
-      ∙ ap (λ n. drop n text) rest
+      grind (arith, run-inside classes.White text place size p run-is low high, drop-drop ((place + size) - p) p text)
 
   pub follows-at : (p : ℕ) → place ≤ p → p ≤ place + size → p < length text → test (behind_white (bytes_at text p))
       ≡ true
-  follows-at p low high within = ap (λ bs. test (behind_white bs)) (sym (drop-here text p within))
-      ∙ ap test (behind-same p low high) ∙ follows
+  follows-at p low high within = grind (arith, nat_tests, drop-here text p within, behind-same p low high)
 
   pub not-at : (p : ℕ) → place ≤ p → p ≤ place + size → p < length text → ((bs : List ℕ) → test (64 ∷ bs) ≡ false)
       → (slice_index text p == 64) ≡ false
-  not-at p low high within fails = by (slice_index text p == 64) refl
-    where
-      by : (t : Bool) → (slice_index text p == 64) ≡ t → (slice_index text p == 64) ≡ false
-      by true e =
-          let at : behind_white (64 ∷ drop (p + 1) text) ≡ 64 ∷ drop (p + 1) text = refl in
-          let holds : test (64 ∷ drop (p + 1) text) ≡ true =
-          ap (λ b. test (behind_white (b ∷ drop (p + 1) text))) (sym (eqb-true (slice_index text p) 64 e))
-          ∙ follows-at p low high within in
-          absurd (true≢false (sym holds ∙ fails (drop (p + 1) text)))
-      by false e = e
+  not-at p low high within fails =
+      grind (arith, nat_tests, common_steps, follows-at p low high within, eqb-true, follows-at)
 
 -- Macro heads.
 pub macro-found : (text : List ℕ) (place size : ℕ) (code : ℕ) (p : ℕ) → size ≡ run classes.White (drop place text)
@@ -139,12 +111,7 @@ pub macro-found : (text : List ℕ) (place size : ℕ) (code : ℕ) (p : ℕ) �
     ≡ macro_name code (record { part = parts.MacroName code; comments = [] }) p (slice_index text p)
     (drop (p + 1) text)
 macro-found text place size code p run-is follows low high within =
-    let w : Where = record { part = parts.MacroName code; comments = [] } in
-    not-section text w p (not-at text place size (begins_by is_letter) run-is follows p low high within (λ bs. refl))
-    ∙ ap (λ t. if t then macro_name code w p (slice_index text p) (drop (p + 1) text) else before
-    (Note notes.ImproperMacro code ∷ []) (behind_head_apart false w (fresh_at text p) (last_at text p) p
-    (slice_index text p) (drop (p + 1) text))) (follows-at text place size (begins_by is_letter) run-is follows p
-    low high within)
+    grind (arith, nat_tests, follows-at text place size (begins_by is_letter) run-is follows p low high within)
 
 pub macro-skipped : (text : List ℕ) (place size : ℕ) (code : ℕ) → size ≡ run classes.White (drop place text)
     → begins_by is_letter (drop (place + size) text) ≡ true
@@ -169,12 +136,7 @@ pub parameter-found : (text : List ℕ) (place size : ℕ) (code : ℕ) (p : ℕ
     → found_at text (record { part = parts.Parameters code; comments = [] }) p
     ≡ parameter (record { part = parts.Parameters code; comments = [] }) p (slice_index text p) (drop (p + 1) text)
 parameter-found text place size code p run-is follows low high within =
-    let w : Where = record { part = parts.Parameters code; comments = [] } in
-    not-section text w p (not-at text place size (is_parameter) run-is follows p low high within (λ bs. refl))
-    ∙ ap (λ t. if t then parameter w p (slice_index text p) (drop (p + 1) text) else before
-    (Note notes.ImproperMacro code ∷ []) (behind_head_apart false w (fresh_at text p) (last_at text p) p
-    (slice_index text p) (drop (p + 1) text))) (follows-at text place size (is_parameter) run-is follows p low high
-    within)
+    grind (arith, nat_tests, follows-at text place size (is_parameter) run-is follows p low high within)
 
 pub parameter-skipped : (text : List ℕ) (place size : ℕ) (code : ℕ) → size ≡ run classes.White (drop place text)
     → is_parameter (drop (place + size) text) ≡ true
@@ -203,12 +165,7 @@ pub format-found : (text : List ℕ) (place size : ℕ) (code : ℕ) (second lim
     ≡ format_name code second limbo (record { part = parts.FormatName code second limbo; comments = [] }) p
     (slice_index text p) (drop (p + 1) text)
 format-found text place size code second limbo p run-is follows low high within =
-    let w : Where = record { part = parts.FormatName code second limbo; comments = [] } in
-    not-section text w p (not-at text place size (begins_by is_letter) run-is follows p low high within (λ bs. refl))
-    ∙ ap (λ t. if t then format_name code second limbo w p (slice_index text p) (drop (p + 1) text) else before
-    (Note notes.ImproperFormat code ∷ []) (behind_head_apart limbo w (fresh_at text p) (last_at text p) p
-    (slice_index text p) (drop (p + 1) text))) (follows-at text place size (begins_by is_letter) run-is follows p
-    low high within)
+    grind (arith, nat_tests, follows-at text place size (begins_by is_letter) run-is follows p low high within)
 
 pub format-skipped : (text : List ℕ) (place size : ℕ) (code : ℕ) (second limbo : Bool)
     → size ≡ run classes.White (drop place text) → begins_by is_letter (drop (place + size) text) ≡ true
@@ -227,11 +184,7 @@ format-skipped text place size code second limbo run-is follows =
 
 follows-within : (text : List ℕ) (q : ℕ) (test : List ℕ → Bool) → test [] ≡ false → test (drop q text) ≡ true
     → q < length text
-follows-within text q test none h = by (nat_lt q (length text)) refl
-  where
-    by : (t : Bool) → nat_lt q (length text) ≡ t → q < length text
-    by true e = ltb-true q (length text) e
-    by false e = absurd (true≢false (sym h ∙ ap test (drop_all q text (ltb-false q (length text) e)) ∙ none))
+follows-within text q test none h = grind (arith, nat_tests, ltb-true, drop_all, ltb-false)
 
 pub macro-here : (text : List ℕ) (s : State) (code : ℕ) (at : ℕ) → s.part ≡ parts.MacroName code → s.comments ≡ []
     → at ≡ s.at + run classes.White (drop s.at text) → begins_by is_letter (drop at text) ≡ true
@@ -249,14 +202,7 @@ macro-here text s code at p k e f =
 pub macro-coming : (text : List ℕ) (s : State) (code : ℕ) (at : ℕ) → s.part ≡ parts.MacroName code → s.comments ≡ []
     → at ≡ s.at + run classes.White (drop s.at text) → begins_by is_letter (drop at text) ≡ true
     → coming text (record s { at = at }) ≡ coming text s
-macro-coming text s code at p k e f =
-    let size = run classes.White (drop s.at text) in
-    let follows : begins_by is_letter (drop (s.at + size) text) ≡ true =
-    ap (λ n. begins_by is_letter (drop n text)) (sym e) ∙ f in
-    ap (λ l. note_answers (pending_notes text s.pending) ++ l)
-    ((λ i. answers_at text (record { part = p i; comments = k i }) (e i))
-    ∙ macro-skipped text s.at size code refl follows
-    ∙ sym (λ i. answers_at text (record { part = p i; comments = k i }) s.at))
+macro-coming text s code at p k e f = grind (arith, macro-skipped)
 
 pub parameter-here : (text : List ℕ) (s : State) (code : ℕ) (at : ℕ) → s.part ≡ parts.Parameters code → s.comments ≡ []
     → at ≡ s.at + run classes.White (drop s.at text) → is_parameter (drop at text) ≡ true
@@ -272,13 +218,7 @@ parameter-here text s code at p k e f =
 pub parameter-coming : (text : List ℕ) (s : State) (code : ℕ) (at : ℕ) → s.part ≡ parts.Parameters code → s.comments
     ≡ [] → at ≡ s.at + run classes.White (drop s.at text) → is_parameter (drop at text) ≡ true
     → coming text (record s { at = at }) ≡ coming text s
-parameter-coming text s code at p k e f =
-    let size = run classes.White (drop s.at text) in
-    let follows : is_parameter (drop (s.at + size) text) ≡ true = ap (λ n. is_parameter (drop n text)) (sym e) ∙ f in
-    ap (λ l. note_answers (pending_notes text s.pending) ++ l)
-    ((λ i. answers_at text (record { part = p i; comments = k i }) (e i))
-    ∙ parameter-skipped text s.at size code refl follows
-    ∙ sym (λ i. answers_at text (record { part = p i; comments = k i }) s.at))
+parameter-coming text s code at p k e f = grind (arith, parameter-skipped)
 
 pub format-here : (text : List ℕ) (s : State) (code : ℕ) (second limbo : Bool) (at : ℕ)
     → s.part ≡ parts.FormatName code second limbo → s.comments ≡ [] → at ≡ s.at + run classes.White (drop s.at text)
@@ -299,14 +239,7 @@ pub format-coming : (text : List ℕ) (s : State) (code : ℕ) (second limbo : B
     → s.part ≡ parts.FormatName code second limbo → s.comments ≡ [] → at ≡ s.at + run classes.White (drop s.at text)
     → begins_by is_letter (drop at text) ≡ true
     → coming text (record s { at = at }) ≡ coming text s
-format-coming text s code second limbo at p k e f =
-    let size = run classes.White (drop s.at text) in
-    let follows : begins_by is_letter (drop (s.at + size) text) ≡ true =
-    ap (λ n. begins_by is_letter (drop n text)) (sym e) ∙ f in
-    ap (λ l. note_answers (pending_notes text s.pending) ++ l)
-    ((λ i. answers_at text (record { part = p i; comments = k i }) (e i))
-    ∙ format-skipped text s.at size code second limbo refl follows
-    ∙ sym (λ i. answers_at text (record { part = p i; comments = k i }) s.at))
+format-coming text s code second limbo at p k e f = grind (arith, format-skipped)
 
 -- the blanks before the sign of a head, in a scanner's state
 pub head-coming : (text : List ℕ) (s : State) (size : ℕ) → s.part ≡ parts.Head → s.comments ≡ []
@@ -321,21 +254,8 @@ head-coming text s size p k e =
     ∙ sym (λ i. answers_at text (record { part = p i; comments = k i }) s.at))
 
 pub head-is : (p : Part) (comments : List Opened) → is_head_part p comments ≡ true → (p ≡ parts.Head) × (comments ≡ [])
-head-is parts.Head [] h = (refl, refl)
-head-is parts.Head (c ∷ comments) h = absurd (true≢false (sym h))
-head-is parts.Limbo comments h = absurd (true≢false (sym h))
-head-is parts.Tex comments h = absurd (true≢false (sym h))
-head-is parts.TexInner comments h = absurd (true≢false (sym h))
-head-is parts.Begin comments h = absurd (true≢false (sym h))
-head-is (parts.Plain hash_line include) comments h = absurd (true≢false (sym h))
-head-is parts.Definition comments h = absurd (true≢false (sym h))
-head-is parts.Inner comments h = absurd (true≢false (sym h))
-head-is (parts.MacroName code) comments h = absurd (true≢false (sym h))
-head-is (parts.MacroParen code) comments h = absurd (true≢false (sym h))
-head-is (parts.Parameters code) comments h = absurd (true≢false (sym h))
-head-is (parts.FormatName code second limbo) comments h = absurd (true≢false (sym h))
+head-is p comments h = grind arith
 
 pub head-skipped : (p : Part) (comments : List Opened) (last b : ℕ) (bs : List ℕ) → is_head_part p comments ≡ true
     → is_in classes.Blank b ≡ false → is_skipped p comments last b bs ≡ false
-head-skipped p comments last b bs h e =
-    ap (λ t. if t then is_in classes.Blank b else is_code p comments && is_white_here p comments last b bs) h ∙ e
+head-skipped p comments last b bs h e = grind (arith, nat_tests)

@@ -2,9 +2,9 @@
 use Rattle.std.proofs.Common.{◌≡◌, ℕ, zero, suc, ◌+◌, ◌-◌, Bool, true, false, ◌&&◌, ◌||◌, not, ◌==◌, nat_lt, List, []}
 use Rattle.std.proofs.Common.{◌∷◌, ◌++◌, Option, Some, None, length, refl, sym, ap, ◌∙◌, arith, append_assoc}
 use Rattle.std.specs.Prelude.{if◌then◌else◌}
+use Rattle.std.proofs.lemmas.Bool.Decides.{nat_tests}
 use Rattle.cw_rules.specs.declared.classes.Class.TheVariants as classes
 use Rattle.cw_rules.specs.declared.codes.Code.{Code}
-use Rattle.cw_rules.specs.declared.codes.Code.TheVariants as at
 use Rattle.cw_rules.specs.declared.parts.Part.TheVariants as parts
 use Rattle.cw_rules.specs.declared.parts.Opened.{Opened}
 use Rattle.cw_rules.specs.declared.parts.Start.{Start}
@@ -12,22 +12,20 @@ use Rattle.cw_rules.specs.declared.parts.Start.TheVariants as start
 use Rattle.cw_rules.specs.declared.signs.Sign.{Sign}
 use Rattle.cw_rules.specs.Answers.{Answer, Where, Found}
 use Rattle.cw_base.specs.Bytes.{newline}
-use Rattle.cw_rules.specs.Bytes.{hash, star, slash, less, at_sign, begins, is_letter, is_mark}
+use Rattle.cw_rules.specs.Bytes.{hash, star, slash, less, at_sign, begins, is_letter, is_mark, is_in}
 use Rattle.cw_base.specs.Text.{bar}
-use Rattle.cw_rules.specs.Bytes.{is_in}
 use Rattle.cw_rules.specs.Codes.{begins_section, effect_in_c}
 use Rattle.cw_rules.specs.Constants.{constant}
 use Rattle.cw_rules.specs.Prefixes.{prefix_size}
 use Rattle.cw_lex.specs.Lexing.{still_fresh, joined, answers}
 use Rattle.cw_lex.specs.Nested.{begins_section_in}
-use Rattle.cw_rules.specs.Tokens.{is_tex_inner, sign_or_other, inner_cut, comment_cut, inner_or_none, all_cut, line_end}
-use Rattle.cw_rules.specs.Tokens.{code_by, in_code, start_of, section, is_deep}
+use Rattle.cw_rules.specs.Tokens.{is_tex_inner, sign_or_other, inner_cut, all_cut, line_end, code_by, in_code, start_of}
+use Rattle.cw_rules.specs.Tokens.{section}
 use Rattle.cw_rules.specs.Apart.{code_text_apart, comment_text_apart, in_text_apart, found_apart}
 use Rattle.cw_lex.specs.Parts.{closing_bar}
 use Rattle.cw_rules.specs.Signs.{all_signs, longest}
-use Rattle.cw_rules.proofs.InnerTwins.{tex_inner}
+use Rattle.cw_rules.proofs.InnerTwins.{tex_inner, alone, in_tex, in_text-twin}
 use Rattle.cw_rules.proofs.Choices.{if-both, and-none}
-use Rattle.cw_rules.proofs.InnerTwins.{alone, in_tex, in_text-twin}
 use Rattle.cw_lex.proofs.Openings.{section-cuts, uncut-right}
 use Rattle.cw_base.proofs.TestLaws.{not-both, both-left}
 
@@ -38,28 +36,15 @@ record Inside (f : Found) : Type 0 where
 
 line-inside : (cs : List Opened) (last place : ℕ) → Inside (line_end parts.TexInner cs last place)
 line-inside [] last place = record { is = refl }
-line-inside (c ∷ cs) last place =
-    if-both Inside c.long _ _ (λ h. record { is = refl })
-    (λ h. record { is = (line-inside cs last place).is })
+line-inside (c ∷ cs) last place = grind (arith, nat_tests, line-inside cs last place, if-both)
 
 code-inside : (c : Code) (cs : List Opened) (place : ℕ) (bytes : List ℕ)
     → is_tex_inner (code_by (effect_in_c c) c (tex_inner cs) place bytes).next.part ≡ true
-code-inside at.Define cs place bytes = refl
-code-inside at.SectionName cs place bytes = refl
-code-inside at.FileName cs place bytes = refl
-code-inside _ cs place bytes = refl
+code-inside c cs place bytes = grind arith
 
 start-inside : (s : Start) (cs : List Opened) (place : ℕ) (bytes : List ℕ) → (s ≡ start.EndOfInner → ⊥)
     → Inside (in_code s (tex_inner cs) place bytes)
-start-inside start.Identifier cs place bytes h = record { is = refl }
-start-inside start.Constant cs place bytes h = record { is = refl }
-start-inside (start.Quoted q) cs place bytes h = record { is = refl }
-start-inside start.LongComment cs place bytes h = record { is = refl }
-start-inside start.ShortComment cs place bytes h = record { is = refl }
-start-inside (start.Code c) cs place bytes h = record { is = code-inside c cs place bytes }
-start-inside start.EndOfInner cs place bytes h = absurd (h refl)
-start-inside (start.Sign s) cs place bytes h = record { is = refl }
-start-inside start.OtherByte cs place bytes h = record { is = refl }
+start-inside s cs place bytes h = grind (arith, code-inside)
 
 -- only a bar ends inner C text
 abbrev ends_inner : Start → Bool
@@ -70,8 +55,7 @@ record Bar (byte : ℕ) (s : Start) : Type 0 where
   is : ends_inner s ≡ true → (byte == bar) ≡ true
 
 sign-bar : (byte : ℕ) (o : Option Sign) → Bar byte (sign_or_other o)
-sign-bar byte None = record { is = λ h. absurd cc }
-sign-bar byte (Some s) = record { is = λ h. absurd cc }
+sign-bar byte o = grind arith
 
 bar-start : (ends : Bool) (byte : ℕ) (bytes : List ℕ) → Bar byte (start_of ends byte bytes)
 bar-start ends byte bytes =
@@ -107,40 +91,27 @@ code-text-inside cs fresh last place byte bytes n =
 
 comment-inside : (c : Opened) (cs : List Opened) (last place byte : ℕ) (bytes : List ℕ)
     → Inside (comment_text_apart parts.TexInner c cs last place byte bytes)
-comment-inside c cs last place byte bytes =
-    if-both Inside (c.long && (byte == star && begins slash bytes)) _ _ (λ h. record { is = refl })
-    (λ h. if-both Inside (not c.long && byte == newline) _ _ (λ h. record { is = (line-inside cs last place).is })
-    (λ h. if-both Inside (byte == bar && not (is_deep parts.TexInner (c ∷ cs))) _ _ (λ h. record { is = refl })
-    (λ h. record { is = refl })))
+comment-inside c cs last place byte bytes = grind (arith, line-inside cs last place)
 
 in-text-inside : (cs : List Opened) (fresh : Bool) (last place byte : ℕ) (bytes : List ℕ) → (byte == bar) ≡ false
     → Inside (in_text_apart parts.TexInner cs fresh last place byte bytes)
 in-text-inside [] fresh last place byte bytes n = code-text-inside [] fresh last place byte bytes n
 in-text-inside (c ∷ cs) fresh last place byte bytes n =
-    if-both Inside c.inner _ _ (λ h. code-text-inside (c ∷ cs) fresh last place byte bytes n)
-    (λ h. comment-inside c cs last place byte bytes)
+    grind (arith, code-text-inside (c ∷ cs) fresh last place byte bytes n, comment-inside c cs last place byte bytes)
 
 -- ## Up to the end
 
 cut-inner : (cs : List Opened) (place about : ℕ) → all_cut parts.TexInner cs place about
     ≡ all_cut parts.Inner cs place about ++ inner_cut false place about
 cut-inner [] place about = refl
-cut-inner (c ∷ cs) place about =
-    let first = inner_or_none c.inner false place about in
-    let next = comment_cut false c place about in
-    ap (λ l. first ++ (next ++ l)) (cut-inner cs place about)
-    ∙ ap (λ l. first ++ l) (sym (append_assoc next (all_cut parts.Inner cs place about) (inner_cut false place about)))
-    ∙ sym (append_assoc first (next ++ all_cut parts.Inner cs place about) (inner_cut false place about))
+cut-inner (c ∷ cs) place about = grind (arith, nat_tests, cut-inner cs place about, append_assoc)
 
 pub to-end : (end : ℕ) (bytes : List ℕ) (cs : List Opened) (fresh : Bool) (last place taken : ℕ)
     → end ≡ place + length bytes → closing_bar bytes (tex_inner cs) fresh last place taken ≡ None
     → begins_section_in (answers bytes (tex_inner cs) fresh last place taken) ≡ false
     → answers bytes (tex_inner cs) fresh last place taken ≡ answers bytes (alone cs) fresh last place taken
     ++ inner_cut false end (end - 1)
-to-end end [] cs fresh last place taken e n u =
-    let here : place ≡ end = omega (arith, e) in
-    cut-inner cs place (place - 1) ∙ ap (λ p. all_cut parts.Inner cs place (place - 1) ++ inner_cut false p (p - 1))
-    here
+to-end end [] cs fresh last place taken e n u = grind (arith, cut-inner)
 to-end end (byte ∷ bytes) cs fresh last place zero e n u =
     by (is_tex_inner (found_apart (tex_inner cs) fresh last place byte bytes).next.part) refl
     (λ ds more k v. to-end end bytes ds (still_fresh fresh byte) byte (place + 1) more (omega (arith, e)) k v)

@@ -1,23 +1,21 @@
 -- Inner C text of TeX text that a bar closes has the answers of its bytes scanned by themselves.
-use Rattle.std.proofs.Common.{◌≡◌, ℕ, zero, suc, ◌+◌, ◌-◌, ◌≤◌, Bool, true, false, ◌&&◌, not, ◌==◌, List, [], ◌∷◌, ◌++◌}
-use Rattle.std.proofs.Common.{Option, Some, None, length, take, drop, refl, sym, ap, ◌∙◌, arith, append_assoc, ◌⊎◌, inl}
-use Rattle.std.proofs.Common.{inr}
+use Rattle.std.proofs.Common.{◌≡◌, ℕ, zero, suc, ◌+◌, ◌-◌, ◌≤◌, Bool, true, false, ◌==◌, List, [], ◌∷◌, ◌++◌, Option}
+use Rattle.std.proofs.Common.{Some, None, length, take, drop, refl, sym, ap, ◌∙◌, arith, append_assoc, ◌⊎◌, inl, inr}
 use Rattle.std.specs.Prelude.{if◌then◌else◌}
 use Rattle.std.proofs.lemmas.Bool.{eqb-true}
 use Rattle.std.proofs.lemmas.List.{drop-drop, drop_all, take-take, take_all}
+use Rattle.std.proofs.lemmas.Bool.Decides.{nat_tests}
+use Rattle.std.proofs.lemmas.Grind.{common_steps}
 use Rattle.cw_rules.specs.declared.parts.Part.TheVariants as parts
 use Rattle.cw_rules.specs.declared.parts.Opened.{Opened}
-use Rattle.cw_rules.specs.declared.parts.Start.TheVariants as start
-use Rattle.cw_rules.specs.declared.signs.Sign.{Sign}
 use Rattle.cw_rules.specs.declared.tokens.Mode.TheVariants as modes
 use Rattle.cw_rules.specs.declared.tokens.TokKind.TheVariants as kinds
 use Rattle.cw_rules.specs.Bytes.{begins}
 use Rattle.cw_base.specs.Text.{bar}
-use Rattle.cw_rules.specs.Signs.{all_signs, longest}
 use Rattle.cw_rules.specs.Answers.{Answer, Begin, Finish, Where, Found, token_of}
 use Rattle.cw_lex.specs.Lexing.{still_fresh, joined, answers, fresh_after, last_after, fresh_at, last_at, answers_at}
 use Rattle.cw_lex.specs.Lexing.{beginning, tokens_of}
-use Rattle.cw_rules.specs.Tokens.{in_code, sign_or_other, is_deep, is_tex_inner}
+use Rattle.cw_rules.specs.Tokens.{is_tex_inner}
 use Rattle.cw_rules.specs.Apart.{found_apart}
 use Rattle.cw_lex.specs.Parts.{closing_bar, closing_bar_from}
 use Rattle.cw_rules.proofs.Choices.{if-both, and-none}
@@ -25,8 +23,7 @@ use Rattle.cw_rules.proofs.Ahead.{drop-same, take-same}
 use Rattle.cw_lex.proofs.Walk.{fresh-more, last-more}
 use Rattle.cw_lex.proofs.Covering.{drop-part}
 use Rattle.cw_lex.proofs.PartScans.{begins-byte}
-use Rattle.cw_rules.proofs.InnerTwins.{tex_inner}
-use Rattle.cw_rules.proofs.InnerTwins.{alone, found-twin}
+use Rattle.cw_rules.proofs.InnerTwins.{tex_inner, alone, found-twin}
 
 -- ## Where the bar stands
 
@@ -111,30 +108,12 @@ record Stays (f : Found) : Type 0 where
 
 bar-closes : (fresh : Bool) (last place : ℕ) (more : List ℕ)
     → Closes place more (found_apart (tex_inner []) fresh last place 124 more)
-bar-closes fresh last place more = by (not (begins bar more)) (longest all_signs (124 ∷ more))
-  where
-    by : (t : Bool) (o : Option Sign) → Closes place more (in_code (if t then start.EndOfInner else sign_or_other o)
-        (tex_inner []) place (124 ∷ more))
-    by true o = record { is = λ h. refl }
-    by false None = record { is = λ h. absurd cc }
-    by false (Some sign) = record { is = λ h. absurd cc }
+bar-closes fresh last place more = grind (arith, nat_tests, tex_inner)
 
 -- in a comment a bar ends no inner C text of TeX text
 bar-stays : (c : Opened) (cs : List Opened) (fresh : Bool) (last place : ℕ) (more : List ℕ)
     → Stays (found_apart (tex_inner (c ∷ cs)) fresh last place 124 more)
-bar-stays c cs fresh last place more =
-    if-both Stays c.inner _ _ (λ h. by (not (begins bar more)) (longest all_signs (124 ∷ more)))
-    (λ h. if-both Stays (c.long && false) _ _ (λ h. record { is = refl })
-    (λ h. if-both Stays (not c.long && false) _ _ (λ h. absurd (let k : true ≡ false = sym h ∙ and-none (not c.long) in
-    cc))
-    (λ h. if-both Stays (not (is_deep parts.TexInner (c ∷ cs))) _ _ (λ h. record { is = refl })
-    (λ h. record { is = refl }))))
-  where
-    by : (t : Bool) (o : Option Sign) → Stays (in_code (if t then start.EndOfInner else sign_or_other o)
-        (tex_inner (c ∷ cs)) place (124 ∷ more))
-    by true o = record { is = refl }
-    by false None = record { is = refl }
-    by false (Some sign) = record { is = refl }
+bar-stays c cs fresh last place more = grind (arith, nat_tests, if-both, and-none, tex_inner)
 
 -- ## The scan up to the bar
 
@@ -150,36 +129,7 @@ goes-on : (byte : ℕ) (bytes : List ℕ) (cs : List Opened) (fresh : Bool) (las
     → closing_bar (byte ∷ bytes) (tex_inner cs) fresh last place 0 ≡ Some end
     → ((is_tex_inner f.next.part ≡ true) × (closing_bar bytes f.next (still_fresh fresh byte) byte (place + 1) f.more
     ≡ Some end)) ⊎ ((is_tex_inner f.next.part ≡ false) × (place ≡ end))
-goes-on byte bytes cs fresh last place end f is h = by (is_tex_inner f.next.part) (byte == bar) refl refl
-  where
-    some-is : (a b : ℕ) → ◌≡◌ {A = Option ℕ} (Some a) (Some b) → a ≡ b
-    some-is a b e = cc
-
-    opened : (if is_tex_inner f.next.part then closing_bar bytes f.next (still_fresh fresh byte) byte (place + 1) f.more
-        else if byte == bar then Some place else None) ≡ Some end
-    opened = sym (ap (λ (f : Found). if is_tex_inner f.next.part then closing_bar bytes f.next (still_fresh fresh byte)
-        byte (place + 1) f.more else if byte == bar then Some place else None) is) ∙ h
-
-    by : (inner is_bar : Bool) → is_tex_inner f.next.part ≡ inner → (byte == bar) ≡ is_bar
-        → ((is_tex_inner f.next.part ≡ true) × (closing_bar bytes f.next (still_fresh fresh byte) byte (place + 1)
-        f.more ≡ Some end)) ⊎ ((is_tex_inner f.next.part ≡ false) × (place ≡ end))
-    by true is_bar e b =
-        inl (
-          e,
-          sym (ap (λ t. if t then closing_bar bytes f.next (still_fresh fresh byte) byte (place + 1) f.more else
-              (if byte == bar then Some place else None)) e) ∙ opened,
-        )
-    by false true e b =
-        inr (
-          e,
-          some-is place end (sym (λ i. if e i then closing_bar bytes f.next (still_fresh fresh byte) byte
-              (place + 1) f.more else if b i then Some place else None) ∙ opened),
-        )
-    by false false e b =
-        let none : ◌≡◌ {A = Option ℕ} None (Some end) =
-        sym (λ i. if e i then closing_bar bytes f.next (still_fresh fresh byte) byte (place + 1) f.more else
-        (if b i then Some place else None)) ∙ opened in
-        absurd cc
+goes-on byte bytes cs fresh last place end f is h = grind arith
 
 -- no bar closes before the place from which the scan goes on
 not-before : (bytes : List ℕ) (w : Where) (fresh : Bool) (last place taken end : ℕ)
@@ -211,8 +161,7 @@ scans more [] (c ∷ cs) fresh last place zero h =
     absurd (not-before more f.next (still_fresh fresh 124) 124 place f.more (place + 0)
     (sym (ap (λ t. if t then closing_bar more f.next (still_fresh fresh 124) 124 (place + 1) f.more else Some place)
     (bar-stays c cs fresh last place more).is) ∙ h) (omega arith))
-scans more [] cs fresh last place (suc taken) h = absurd (not-before more (tex_inner cs) (still_fresh fresh 124) 124
-    place taken (place + 0) h (omega arith))
+scans more [] cs fresh last place (suc taken) h = grind (arith, not-before, tex_inner)
 scans more (byte ∷ bs) cs fresh last place zero h =
     let f = found_apart (tex_inner cs) fresh last place byte (bs ++ 124 ∷ more) in
     by f refl (goes-on byte (bs ++ 124 ∷ more) cs fresh last place (place + suc (length bs)) f refl h)
@@ -263,12 +212,10 @@ scans more (byte ∷ bs) cs fresh last place (suc taken) h =
 -- what the byte at a place says behind it
 fresh-behind : (text more : List ℕ) (place byte : ℕ) → drop place text ≡ byte ∷ more
     → still_fresh (fresh_at text place) byte ≡ fresh_at text (place + 1)
-fresh-behind text more place byte h = ap (λ bs. fresh_after (fresh_at text place) (take 1 bs)) (sym h)
-    ∙ fresh-more true text place 1
+fresh-behind text more place byte h = grind (arith, nat_tests, common_steps, fresh-more true text place 1, fresh-more)
 
 last-behind : (text more : List ℕ) (place byte : ℕ) → drop place text ≡ byte ∷ more → byte ≡ last_at text (place + 1)
-last-behind text more place byte h = ap (λ bs. last_after (last_at text place) (take 1 bs)) (sym h)
-    ∙ last-more 0 text place 1
+last-behind text more place byte h = grind (arith, nat_tests, common_steps, last-more 0 text place 1, last-more)
 
 -- inner C text behind its first bar
 behind-bar : (text : List ℕ) (start end : ℕ) → closing_bar_from text start ≡ Some end
@@ -306,9 +253,4 @@ pub inner-ends-at-bar : (text : List ℕ) (start end : ℕ) → begins bar (drop
     → answers_at text (beginning modes.TexText) start ≡
     Begin (token_of false kinds.InnerText start 1 (drop start text)) ∷ (tokens_of text (start + 1) end modes.Inner ++
     Finish (token_of false kinds.InnerText end 1 (drop end text)) ∷ answers_at text (beginning modes.TexText) (end + 1))
-inner-ends-at-bar text start end b h =
-    let here = begins-byte bar text start b in
-    ap (λ l. answers l (beginning modes.TexText) (fresh_at text start) (last_at text start) start 0) here
-    ∙ (λ i. Begin (token_of false kinds.InnerText start 1 (sym here i)) ∷ answers (drop (start + 1) text) (tex_inner [])
-    (fresh-behind text _ start 124 here i) (last-behind text _ start 124 here i) (start + 1) 0)
-    ∙ ap (λ l. Begin (token_of false kinds.InnerText start 1 (drop start text)) ∷ l) (behind-bar text (start + 1) end h)
+inner-ends-at-bar text start end b h = grind (arith, begins-byte, tex_inner, fresh-behind, last-behind, behind-bar)

@@ -1,7 +1,8 @@
 -- The scanner's answers over C text are nested.
-use Rattle.std.proofs.Common.{◌≡◌, ℕ, zero, suc, ◌+◌, ◌-◌, Bool, true, false, not, ◌&&◌, Option, Some, None, List}
-use Rattle.std.proofs.Common.{[], ◌∷◌, ◌++◌, take, drop, length, refl, sym, ◌∙◌, ap, subst, append-nil, append_assoc}
+use Rattle.std.proofs.Common.{◌≡◌, ℕ, zero, suc, ◌+◌, Bool, true, false, not, ◌&&◌, Option, Some, None, List, []}
+use Rattle.std.proofs.Common.{◌∷◌, ◌++◌, length, refl, sym, ◌∙◌, ap, subst, append-nil, append_assoc, arith}
 use Rattle.std.specs.Prelude.{if◌then◌else◌, ◌==◌, nat_lt}
+use Rattle.std.proofs.lemmas.Bool.Decides.{nat_tests}
 use Rattle.cw_base.proofs.TestLaws.{both-left, both-right}
 use Rattle.cw_rules.specs.declared.codes.Code.{Code}
 use Rattle.cw_rules.specs.declared.codes.Code.TheVariants as code
@@ -17,13 +18,10 @@ use Rattle.cw_rules.specs.declared.tokens.Mode.{Mode}
 use Rattle.cw_rules.specs.declared.tokens.Mode.TheVariants as modes
 use Rattle.cw_rules.specs.declared.tokens.TokKind.{TokKind}
 use Rattle.cw_rules.specs.declared.tokens.TokKind.TheVariants as kind
-use Rattle.cw_rules.specs.Answers.{Answer, Token, Note, Finish, Where, Cut, Found, before, note_answers, token_of}
-use Rattle.cw_rules.specs.Answers.{plain}
-use Rattle.cw_rules.specs.declared.classes.Class.TheVariants as classes
-use Rattle.cw_base.specs.Bytes.{newline, backslash}
-use Rattle.cw_rules.specs.Bytes.{at_sign, equals, comma, left_paren, right_paren, run, begins}
+use Rattle.cw_rules.specs.Answers.{Answer, Note, Where, Cut, Found, before, note_answers, plain}
+use Rattle.cw_base.specs.Bytes.{newline}
+use Rattle.cw_rules.specs.Bytes.{at_sign, begins, is_letter, is_mark, slash, star, hash, less}
 use Rattle.cw_base.specs.Text.{bar}
-use Rattle.cw_rules.specs.Bytes.{is_letter, is_mark, is_in, slash, star, hash, less}
 use Rattle.cw_rules.specs.Bodies.{one_note, note_unless, noted}
 use Rattle.cw_rules.specs.Constants.{constant}
 use Rattle.cw_rules.specs.Prefixes.{prefix_size}
@@ -31,19 +29,17 @@ use Rattle.cw_rules.specs.Signs.{all_signs, longest, spelling}
 use Rattle.cw_rules.specs.declared.signs.Sign.{Sign}
 use Rattle.cw_base.specs.declared.notes.NoteKind.TheVariants as notes
 use Rattle.cw_base.specs.declared.notes.NoteKind.{NoteKind}
-use Rattle.cw_rules.specs.declared.signs.Sign.TheVariants as signs
-use Rattle.cw_rules.specs.Codes.{has_control_text, is_section, begins_section, effect_in_c}
+use Rattle.cw_rules.specs.Codes.{is_section, begins_section, effect_in_c}
 use Rattle.cw_rules.specs.Tokens.{one, skipped_byte, dropped_code, identifier, string, include_name, sign_or_other}
 use Rattle.cw_rules.specs.Tokens.{piece_start, passed, moved, in_hash_line, ends_at_bar, line_end, comment_begin}
 use Rattle.cw_rules.specs.Tokens.{comment_end, inner_cut, comment_cut, part_cut, inner_or_none, all_cut, inner_end}
-use Rattle.cw_rules.specs.Tokens.{effect_in, code_by, code_token, control_or_plain, in_code, start_of}
+use Rattle.cw_rules.specs.Tokens.{effect_in, code_by, code_token, control_or_plain, in_code, start_of, head_text}
+use Rattle.cw_rules.specs.Tokens.{section, section_code, is_name, behind_word, is_include, may_head, is_head, is_space}
+use Rattle.cw_rules.specs.Tokens.{takes_hash_line, behind_include, closes_on_line, is_deep, name_follows, macro_name}
+use Rattle.cw_rules.specs.Tokens.{parameter_follows, parameter, format_name}
 use Rattle.cw_rules.specs.Apart.{code_text_apart, comment_text_apart, part_text_apart, in_text_apart, found_apart}
 use Rattle.cw_rules.specs.Apart.{behind_head_apart}
-use Rattle.cw_rules.specs.Tokens.{head_text, section, section_code, is_name}
-use Rattle.cw_rules.specs.Tokens.{is_quote, behind_word, is_include, may_head, is_head, is_space, takes_hash_line}
-use Rattle.cw_rules.specs.Tokens.{behind_include, closes_on_line, is_deep, name_follows, macro_name, parameter_follows}
-use Rattle.cw_rules.specs.Tokens.{parameter, format_name}
-use Rattle.cw_lex.specs.Lexing.{answers, joined, tokens_of, still_fresh, fresh_at, last_at}
+use Rattle.cw_lex.specs.Lexing.{answers, joined, tokens_of, still_fresh}
 use Rattle.cw_lex.specs.Nested.{Level, InCode, InComment, after_token, levels_after, all_levels_after, IsNested}
 use Rattle.cw_lex.specs.Nested.{is_section_kind, is_section_answer, begins_section_in, until_section, is_c_mode}
 use Rattle.cw_rules.proofs.Choices.{if-both, or-false, or-first, or-second}
@@ -103,8 +99,7 @@ in_tex parts.TexInner = true
 in_tex _ = false
 
 pub inner-nested : (cs : List Opened) → all_inner cs ≡ true → nested_in cs ≡ true
-inner-nested [] h = refl
-inner-nested (c ∷ cs) h = both-right c.inner (all_inner cs) h
+inner-nested cs h = grind (arith, both-right)
 
 -- C text goes on in code
 pub code-first : (cs : List Opened) → all_inner cs ≡ true → (ls : List Level) × (levels_in cs ≡ InCode ∷ ls)
@@ -116,26 +111,19 @@ code-first (c ∷ cs) h = (
 )
 
 passed-c : (p : Part) → is_c p ≡ true → is_c (passed p) ≡ true
-passed-c parts.Begin h = refl
-passed-c (parts.Plain a b) h = refl
-passed-c p h = h
+passed-c p h = grind arith
 
 passed-tex : (p : Part) → in_tex (passed p) ≡ in_tex p
-passed-tex parts.Begin = refl
-passed-tex (parts.Plain a b) = refl
-passed-tex _ = refl
+passed-tex p = grind arith
 
 hash-tex : (p : Part) → in_hash_line p ≡ true → false ≡ in_tex p
-hash-tex parts.TexInner h = absurd cc
-hash-tex _ h = refl
+hash-tex p h = grind arith
 
 takes-tex : (p : Part) (cs : List Opened) → takes_hash_line p cs ≡ true → false ≡ in_tex p
-takes-tex parts.TexInner cs h = absurd cc
-takes-tex _ cs h = refl
+takes-tex p cs h = grind arith
 
 head-tex : (p : Part) (cs : List Opened) → may_head p cs ≡ true → false ≡ in_tex p
-head-tex parts.TexInner cs h = absurd cc
-head-tex _ cs h = refl
+head-tex p cs h = grind arith
 
 -- what holds of what begins at a place
 pub record Goes (tex : Bool) (ls : List Level) (f : Found) : Type 0 where
@@ -146,13 +134,7 @@ pub record Goes (tex : Bool) (ls : List Level) (f : Found) : Type 0 where
   pub uncut : begins_section_in f.answers ≡ false
 
 same-goes : (a b : Bool) (ls : List Level) (f : Found) → a ≡ b → Goes a ls f → Goes b ls f
-same-goes a b ls f e g = record {
-  part = g.part;
-  same = g.same ∙ e;
-  nested = g.nested;
-  levels = g.levels;
-  uncut = g.uncut;
-}
+same-goes a b ls f e g = grind (arith, nat_tests)
 
 -- what stands in C text
 abbrev in_c : TokKind → Bool
@@ -162,13 +144,10 @@ in_c (kind.Code code.StarredSection) = false
 in_c _ = true
 
 token-stays : (k : TokKind) (ls : List Level) → in_c k ≡ true → after_token k (InCode ∷ ls) ≡ Some (InCode ∷ ls)
-token-stays kind.Text ls h = absurd cc
-token-stays _ ls h = refl
+token-stays k ls h = grind arith
 
 token-uncut : (k : TokKind) → in_c k ≡ true → is_section_kind k ≡ false
-token-uncut (kind.Code code.Section) h = absurd cc
-token-uncut (kind.Code code.StarredSection) h = absurd cc
-token-uncut _ h = refl
+token-uncut k h = grind arith
 
 notes-uncut : (ns : List Noted) → begins_section_in (note_answers ns) ≡ false
 notes-uncut [] = refl
@@ -185,50 +164,20 @@ one-goes : (tex hash_line : Bool) (next : Where) (place : ℕ) (bytes : List ℕ
     → in_c cut.kind ≡ true → is_c next.part ≡ true → all_inner next.comments ≡ true
     → Goes tex (levels_in next.comments) (one hash_line next place bytes cut)
 one-goes tex hash_line next place bytes cut same k part inner =
-    let top = code-first next.comments inner in
-    record {
-      part = part;
-      same = same;
-      nested = inner-nested next.comments inner;
-      levels =
-          ap (λ (o : Option (List Level)). elim o [
-            | None ↦ None
-            | Some ls ↦ all_levels_after (note_answers cut.notes) ls
-          ]) (ap (after_token cut.kind) top.1
-          ∙ token-stays cut.kind top.0 k ∙ ap Some (sym top.1))
-          ∙ notes-stay cut.notes (levels_in next.comments);
-      uncut = or-false (is_section_kind cut.kind) (begins_section_in (note_answers cut.notes)) (token-uncut cut.kind k)
-          (notes-uncut cut.notes);
-    }
+    grind (arith, nat_tests, code-first, inner-nested, token-stays, notes-stay, or-false, token-uncut, notes-uncut)
 
 pub skip-goes : (w : Where) → is_c w.part ≡ true → all_inner w.comments ≡ true
     → Goes (in_tex w.part) (levels_in w.comments) (skipped_byte w)
-skip-goes w part inner = record {
-  part = part;
-  same = refl;
-  nested = inner-nested w.comments inner;
-  levels = refl;
-  uncut = refl;
-}
+skip-goes w part inner = grind (arith, nat_tests, inner-nested)
 
 before-goes : (tex : Bool) (xs : List Answer) (ls ms : List Level) (f : Found) → all_levels_after xs ls ≡ Some ms
     → begins_section_in xs ≡ false → Goes tex ms f → Goes tex ls (before xs f)
-before-goes tex xs ls ms f h u g = record {
-  part = g.part;
-  same = g.same;
-  nested = g.nested;
-  levels = levels-append xs f.answers ls ms h ∙ g.levels;
-  uncut = append-uncut xs f.answers u g.uncut;
-}
+before-goes tex xs ls ms f h u g = grind (arith, nat_tests, levels-append, append-uncut)
 
 -- the end of a comment, whose level is the first
 end-levels : (hash_line : Bool) (c : Opened) (place size : ℕ) (bytes : List ℕ) (cs : List Opened) → all_inner cs ≡ true
     → all_levels_after (comment_end hash_line c place size bytes) (InComment ∷ levels_in cs) ≡ Some (levels_in cs)
-end-levels hash_line c place size bytes cs inner =
-    let top = code-first cs inner in
-    ap (λ ls. all_levels_after (comment_end hash_line c place size bytes) (InComment ∷ ls)) top.1
-    ∙ notes-stay (one_note (note_unless (c.braces == 0) notes.MissingBrace place)) (InCode ∷ top.0)
-    ∙ ap Some (sym top.1)
+end-levels hash_line c place size bytes cs inner = grind (arith, nat_tests, code-first, notes-stay)
 
 end-uncut : (hash_line : Bool) (c : Opened) (place size : ℕ) (bytes : List ℕ)
     → begins_section_in (comment_end hash_line c place size bytes) ≡ false
@@ -236,12 +185,7 @@ end-uncut hash_line c place size bytes = notes-uncut (one_note (note_unless (c.b
 
 pub line-goes : (part : Part) (cs : List Opened) (last place : ℕ) → is_c part ≡ true → all_inner cs ≡ true
     → Goes (in_tex part) (levels_in cs) (line_end part cs last place)
-line-goes part [] last place p inner =
-    if-both (Goes (in_tex part) (InCode ∷ [])) (in_hash_line part && not (last == backslash)) _ _
-    (λ e. one-goes (in_tex part) true (record { part = parts.Plain false false; comments = [] }) place (newline ∷ [])
-    (plain kind.HashLineEnd 1) (hash-tex part (both-left (in_hash_line part) (not (last == backslash)) e)) refl refl
-    refl)
-    (λ e. skip-goes (record { part = part; comments = [] }) p refl)
+line-goes part [] last place p inner = grind (arith, nat_tests, if-both, one-goes, hash-tex, both-left, skip-goes)
 line-goes part (c ∷ cs) last place p inner =
     let cut = inner_cut (in_hash_line part) place place ++ comment_end (in_hash_line part) c place 0 [] in
     if-both (Goes (in_tex part) (levels_in (c ∷ cs))) c.long _ _
@@ -257,12 +201,7 @@ line-goes part (c ∷ cs) last place p inner =
 -- a comment begins, and inner C text begins and ends
 comment-goes : (long : Bool) (w : Where) (place : ℕ) (bytes : List ℕ) → is_c w.part ≡ true → all_inner w.comments ≡ true
     → Goes (in_tex w.part) (levels_in w.comments) (comment_begin long w place bytes)
-comment-goes true w place bytes p inner =
-    let top = code-first w.comments inner in
-    record { part = passed-c w.part p; same = passed-tex w.part; nested = inner; levels = rw top.1 refl; uncut = refl }
-comment-goes false w place bytes p inner =
-    let top = code-first w.comments inner in
-    record { part = passed-c w.part p; same = passed-tex w.part; nested = inner; levels = rw top.1 refl; uncut = refl }
+comment-goes long w place bytes p inner = grind (arith, nat_tests, code-first, passed-c, passed-tex)
 
 abbrev pub is_open : List Opened → Bool
 is_open [] = false
@@ -271,15 +210,7 @@ is_open (c ∷ cs) = true
 inner-ends : (part : Part) (cs : List Opened) (place : ℕ) (bytes : List ℕ) → is_c part ≡ true → all_inner cs ≡ true
     → is_open cs ≡ true → Goes (in_tex part) (levels_in cs) (inner_end (record { part = part; comments = cs }) place
     bytes)
-inner-ends part [] place bytes p inner opens = absurd cc
-inner-ends part (c ∷ cs) place bytes p inner opens = record {
-  part = passed-c part p;
-  same = passed-tex part;
-  nested = both-right c.inner (all_inner cs) inner;
-  levels = ap (λ b. all_levels_after (Finish (token_of (in_hash_line part) kind.InnerText place 1 bytes) ∷ [])
-      (with_code b (InComment ∷ levels_in cs))) (both-left c.inner (all_inner cs) inner);
-  uncut = refl;
-}
+inner-ends part cs place bytes p inner opens = grind (arith, nat_tests, passed-c, passed-tex, both-right, both-left)
 
 -- codes
 abbrev is_kept : Effect → Bool
@@ -288,34 +219,26 @@ is_kept (effects.Drops note) = true
 is_kept _ = false
 
 kept-in-c : (c : Code) → is_kept (effect_in_c c) ≡ true
-kept-in-c code.Define = refl
-kept-in-c _ = refl
+kept-in-c c = grind arith
 
 kept : (part : Part) (cs : List Opened) (c : Code) → in_tex part ≡ true → is_kept (effect_in part cs c) ≡ true
-kept parts.TexInner cs c h = kept-in-c c
-kept _ cs c h = absurd cc
+kept part cs c h = grind (arith, kept-in-c)
 
 record InC (x : Cut) : Type 0 where
   pub is : in_c x.kind ≡ true
 
 code-in-c : (c : Code) → is_section c ≡ false → in_c (kind.Code c) ≡ true
-code-in-c code.Section h = absurd cc
-code-in-c code.StarredSection h = absurd cc
-code-in-c _ h = refl
+code-in-c c h = grind arith
 
 control-kind : (c : Code) (place : ℕ) (bytes : List ℕ) → is_section c ≡ false → InC (control_or_plain c place bytes)
-control-kind c place bytes h = if-both InC (has_control_text c) _ _ (λ e. record { is = code-in-c c h })
-    (λ e. record { is = code-in-c c h })
+control-kind c place bytes h = grind (arith, nat_tests, if-both, code-in-c)
 
 code-kind : (c : Code) (place : ℕ) (bytes : List ℕ) → is_section c ≡ false → InC (code_token c place bytes)
-code-kind c place bytes h =
-    if-both InC (is_name c) _ _ (λ e. record { is = code-in-c c h })
-    (λ e. if-both InC (is_quote c) _ _ (λ f. record { is = code-in-c c h }) (λ f. control-kind c place bytes h))
+code-kind c place bytes h = grind (arith, nat_tests, if-both, code-in-c, control-kind)
 
 -- where inner text of TeX text stays, another part's text isn't it
 other-tex : (b t : Bool) → (b ≡ true → t ≡ true) → t ≡ false → false ≡ b
-other-tex true t f e = absurd (let k : t ≡ true = f refl in cc)
-other-tex false t f e = refl
+other-tex b t f e = grind arith
 
 code-goes : (effect : Effect) (c : Code) (w : Where) (place : ℕ) (bytes : List ℕ)
     → (in_tex w.part ≡ true → is_kept effect ≡ true) → is_section c ≡ false → is_c w.part ≡ true → all_inner w.comments
@@ -353,8 +276,7 @@ pub record Begins (ends : Bool) (s : Start) : Type 0 where
   pub is : Begun ends s
 
 sign-begins : (ends : Bool) (o : Option Sign) → Begun ends (sign_or_other o)
-sign-begins ends None = tt
-sign-begins ends (Some s) = tt
+sign-begins ends o = grind arith
 
 pub begins-so : (ends : Bool) (byte : ℕ) (bytes : List ℕ) → (byte == at_sign && begins_section bytes) ≡ false
     → Begins ends (start_of ends byte bytes)
@@ -398,8 +320,7 @@ in-code-goes start.ShortComment part cs place bytes p inner bar_ends b =
     comment-goes false (record { part = part; comments = cs }) place bytes p inner
 in-code-goes (start.Code c) part cs place bytes p inner bar_ends b =
     code-goes (effect_in part cs c) c (record { part = part; comments = cs }) place bytes (kept part cs c) b p inner
-in-code-goes start.EndOfInner part cs place bytes p inner bar_ends b =
-    inner-ends part cs place bytes p inner (bar_ends refl)
+in-code-goes start.EndOfInner part cs place bytes p inner bar_ends b = grind (arith, inner-ends)
 in-code-goes start.Constant part cs place bytes p inner bar_ends b = one-goes (in_tex part) (in_hash_line part)
     (record { part = passed part; comments = cs }) place bytes (plain kind.Constant (constant bytes)) (passed-tex part)
     refl (passed-c part p) inner
@@ -480,11 +401,7 @@ comment-text-goes part c cs last place byte bytes p inner f =
 -- heads
 head-goes : (place byte : ℕ) (bytes : List ℕ) → Goes false (InCode ∷ [])
     (head_text (record { part = parts.Head; comments = [] }) place byte bytes)
-head-goes place byte bytes =
-    if-both (Goes false (InCode ∷ [])) (is_in classes.Blank byte) _ _
-    (λ e. skip-goes (record { part = parts.Head; comments = [] }) refl refl)
-    (λ e. one-goes false false (record { part = parts.Plain false false; comments = [] }) place (byte ∷ bytes)
-    (plain kind.HeadSign (if begins equals bytes then 2 else 1)) refl refl refl refl)
+head-goes place byte bytes = grind (arith, nat_tests, if-both, skip-goes, one-goes)
 
 definition-goes : (fresh : Bool) (last place byte : ℕ) (bytes : List ℕ) → (byte == at_sign && begins_section bytes)
     ≡ false → Goes false (InCode ∷ []) (code_text_apart (record { part = parts.Definition; comments = [] }) fresh last
@@ -505,45 +422,16 @@ improper-goes note at part fresh last place byte bytes section =
 
 macro-goes : (at place byte : ℕ) (bytes : List ℕ) → Goes false (InCode ∷ [])
     (macro_name at (record { part = parts.MacroName at; comments = [] }) place byte bytes)
-macro-goes at place byte bytes =
-    let w : Where = record { part = parts.MacroName at; comments = [] } in
-    if-both (Goes false (InCode ∷ [])) (is_in classes.White byte) _ _ (λ e. skip-goes w refl refl)
-    (λ e. if-both (λ (next : Where). Goes false (InCode ∷ [])
-    (one false next place (byte ∷ bytes) (identifier (byte ∷ bytes))))
-    (begins left_paren (drop (run classes.Word (byte ∷ bytes)) (byte ∷ bytes))) (moved w (parts.MacroParen at))
-    (moved w parts.Definition)
-    (λ e. one-goes false false (moved w (parts.MacroParen at)) place (byte ∷ bytes) (identifier (byte ∷ bytes)) refl
-    refl refl refl)
-    (λ e. one-goes false false (moved w parts.Definition) place (byte ∷ bytes) (identifier (byte ∷ bytes)) refl refl
-    refl refl))
+macro-goes at place byte bytes = grind (arith, if-both, skip-goes, one-goes)
 
 parameter-goes : (at place byte : ℕ) (bytes : List ℕ)
     → Goes false (InCode ∷ []) (parameter (record { part = parts.Parameters at; comments = [] }) place byte bytes)
-parameter-goes at place byte bytes =
-    let w : Where = record { part = parts.Parameters at; comments = [] } in
-    let P : Found → Type 0 = Goes false (InCode ∷ []) in
-    if-both P (is_in classes.White byte) _ _ (λ e. skip-goes w refl refl)
-    (λ e. if-both P (is_letter byte) _ _ (λ e. one-goes false false w place (byte ∷ bytes) (identifier (byte ∷ bytes))
-    refl refl refl refl)
-    (λ e. if-both P (byte == comma) _ _ (λ e. one-goes false false w place (byte ∷ bytes)
-    (plain (kind.Sign signs.Comma) 1) refl refl refl refl)
-    (λ e. if-both P (byte == right_paren) _ _ (λ e. one-goes false false (moved w parts.Definition) place (byte ∷ bytes)
-    (plain (kind.Sign signs.RightParen) 1) refl refl refl refl)
-    (λ e. one-goes false false w place (byte ∷ bytes) (plain (kind.Sign signs.Ellipsis) 3) refl refl refl refl))))
+parameter-goes at place byte bytes = grind (arith, if-both, skip-goes, one-goes)
 
 format-goes : (at : ℕ) (second : Bool) (place byte : ℕ) (bytes : List ℕ)
     → Goes false (InCode ∷ []) (format_name at second false
     (record { part = parts.FormatName at second false; comments = [] }) place byte bytes)
-format-goes at second place byte bytes =
-    let w : Where = record { part = parts.FormatName at second false; comments = [] } in
-    if-both (Goes false (InCode ∷ [])) (is_in classes.White byte) _ _ (λ e. skip-goes w refl refl)
-    (λ e. if-both (λ (next : Where). Goes false (InCode ∷ [])
-    (one false next place (byte ∷ bytes) (identifier (byte ∷ bytes)))) second (moved w parts.Definition)
-    (moved w (parts.FormatName at true false))
-    (λ e. one-goes false false (moved w parts.Definition) place (byte ∷ bytes) (identifier (byte ∷ bytes)) refl refl
-    refl refl)
-    (λ e. one-goes false false (moved w (parts.FormatName at true false)) place (byte ∷ bytes)
-    (identifier (byte ∷ bytes)) refl refl refl refl))
+format-goes at second place byte bytes = grind (arith, if-both, skip-goes, one-goes)
 
 part-goes : (part : Part) (fresh : Bool) (last place byte : ℕ) (bytes : List ℕ)
     → (byte == at_sign && begins_section bytes) ≡ false → is_c part ≡ true → in_tex part ≡ false
@@ -560,9 +448,7 @@ part-goes parts.Head fresh last place byte bytes section p t = head-goes place b
 part-goes (parts.MacroName at) fresh last place byte bytes section p t =
     if-both (Goes false (InCode ∷ [])) (name_follows (byte ∷ bytes)) _ _ (λ e. macro-goes at place byte bytes)
     (λ e. improper-goes notes.ImproperMacro at (parts.MacroName at) fresh last place byte bytes section)
-part-goes (parts.MacroParen at) fresh last place byte bytes section p t =
-    one-goes false false (record { part = parts.Parameters at; comments = [] }) place (byte ∷ bytes)
-    (plain (kind.Sign signs.LeftParen) 1) refl refl refl refl
+part-goes (parts.MacroParen at) fresh last place byte bytes section p t = grind (arith, one-goes)
 part-goes (parts.Parameters at) fresh last place byte bytes section p t =
     if-both (Goes false (InCode ∷ [])) (parameter_follows (byte ∷ bytes)) _ _ (λ e. parameter-goes at place byte bytes)
     (λ e. improper-goes notes.ImproperMacro at (parts.Parameters at) fresh last place byte bytes section)
@@ -594,21 +480,15 @@ in-text-goes part (c ∷ cs) fresh last place byte bytes section p t n =
 
 pub open-levels : (b hash_line : Bool) (place about : ℕ) (ls : List Level)
     → all_levels_after (inner_or_none b hash_line place about) (with_code b (InComment ∷ ls)) ≡ Some (InComment ∷ ls)
-open-levels true hash_line place about ls = refl
-open-levels false hash_line place about ls = refl
+open-levels b hash_line place about ls = grind arith
 
 pub cut-one : (hash_line : Bool) (c : Opened) (place about : ℕ) (cs : List Opened) → all_inner cs ≡ true
     → all_levels_after (comment_cut hash_line c place about) (InComment ∷ levels_in cs) ≡ Some (levels_in cs)
-cut-one hash_line c place about cs inner =
-    let top = code-first cs inner in
-    ap (λ ls. all_levels_after (comment_cut hash_line c place about) (InComment ∷ ls)) top.1
-    ∙ notes-stay (one_note (note_unless (c.braces == 0) notes.MissingBrace about)) (InCode ∷ top.0)
-    ∙ ap Some (sym top.1)
+cut-one hash_line c place about cs inner = grind (arith, nat_tests, code-first, notes-stay)
 
 part-levels : (part : Part) (place about : ℕ) → in_tex part ≡ false
     → all_levels_after (part_cut part place about) (InCode ∷ []) ≡ Some (InCode ∷ [])
-part-levels parts.TexInner place about t = absurd cc
-part-levels _ place about t = refl
+part-levels part place about t = grind arith
 
 cut-levels : (part : Part) (cs : List Opened) (place about : ℕ) → in_tex part ≡ false → nested_in cs ≡ true
     → all_levels_after (all_cut part cs place about) (levels_in cs) ≡ Some (InCode ∷ [])
@@ -622,31 +502,23 @@ cut-levels part (c ∷ cs) place about t n =
     ∙ cut-levels part cs place about t (inner-nested cs n)
 
 part-uncut : (part : Part) (place about : ℕ) → begins_section_in (part_cut part place about) ≡ false
-part-uncut parts.TexInner place about = refl
-part-uncut _ place about = refl
+part-uncut part place about = grind arith
 
 inner-uncut : (b hash_line : Bool) (place about : ℕ) → begins_section_in (inner_or_none b hash_line place about) ≡ false
-inner-uncut true hash_line place about = refl
-inner-uncut false hash_line place about = refl
+inner-uncut b hash_line place about = grind arith
 
 pub cut-uncut : (part : Part) (cs : List Opened) (place about : ℕ) → begins_section_in (all_cut part cs place about)
     ≡ false
 cut-uncut part [] place about = part-uncut part place about
 cut-uncut part (c ∷ cs) place about =
-    let h = in_hash_line part in
-    append-uncut (inner_or_none c.inner h place about) (comment_cut h c place about ++ all_cut part cs place about)
-    (inner-uncut c.inner h place about)
-    (append-uncut (comment_cut h c place about) (all_cut part cs place about)
-    (notes-uncut (one_note (note_unless (c.braces == 0) notes.MissingBrace about))) (cut-uncut part cs place about))
+    grind (arith, nat_tests, cut-uncut part cs place about, append-uncut, inner-uncut, notes-uncut)
 
 -- ## Up to a section code
 
 until-append : (xs ys : List Answer) → begins_section_in xs ≡ false → until_section (xs ++ ys) ≡ xs ++ until_section ys
 until-append [] ys h = refl
 until-append (x ∷ xs) ys h =
-    ap (λ t. if t then [] else x ∷ until_section (xs ++ ys))
-    (or-first (is_section_answer x) (begins_section_in xs) h)
-    ∙ ap (λ l. x ∷ l) (until-append xs ys (or-second (is_section_answer x) (begins_section_in xs) h))
+    grind (arith, until-append xs ys (or-second (is_section_answer x) (begins_section_in xs) h), or-first, or-second)
 
 pub until-none : (xs : List Answer) → begins_section_in xs ≡ false → until_section xs ≡ xs
 until-none xs h = ap until_section (sym (append-nil xs)) ∙ until-append xs [] h ∙ append-nil xs
@@ -655,30 +527,18 @@ pub record IsSection (x : Cut) : Type 0 where
   pub is : is_section_kind x.kind ≡ true
 
 pub section-kind : (bytes : List ℕ) → IsSection (section_code bytes)
-section-kind bytes = if-both IsSection (begins star (drop 1 bytes)) _ _ (λ e. record { is = refl })
-    (λ e. record { is = refl })
+section-kind bytes = grind (arith, nat_tests, if-both)
 
 -- a section code, before which all that is open ends
 until-cut : (w : Where) (place : ℕ) (bytes : List ℕ) (ys : List Answer)
     → until_section ((section w place bytes).answers ++ ys) ≡ all_cut w.part w.comments place place
-until-cut w place bytes ys =
-    let cut = all_cut w.part w.comments place place in
-    let code = section_code (at_sign ∷ bytes) in
-    let t = token_of false code.kind place code.size (at_sign ∷ bytes) in
-    ap until_section (append_assoc cut (Token t ∷ note_answers code.notes) ys)
-    ∙ until-append cut (Token t ∷ (note_answers code.notes ++ ys)) (cut-uncut w.part w.comments place place)
-    ∙ ap (λ b. cut ++ (if b then [] else Token t ∷ until_section (note_answers code.notes ++ ys)))
-    (section-kind (at_sign ∷ bytes)).is
-    ∙ append-nil cut
+until-cut w place bytes ys = grind (arith, nat_tests, append_assoc, until-append, cut-uncut, section-kind, append-nil)
 
 answers-nest : (bytes : List ℕ) (w : Where) (fresh : Bool) (last place taken : ℕ) → is_c w.part ≡ true → in_tex w.part
     ≡ false → nested_in w.comments ≡ true
     → all_levels_after (until_section (answers bytes w fresh last place taken)) (levels_in w.comments)
     ≡ Some (InCode ∷ [])
-answers-nest [] w fresh last place taken p t n =
-    ap (λ l. all_levels_after l (levels_in w.comments)) (until-none (all_cut w.part w.comments place (place - 1))
-    (cut-uncut w.part w.comments place (place - 1)))
-    ∙ cut-levels w.part w.comments place (place - 1) t n
+answers-nest [] w fresh last place taken p t n = grind (arith, until-none, cut-uncut, cut-levels)
 answers-nest (byte ∷ bytes) w fresh last place zero p t n =
     by (byte == at_sign && begins_section bytes) refl
     (λ f g. answers-nest bytes f.next (still_fresh fresh byte) byte (place + 1) f.more g.part g.same g.nested)
@@ -714,15 +574,9 @@ answers-nest (byte ∷ bytes) w fresh last place (suc taken) p t n =
 
 pub parts-nested : (text : List ℕ) (start end : ℕ) (mode : Mode) → is_c_mode mode ≡ true
     → IsNested (until_section (tokens_of text start end mode))
-parts-nested text first end modes.CPart m = answers-nest (drop first (take end text))
-    (record { part = parts.Begin; comments = [] }) (fresh_at (take end text) first) (last_at (take end text) first)
-    first 0 refl refl refl
-parts-nested text first end modes.Inner m = answers-nest (drop first (take end text))
-    (record { part = parts.Inner; comments = [] }) (fresh_at (take end text) first) (last_at (take end text) first)
-    first 0 refl refl refl
-parts-nested text first end modes.Definition m = answers-nest (drop first (take end text))
-    (record { part = parts.Definition; comments = [] }) (fresh_at (take end text) first) (last_at (take end text) first)
-    first 0 refl refl refl
+parts-nested text first end modes.CPart m = grind (arith, nat_tests, answers-nest)
+parts-nested text first end modes.Inner m = grind (arith, nat_tests, answers-nest)
+parts-nested text first end modes.Definition m = grind (arith, nat_tests, answers-nest)
 parts-nested text first end _ m = absurd cc
 
 pub c-texts-nested : (text : List ℕ) (start end : ℕ) (mode : Mode) → is_c_mode mode ≡ true

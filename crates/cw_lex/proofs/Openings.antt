@@ -1,13 +1,13 @@
 -- A text ends before the code with which a section or another part begins, and goes on from there as that part.
-use Rattle.std.proofs.Common.{◌≡◌, ℕ, zero, suc, ◌+◌, ◌-◌, ◌<◌, ◌≤◌, Bool, true, false, ◌&&◌, ◌||◌, ◌==◌, List, [], ◌∷◌}
-use Rattle.std.proofs.Common.{◌++◌, Option, Some, length, slice_index, take, drop, refl, sym, ap, subst, ◌∙◌, arith}
+use Rattle.std.proofs.Common.{◌≡◌, ℕ, zero, suc, ◌+◌, ◌-◌, ◌<◌, ◌≤◌, Bool, true, false, ◌&&◌, ◌==◌, List, [], ◌∷◌, ◌++◌}
+use Rattle.std.proofs.Common.{Option, Some, length, slice_index, take, drop, refl, sym, ap, subst, ◌∙◌, arith}
 use Rattle.std.proofs.Common.{append_assoc, length-drop, inl, inr}
 use Rattle.std.specs.Prelude.{if◌then◌else◌}
 use Rattle.std.proofs.lemmas.Bool.{eqb-true}
 use Rattle.std.proofs.lemmas.List.{drop-drop, take-take, take_all, drop_all}
+use Rattle.std.proofs.lemmas.Bool.Decides.{nat_tests}
 use Rattle.cw_base.proofs.TestLaws.{both-left, both-right, not-both}
 use Rattle.cw_rules.specs.declared.codes.Code.{Code}
-use Rattle.cw_rules.specs.declared.codes.Code.TheVariants as at
 use Rattle.cw_rules.specs.declared.parts.Part.TheVariants as parts
 use Rattle.cw_rules.specs.declared.tokens.Mode.{Mode}
 use Rattle.cw_rules.specs.declared.tokens.Mode.TheVariants as modes
@@ -15,20 +15,19 @@ use Rattle.cw_rules.specs.declared.tokens.TokKind.{TokKind}
 use Rattle.cw_rules.specs.declared.tokens.TokKind.TheVariants as kinds
 use Rattle.cw_rules.specs.Answers.{Answer, Token, Begin, Finish, Note, Seen, Where, Cut, Found, note_answers, token_of}
 use Rattle.cw_rules.specs.Answers.{has_sign, is_head_sign}
-use Rattle.cw_rules.specs.Bytes.{star, at_sign, greater, begins}
+use Rattle.cw_rules.specs.Bytes.{at_sign, greater, begins}
 use Rattle.cw_lex.specs.Coming.{found_at}
-use Rattle.cw_rules.specs.Codes.{code_of, code_at, is_section, begins_section}
-use Rattle.cw_lex.specs.Lexing.{still_fresh, joined, answers, fresh_after, last_after, fresh_at, last_at, answers_at}
-use Rattle.cw_lex.specs.Lexing.{beginning, tokens_of}
-use Rattle.cw_lex.specs.Nested.{is_section_kind, is_section_answer, begins_section_in}
+use Rattle.cw_rules.specs.Codes.{code_at, is_section, begins_section}
+use Rattle.cw_lex.specs.Lexing.{beginning, still_fresh, joined, answers, fresh_after, last_after, fresh_at, last_at}
+use Rattle.cw_lex.specs.Lexing.{answers_at}
+use Rattle.cw_lex.specs.Nested.{is_section_kind, begins_section_in}
 use Rattle.cw_lex.specs.Openings.{tokens_in, named, opened_by, is_limbo_mode, EndsBefore}
 use Rattle.cw_rules.specs.Tokens.{all_cut, section, section_code}
 use Rattle.cw_rules.specs.Apart.{in_text_apart, found_apart}
 use Rattle.cw_rules.proofs.Ahead.{drop-same, take-same}
 use Rattle.cw_rules.proofs.Choices.{if-both}
 use Rattle.cw_rules.proofs.CodeStarts.{kind_code, code_in, is_opener, is_limbo, is_head_where, in-text-tells}
-use Rattle.cw_rules.proofs.CodeTwins.{Twin, Opens, Definitions, Program, Named, OpensAt, OpensBy, beginning_of}
-use Rattle.cw_rules.proofs.CodeTwins.{found-twin}
+use Rattle.cw_rules.proofs.CodeTwins.{Twin, Opens, Named, OpensAt, OpensBy, beginning_of, found-twin}
 use Rattle.cw_lex.proofs.Covering.{drop-part}
 use Rattle.cw_rules.proofs.RulesAhead.{found-local}
 use Rattle.cw_rules.proofs.Taking.{AreBare, AreNotes, bare-all-cut, found-takes}
@@ -51,9 +50,7 @@ record Opening (w : Where) (place byte : ℕ) (bytes : List ℕ) (f : Found) : T
   behind : is_section (code_in f.answers) ≡ true → f ≡ section w place bytes
 
 pub section-opens : (c : Code) → is_section c ≡ true → is_opener c ≡ true
-section-opens at.Section h = refl
-section-opens at.StarredSection h = refl
-section-opens _ h = absurd cc
+section-opens c h = grind arith
 
 -- what a section code is as a token
 record IsCode (cut : Cut) : Type 0 where
@@ -62,15 +59,10 @@ record IsCode (cut : Cut) : Type 0 where
   notes : cut.notes ≡ []
 
 section-code-is : (bytes : List ℕ) → IsCode (section_code bytes)
-section-code-is bytes =
-    if-both IsCode (begins star (drop 1 bytes)) _ _ (λ e. record { code = refl; sign = refl; notes = refl })
-    (λ e. record { code = refl; sign = refl; notes = refl })
+section-code-is bytes = grind (arith, nat_tests, if-both)
 
 section-found : (w : Where) (place : ℕ) (bytes : List ℕ) → is_section (code_in (section w place bytes).answers) ≡ true
-section-found w place bytes =
-    ap is_section (bare-code place (all_cut w.part w.comments place place) _
-    (bare-all-cut w.part w.comments place place))
-    ∙ (section-code-is (at_sign ∷ bytes)).code
+section-found w place bytes = grind (arith, nat_tests, bare-code, bare-all-cut, section-code-is)
 
 opening : (w : Where) (fresh : Bool) (last place byte : ℕ) (bytes : List ℕ)
     → is_opener (code_in (found_apart w fresh last place byte bytes).answers) ≡ true
@@ -113,29 +105,19 @@ limbo-stays w fresh last place byte bytes h =
     (λ e. (in-text-tells w.part w.comments fresh last place byte bytes).limbo h)
 
 opener-code : (more : List ℕ) → is_opener (code_at more) ≡ true → begins greater more ≡ false
-opener-code [] h = refl
-opener-code (m ∷ ms) h = by (m == greater) refl
-  where
-    by : (t : Bool) → (m == greater) ≡ t → (m == greater) ≡ false
-    by true e = absurd (let k : true ≡ false = sym h ∙ ap (λ b. is_opener (code_of b)) (eqb-true m greater e) in cc)
-    by false e = e
+opener-code more h = grind (arith, nat_tests, is_opener, eqb-true)
 
 -- ## The sign behind a name
 
 bare-sign : (place : ℕ) (xs ys : List Answer) → AreBare place xs → has_sign ys ≡ false → has_sign (xs ++ ys) ≡ false
 bare-sign place [] ys h k = k
-bare-sign place (Token t ∷ xs) ys h k = absurd h
-bare-sign place (Begin t ∷ xs) ys h k = absurd h
 bare-sign place (Finish t ∷ xs) ys h k = refl
 bare-sign place (Note kind about ∷ xs) ys h k = bare-sign place xs ys h k
+bare-sign _ _ _ h _ = absurd h
 
 section-sign : (w : Where) (place : ℕ) (bytes : List ℕ) (rest : List Answer)
     → has_sign ((section w place bytes).answers ++ rest) ≡ false
-section-sign w place bytes rest =
-    let cut = all_cut w.part w.comments place place in
-    let alone = (section tex place bytes).answers in
-    ap has_sign (append_assoc cut alone rest) ∙ bare-sign place cut (alone ++ rest)
-    (bare-all-cut w.part w.comments place place) (section-code-is (at_sign ∷ bytes)).sign
+section-sign w place bytes rest = grind (arith, nat_tests, append_assoc, bare-sign, bare-all-cut, section-code-is)
 
 -- The sign comes only where it is wanted.
 signless : (bytes : List ℕ) (w : Where) (fresh : Bool) (last place taken : ℕ) → is_head_where w ≡ false
@@ -180,47 +162,31 @@ signless (byte ∷ bytes) w fresh last place (suc taken) h = signless bytes w (s
 
 pub bare-uncut : (place : ℕ) (xs : List Answer) → AreBare place xs → begins_section_in xs ≡ false
 bare-uncut place [] h = refl
-bare-uncut place (Token t ∷ xs) h = absurd h
-bare-uncut place (Begin t ∷ xs) h = absurd h
 bare-uncut place (Finish t ∷ xs) h = bare-uncut place xs h.3
 bare-uncut place (Note kind about ∷ xs) h = bare-uncut place xs h
+bare-uncut _ _ h = absurd h
 
 bare-codes : (place : ℕ) (xs ys : List Answer) → AreBare place xs → begins_section_in (xs ++ ys) ≡ begins_section_in ys
 bare-codes place [] ys h = refl
-bare-codes place (Token t ∷ xs) ys h = absurd h
-bare-codes place (Begin t ∷ xs) ys h = absurd h
 bare-codes place (Finish t ∷ xs) ys h = bare-codes place xs ys h.3
 bare-codes place (Note kind about ∷ xs) ys h = bare-codes place xs ys h
+bare-codes _ _ _ h = absurd h
 
 section-kind-code : (c : Code) → is_section_kind (kinds.Code c) ≡ is_section c
-section-kind-code at.Section = refl
-section-kind-code at.StarredSection = refl
-section-kind-code _ = refl
+section-kind-code c = grind arith
 
 pub section-kind-is : (k : TokKind) → is_section_kind k ≡ is_section (kind_code k)
-section-kind-is (kinds.Code c) = section-kind-code c
-section-kind-is _ = refl
+section-kind-is k = grind (arith, section-kind-code)
 
 -- a section code cuts
 pub section-cuts : (w : Where) (place : ℕ) (bytes : List ℕ) (rest : List Answer)
     → begins_section_in ((section w place bytes).answers ++ rest) ≡ true
 section-cuts w place bytes rest =
-    let cut = all_cut w.part w.comments place place in
-    let alone = (section tex place bytes).answers in
-    let code = section_code (at_sign ∷ bytes) in
-    ap begins_section_in (append_assoc cut alone rest)
-    ∙ bare-codes place cut (alone ++ rest) (bare-all-cut w.part w.comments place place)
-    ∙ ap (λ b. b || begins_section_in (note_answers code.notes ++ rest)) (section-kind-is code.kind
-    ∙ (section-code-is (at_sign ∷ bytes)).code)
+    grind (arith, nat_tests, append_assoc, bare-codes, bare-all-cut, section-kind-is, section-code-is)
 
 pub uncut-right : (xs ys : List Answer) → begins_section_in (xs ++ ys) ≡ false → begins_section_in ys ≡ false
 uncut-right [] ys h = h
-uncut-right (x ∷ xs) ys h = by (is_section_answer x) h (uncut-right xs ys)
-  where
-    by : (b : Bool) → (b || begins_section_in (xs ++ ys)) ≡ false
-        → (begins_section_in (xs ++ ys) ≡ false → begins_section_in ys ≡ false) → begins_section_in ys ≡ false
-    by true k rec = absurd cc
-    by false k rec = rec k
+uncut-right (x ∷ xs) ys h = grind (arith, nat_tests, uncut-right xs ys)
 
 -- ## Up to a token
 
@@ -373,8 +339,7 @@ walk : (bytes : List ℕ) (w : Where) (fresh : Bool) (last place taken : ℕ) (x
     (ys : List Answer) → is_opener (kind_code t.kind) ≡ true → answers bytes w fresh last place taken
     ≡ xs ++ Token t ∷ ys
     → Stop bytes w fresh last place taken xs t ys
-walk [] w fresh last place taken xs t ys o e = absurd (no-token-bare place (all_cut w.part w.comments place (place - 1))
-    xs t ys (bare-all-cut w.part w.comments place (place - 1)) e)
+walk [] w fresh last place taken xs t ys o e = grind (arith, no-token-bare, bare-all-cut)
 walk (byte ∷ bytes) w fresh last place zero xs t ys o e =
     let f = found_apart w fresh last place byte bytes in
     by (split f.answers (answers bytes f.next (still_fresh fresh byte) byte (place + 1) f.more) xs t ys e)
@@ -413,26 +378,9 @@ record SameToken (s t : Seen) (ms ns : List Answer) : Type 0 where
 
 same-token : (p q : ℕ) (xs ys : List Answer) (s t : Seen) (ms ns : List Answer) → AreBare p xs → AreBare q ys
     → xs ++ Token s ∷ ms ≡ ys ++ Token t ∷ ns → SameToken s t ms ns
-same-token p q [] [] s t ms ns h g e = record {
-  token = token-is s t (head-is (Token s) (Token t) ms ns e);
-  behind = tail-is (Token s) (Token t) ms ns e;
-}
-same-token p q [] (y ∷ ys) s t ms ns h g e = absurd (no-token-bare q (y ∷ []) [] s [] (one y ys g)
-    (ap (λ a. a ∷ []) (sym (head-is (Token s) y ms (ys ++ Token t ∷ ns) e))))
-  where
-    one : (y : Answer) (ys : List Answer) → AreBare q (y ∷ ys) → AreBare q (y ∷ [])
-    one (Token t) ys g = g
-    one (Begin t) ys g = g
-    one (Finish t) ys g = (g.0, g.1, g.2, tt)
-    one (Note kind about) ys g = tt
-same-token p q (x ∷ xs) [] s t ms ns h g e = absurd (no-token-bare p (x ∷ []) [] t [] (one x xs h)
-    (ap (λ a. a ∷ []) (head-is x (Token t) (xs ++ Token s ∷ ms) ns e)))
-  where
-    one : (x : Answer) (xs : List Answer) → AreBare p (x ∷ xs) → AreBare p (x ∷ [])
-    one (Token t) xs g = g
-    one (Begin t) xs g = g
-    one (Finish t) xs g = (g.0, g.1, g.2, tt)
-    one (Note kind about) xs g = tt
+same-token p q [] [] s t ms ns h g e = grind (arith, nat_tests, token-is, head-is, tail-is)
+same-token p q [] (y ∷ ys) s t ms ns h g e = grind (arith, nat_tests, no-token-bare, head-is)
+same-token p q (x ∷ xs) [] s t ms ns h g e = grind (arith, nat_tests, no-token-bare, head-is)
 same-token p q (x ∷ xs) (y ∷ ys) s t ms ns h g e =
     same-token p q xs ys s t ms ns (rest p x xs h) (rest q y ys g)
     (tail-is x y (xs ++ Token s ∷ ms) (ys ++ Token t ∷ ns) e)
@@ -445,10 +393,8 @@ same-token p q (x ∷ xs) (y ∷ ys) s t ms ns h g e =
 
 notes-bare : (p : ℕ) (xs : List Answer) → AreNotes xs → AreBare p xs
 notes-bare p [] h = tt
-notes-bare p (Token t ∷ xs) h = absurd h
-notes-bare p (Begin t ∷ xs) h = absurd h
-notes-bare p (Finish t ∷ xs) h = absurd h
 notes-bare p (Note kind about ∷ xs) h = notes-bare p xs h
+notes-bare _ _ h = absurd h
 
 abbrev StopIn : List ℕ → ℕ → Mode → List Answer → Seen → List Answer → Type 0
 StopIn text start mode xs t ys = Stop (drop start text) (beginning mode) (fresh_at text start) (last_at text start)
@@ -463,10 +409,7 @@ module _ (text : List ℕ) (start : ℕ) (mode : Mode) (xs : List Answer) (t : S
   size = omega (arith, s.end-is)
 
   part : drop start (take s.end text) ≡ s.inside
-  part =
-      let n = length s.inside in
-      drop-part text s.end start order ∙ (λ i. take (size i) (s.split i))
-      ∙ take-same n s.inside (s.byte ∷ s.behind) (omega arith) ∙ take_all n s.inside (omega arith)
+  part = grind (arith, nat_tests, drop-part, order, size, take-same, take_all)
 
   at-end : drop s.end text ≡ s.byte ∷ s.behind
   at-end =
@@ -479,30 +422,13 @@ module _ (text : List ℕ) (start : ℕ) (mode : Mode) (xs : List Answer) (t : S
   begun-same = take-take start s.end text order
 
   ends-before : EndsBefore text start mode xs t
-  ends-before = record {
-    order = omega (arith, s.starts, order);
-    body = s.body;
-    cut = s.cut;
-    rest = s.front;
-    alone =
-        ap (λ p. tokens_of text start p mode) s.starts
-        ∙ (λ i. answers (part i) (beginning mode) (fresh_after true (begun-same i)) (last_after 0 (begun-same i)) start
-        0)
-        ∙ s.alone;
-    whole = s.whole;
-    cut_tokens = s.cut-tokens;
-    rest_tokens = bare-tokens s.end s.front s.bare;
-  }
+  ends-before = grind (arith, nat_tests, order, part, begun-same, bare-tokens)
 
   fresh-end : fresh_after (fresh_at text start) s.inside ≡ fresh_at text s.end
-  fresh-end =
-      ap (fresh_after (fresh_at text start)) (sym part ∙ drop-part text s.end start order)
-      ∙ fresh-more true text start (s.end - start) ∙ ap (fresh_at text) (omega (arith, order))
+  fresh-end = grind (arith, part, drop-part, order, fresh-more)
 
   last-end : last_after (last_at text start) s.inside ≡ last_at text s.end
-  last-end =
-      ap (last_after (last_at text start)) (sym part ∙ drop-part text s.end start order)
-      ∙ last-more 0 text start (s.end - start) ∙ ap (last_at text) (omega (arith, order))
+  last-end = grind (arith, part, drop-part, order, last-more)
 
   -- what begins at the end, where the scan of the whole stands there
   abbrev stopped : Found
@@ -523,12 +449,10 @@ module _ (text : List ℕ) (start : ℕ) (mode : Mode) (xs : List Answer) (t : S
   within = omega (arith, length-drop s.end text, ap length at-end)
 
   byte-here : slice_index text s.end ≡ s.byte
-  byte-here = first-is (slice_index text s.end) s.byte (drop (s.end + 1) text) s.behind
-      (sym (drop-here text s.end within) ∙ at-end)
+  byte-here = grind (arith, nat_tests, first-is, drop-here, within, at-end)
 
   behind-here : drop (s.end + 1) text ≡ s.behind
-  behind-here = rest-is (slice_index text s.end) s.byte (drop (s.end + 1) text) s.behind
-      (sym (drop-here text s.end within) ∙ at-end)
+  behind-here = grind (arith, nat_tests, rest-is, drop-here, within, at-end)
 
   found-here : found_at text s.next s.end ≡ stopped
   found-here = λ i. found_apart s.next (sym fresh-end i) (sym last-end i) s.end (byte-here i) (behind-here i)
@@ -598,77 +522,27 @@ mode-is a b e = cc
 
 opened-name : (c : Code) (headed : Bool) (opened : Mode) → OpensAt Named c → is_opener c ≡ true → is_section c ≡ false
     → named headed ≡ Some opened → PartAt opened (kinds.Code c) headed
-opened-name c true opened n o p e = record {
-  by = Named;
-  code = n;
-  begins = ap beginning (sym (mode-is modes.CPart opened e));
-  sign = refl;
-  opener = o;
-  plain = p;
-}
-opened-name c false opened n o p e = absurd cc
+opened-name c headed opened n o p e = grind (arith, nat_tests, mode-is)
 
 opened-code : (c : Code) (headed : Bool) (opened : Mode) → opened_by (kinds.Code c) headed ≡ Some opened
     → PartAt opened (kinds.Code c) headed
-opened-code at.Define headed opened e = record {
-  by = Definitions;
-  code = refl;
-  begins = ap beginning (sym (mode-is modes.Definition opened e));
-  sign = tt;
-  opener = refl;
-  plain = refl;
-}
-opened-code at.Format headed opened e = record {
-  by = Definitions;
-  code = refl;
-  begins = ap beginning (sym (mode-is modes.Definition opened e));
-  sign = tt;
-  opener = refl;
-  plain = refl;
-}
-opened-code at.SilentFormat headed opened e = record {
-  by = Definitions;
-  code = refl;
-  begins = ap beginning (sym (mode-is modes.Definition opened e));
-  sign = tt;
-  opener = refl;
-  plain = refl;
-}
-opened-code at.Program headed opened e = record {
-  by = Program;
-  code = refl;
-  begins = ap beginning (sym (mode-is modes.CPart opened e));
-  sign = tt;
-  opener = refl;
-  plain = refl;
-}
-opened-code at.SectionName headed opened e = opened-name at.SectionName headed opened refl refl refl e
-opened-code at.FileName headed opened e = opened-name at.FileName headed opened refl refl refl e
-opened-code _ headed opened e = absurd cc
+opened-code c headed opened e = grind (arith, nat_tests, mode-is, opened-name)
 
 opened-so : (k : TokKind) (headed : Bool) (opened : Mode) → opened_by k headed ≡ Some opened → PartAt opened k headed
-opened-so (kinds.Code c) headed opened e = opened-code c headed opened e
-opened-so _ headed opened e = absurd cc
+opened-so k headed opened e = grind (arith, opened-code)
 
 limbo-mode : (mode : Mode) → is_limbo_mode mode ≡ false → is_limbo (beginning mode).part ≡ false
-limbo-mode modes.Limbo h = absurd cc
-limbo-mode _ h = refl
+limbo-mode mode h = grind arith
 
 -- The sign stands behind a name only where it is wanted.
 wanted-sign : (bytes : List ℕ) (w : Where) (fresh : Bool) (last place taken : ℕ) (notes : List Answer) → AreNotes notes
     → has_sign (notes ++ answers bytes w fresh last place taken) ≡ true → is_head_where w ≡ true
-wanted-sign bytes w fresh last place taken notes n h = by (is_head_where w) refl
-  where
-    by : (b : Bool) → is_head_where w ≡ b → is_head_where w ≡ true
-    by true e = e
-    by false e = not-both _ (sym (notes-sign notes (answers bytes w fresh last place taken) n)
-        ∙ h) (signless bytes w fresh last place taken e)
+wanted-sign bytes w fresh last place taken notes n h =
+    grind (arith, nat_tests, is_head_where, not-both, notes-sign, signless)
 
 opens-by : (o : Opens) (f : Found) (headed : Bool) → OpensAt o (code_in f.answers) → SignBy o headed
     → (headed ≡ true → is_head_where f.next ≡ true) → OpensBy o f
-opens-by Definitions f headed c s h = c
-opens-by Program f headed c s h = c
-opens-by Named f headed c s h = (c, h s)
+opens-by o f headed c s h = grind arith
 
 pub ends-at-openings : (text : List ℕ) (start : ℕ) (mode opened : Mode) (xs : List Answer) (t : Seen) (ys : List Answer)
     → is_limbo_mode mode ≡ false → answers_at text (beginning mode) start ≡ xs ++ Token t ∷ ys

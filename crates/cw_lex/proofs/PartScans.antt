@@ -1,21 +1,21 @@
 -- The scan of a part is the scan of the whole there.
-use Rattle.std.proofs.Common.{◌≡◌, ℕ, zero, suc, ◌+◌, ◌-◌, ◌<◌, ◌≤◌, Bool, true, false, ◌==◌, List, [], ◌∷◌, ◌++◌}
-use Rattle.std.proofs.Common.{Option, Some, length, take, drop, refl, sym, ap, subst, ◌∙◌, arith, append_assoc}
-use Rattle.std.proofs.Common.{length-drop}
-use Rattle.std.specs.Prelude.{if◌then◌else◌}
+use Rattle.std.proofs.Common.{◌≡◌, ℕ, zero, suc, ◌+◌, ◌-◌, ◌<◌, ◌≤◌, Bool, true, false, List, [], ◌∷◌, ◌++◌, Some}
+use Rattle.std.proofs.Common.{length, take, drop, sym, ap, subst, ◌∙◌, arith, append_assoc, length-drop}
 use Rattle.std.proofs.lemmas.Bool.{eqb-true}
 use Rattle.std.proofs.lemmas.List.{drop-drop, length-take, take-take, take-append-drop, take_all}
+use Rattle.std.proofs.lemmas.Bool.Decides.{nat_tests}
+use Rattle.std.proofs.lemmas.Grind.{common_steps}
 use Rattle.cw_base.proofs.TestLaws.{both-left, both-right}
 use Rattle.cw_rules.specs.declared.parts.Part.TheVariants as parts
 use Rattle.cw_rules.specs.declared.tokens.Mode.{Mode}
 use Rattle.cw_rules.specs.declared.tokens.Mode.TheVariants as modes
 use Rattle.cw_rules.specs.Bytes.{at_sign, greater, begins}
-use Rattle.cw_rules.specs.Codes.{code_of, is_section, begins_section}
+use Rattle.cw_rules.specs.Codes.{begins_section}
 use Rattle.cw_rules.specs.Answers.{Answer, Where}
-use Rattle.cw_lex.specs.Lexing.{still_fresh, joined, answers, fresh_after, last_after, fresh_at, last_at, answers_at}
-use Rattle.cw_lex.specs.Lexing.{beginning, tokens_of}
+use Rattle.cw_lex.specs.Lexing.{still_fresh, answers, fresh_after, last_after, fresh_at, last_at, answers_at, beginning}
+use Rattle.cw_lex.specs.Lexing.{tokens_of}
 use Rattle.cw_rules.specs.Tokens.{all_cut, section}
-use Rattle.cw_rules.specs.Apart.{in_text_apart, found_apart}
+use Rattle.cw_rules.specs.Apart.{found_apart}
 use Rattle.cw_lex.specs.Parts.{stand, stands_at, answers_to, part_answers, is_section_at, IsCodeAt}
 use Rattle.cw_lex.proofs.Walk.{fresh-more, last-more}
 use Rattle.cw_lex.proofs.Covering.{drop-part}
@@ -23,12 +23,11 @@ use Rattle.cw_rules.proofs.RulesAhead.{found-local}
 
 stand-taken : (n : ℕ) (bytes : List ℕ) (w : Where) (fresh : Bool) (last place taken : ℕ) (next : Where)
     → stand n bytes w fresh last place taken ≡ Some next → taken ≤ n
-stand-taken zero bytes w fresh last place zero next h = omega arith
 stand-taken zero bytes w fresh last place (suc taken) next h = absurd cc
 stand-taken (suc n) [] w fresh last place taken next h = absurd cc
-stand-taken (suc n) (byte ∷ bytes) w fresh last place zero next h = omega arith
 stand-taken (suc n) (byte ∷ bytes) w fresh last place (suc taken) next h =
     omega (arith, stand-taken n bytes w (still_fresh fresh byte) byte (place + 1) taken next h)
+stand-taken _ _ _ _ _ _ _ _ _ = omega arith
 
 -- what stands behind a part, where the scan stands so at its end
 abbrev Behind : ℕ → List ℕ → Where → Bool → ℕ → ℕ → List Answer → Type 0
@@ -40,15 +39,7 @@ scans : (about : ℕ) (more : List ℕ) (code : begins greater more ≡ false) (
     → stand (length bs) (bs ++ 64 ∷ more) w fresh last place taken ≡ Some next
     → Behind about more next (fresh_after fresh bs) (last_after last bs) (place + length bs) ys
     → answers (bs ++ 64 ∷ more) w fresh last place taken ≡ answers_to about bs w fresh last place taken ++ ys
-scans about more code ys [] w fresh last place zero next h b =
-    let e : w ≡ next = some-where w next h in
-    let p : place ≡ place + 0 = omega arith in
-    let P : Where → ℕ → Type 0 = λ w place. answers (64 ∷ more) w fresh last place 0
-    ≡ all_cut w.part w.comments place about ++ ys in
-    subst (λ place. P w place) (sym p) (subst (λ w. P w (place + 0)) (sym e) b)
-  where
-    some-where : (a b : Where) → ◌≡◌ {A = Option Where} (Some a) (Some b) → a ≡ b
-    some-where a b e = cc
+scans about more code ys [] w fresh last place zero next h b = grind (arith, nat_tests)
 scans about more code ys [] w fresh last place (suc taken) next h b = absurd cc
 scans about more code ys (byte ∷ bs) w fresh last place zero next h b =
     let f = found_apart w fresh last place byte (bs ++ 64 ∷ more) in
@@ -73,38 +64,15 @@ scans about more code ys (byte ∷ bs) w fresh last place (suc taken) next h b =
 
 pub begins-byte : (wanted : ℕ) (text : List ℕ) (place : ℕ) → begins wanted (drop place text) ≡ true → drop place text
     ≡ wanted ∷ drop (place + 1) text
-begins-byte wanted text place h = by (drop place text) refl
-  where
-    by : (l : List ℕ) → drop place text ≡ l → drop place text ≡ wanted ∷ drop (place + 1) text
-    by [] e = absurd (let k : true ≡ false = sym h ∙ ap (begins wanted) e in cc)
-    by (b ∷ bs) e =
-        let is : b ≡ wanted = eqb-true b wanted (ap (begins wanted) (sym e) ∙ h) in
-        let rest : bs ≡ drop (place + 1) text = ap (drop 1) (sym e) ∙ drop-drop 1 place text in
-        e ∙ (λ i. is i ∷ rest i)
+begins-byte wanted text place h = grind (arith, nat_tests, common_steps, drop-drop 1 place text, eqb-true, drop-drop)
 
 section-code : (more : List ℕ) → begins_section more ≡ true → begins greater more ≡ false
-section-code [] h = refl
-section-code (m ∷ ms) h = by (m == greater) refl
-  where
-    by : (t : Bool) → (m == greater) ≡ t → (m == greater) ≡ false
-    by true e = absurd (let k : true ≡ false = sym h ∙ ap (λ b. is_section (code_of b)) (eqb-true m greater e) in cc)
-    by false e = e
+section-code more h = grind (arith, nat_tests, eqb-true)
 
 section-behind : (more : List ℕ) (w : Where) (fresh : Bool) (last place : ℕ) → begins_section more ≡ true
     → Behind place more w fresh last place (answers (64 ∷ more) (record { part = parts.Tex; comments = [] }) fresh last
     place 0)
-section-behind more w fresh last place h =
-    let tex : Where = record { part = parts.Tex; comments = [] } in
-    let rest : Where → ℕ → List Answer = λ next size. answers more next (still_fresh fresh 64) 64 (place + 1) size in
-    let alone = section tex place more in
-    let behind = rest tex alone.more in
-    let cut = all_cut w.part w.comments place place in
-    ap (λ t. joined (if t then section w place more else in_text_apart w.part w.comments fresh last place 64 more) rest)
-    h
-    ∙ append_assoc cut alone.answers behind
-    ∙ ap (λ l. cut ++ l)
-    (sym (ap (λ t. joined (if t then section tex place more else in_text_apart parts.Tex [] fresh last place 64 more)
-    rest) h))
+section-behind more w fresh last place h = grind (arith, nat_tests, append_assoc)
 
 -- ## Parts of a text
 
@@ -165,16 +133,11 @@ ends-at-section text start end mode w order stands section =
 pub ends-at-code : (text : List ℕ) (start end : ℕ) (mode : Mode) (w : Where) → start ≤ end
     → stands_at text (beginning mode) start end ≡ Some w → IsCodeAt text end → all_cut w.part w.comments end end ≡ []
     → answers_at text (beginning mode) start ≡ part_answers text start end mode end ++ answers_at text w end
-ends-at-code text start end mode w order stands code none =
-    let ys = answers (64 ∷ drop (end + 1) text) w (fresh_at text end) (last_at text end) end 0 in
-    part-law text start end mode w ys order stands code.0 code.1 (ap (λ l. l ++ ys) (sym none))
-    ∙ ap (λ l. part_answers text start end mode end ++ answers l w (fresh_at text end) (last_at text end) end 0)
-    (sym (begins-byte at_sign text end code.0))
+ends-at-code text start end mode w order stands code none = grind (arith, part-law, begins-byte)
 
 pub ends-with-text : (text : List ℕ) (start : ℕ) (mode : Mode) → answers_at text (beginning mode) start
     ≡ tokens_of text start (length text) mode
-ends-with-text text start mode = ap (λ l. answers_at l (beginning mode) start)
-    (sym (take_all (length text) text (omega arith)))
+ends-with-text text start mode = grind (arith, nat_tests, take_all)
 
 to-end : (about : ℕ) (bytes : List ℕ) (w : Where) (fresh : Bool) (last place taken : ℕ)
     → about ≡ (place + length bytes) - 1 → answers bytes w fresh last place taken
@@ -189,7 +152,4 @@ to-end about (byte ∷ bytes) w fresh last place (suc taken) h =
 
 pub answered : (text : List ℕ) (start end : ℕ) (mode : Mode) → start ≤ end → end ≤ length text
     → tokens_of text start end mode ≡ part_answers text start end mode (end - 1)
-answered text start end mode order within =
-    let cut = take end text in
-    to-end (end - 1) (drop start cut) (beginning mode) (fresh_at cut start) (last_at cut start) start 0
-    (omega (arith, length-drop start cut, length-take end text))
+answered text start end mode order within = grind (arith, nat_tests, to-end, length-drop, length-take)

@@ -1,7 +1,7 @@
 -- Short tokens of C text, by its rules.
-use Rattle.std.proofs.Common.{not, subst, ◌⊎◌, inl, inr, ◌≡◌, ℕ, ◌+◌, ◌<◌, ◌≤◌, arith, length-drop, Bool, true}
-use Rattle.std.proofs.Common.{false, ◌&&◌, ◌||◌, ◌==◌, nat_lt, List, ◌∷◌, Some, None, length, slice_index, drop, refl}
-use Rattle.std.proofs.Common.{sym, ap, ◌∙◌, if◌then◌else◌}
+use Rattle.std.proofs.Common.{not, subst, ◌⊎◌, inl, inr, ◌≡◌, ℕ, ◌+◌, ◌<◌, ◌≤◌, arith, length-drop, Bool, true, false}
+use Rattle.std.proofs.Common.{◌&&◌, ◌||◌, ◌==◌, nat_lt, List, ◌∷◌, Some, None, length, slice_index, drop, refl, sym, ap}
+use Rattle.std.proofs.Common.{◌∙◌, if◌then◌else◌}
 use Rattle.cw_rules.specs.declared.classes.Class.TheVariants as classes
 use Rattle.cw_rules.specs.declared.parts.Part.{Part}
 use Rattle.cw_rules.specs.declared.parts.Part.TheVariants as parts
@@ -11,28 +11,23 @@ use Rattle.cw_rules.specs.declared.parts.Start.TheVariants as start
 use Rattle.cw_rules.specs.declared.signs.Sign.{Sign}
 use Rattle.cw_rules.specs.declared.tokens.TokKind.TheVariants as kinds
 use Rattle.cw_rules.specs.Answers.{Where, plain}
-use Rattle.cw_rules.specs.Bytes.{is_in, is_letter, is_letter_of, is_mark, is_digit, begins, begins_by, run}
-use Rattle.cw_rules.specs.Codes.{begins_section}
-use Rattle.cw_rules.specs.Constants.{more_digits, digits, fraction, exponent, mantissa, scaled, hexadecimal, binary}
-use Rattle.cw_rules.specs.Constants.{decimal, number, constant}
+use Rattle.cw_rules.specs.Bytes.{is_in, is_letter, is_mark, begins, begins_by, run}
+use Rattle.cw_rules.specs.Constants.{constant}
 use Rattle.cw_rules.specs.Prefixes.{prefix_size}
 use Rattle.cw_rules.specs.Signs.{all_signs, longest, spelling}
-use Rattle.cw_lex.specs.Lexing.{fresh_at, last_at}
-use Rattle.cw_rules.specs.Tokens.{section, in_code, start_of, sign_or_other, is_space, is_include}
-use Rattle.cw_rules.specs.Apart.{in_text_apart, code_text_apart}
-use Rattle.cw_rules.specs.Tokens.{behind_word, ends_at_bar, in_hash_line, behind_include, closes_on_line, passed, one}
-use Rattle.cw_rules.specs.Tokens.{moved}
+use Rattle.cw_rules.specs.Tokens.{in_code, start_of, sign_or_other, is_include, behind_word, ends_at_bar, in_hash_line}
+use Rattle.cw_rules.specs.Tokens.{passed, one, moved}
 use Rattle.cw_lex.specs.Coming.{found_at}
 use Rattle.cw_rules.specs.Cuttings.{bytes_at}
 use Rattle.cw_lex.specs.Calm.{is_calm}
 use Rattle.cw_lex.specs.Short.{is_alone, is_lone, IsShort, BeginsString, EndsInner}
-use Rattle.cw_lex.proofs.Lines.{in_text-code}
 use Rattle.cw_lex.proofs.White.{other-byte}
 use Rattle.cw_lex.proofs.Calm.{calm-code, calm-part}
 use Rattle.cw_lex.proofs.Steps.{bytes-here}
 use Rattle.cw_rules.proofs.Sizes.{run-le}
 use Rattle.cw_rules.proofs.StringPrefixes.{no-prefix}
 use Rattle.std.proofs.lemmas.Bool.{lt-ltb, eqb-true}
+use Rattle.std.proofs.lemmas.Bool.Decides.{nat_tests}
 use Rattle.cw_base.proofs.TestLaws.{and-false}
 
 -- a byte that begins no line's end, white space, code or `#` line
@@ -43,17 +38,6 @@ pub record IsStart (b : ℕ) : Type 0 where
   pub at_sign : (b == 64) ≡ false
   pub hash : (b == 35) ≡ false
 
-no-space : (part : Part) (b : ℕ) (bs : List ℕ) → IsStart b → is_space part b bs ≡ false
-no-space part b bs s = rw (s.blank, s.backslash) (and-false (in_hash_line part))
-
-no-include : (part : Part) (b : ℕ) (bs : List ℕ) → behind_include part ≡ false
-    → (b == 60 && (behind_include part && closes_on_line bs)) ≡ false
-no-include part b bs h = ap (λ t. b == 60 && (t && closes_on_line bs)) h ∙ and-false (b == 60)
-
-code-start : (w : Where) (fresh : Bool) (last place b : ℕ) (bs : List ℕ) → behind_include w.part ≡ false → IsStart b
-    → code_text_apart w fresh last place b bs ≡ in_code (start_of (ends_at_bar w.part w.comments) b bs) w place (b ∷ bs)
-code-start w fresh last place b bs h s = rw (s.newline, no-space w.part b bs s, s.hash, no-include w.part b bs h) refl
-
 -- what begins there is found by the rule of its start
 start-found : (text : List ℕ) (part : Part) (comments : List Opened) (place : ℕ) (kind : Start) → is_calm part comments
     ≡ true
@@ -62,98 +46,40 @@ start-found : (text : List ℕ) (part : Part) (comments : List Opened) (place : 
     → found_at text (record { part = part; comments = comments }) place
     ≡ in_code kind (record { part = part; comments = comments }) place (bytes_at text place)
 start-found text part comments place kind calm s e =
-    let b = slice_index text place in
-    let bs = drop (place + 1) text in
-    let w : Where = record { part = part; comments = comments } in
-    ap (λ t. if t && begins_section bs then section w place bs else in_text_apart part comments (fresh_at text place)
-    (last_at text place) place b bs) s.at_sign
-    ∙ in_text-code part comments (fresh_at text place) (last_at text place) place b bs (calm-code part comments calm)
-    ∙ code-start w (fresh_at text place) (last_at text place) place b bs (calm-part part comments calm).include s
-    ∙ ap (λ k. in_code k w place (bytes_at text place)) e
+    grind (arith, calm-code part comments calm, calm-part part comments calm)
 
 no-blank : (b : ℕ) → (b == 32) ≡ false → (b == 9) ≡ false → (b == 11) ≡ false → (b == 12) ≡ false → (b == 13) ≡ false
     → is_in classes.Blank b ≡ false
 no-blank b e f g h k = rw (e, f, g, h, k) refl
 
 letter-starts : (b : ℕ) → is_letter b ≡ true → IsStart b
-letter-starts b h = record {
-  newline = other-byte is_letter b 10 h refl;
-  blank = no-blank b (other-byte is_letter b 32 h refl) (other-byte is_letter b 9 h refl)
-      (other-byte is_letter b 11 h refl) (other-byte is_letter b 12 h refl) (other-byte is_letter b 13 h refl);
-  backslash = other-byte is_letter b 92 h refl;
-  at_sign = other-byte is_letter b 64 h refl;
-  hash = other-byte is_letter b 35 h refl;
-}
+letter-starts b h = grind (arith, nat_tests, other-byte, no-blank)
 
 digit-starts : (b : ℕ) → is_in classes.Digit b ≡ true → IsStart b
-digit-starts b h = record {
-  newline = other-byte (is_in classes.Digit) b 10 h refl;
-  blank = no-blank b (other-byte (is_in classes.Digit) b 32 h refl) (other-byte (is_in classes.Digit) b 9 h refl)
-      (other-byte (is_in classes.Digit) b 11 h refl) (other-byte (is_in classes.Digit) b 12 h refl)
-      (other-byte (is_in classes.Digit) b 13 h refl);
-  backslash = other-byte (is_in classes.Digit) b 92 h refl;
-  at_sign = other-byte (is_in classes.Digit) b 64 h refl;
-  hash = other-byte (is_in classes.Digit) b 35 h refl;
-}
+digit-starts b h = grind (arith, nat_tests, other-byte, no-blank)
 
 abbrev begins_sign : List ℕ → ℕ → Bool
 begins_sign bs b = elim (longest all_signs (b ∷ bs)) [ None ↦ false | Some sign ↦ true ]
 
 sign-starts : (b : ℕ) (bs : List ℕ) (sign : Sign) → is_lone b ≡ true → longest all_signs (b ∷ bs) ≡ Some sign
     → IsStart b
-sign-starts b bs sign lone e =
-    let h : begins_sign bs b ≡ true = ap (λ o. elim o [ None ↦ false | Some sign ↦ true ]) e in
-    record {
-      newline = other-byte (begins_sign bs) b 10 h refl;
-      blank = no-blank b (other-byte (begins_sign bs) b 32 h refl) (other-byte (begins_sign bs) b 9 h refl)
-          (other-byte (begins_sign bs) b 11 h refl) (other-byte (begins_sign bs) b 12 h refl)
-          (other-byte (begins_sign bs) b 13 h refl);
-      backslash = other-byte (begins_sign bs) b 92 h refl;
-      at_sign = other-byte (begins_sign bs) b 64 h refl;
-      hash = other-byte is_lone b 35 lone refl;
-    }
+sign-starts b bs sign lone e = grind (arith, nat_tests, other-byte, no-blank)
 
 no-constant : (b : ℕ) (bs : List ℕ) → is_in classes.Digit b ≡ false → (b == 48) ≡ false → (b == 46) ≡ false
     → constant (b ∷ bs) ≡ 0
-no-constant b bs d z p =
-    let none : digits classes.Digit (b ∷ bs) ≡ 0 =
-    ap (λ t. if t then more_digits classes.Digit (b ∷ bs) else 0) d in
-    let size = digits classes.Digit bs in
-    let part : fraction classes.Digit false (b ∷ bs) ≡ 0 =
-    ap (λ t. if t && (not (begins 46 bs) && (false || nat_lt 0 size)) then 1 + size else 0) p in
-    let whole : mantissa classes.Digit (b ∷ bs) ≡ 0 =
-    ap (λ n. n + fraction classes.Digit (nat_lt 0 n) (drop n (b ∷ bs))) none ∙ ap (λ n. 0 + n) part in
-    let decimally : decimal (b ∷ bs) ≡ 0 =
-    ap (λ m. if nat_lt 0 m then m + exponent 101 (drop m (b ∷ bs)) else 0) whole in
-    let rest = drop 1 bs in
-    let hex : hexadecimal (b ∷ bs) ≡ 0 =
-    ap (λ t. if t && (begins_by (is_letter_of 120) bs && begins_by (is_in classes.HexDigit) rest)
-    then 2 + scaled classes.HexDigit 112 rest else 0) z in
-    let bits : binary (b ∷ bs) ≡ 0 =
-    ap (λ t. if t && (begins_by (is_letter_of 98) bs && begins_by (is_in classes.BinaryDigit) rest)
-    then 2 + digits classes.BinaryDigit rest else 0) z in
-    let all : number (b ∷ bs) ≡ 0 =
-    λ i. if nat_lt 0 (hex i) then hex i else (if nat_lt 0 (bits i) then bits i else decimally i) in
-    ap (λ n. if nat_lt 0 n then n + run classes.Suffix (drop n (b ∷ bs)) else 0) all
+no-constant b bs d z p = grind (arith, nat_tests)
 
 sign-is : (bars : Bool) (b : ℕ) (bs : List ℕ) (sign : Sign) → is_letter b ≡ false → is_in classes.Digit b ≡ false
     → is_lone b ≡ true
     → longest all_signs (b ∷ bs) ≡ Some sign → start_of bars b bs ≡ start.Sign sign
-sign-is bars b bs sign letter digit lone e =
-    let h : begins_sign bs b ≡ true = ap (λ o. elim o [ None ↦ false | Some sign ↦ true ]) e in
-    let none = no-constant b bs digit (other-byte (begins_sign bs) b 48 h refl) (other-byte is_lone b 46 lone refl) in
-    let only : start_of bars b bs ≡ sign_or_other (longest all_signs (b ∷ bs)) =
-    rw (
-      no-prefix b bs letter,
-      letter,
-      none,
-      other-byte (begins_sign bs) b 34 h refl,
-      other-byte (begins_sign bs) b 39 h refl,
-      other-byte is_lone b 47 lone refl,
-      other-byte (begins_sign bs) b 64 h refl,
-      other-byte is_lone b 124 lone refl,
-    ) refl in
-    only ∙ ap sign_or_other e
+sign-is bars b bs sign letter digit lone e = grind (
+  arith,
+  nat_tests,
+  other-byte is_lone b 46 lone refl,
+  other-byte is_lone b 47 lone refl,
+  other-byte is_lone b 124 lone refl,
+  no-prefix b bs letter,
+)
 
 letter-is : (bars : Bool) (b : ℕ) (bs : List ℕ) → is_letter b ≡ true → prefix_size (b ∷ bs) ≡ 0
     → start_of bars b bs ≡ start.Identifier
@@ -164,14 +90,7 @@ number-is : (bars : Bool) (b : ℕ) (bs : List ℕ) → is_letter b ≡ false �
 number-is bars b bs h n = rw (no-prefix b bs h, h, n) refl
 
 quote-starts : (b : ℕ) → is_mark b ≡ true → IsStart b
-quote-starts b h = record {
-  newline = other-byte is_mark b 10 h refl;
-  blank = no-blank b (other-byte is_mark b 32 h refl) (other-byte is_mark b 9 h refl)
-      (other-byte is_mark b 11 h refl) (other-byte is_mark b 12 h refl) (other-byte is_mark b 13 h refl);
-  backslash = other-byte is_mark b 92 h refl;
-  at_sign = other-byte is_mark b 64 h refl;
-  hash = other-byte is_mark b 35 h refl;
-}
+quote-starts b h = grind (arith, nat_tests, other-byte, no-blank)
 
 string-is : (bars : Bool) (b : ℕ) (bs : List ℕ) → is_letter b ≡ false → is_in classes.Digit b ≡ false → is_mark b
     ≡ true
@@ -192,24 +111,18 @@ pub word-short : (text : List ℕ) (part : Part) (comments : List Opened) (place
     → is_letter (slice_index text place) ≡ true → prefix_size (drop place text) ≡ 0
     → size ≡ run classes.Word (drop place text)
     → IsShort text (record { part = part; comments = comments }) place (record { kind = kinds.Identifier; size = size })
-word-short text part comments place size calm within letter none e =
-    let w : Where = record { part = part; comments = comments } in
-    let b = slice_index text place in
-    let bs = drop (place + 1) text in
-    let here : drop place text ≡ bytes_at text place = bytes-here text place within in
-    let more : run classes.Word (b ∷ bs) ≡ 1 + run classes.Word bs =
-    ap (λ t. if t || is_digit b then 1 + run classes.Word bs else 0) letter in
-    let same : size ≡ run classes.Word (b ∷ bs) = e ∙ ap (run classes.Word) here in
-    record {
-      some = omega arith;
-      within = omega (arith, e, run-le classes.Word (drop place text), length-drop place text);
-      found =
-          start-found text part comments place start.Identifier calm (letter-starts b letter)
-          (letter-is (ends_at_bar part comments) b bs letter (ap prefix_size (sym here) ∙ none))
-          ∙ (λ i. one (in_hash_line part) (moved w
-          (word-passed part (b ∷ bs) (ap (λ t. t && is_include (b ∷ bs)) (calm-part part comments calm).hash_line)
-          i)) place (b ∷ bs) (plain kinds.Identifier (sym same i)));
-    }
+word-short text part comments place size calm within letter none e = grind (
+  arith,
+  nat_tests,
+  bytes-here,
+  run-le,
+  length-drop,
+  start-found,
+  letter-starts,
+  letter-is,
+  word-passed,
+  calm-part,
+)
 
 pub number-short : (text : List ℕ) (part : Part) (comments : List Opened) (place size : ℕ) → is_calm part comments
     ≡ true → place < length text
@@ -253,15 +166,7 @@ lone-short text part comments place size sign calm within letter digit lone e so
 
 -- a dot before no digit
 no-decimal : (bs : List ℕ) → begins_by (is_in classes.Digit) bs ≡ false → constant (46 ∷ bs) ≡ 0
-no-decimal bs h =
-    let none : digits classes.Digit bs ≡ 0 = ap (λ t. if t then more_digits classes.Digit bs else 0) h in
-    let part : fraction classes.Digit false (46 ∷ bs) ≡ 0 =
-    ap (λ n. if not (begins 46 bs) && nat_lt 0 n then 1 + n else 0) none
-    ∙ ap (λ t. if t then 1 + 0 else 0) (and-false (not (begins 46 bs))) in
-    let whole : mantissa classes.Digit (46 ∷ bs) ≡ 0 = ap (λ n. 0 + n) part in
-    let decimally : decimal (46 ∷ bs) ≡ 0 =
-    ap (λ m. if nat_lt 0 m then m + exponent 101 (drop m (46 ∷ bs)) else 0) whole in
-    ap (λ n. if nat_lt 0 n then n + run classes.Suffix (drop n (46 ∷ bs)) else 0) decimally
+no-decimal bs h = grind (arith, nat_tests, and-false)
 
 dot-starts : IsStart 46
 dot-starts = record { newline = refl; blank = refl; backslash = refl; at_sign = refl; hash = refl }
@@ -269,9 +174,7 @@ dot-starts = record { newline = refl; blank = refl; backslash = refl; at_sign = 
 dot-is : (bars : Bool) (bs : List ℕ) (sign : Sign) → begins_by (is_in classes.Digit) bs ≡ false
     → longest all_signs (46 ∷ bs) ≡ Some sign
     → start_of bars 46 bs ≡ start.Sign sign
-dot-is bars bs sign h e =
-    ap (λ n. if nat_lt 0 n then start.Constant else sign_or_other (longest all_signs (46 ∷ bs))) (no-decimal bs h)
-    ∙ ap sign_or_other e
+dot-is bars bs sign h e = grind (arith, nat_tests, no-decimal)
 
 dot-short : (text : List ℕ) (part : Part) (comments : List Opened) (place size : ℕ) (sign : Sign)
     → is_calm part comments ≡ true
@@ -297,10 +200,7 @@ dot-short text part comments place size sign calm here digit e some same most =
 
 alone-by : (lone dotted digit : Bool) → (lone || (dotted && not digit)) ≡ true
     → (lone ≡ true) ⊎ ((dotted ≡ true) × (digit ≡ false))
-alone-by true dotted digit h = inl refl
-alone-by false true true h = absurd (cc)
-alone-by false true false h = inr (refl, refl)
-alone-by false false digit h = absurd (cc)
+alone-by lone dotted digit h = grind arith
 
 pub sign-short : (text : List ℕ) (part : Part) (comments : List Opened) (place size : ℕ) (sign : Sign)
     → is_calm part comments ≡ true → place < length text
@@ -323,12 +223,7 @@ pub string-begins : (text : List ℕ) (part : Part) (comments : List Opened) (pl
     → is_mark (slice_index text place) ≡ true
     → BeginsString text (record { part = part; comments = comments }) place (slice_index text place)
 string-begins text part comments place calm within letter digit quoted =
-    let b = slice_index text place in
-    let bs = drop (place + 1) text in (
-      within,
-      start-found text part comments place (start.Quoted b) calm (quote-starts b quoted)
-          (string-is (ends_at_bar part comments) b bs letter digit quoted),
-    )
+    grind (arith, start-found, quote-starts, string-is)
 
 -- ## Bars
 
@@ -338,20 +233,13 @@ bar-starts = record { newline = refl; blank = refl; backslash = refl; at_sign = 
 bar-kind : (bars : Bool) (bs : List ℕ)
     → start_of bars 124 bs ≡ (if bars && not (begins 124 bs) then start.EndOfInner else sign_or_other
     (longest all_signs (124 ∷ bs)))
-bar-kind bars bs =
-    ap (λ n. if nat_lt 0 n then start.Constant else if bars && not (begins 124 bs) then start.EndOfInner else
-    sign_or_other (longest all_signs (124 ∷ bs)))
-    (no-constant 124 bs refl refl refl)
+bar-kind bars bs = grind (arith, nat_tests, no-constant)
 
 bar-is : (text : List ℕ) (place : ℕ) (bars ends : Bool) → slice_index text place ≡ 124
     → (bars && not (begins 124 (drop (place + 1) text))) ≡ ends
     → start_of bars (slice_index text place) (drop (place + 1) text)
     ≡ (if ends then start.EndOfInner else sign_or_other (longest all_signs (bytes_at text place)))
-bar-is text place bars ends here e =
-    let bs = drop (place + 1) text in
-    ap (λ b. start_of bars b bs) here
-    ∙ bar-kind bars bs
-    ∙ (λ i. if e i then start.EndOfInner else sign_or_other (longest all_signs (sym here i ∷ bs)))
+bar-is text place bars ends here e = grind (arith, nat_tests, bar-kind)
 
 pub inner-ends : (text : List ℕ) (part : Part) (comments : List Opened) (place : ℕ) → is_calm part comments ≡ true
     → place < length text
@@ -370,13 +258,4 @@ pub bar-short : (text : List ℕ) (part : Part) (comments : List Opened) (place 
     → place + size ≤ length text
     → IsShort text (record { part = part; comments = comments }) place (record { kind = kinds.Sign sign; size = size })
 bar-short text part comments place size sign calm here ends e some same most =
-    let w : Where = record { part = part; comments = comments } in
-    record {
-      some = some;
-      within = most;
-      found =
-          start-found text part comments place (start.Sign sign) calm (subst IsStart (sym here) bar-starts)
-          (bar-is text place (ends_at_bar part comments) false here ends ∙ ap sign_or_other e)
-          ∙ (λ i. one (in_hash_line part) (moved w (passed part)) place (bytes_at text place)
-          (plain (kinds.Sign sign) (sym same i)));
-    }
+    grind (arith, bar-is text place (ends_at_bar part comments) false here ends)

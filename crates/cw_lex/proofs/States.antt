@@ -1,6 +1,7 @@
 -- What stays true of a scanner's parts and comments.
-use Rattle.std.proofs.Common.{◌≡◌, ℕ, ◌+◌, ◌≤◌, Bool, true, false, List, [], ◌∷◌, length, drop, refl, sym, ap, subst}
-use Rattle.std.proofs.Common.{◌∙◌, arith}
+use Rattle.std.proofs.Common.{◌≡◌, ℕ, ◌+◌, ◌≤◌, Bool, true, false, List, [], ◌∷◌, length, drop, sym, ap, subst, ◌∙◌}
+use Rattle.std.proofs.Common.{arith}
+use Rattle.std.proofs.lemmas.Bool.Decides.{nat_tests}
 use Rattle.cw_rules.specs.declared.parts.Part.{Part}
 use Rattle.cw_rules.specs.declared.parts.Opened.{Opened}
 use Rattle.cw_rules.specs.declared.pending.Pending.{Pending}
@@ -12,19 +13,16 @@ use Rattle.cw_rules.specs.Tokens.{is_code, is_code_part}
 use Rattle.cw_lex.proofs.Steps.{AllWithin-more}
 
 one_if-le : (b : Bool) → one_if b ≤ 1
-one_if-le true = omega arith
-one_if-le false = omega arith
+one_if-le b = grind arith
 
 -- another part leaves room for as many comments
 pub depth-part : (p q : Part) (comments : List Opened) → length comments + one_if (is_code p comments) ≤ 21
     → length comments + one_if (is_code q comments) ≤ 21
-depth-part p q [] h = let e : one_if (is_code_part q) ≤ 1 = one_if-le (is_code_part q) in omega arith
-depth-part p q (c ∷ comments) h = h
+depth-part p q comments h = grind (arith, one_if-le)
 
 pub is_code-part : (p q : Part) (comments : List Opened) → is_code_part q ≡ is_code_part p → is_code q comments
     ≡ is_code p comments
-is_code-part p q [] e = e
-is_code-part p q (c ∷ comments) e = refl
+is_code-part p q comments e = grind arith
 
 pub nested-part : (p q : Part) (comments : List Opened) → is_code_part q ≡ is_code_part p → IsNested p comments
     → IsNested q comments
@@ -38,21 +36,7 @@ pub ready-push : (text : List ℕ) (s : State) (q : Part) (c : Opened) (comments
     → next ≤ length text
     → IsReady text (record { at = next; part = q; comments = comments; pending = s.pending; clear = s.clear })
 ready-push text s q c comments next ready code part braces inner e from within =
-    let P : List Opened → Type 0 = λ cs. IsReady text (record {
-      at = next;
-      part = q;
-      comments = cs;
-      pending = s.pending;
-      clear = s.clear;
-    }) in
-    subst P (sym e) (record {
-      within = within;
-      depth = omega (arith, ready.depth, ap one_if code, ap one_if inner);
-      nested = (is_code-part s.part q s.comments part ∙ code, nested-part s.part q s.comments part ready.nested);
-      braces = (omega arith, AllWithin-more s.at next s.comments from ready.braces);
-      notes = ready.notes;
-      clear = ready.clear;
-    })
+    grind (arith, nat_tests, is_code-part, nested-part)
 
 -- the innermost comment changed
 pub ready-top : (text : List ℕ) (s : State) (q : Part) (c d : Opened) (comments : List Opened) (p : Pending) (next : ℕ)
@@ -81,18 +65,7 @@ pub ready-pop : (text : List ℕ) (s : State) (c : Opened) (comments : List Open
     → IsReady text s → s.comments ≡ c ∷ comments
     → s.at ≤ next → next ≤ length text → IsInside (length text) p.body
     → IsReady text (record { at = next; part = s.part; comments = comments; pending = p; clear = s.clear })
-ready-pop text s c comments p next ready top from within notes =
-    let all : AllWithin s.at (c ∷ comments) = subst (AllWithin s.at) top ready.braces in
-    let nested : IsNested s.part (c ∷ comments) = subst (IsNested s.part) top ready.nested in
-    let room : one_if (is_code s.part comments) ≤ 1 = one_if-le (is_code s.part comments) in
-    record {
-      within = within;
-      depth = omega (arith, ready.depth, ap length top);
-      nested = nested.1;
-      braces = AllWithin-more s.at next comments from all.1;
-      notes = notes;
-      clear = ready.clear;
-    }
+ready-pop text s c comments p next ready top from within notes = grind (arith, nat_tests, one_if-le)
 
 -- the innermost comment's braces
 pub top-within : (n : ℕ) (comments : List Opened) (c : Opened) (rest : List Opened) → AllWithin n comments → comments

@@ -1,12 +1,13 @@
 -- How one answer follows from what begins at the scanner's place.
-use Rattle.std.proofs.Common.{◌≡◌, ℕ, Bool, ◌+◌, ◌<◌, ◌≤◌, List, [], ◌∷◌, ◌++◌, length, sym, ap, ◌∙◌, arith}
-use Rattle.std.proofs.Common.{append_assoc, drop}
+use Rattle.std.proofs.Common.{◌≡◌, ℕ, Bool, ◌+◌, ◌<◌, ◌≤◌, List, [], ◌∷◌, ◌++◌, length, sym, ap, arith, append_assoc}
+use Rattle.std.proofs.Common.{drop}
+use Rattle.std.proofs.lemmas.Bool.Decides.{nat_tests}
 use Rattle.cw_rules.specs.declared.parts.Opened.{Opened}
 use Rattle.cw_lex.specs.declared.state.State.{State}
 use Rattle.cw_rules.specs.declared.tokens.TokKind.{TokKind}
 use Rattle.cw_rules.specs.Answers.{Answer, Seen, Where, Found, before, note_answers, token_of}
 use Rattle.cw_rules.specs.Pending.{pending_notes, no_notes}
-use Rattle.cw_lex.specs.Lexing.{answers_at, joined}
+use Rattle.cw_lex.specs.Lexing.{answers_at}
 use Rattle.cw_lex.specs.Coming.{where_of, coming, found_at, AllWithin}
 use Rattle.cw_rules.specs.Cuttings.{bytes_at}
 use Rattle.cw_rules.specs.Tokens.{skipped_byte}
@@ -25,9 +26,7 @@ pub step-gives : (text : List ℕ) (old new : State) (a : Answer) (f : Found) �
     → new.at ≡ (old.at + 1) + f.more → new.at ≤ length text → where_of new ≡ f.next → coming text old
     ≡ a ∷ coming text new
 step-gives text old new a f quiet place e answers at within next =
-    coming-quiet text old quiet
-    ∙ answers-at text (where_of old) old.at f new.at place e at within
-    ∙ (λ i. answers i ++ answers_at text (sym next i) new.at)
+    grind (arith, coming-quiet text old quiet, answers-at text (where_of old) old.at f new.at place e at within)
 
 -- a step that takes none
 pub zero-gives : (text : List ℕ) (old new : State) (a : Answer) → old.pending ≡ no_notes → old.at < length text
@@ -35,16 +34,7 @@ pub zero-gives : (text : List ℕ) (old new : State) (a : Answer) → old.pendin
     → found_at text (where_of old) old.at ≡ before (a ∷ note_answers (pending_notes text new.pending))
     (found_at text (where_of new) old.at)
     → coming text old ≡ a ∷ coming text new
-zero-gives text old new a quiet place at e =
-    let rest : Where → ℕ → List Answer = λ next more. rest_at text old.at next more in
-    let notes = note_answers (pending_notes text new.pending) in
-    let f = found_at text (where_of new) old.at in
-    coming-quiet text old quiet
-    ∙ answers-here text (where_of old) old.at place
-    ∙ ap (λ g. joined g rest) e
-    ∙ ap (λ l. a ∷ l) (append_assoc notes f.answers (rest f.next f.more))
-    ∙ ap (λ l. a ∷ (notes ++ l)) (sym (answers-here text (where_of new) old.at place))
-    ∙ ap (λ k. a ∷ (notes ++ answers_at text (where_of new) k)) (sym at)
+zero-gives text old new a quiet place at e = grind (arith, nat_tests, rest_at, coming-quiet, answers-here, append_assoc)
 
 -- a byte that gives no answer
 pub skip-gives : (text : List ℕ) (w : Where) (place : ℕ) → place < length text → found_at text w place ≡ skipped_byte w
@@ -63,8 +53,7 @@ AllWithin-more m n (c ∷ comments) h all = (omega (arith, all.0), AllWithin-mor
 pub token-here : (text : List ℕ) (place size : ℕ) (kind : TokKind) (hash_line : Bool) (t : Seen) → place < length text
     → t ≡ token_of hash_line kind place size (drop place text)
     → token_of hash_line kind place size (bytes_at text place) ≡ t
-token-here text place size kind hash_line t h e = ap (token_of hash_line kind place size)
-    (sym (bytes-here text place h)) ∙ sym e
+token-here text place size kind hash_line t h e = grind (arith, nat_tests, bytes-here)
 
 -- a step that takes bytes and has no notes
 pub one-gives : (text : List ℕ) (old new : State) (a b : Answer) (more : ℕ) (next : Where) → old.pending ≡ no_notes

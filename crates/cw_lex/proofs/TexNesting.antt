@@ -1,11 +1,9 @@
 -- The scanner's answers over TeX text are nested.
-use Rattle.std.proofs.Common.{◌≡◌, ℕ, zero, suc, ◌+◌, ◌-◌, Bool, true, false, ◌&&◌, ◌||◌, Option, Some, None, List, []}
-use Rattle.std.proofs.Common.{◌∷◌, ◌++◌, take, drop, refl, sym, ◌∙◌, ap}
-use Rattle.std.specs.Prelude.{if◌then◌else◌, ◌==◌}
+use Rattle.std.proofs.Common.{◌≡◌, ℕ, zero, suc, ◌+◌, ◌-◌, Bool, true, false, ◌&&◌, Option, Some, None, List, [], ◌∷◌}
+use Rattle.std.proofs.Common.{◌++◌, refl, sym, ◌∙◌, ap, arith}
+use Rattle.std.specs.Prelude.{◌==◌}
 use Rattle.cw_rules.specs.declared.bodies.Noted.{Noted}
-use Rattle.cw_rules.specs.declared.classes.Class.TheVariants as classes
 use Rattle.cw_rules.specs.declared.codes.Code.{Code}
-use Rattle.cw_rules.specs.declared.codes.Code.TheVariants as code
 use Rattle.cw_rules.specs.declared.codes.Effect.{Effect}
 use Rattle.cw_rules.specs.declared.codes.Effect.TheVariants as effects
 use Rattle.cw_rules.specs.declared.parts.Part.{Part}
@@ -16,15 +14,13 @@ use Rattle.cw_rules.specs.declared.parts.Start.TheVariants as start
 use Rattle.cw_rules.specs.declared.tokens.Mode.TheVariants as modes
 use Rattle.cw_rules.specs.declared.tokens.TokKind.{TokKind}
 use Rattle.cw_rules.specs.declared.tokens.TokKind.TheVariants as kind
-use Rattle.cw_rules.specs.Bytes.{at_sign, equals, begins, is_in, run}
-use Rattle.cw_base.specs.Text.{bar}
+use Rattle.cw_rules.specs.Bytes.{at_sign}
 use Rattle.cw_rules.specs.Codes.{code_at, begins_section, effect_in_tex}
-use Rattle.cw_rules.specs.Answers.{Answer, Token, Begin, Finish, Note, Where, Cut, Found, note_answers, plain}
-use Rattle.cw_lex.specs.Lexing.{answers, tokens_of, still_fresh, fresh_at, last_at}
+use Rattle.cw_rules.specs.Answers.{Answer, Where, Cut, Found, note_answers}
+use Rattle.cw_lex.specs.Lexing.{answers, tokens_of, still_fresh}
 use Rattle.cw_rules.specs.Tokens.{one, dropped_code, moved, is_name, is_head, code_token, comment_cut, inner_or_none}
 use Rattle.cw_rules.specs.Tokens.{all_cut, start_of, in_code, tex_by, tex_text, head_text, section}
 use Rattle.cw_rules.specs.Apart.{in_text_apart, found_apart}
-use Rattle.cw_rules.specs.Tokens.{section_code}
 use Rattle.cw_lex.specs.Nested.{Level, InCode, InComment, after_token, after_begin, levels_after, all_levels_after}
 use Rattle.cw_lex.specs.Nested.{tex_levels_after, all_tex_levels_after, IsTexNested, is_section_kind, is_part_kind}
 use Rattle.cw_lex.specs.Nested.{begins_part_in, is_part_answer}
@@ -35,49 +31,23 @@ use Rattle.cw_lex.proofs.Nesting.{open-goes, inner-nested, open-levels, cut-one,
 -- ## Levels
 
 token-none : (k : TokKind) → after_token k [] ≡ None
-token-none kind.Text = refl
-token-none _ = refl
+token-none k = grind arith
 
 begin-none : (k : TokKind) → after_begin k [] ≡ None
-begin-none kind.InnerText = refl
-begin-none kind.LongComment = refl
-begin-none kind.ShortComment = refl
-begin-none _ = refl
+begin-none k = grind arith
 
 -- inside inner C text of TeX text the levels are those of C text
 one-same : (a : Answer) (ls ms : List Level) → levels_after a ls ≡ Some ms → tex_levels_after a ls ≡ Some ms
-one-same (Token t) [] ms h = absurd (let k : ◌≡◌ {A = Option (List Level)} None (Some ms) = sym (token-none t.kind)
-    ∙ h in cc)
-one-same (Token t) (l ∷ ls) ms h = h
-one-same (Begin t) [] ms h = absurd (let k : ◌≡◌ {A = Option (List Level)} None (Some ms) = sym (begin-none t.kind)
-    ∙ h in cc)
-one-same (Begin t) (l ∷ ls) ms h = h
-one-same (Finish t) [] ms h = h
-one-same (Finish t) (InCode ∷ []) ms h = absurd cc
-one-same (Finish t) (InCode ∷ l ∷ ls) ms h = h
-one-same (Finish t) (InComment ∷ ls) ms h = h
-one-same (Note k place) ls ms h = h
+one-same a ls ms h = grind (arith, token-none, begin-none)
 
 first-levels : (a : Answer) (xs : List Answer) (ls ms : List Level) (o : Option (List Level)) → levels_after a ls ≡ o
     → all_levels_after (a ∷ xs) ls ≡ Some ms → (l : List Level)
     × ((levels_after a ls ≡ Some l) × (all_levels_after xs l ≡ Some ms))
-first-levels a xs ls ms None e h = absurd (let k : ◌≡◌ {A = Option (List Level)} None (Some ms) = sym
-    (ap (λ (o : Option (List Level)). elim o [ None ↦ None | Some next ↦ all_levels_after xs next ]) e) ∙ h in cc)
-first-levels a xs ls ms (Some l) e h = (
-  l,
-  (
-    e,
-    sym (ap (λ (o : Option (List Level)). elim o [ None ↦ None | Some next ↦ all_levels_after xs next ]) e)
-        ∙ h,
-  ),
-)
+first-levels a xs ls ms o e h = grind arith
 
 tex-step : (a : Answer) (xs : List Answer) (ls next : List Level) → tex_levels_after a ls ≡ Some next
     → all_tex_levels_after (a ∷ xs) ls ≡ all_tex_levels_after xs next
-tex-step a xs ls next e = ap (λ (o : Option (List Level)). elim o [
-  | None ↦ None
-  | Some next ↦ all_tex_levels_after xs next
-]) e
+tex-step a xs ls next e = grind arith
 
 all-same : (xs : List Answer) (ls ms : List Level) → all_levels_after xs ls ≡ Some ms → all_tex_levels_after xs ls
     ≡ Some ms
@@ -124,38 +94,21 @@ record Unless (ls : List Level) (f : Found) : Type 0 where
   goes : begins_part_in f.answers ≡ false → TexGoes ls f
 
 inner-stands : (p : Part) (cs : List Opened) → in_tex p ≡ true → stands p cs ≡ nested_in cs
-inner-stands parts.TexInner cs h = refl
-inner-stands _ cs h = absurd cc
+inner-stands p cs h = grind arith
 
 inner-levels : (p : Part) (cs : List Opened) → in_tex p ≡ true → levels_in cs ≡ tex_levels p cs
-inner-levels parts.TexInner cs h = refl
-inner-levels _ cs h = absurd cc
+inner-levels p cs h = grind arith
 
 inner-goes : (ls : List Level) (f : Found) → Goes true ls f → Unless ls f
-inner-goes ls f g = record {
-  goes = λ h. record {
-    stays = inner-stands f.next.part f.next.comments g.same ∙ g.nested;
-    levels = all-same f.answers ls (levels_in f.next.comments) g.levels
-        ∙ ap Some (inner-levels f.next.part f.next.comments g.same);
-  };
-}
+inner-goes ls f g = grind (arith, inner-stands, all-same, levels_in, inner-levels)
 
 token-goes : (hash_line : Bool) (next : Where) (place : ℕ) (bytes : List ℕ) (cut : Cut) → stands next.part next.comments
     ≡ true → tex_levels next.part next.comments ≡ [] → Unless [] (one hash_line next place bytes cut)
-token-goes hash_line next place bytes cut s l = record {
-  goes = λ h. record {
-    stays = s;
-    levels = notes-tex cut.notes []
-        ∙ ap Some (sym l);
-  };
-}
+token-goes hash_line next place bytes cut s l = grind (arith, notes-tex)
 
 part-begins : (hash_line : Bool) (next : Where) (place : ℕ) (bytes : List ℕ) (cut : Cut) (ls : List Level)
     → is_part_kind cut.kind ≡ true → Unless ls (one hash_line next place bytes cut)
-part-begins hash_line next place bytes cut ls k = record {
-  goes = λ h. absurd (let e : is_part_kind cut.kind
-      ≡ false = or-first (is_part_kind cut.kind) (begins_part_in (note_answers cut.notes)) h in cc);
-}
+part-begins hash_line next place bytes cut ls k = grind (arith, or-first)
 
 abbrev is_kept : Effect → Bool
 is_kept effects.Stands = true
@@ -163,8 +116,7 @@ is_kept (effects.Drops note) = true
 is_kept _ = false
 
 code-begins : (c : Code) → is_kept (effect_in_tex c) ≡ false → is_part_kind (kind.Code c) ≡ true
-code-begins code.At h = absurd cc
-code-begins _ h = cc
+code-begins c h = grind arith
 
 code-goes : (effect : Effect) (c : Code) (place : ℕ) (bytes : List ℕ)
     → (is_kept effect ≡ false → is_part_kind (kind.Code c) ≡ true)
@@ -177,59 +129,37 @@ code-goes effects.Stands c place bytes k =
     (λ e. token-goes false w place bytes (code_token c place bytes) refl refl)
 code-goes (effects.Drops note) c place bytes k = token-goes false (record { part = parts.Tex; comments = [] }) place
     bytes (dropped_code note c place bytes) refl refl
-code-goes effects.Defines c place bytes k = part-begins false (record { part = parts.MacroName place; comments = [] })
-    place bytes (plain (kind.Code c) 2) [] (k refl)
-code-goes effects.Formats c place bytes k = part-begins false
-    (record { part = parts.FormatName place false false; comments = [] }) place bytes (plain (kind.Code c) 2) []
-    (k refl)
-code-goes effects.BeginsC c place bytes k = part-begins false (record { part = parts.Plain false false; comments = [] })
-    place bytes (plain (kind.Code c) 2) [] (k refl)
+code-goes effects.Defines c place bytes k = grind (arith, part-begins)
+code-goes effects.Formats c place bytes k = grind (arith, part-begins)
+code-goes effects.BeginsC c place bytes k = grind (arith, part-begins)
 
 tex-goes : (place byte : ℕ) (bytes : List ℕ) → Unless [] (tex_text (record { part = parts.Tex; comments = [] }) place
     byte bytes)
-tex-goes place byte bytes =
-    let w : Where = record { part = parts.Tex; comments = [] } in
-    if-both (Unless []) (byte == at_sign) _ _ (λ e. code-goes (effect_in_tex (code_at bytes)) (code_at bytes) place
-    (byte ∷ bytes) (code-begins (code_at bytes)))
-    (λ e. if-both (Unless []) (byte == bar) _ _ (λ e. record { goes = λ h. record { stays = refl; levels = refl } })
-    (λ e. token-goes false w place (byte ∷ bytes) (plain kind.Text (run classes.TexText (byte ∷ bytes))) refl refl))
+tex-goes place byte bytes = grind (
+  arith,
+  code-goes (effect_in_tex (code_at bytes)) (code_at bytes) place (byte ∷ bytes) (code-begins (code_at bytes)),
+)
 
 head-goes : (place byte : ℕ) (bytes : List ℕ) → Unless [] (head_text (record { part = parts.Head; comments = [] }) place
     byte bytes)
-head-goes place byte bytes =
-    if-both (Unless []) (is_in classes.Blank byte) _ _
-    (λ e. record { goes = λ h. record { stays = refl; levels = refl } })
-    (λ e. part-begins false (record { part = parts.Plain false false; comments = [] }) place (byte ∷ bytes)
-    (plain kind.HeadSign (if begins equals bytes then 2 else 1)) [] refl)
+head-goes place byte bytes = grind (arith, if-both, part-begins)
 
 -- inner C text, which its bar ends
 start-goes : (s : Start) (place : ℕ) (bytes : List ℕ) → Begun true s
     → Unless (InCode ∷ []) (in_code s (record { part = parts.TexInner; comments = [] }) place bytes)
 start-goes start.EndOfInner place bytes b = record { goes = λ h. record { stays = refl; levels = refl } }
-start-goes start.Identifier place bytes b = inner-goes (InCode ∷ [])
-    (in_code start.Identifier (record { part = parts.TexInner; comments = [] }) place bytes)
-    (in-code-goes start.Identifier parts.TexInner [] place bytes refl refl (λ e. absurd cc) b)
-start-goes start.Constant place bytes b = inner-goes (InCode ∷ [])
-    (in_code start.Constant (record { part = parts.TexInner; comments = [] }) place bytes)
-    (in-code-goes start.Constant parts.TexInner [] place bytes refl refl (λ e. absurd cc) b)
+start-goes start.Identifier place bytes b = grind (arith, inner-goes, in-code-goes)
+start-goes start.Constant place bytes b = grind (arith, inner-goes, in-code-goes)
 start-goes (start.Quoted q) place bytes b = inner-goes (InCode ∷ [])
     (in_code (start.Quoted q) (record { part = parts.TexInner; comments = [] }) place bytes)
     (in-code-goes (start.Quoted q) parts.TexInner [] place bytes refl refl (λ e. absurd cc) b)
-start-goes start.LongComment place bytes b = inner-goes (InCode ∷ [])
-    (in_code start.LongComment (record { part = parts.TexInner; comments = [] }) place bytes)
-    (in-code-goes start.LongComment parts.TexInner [] place bytes refl refl (λ e. absurd cc) b)
-start-goes start.ShortComment place bytes b = inner-goes (InCode ∷ [])
-    (in_code start.ShortComment (record { part = parts.TexInner; comments = [] }) place bytes)
-    (in-code-goes start.ShortComment parts.TexInner [] place bytes refl refl (λ e. absurd cc) b)
+start-goes start.LongComment place bytes b = grind (arith, inner-goes, in-code-goes)
+start-goes start.ShortComment place bytes b = grind (arith, inner-goes, in-code-goes)
 start-goes (start.Code c) place bytes b = inner-goes (InCode ∷ [])
     (in_code (start.Code c) (record { part = parts.TexInner; comments = [] }) place bytes)
     (in-code-goes (start.Code c) parts.TexInner [] place bytes refl refl (λ e. absurd cc) b)
-start-goes (start.Sign s) place bytes b = inner-goes (InCode ∷ [])
-    (in_code (start.Sign s) (record { part = parts.TexInner; comments = [] }) place bytes)
-    (in-code-goes (start.Sign s) parts.TexInner [] place bytes refl refl (λ e. absurd cc) b)
-start-goes start.OtherByte place bytes b = inner-goes (InCode ∷ [])
-    (in_code start.OtherByte (record { part = parts.TexInner; comments = [] }) place bytes)
-    (in-code-goes start.OtherByte parts.TexInner [] place bytes refl refl (λ e. absurd cc) b)
+start-goes (start.Sign s) place bytes b = grind (arith, inner-goes, in-code-goes)
+start-goes start.OtherByte place bytes b = grind (arith, inner-goes, in-code-goes)
 
 text-goes : (part : Part) (cs : List Opened) (fresh : Bool) (last place byte : ℕ) (bytes : List ℕ)
     → (byte == at_sign && begins_section bytes) ≡ false → stands part cs ≡ true
@@ -251,24 +181,13 @@ any-split : (xs ys : List Answer) → begins_part_in (xs ++ ys) ≡ false → (b
     × (begins_part_in ys ≡ false)
 any-split [] ys h = (refl, h)
 any-split (x ∷ xs) ys h =
-    let rest = any-split xs ys (or-second (is_part_answer x) (begins_part_in (xs ++ ys)) h) in
-    (ap (λ b. b || begins_part_in xs) (or-first (is_part_answer x) (begins_part_in (xs ++ ys)) h) ∙ rest.0, rest.1)
+    grind (arith, any-split xs ys (or-second (is_part_answer x) (begins_part_in (xs ++ ys)) h), or-second, or-first)
 
 section-part : (k : TokKind) → is_section_kind k ≡ true → is_part_kind k ≡ true
-section-part (kind.Code code.Section) h = refl
-section-part (kind.Code code.StarredSection) h = refl
-section-part _ h = absurd cc
+section-part k h = grind arith
 
 section-begins : (w : Where) (place : ℕ) (bytes : List ℕ) (ls : List Level) → Unless ls (section w place bytes)
-section-begins w place bytes ls = record {
-  goes = λ h.
-      let c = section_code (at_sign ∷ bytes) in
-      let rest = any-split (all_cut w.part w.comments place place)
-      (one false (record { part = parts.Tex; comments = [] }) place (at_sign ∷ bytes) c).answers h in
-      absurd (let e : is_part_kind c.kind ≡ false = or-first (is_part_kind c.kind)
-      (begins_part_in (note_answers c.notes)) rest.1 in
-      let k : is_part_kind c.kind ≡ true = section-part c.kind (section-kind (at_sign ∷ bytes)).is in cc);
-}
+section-begins w place bytes ls = grind (arith, any-split, or-first, section-part, section-kind)
 
 found-goes : (w : Where) (fresh : Bool) (last place byte : ℕ) (bytes : List ℕ) → stands w.part w.comments ≡ true
     → Unless (tex_levels w.part w.comments) (found_apart w fresh last place byte bytes)
@@ -293,10 +212,7 @@ cut-levels (c ∷ cs) place about n =
 
 all-cut : (part : Part) (cs : List Opened) (place about : ℕ) → stands part cs ≡ true
     → all_tex_levels_after (all_cut part cs place about) (tex_levels part cs) ≡ Some []
-all-cut parts.TexInner cs place about s = cut-levels cs place about s
-all-cut parts.Tex [] place about s = refl
-all-cut parts.Head [] place about s = refl
-all-cut _ _ place about s = absurd cc
+all-cut part cs place about s = grind (arith, cut-levels)
 
 answers-nest : (bytes : List ℕ) (w : Where) (fresh : Bool) (last place taken : ℕ) → stands w.part w.comments ≡ true
     → begins_part_in (answers bytes w fresh last place taken) ≡ false
@@ -314,6 +230,4 @@ answers-nest (byte ∷ bytes) w fresh last place (suc taken) s h =
 
 pub tex-texts-nested : (text : List ℕ) (start end : ℕ) → begins_part_in (tokens_of text start end modes.TexText) ≡ false
     → IsTexNested (tokens_of text start end modes.TexText)
-tex-texts-nested text first end h = answers-nest (drop first (take end text))
-    (record { part = parts.Tex; comments = [] }) (fresh_at (take end text) first) (last_at (take end text) first) first
-    0 refl h
+tex-texts-nested text first end h = grind (arith, answers-nest)

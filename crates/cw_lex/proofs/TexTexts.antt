@@ -5,6 +5,7 @@ use Rattle.std.proofs.Common.{arith, append-nil, length-drop, ◌⊎◌, inl, in
 use Rattle.std.specs.Prelude.{if◌then◌else◌, is_some}
 use Rattle.std.proofs.lemmas.Bool.{eqb-true}
 use Rattle.std.proofs.lemmas.List.{drop-drop, length-take}
+use Rattle.std.proofs.lemmas.Bool.Decides.{nat_tests}
 use Rattle.cw_base.proofs.TestLaws.{both-right, one-failed-left, one-failed-right, not-both}
 use Rattle.cw_base.specs.declared.notes.NoteKind.TheVariants as notes
 use Rattle.cw_rules.specs.declared.bodies.Body.TheVariants as bodies
@@ -32,10 +33,9 @@ use Rattle.cw_lex.specs.Openings.{opened_by, opens_part_before, opens_part_in}
 use Rattle.cw_rules.specs.Order.{Covers}
 use Rattle.cw_lex.specs.Parts.{closing_bar_from}
 use Rattle.cw_lex.specs.TexTexts.{tex_at, are_notes, GoesOn, HoldsInner}
-use Rattle.cw_rules.specs.Tokens.{one, moved, dropped_code, effect_in, section_name, code_token, is_name, is_head}
-use Rattle.cw_rules.specs.Tokens.{is_signed, head_sign_size, tex_by, tex_text, section, code_by}
-use Rattle.cw_rules.specs.Apart.{in_text_apart, found_apart, code_text_apart}
-use Rattle.cw_rules.specs.Tokens.{inner_begin, inner_cut, all_cut}
+use Rattle.cw_rules.specs.Tokens.{one, moved, dropped_code, effect_in, section_name, is_name, is_head, is_signed}
+use Rattle.cw_rules.specs.Tokens.{head_sign_size, tex_by, tex_text, section, code_by, inner_begin, inner_cut}
+use Rattle.cw_rules.specs.Apart.{found_apart, code_text_apart}
 use Rattle.cw_rules.proofs.CodeStarts.{code-kind}
 use Rattle.cw_rules.proofs.CodeTwins.{at-code}
 use Rattle.cw_lex.proofs.Covering.{drop-part, covers-le, tokens-cover}
@@ -126,14 +126,10 @@ signed (b ∷ bs) fresh last place h = by (is_in classes.Blank b) refl (signed b
 -- an end among answers that cover a text
 reaches : (text : List ℕ) (from end : ℕ) (xs : List Answer) (finish : Seen) (rest : List Answer)
     → Covers text from end (xs ++ Finish finish ∷ rest) → (from ≤ finish.span.start) × (finish.span.start ≤ end)
-reaches text from end [] finish rest c =
-    (c.0.order, omega (arith, c.0.span, covers-le text finish.span.end end rest c.1))
-reaches text from end (Token t ∷ xs) finish rest c = let r = reaches text t.span.end end xs finish rest c.2 in
-    (omega (arith, c.0.order, c.0.span, r.0), r.1)
-reaches text from end (Begin t ∷ xs) finish rest c = let r = reaches text t.span.end end xs finish rest c.1 in
-    (omega (arith, c.0.order, c.0.span, r.0), r.1)
-reaches text from end (Finish t ∷ xs) finish rest c = let r = reaches text t.span.end end xs finish rest c.1 in
-    (omega (arith, c.0.order, c.0.span, r.0), r.1)
+reaches text from end [] finish rest c = grind (arith, nat_tests, covers-le)
+reaches text from end (Token t ∷ xs) finish rest c = grind (arith, reaches text t.span.end end xs finish rest c.2)
+reaches text from end (Begin t ∷ xs) finish rest c = grind (arith, reaches text t.span.end end xs finish rest c.1)
+reaches text from end (Finish t ∷ xs) finish rest c = grind (arith, reaches text t.span.end end xs finish rest c.1)
 reaches text from end (Note kind about ∷ xs) finish rest c = reaches text from end xs finish rest c
 
 -- ## Section names by themselves
@@ -141,8 +137,7 @@ reaches text from end (Note kind about ∷ xs) finish rest c = reaches text from
 -- what is left when a token has all bytes
 pub all-taken : (bytes : List ℕ) (w : Where) (fresh : Bool) (last place : ℕ)
     → begins_section_in (answers bytes w fresh last place (length bytes)) ≡ false
-all-taken [] w fresh last place = bare-uncut place (all_cut w.part w.comments place (place - 1))
-    (bare-all-cut w.part w.comments place (place - 1))
+all-taken [] w fresh last place = grind (arith, nat_tests, bare-uncut, bare-all-cut)
 all-taken (b ∷ bytes) w fresh last place = all-taken bytes w (still_fresh fresh b) b (place + 1)
 
 pub or-notes : (ns : List Noted) (ys : List Answer) → begins_section_in ys ≡ false
@@ -151,9 +146,7 @@ or-notes [] ys h = h
 or-notes (n ∷ ns) ys h = or-notes ns ys h
 
 pub name-plain : (c : Code) → is_name c ≡ true → is_section c ≡ false
-name-plain at.SectionName h = refl
-name-plain at.FileName h = refl
-name-plain _ h = absurd cc
+name-plain c h = grind arith
 
 pub name-kind : (c : Code) → is_name c ≡ true → is_section_kind (kinds.Code c) ≡ false
 name-kind at.SectionName h = refl
@@ -163,9 +156,7 @@ name-kind _ h = absurd cc
 name-found : (c : Code) (place : ℕ) (shown : List ℕ) → is_name c ≡ true
     → code_by (effect_in parts.Inner [] c) c inner place shown
     ≡ one false inner place shown (section_name c place shown)
-name-found at.SectionName place shown h = refl
-name-found at.FileName place shown h = refl
-name-found _ place shown h = absurd cc
+name-found c place shown h = grind arith
 
 -- a name, where the text ends behind it
 name-uncut : (c : Code) (d : ℕ) (bs : List ℕ) (fresh : Bool) (last place : ℕ) → is_name c ≡ true → code_of d ≡ c
@@ -244,20 +235,12 @@ is_kept (effects.Drops note) = true
 is_kept effect = false
 
 name-code : (c : Code) → is_name_kind (kinds.Code c) ≡ is_name c
-name-code at.SectionName = refl
-name-code at.FileName = refl
-name-code _ = refl
+name-code c = grind arith
 
 -- any other code
 effect-begins : (effect : Effect) (c : Code) (place : ℕ) (shown : List ℕ) → is_name c ≡ false → is_kept effect ≡ true
     → Begins c place shown (tex_by effect c tex place shown)
-effect-begins effects.Stands c place shown n k =
-    inl (record {
-      cut = code_token c place shown;
-      is = ap (λ t. one false (if t && is_head place shown then head else tex) place shown (code_token c place shown))
-          n;
-      name = λ h. not-both _ (sym (ap is_name_kind (code-kind c place shown).is ∙ name-code c) ∙ h) n;
-    })
+effect-begins effects.Stands c place shown n k = grind (arith, nat_tests, not-both, code-kind, name-code)
 effect-begins (effects.Drops note) c place shown n k =
     inl (record { cut = dropped_code note c place shown; is = refl; name = λ h. absurd cc })
 effect-begins _ c place shown n k = absurd cc
@@ -276,18 +259,7 @@ code-begins c place shown = effect-begins (effect_in_tex c) c place shown refl r
 
 more-opened : (kind : TokKind) (headed : Bool) → is_some (opened_by kind false) ≡ true → is_some (opened_by kind headed)
     ≡ true
-more-opened kind false h = h
-more-opened (kinds.Code c) true h = by c h
-  where
-    by : (c : Code) → is_some (opened_by (kinds.Code c) false) ≡ true → is_some (opened_by (kinds.Code c) true) ≡ true
-    by at.SectionName h = refl
-    by at.FileName h = refl
-    by at.Define h = refl
-    by at.Format h = refl
-    by at.SilentFormat h = refl
-    by at.Program h = refl
-    by _ h = absurd cc
-more-opened _ true h = absurd cc
+more-opened kind headed h = grind (arith, nat_tests)
 
 module _ (text : List ℕ) (place : ℕ) (within : place < length text) (quiet : opens_part_in (tex_at text place)
     ≡ false) where
@@ -315,19 +287,7 @@ module _ (text : List ℕ) (place : ℕ) (within : place < length text) (quiet :
 
   -- no section code, and no code with which another part begins
   no-section : (byte == at_sign && begins_section behind) ≡ false
-  no-section = by (byte == at_sign && begins_section behind) refl
-    where
-      by : (t : Bool) → (byte == at_sign && begins_section behind) ≡ t → (byte == at_sign && begins_section behind)
-          ≡ false
-      by true e =
-          let uncut = opens-uncut [] (tex_at text place) quiet in
-          let is : here ≡ section tex place behind =
-          ap (λ t. if t then section tex place behind else in_text_apart parts.Tex
-          [] (fresh_at text place) (last_at text place) place byte behind) e in
-          not-both _ (section-cuts tex place behind (answers_at text here.next next))
-          (ap (λ (f : Found). begins_section_in (f.answers ++ answers_at text here.next next)) (sym is)
-          ∙ ap begins_section_in (sym goes) ∙ uncut)
-      by false e = e
+  no-section = grind (arith, nat_tests, opens-uncut, not-both, section-cuts, goes)
 
   here-is : here ≡ tex_text tex place byte behind
   here-is = ap (λ t. if t then section tex place behind else tex_text tex place byte behind) no-section

@@ -1,13 +1,14 @@
 -- The tokens of a part of a text lie in it.
-use Rattle.std.proofs.Common.{ℕ, zero, suc, ◌+◌, ◌-◌, ◌≤◌, Bool, List, [], ◌∷◌, length, drop, take, arith, length-drop}
+use Rattle.std.proofs.Common.{ℕ, zero, suc, ◌+◌, ◌-◌, ◌≤◌, Bool, List, [], ◌∷◌, length, arith, length-drop}
 use Rattle.std.proofs.lemmas.List.{length-take}
+use Rattle.std.proofs.lemmas.Bool.Decides.{nat_tests}
 use Rattle.cw_rules.specs.declared.tokens.Mode.{Mode}
 use Rattle.cw_rules.specs.Answers.{Where}
 use Rattle.cw_rules.specs.Order.{AreWithin}
 use Rattle.cw_rules.specs.Tokens.{all_cut}
 use Rattle.cw_rules.specs.Apart.{found_apart}
 use Rattle.cw_rules.proofs.Within.{append-within, wider, all_cut-within, found-fits}
-use Rattle.cw_lex.specs.Lexing.{still_fresh, answers, fresh_at, last_at, beginning, tokens_of}
+use Rattle.cw_lex.specs.Lexing.{still_fresh, answers, tokens_of}
 
 -- the answers from a place on
 all-within : (bytes : List ℕ) (w : Where) (fresh : Bool) (last place taken low : ℕ) → low ≤ place → taken ≤ length bytes
@@ -31,9 +32,4 @@ all-within (b ∷ bs) w fresh last place (suc taken) low l t =
 -- the tokens of a part of a text
 pub tokens-within : (text : List ℕ) (from end : ℕ) (mode : Mode) → from ≤ end → end ≤ length text
     → AreWithin from end (tokens_of text from end mode)
-tokens-within text from end mode order within =
-    let cut = take end text in
-    let size : from + length (drop from cut) ≤ end = omega (arith, length-drop from cut, length-take end text) in
-    wider from (from + length (drop from cut)) from end (tokens_of text from end mode) (omega arith) size
-    (all-within (drop from cut) (beginning mode) (fresh_at cut from) (last_at cut from) from 0 from (omega arith)
-    (omega arith))
+tokens-within text from end mode order within = grind (arith, nat_tests, length-drop, length-take, wider, all-within)

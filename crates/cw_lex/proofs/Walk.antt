@@ -3,6 +3,8 @@ use Rattle.std.proofs.Common.{◌≡◌, ℕ, zero, suc, ◌+◌, ◌<◌, ◌�
 use Rattle.std.proofs.Common.{take, drop, sym, ap, ◌∙◌, arith, add-zero, zero-add, length-drop}
 use Rattle.std.proofs.lemmas.List.{drop-drop}
 use Rattle.std.proofs.Math.Seq.{take-nil}
+use Rattle.std.proofs.lemmas.Bool.Decides.{nat_tests}
+use Rattle.std.proofs.lemmas.Grind.{common_steps}
 use Rattle.cw_rules.proofs.Runs.{drop-here}
 use Rattle.cw_rules.specs.Answers.{Answer, Where, Found}
 use Rattle.cw_lex.specs.Coming.{found_at}
@@ -16,9 +18,7 @@ taken [] w fresh last place zero h = ap (λ p. answers [] w fresh last p 0) (sym
 taken [] w fresh last place (suc n) h = absurd (omega arith)
 taken (b ∷ bs) w fresh last place zero h = ap (λ p. answers (b ∷ bs) w fresh last p 0) (omega arith)
 taken (b ∷ bs) w fresh last place (suc n) h =
-    let p : (place + 1) + n ≡ place + suc n = omega arith in
-    taken bs w (still_fresh fresh b) b (place + 1) n (omega arith)
-    ∙ ap (λ p. answers (drop n bs) w (fresh_after (still_fresh fresh b) (take n bs)) (last_after b (take n bs)) p 0) p
+    grind (arith, nat_tests, taken bs w (still_fresh fresh b) b (place + 1) n (omega arith))
 
 pub fresh-more : (fresh : Bool) (text : List ℕ) (m n : ℕ)
     → fresh_after (fresh_after fresh (take m text)) (take n (drop m text)) ≡ fresh_after fresh (take (m + n) text)
@@ -40,12 +40,10 @@ last-more last (b ∷ text) (suc m) n =
 pub fresh-here : (text : List ℕ) (place : ℕ) → place < length text
     → still_fresh (fresh_at text place) (slice_index text place) ≡ fresh_at text (place + 1)
 fresh-here text place h =
-    ap (λ bs. fresh_after (fresh_at text place) (take 1 bs)) (sym (drop-here text place h))
-    ∙ fresh-more true text place 1
+    grind (arith, nat_tests, common_steps, drop-here text place h, fresh-more true text place 1, drop-here, fresh-more)
 
 pub last-here : (text : List ℕ) (place : ℕ) → place < length text → slice_index text place ≡ last_at text (place + 1)
-last-here text place h =
-    ap (λ bs. last_after (last_at text place) (take 1 bs)) (sym (drop-here text place h)) ∙ last-more 0 text place 1
+last-here text place h = grind (arith, nat_tests, drop-here text place h, last-more 0 text place 1)
 
 -- what follows what begins at a place
 abbrev pub rest_at : List ℕ → ℕ → Where → ℕ → List Answer
@@ -55,8 +53,7 @@ rest_at text place next more =
 
 pub answers-here : (text : List ℕ) (w : Where) (place : ℕ) → place < length text
     → answers_at text w place ≡ joined (found_at text w place) (λ next more. rest_at text place next more)
-answers-here text w place h =
-    ap (λ bs. answers bs w (fresh_at text place) (last_at text place) place 0) (drop-here text place h)
+answers-here text w place h = grind (arith, nat_tests, drop-here)
 
 -- the answers from a place on are those that begin there and those from where they end
 pub answers-at : (text : List ℕ) (w : Where) (place : ℕ) (f : Found) (next : ℕ) → place < length text
@@ -64,14 +61,4 @@ pub answers-at : (text : List ℕ) (w : Where) (place : ℕ) (f : Found) (next :
     → next ≡ (place + 1) + f.more → next ≤ length text → answers_at text w place
     ≡ f.answers ++ answers_at text f.next next
 answers-at text w place f next h e n within =
-    let behind = drop (place + 1) text in
-    let size : f.more ≤ length behind = omega (arith, length-drop (place + 1) text) in
-    ap (λ bs. answers bs w (fresh_at text place) (last_at text place) place 0) (drop-here text place h)
-    ∙ ap (λ g. joined g (λ next more. answers behind next (still_fresh (fresh_at text place) (slice_index text place))
-    (slice_index text place) (place + 1) more)) e
-    ∙ ap (λ l. f.answers ++ l)
-    ((λ i. answers behind f.next (fresh-here text place h i) (last-here text place h i) (place + 1) f.more)
-    ∙ taken behind f.next (fresh_at text (place + 1)) (last_at text (place + 1)) (place + 1) f.more size
-    ∙ (λ i. answers (drop-drop f.more (place + 1) text i) f.next (fresh-more true text (place + 1) f.more i)
-    (last-more 0 text (place + 1) f.more i) ((place + 1) + f.more) 0)
-    ∙ ap (λ k. answers_at text f.next k) (sym n))
+    grind (arith, nat_tests, length-drop, drop-here, fresh-here, last-here, taken, drop-drop, fresh-more, last-more)

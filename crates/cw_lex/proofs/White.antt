@@ -1,48 +1,32 @@
 -- White space of C text, and what the bytes before a place say of it.
-use Rattle.std.proofs.Common.{◌≡◌, ℕ, ◌+◌, ◌-◌, ◌<◌, ◌≤◌, Bool, true, false, true≢false, not, ◌&&◌, ◌||◌, ◌==◌, List}
-use Rattle.std.proofs.Common.{[], ◌∷◌, ◌++◌, length, slice_index, drop, refl, sym, ap, ◌∙◌, arith, if◌then◌else◌}
+use Rattle.std.proofs.Common.{◌≡◌, ℕ, ◌+◌, ◌-◌, ◌<◌, ◌≤◌, Bool, true, false, not, ◌&&◌, ◌==◌, List, length, slice_index}
+use Rattle.std.proofs.Common.{drop, refl, sym, ap, ◌∙◌, arith, if◌then◌else◌}
 use Rattle.std.proofs.lemmas.Bool.{eqb-true}
-use Rattle.cw_base.proofs.TestLaws.{and-false, and-true, not-true}
+use Rattle.std.proofs.lemmas.Bool.Decides.{nat_tests}
+use Rattle.cw_base.proofs.TestLaws.{and-false, not-true}
 use Rattle.cw_rules.specs.declared.classes.Class.TheVariants as classes
 use Rattle.cw_rules.specs.declared.parts.Part.{Part}
 use Rattle.cw_rules.specs.declared.parts.Opened.{Opened}
-use Rattle.cw_rules.specs.declared.tokens.TokKind.TheVariants as kinds
-use Rattle.cw_rules.specs.declared.parts.Part.TheVariants as parts
-use Rattle.cw_rules.specs.Answers.{Where, before, plain}
+use Rattle.cw_rules.specs.Answers.{Where}
 use Rattle.cw_rules.specs.Bytes.{is_in}
 use Rattle.cw_rules.specs.Codes.{begins_section}
 use Rattle.cw_lex.specs.Lexing.{fresh_at, last_at}
-use Rattle.cw_rules.specs.Tokens.{section, passed, line_end, is_space, in_hash_line, skipped_byte}
+use Rattle.cw_rules.specs.Tokens.{section, line_end, is_space, in_hash_line, skipped_byte, is_code}
 use Rattle.cw_rules.specs.Apart.{in_text_apart, code_text_apart}
-use Rattle.cw_rules.specs.Tokens.{comment_end, inner_cut, one, is_code}
 use Rattle.cw_lex.specs.Coming.{ends_line, is_white_here, found_at}
 use Rattle.cw_lex.proofs.Lines.{in_text-code, found-newline}
 use Rattle.cw_lex.proofs.Walk.{fresh-here, last-here}
 
 -- a byte that passes a test is none that fails it
 pub other-byte : (test : ℕ → Bool) (b n : ℕ) → test b ≡ true → test n ≡ false → (b == n) ≡ false
-other-byte test b n h f = by (b == n) refl
-  where
-    by : (t : Bool) → (b == n) ≡ t → (b == n) ≡ false
-    by true e = absurd (true≢false (sym h ∙ ap test (eqb-true b n e) ∙ f))
-    by false e = e
+other-byte test b n h f = grind (arith, nat_tests, eqb-true)
 
 space-not-at : (part : Part) (b : ℕ) (bs : List ℕ) → is_space part b bs ≡ true → (b == 64) ≡ false
 space-not-at part b bs h = other-byte (λ b. is_space part b bs) b 64 h (and-false (in_hash_line part))
 
 line_end-white : (part : Part) (comments : List Opened) (last place : ℕ) → ends_line part comments last ≡ false
     → line_end part comments last place ≡ skipped_byte (record { part = part; comments = comments })
-line_end-white part [] last place h = ap (λ t. if t then one true
-    (record { part = parts.Plain false false; comments = [] }) place (10 ∷ []) (plain kinds.HashLineEnd 1) else
-    skipped_byte (record { part = part; comments = [] })) h
-line_end-white part (c ∷ comments) last place h =
-    ap (λ t. if t then skipped_byte (record { part = part; comments = c ∷ comments })
-    else before (inner_cut (in_hash_line part) place place ++ comment_end (in_hash_line part) c place 0 [])
-    (line_end (passed part) comments last place)) (by c.long h)
-  where
-    by : (b : Bool) → not b ≡ false → b ≡ true
-    by true e = refl
-    by false e = absurd (true≢false e)
+line_end-white part comments last place h = grind (arith, nat_tests)
 
 code_text-space : (w : Where) (fresh : Bool) (last place b : ℕ) (bs : List ℕ) → (b == 10) ≡ false → is_space w.part b bs
     ≡ true
@@ -83,29 +67,12 @@ white-found text part comments place code h = by (slice_index text place == 10) 
 -- what the byte before a place says of it
 pub fresh-blank : (text : List ℕ) (k : ℕ) → 0 < k → k ≤ length text → is_in classes.Blank (slice_index text (k - 1))
     ≡ true → fresh_at text (k - 1) ≡ fresh_at text k
-fresh-blank text k some within h =
-    let k-is : (k - 1) + 1 ≡ k = omega arith in
-    let other = other-byte (is_in classes.Blank) (slice_index text (k - 1)) 10 h refl in
-    sym (and-true (fresh_at text (k - 1)))
-    ∙ (λ i. sym other i || (fresh_at text (k - 1) && sym h i))
-    ∙ fresh-here text (k - 1) (omega arith)
-    ∙ ap (fresh_at text) k-is
+fresh-blank text k some within h = grind (arith, fresh-here text (k - 1) (omega arith))
 
 pub fresh-other : (text : List ℕ) (k : ℕ) → 0 < k → k ≤ length text → is_in classes.Blank (slice_index text (k - 1))
     ≡ false → (slice_index text (k - 1) == 10) ≡ fresh_at text k
 fresh-other text k some within h =
-    let k-is : (k - 1) + 1 ≡ k = omega arith in
-    or-false (slice_index text (k - 1) == 10)
-    ∙ ap (λ t. (slice_index text (k - 1) == 10) || t) (sym (and-false (fresh_at text (k - 1))))
-    ∙ ap (λ t. (slice_index text (k - 1) == 10) || (fresh_at text (k - 1) && t)) (sym h)
-    ∙ fresh-here text (k - 1) (omega arith)
-    ∙ ap (fresh_at text) k-is
-  where
-    or-false : (b : Bool) → b ≡ (b || false)
-    or-false true = refl
-    or-false false = refl
+    grind (arith, and-false (fresh_at text (k - 1)), fresh-here text (k - 1) (omega arith))
 
 pub last-byte : (text : List ℕ) (k : ℕ) → 0 < k → k ≤ length text → slice_index text (k - 1) ≡ last_at text k
-last-byte text k some within =
-    let k-is : (k - 1) + 1 ≡ k = omega arith in
-    last-here text (k - 1) (omega arith) ∙ ap (last_at text) k-is
+last-byte text k some within = grind (arith, nat_tests, last-here)

@@ -1,5 +1,5 @@
 -- A file of right blocks is accepted.
-use Rattle.std.proofs.Common.{◌≡◌, ℕ, true, eqb, List, [], ◌∷◌, length, refl, ap, ◌∙◌, eq-eqb, if◌then◌else◌}
+use Rattle.std.proofs.Common.{◌≡◌, ℕ, true, List, [], ◌∷◌, length, refl, ap, ◌∙◌, eq-eqb, if◌then◌else◌, arith}
 use Rattle.std.specs.Cmp.Lexicographic.{pointwise}
 use Rattle.std.specs.List.{All}
 use Rattle.std.proofs.lemmas.Bool.{le-leb}
@@ -9,7 +9,7 @@ use Rattle.cw_base.specs.Flags.{start_flags}
 use Rattle.cw_base.specs.Text.{pieces_of}
 use Rattle.cw_table.specs.Normal.{Production}
 use Rattle.cw_check.specs.Judging.{same_item}
-use Rattle.cw_logtext.specs.Judgement.{Judgement, log, no_log}
+use Rattle.cw_logtext.specs.Judgement.{Judgement}
 use Rattle.cw_logtext.specs.LogText.{Block, IsFineBlock, log_text}
 use Rattle.cw_logtext.proofs.Cutting.{text-has-lines}
 use Rattle.cw_logtext.proofs.Deciding.{judgement}
@@ -25,8 +25,7 @@ use Rattle.cw_log_laws.proofs.JudgedLogs.{IsOf, judged-of}
 -- ## Blocks that are right are found to be
 
 item-same : (p : Production) → same_item p p ≡ true
-item-same p = both (eqb p.number p.number) (eqb p.place p.place) (eq-eqb p.number p.number refl)
-    (eq-eqb p.place p.place refl)
+item-same p = grind (arith, both, eq-eqb)
 
 items-same : (ps : List Production) → pointwise same_item ps ps ≡ true
 items-same [] = refl
@@ -46,8 +45,7 @@ none-wrong (b ∷ blocks) all =
 
 judged-run : (blocks : List Block) (lines : List (List ℕ)) (j : Judgement lines) → IsOf blocks j
     → judged j ≡ run_of (checked blocks)
-judged-run blocks lines (log is) same = ap (λ bs. run_of (checked bs)) same
-judged-run blocks lines (no_log line fault) same = absurd same
+judged-run blocks lines j same = grind arith
 
 pub right-accepted : RightBlocksAreAccepted
 right-accepted blocks all short =

@@ -1,6 +1,6 @@
 -- The names of a book: no two are alike, each has a category, and none of its section names is longer than its text.
 use Rattle.std.proofs.Common.{◌≡◌, ◌≢◌, ℕ, zero, suc, ◌≤◌, ◌^◌, Bool, true, false, not, ◌&&◌, List, [], ◌∷◌, Option}
-use Rattle.std.proofs.Common.{Some, None, length, slice_get, All, refl, arith}
+use Rattle.std.proofs.Common.{None, length, slice_get, All, refl, arith}
 use Rattle.std.specs.List.{IsDistinct, AllByRecursion, list_all}
 use Rattle.std.proofs.lemmas.List.Elements.{All-from_recursion, All-weaker}
 use Rattle.cw_base.proofs.TestLaws.{both-left, both-right, not-true}
@@ -87,11 +87,7 @@ good-entry kind text es g = (distinct-entry kind text es g.0, have-entry kind te
 
 good-format : (first : Option NameId) (second : NameId) (es : List Entry) → Good es
     → Good (with_format first second es)
-good-format None second es g = g
-good-format (Some first) second es g = (
-  distinct-at first.index (category_of (slice_get es second.index)) es g.0,
-  have-at first.index (category_of (slice_get es second.index)) es (category-real es second.index g.1) g.1,
-)
+good-format first second es g = grind (arith, distinct-at, slice_get, have-at, category-real)
 
 good-behind : (role : Role) (text : List ℕ) (k : KnownNames) → Good k.names → Good (known_behind role text k).names
 good-behind roles.MacroName text k g = good-entry Ident text k.names g

@@ -1,15 +1,15 @@
 -- There are at most as many tokens and comments as bytes, and a nest has no more of them.
-use Rattle.std.proofs.Common.{◌≡◌, ℕ, zero, suc, ◌+◌, ◌-◌, ◌≤◌, Bool, true, false, List, [], ◌∷◌, ◌++◌, length, drop}
-use Rattle.std.proofs.Common.{take, refl, sym, ap, ◌∙◌, arith, append_assoc, append-nil, length-drop, if◌then◌else◌}
+use Rattle.std.proofs.Common.{◌≡◌, ℕ, zero, suc, ◌+◌, ◌-◌, ◌≤◌, Bool, List, [], ◌∷◌, ◌++◌, length, refl, sym, ap, ◌∙◌}
+use Rattle.std.proofs.Common.{arith, append_assoc, append-nil, length-drop}
 use Rattle.std.proofs.lemmas.List.{length-take}
 use Rattle.cw_rules.specs.declared.tokens.Mode.{Mode}
 use Rattle.cw_rules.specs.Answers.{Answer, Token, Begin, Finish, Note, Seen, Where, Found}
 use Rattle.cw_rules.specs.Tokens.{all_cut}
 use Rattle.cw_rules.specs.Apart.{found_apart}
 use Rattle.cw_rules.proofs.Taking.{AreBare, AreNotes, TakesAll, Takes, bare-all-cut, found-takes}
-use Rattle.cw_lex.specs.Lexing.{still_fresh, answers, fresh_at, last_at, beginning, tokens_of}
+use Rattle.cw_lex.specs.Lexing.{still_fresh, answers, tokens_of}
 use Rattle.cw_lex.specs.Nest.{Nest, End, Leaf, Group, group, leaf, nests, first_nest, nest}
-use Rattle.cw_lex.specs.Nested.{is_section_answer, until_section}
+use Rattle.cw_lex.specs.Nested.{until_section}
 
 -- how many of the answers are tokens, or begin a comment or an inner text
 abbrev pub tokens_in : List Answer → ℕ
@@ -23,32 +23,22 @@ tokens_in (Note kind place ∷ answers) = tokens_in answers
 
 bare-count : (place : ℕ) (xs ys : List Answer) → AreBare place xs → tokens_in (xs ++ ys) ≡ tokens_in ys
 bare-count place [] ys h = refl
-bare-count place (Token t ∷ xs) ys h = absurd h
-bare-count place (Begin t ∷ xs) ys h = absurd h
 bare-count place (Finish t ∷ xs) ys h = bare-count place xs ys h.3
 bare-count place (Note kind about ∷ xs) ys h = bare-count place xs ys h
+bare-count _ _ _ h = absurd h
 
 notes-count : (xs ys : List Answer) → AreNotes xs → tokens_in (xs ++ ys) ≡ tokens_in ys
 notes-count [] ys h = refl
-notes-count (Token t ∷ xs) ys h = absurd h
-notes-count (Begin t ∷ xs) ys h = absurd h
-notes-count (Finish t ∷ xs) ys h = absurd h
 notes-count (Note kind about ∷ xs) ys h = notes-count xs ys h
+notes-count _ _ h = absurd h
 
 whole-count : (place : ℕ) (bytes : List ℕ) (more : ℕ) (xs ys : List Answer) → TakesAll place bytes more xs
     → tokens_in (xs ++ ys) ≤ suc (tokens_in ys)
-whole-count place bytes more [] ys h = omega arith
-whole-count place bytes more (Token t ∷ xs) ys h = omega (arith, notes-count xs ys h.1)
-whole-count place bytes more (Begin t ∷ xs) ys h = omega (arith, notes-count xs ys h.1)
-whole-count place bytes more (Finish t ∷ xs) ys h = omega (arith, notes-count xs ys h.1)
-whole-count place bytes more (Note kind about ∷ xs) ys h = absurd h
+whole-count place bytes more xs ys h = grind (arith, notes-count)
 
 found-count : (place : ℕ) (bytes : List ℕ) (f : Found) (ys : List Answer) → Takes place bytes f
     → tokens_in (f.answers ++ ys) ≤ suc (tokens_in ys)
-found-count place bytes f ys t =
-    let all : tokens_in (f.answers ++ ys) ≡ tokens_in (t.first ++ (t.rest ++ ys)) =
-    ap (λ l. tokens_in (l ++ ys)) t.split ∙ ap tokens_in (append_assoc t.first t.rest ys) in
-    omega (arith, all, bare-count place t.first (t.rest ++ ys) t.bare, whole-count place bytes f.more t.rest ys t.whole)
+found-count place bytes f ys t = grind (arith, append_assoc, bare-count, whole-count)
 
 all-count : (bytes : List ℕ) (w : Where) (fresh : Bool) (last place taken : ℕ)
     → tokens_in (answers bytes w fresh last place taken) ≤ length bytes
@@ -71,26 +61,11 @@ all-count (byte ∷ bytes) w fresh last place (suc taken) =
 -- the answers over a part of a text
 pub tokens-count : (text : List ℕ) (start end : ℕ) (mode : Mode)
     → tokens_in (tokens_of text start end mode) ≤ end - start
-tokens-count text start end mode =
-    let cut = take end text in
-    omega (
-      arith,
-      all-count (drop start cut) (beginning mode) (fresh_at cut start) (last_at cut start) start 0,
-      length-drop start cut,
-      length-take end text,
-    )
+tokens-count text start end mode = grind (arith, all-count, length-drop, length-take)
 
 pub until-count : (xs : List Answer) → tokens_in (until_section xs) ≤ tokens_in xs
 until-count [] = omega arith
-until-count (x ∷ xs) = by (is_section_answer x) x (until-count xs)
-  where
-    by : (b : Bool) (x : Answer) → tokens_in (until_section xs) ≤ tokens_in xs
-        → tokens_in (if b then [] else x ∷ until_section xs) ≤ tokens_in (x ∷ xs)
-    by true x h = omega arith
-    by false (Token t) h = omega (arith, h)
-    by false (Begin t) h = omega (arith, h)
-    by false (Finish t) h = h
-    by false (Note kind place) h = h
+until-count (x ∷ xs) = grind (arith, until-count xs)
 
 -- ## Nests
 
@@ -104,13 +79,10 @@ sizes [] = 0
 sizes (n ∷ ns) = nest_size n + sizes ns
 
 leaf-size : (t : Seen) (ns : List Nest) → sizes (leaf t ns) ≤ suc (sizes ns)
-leaf-size t [] = omega arith
-leaf-size t (n ∷ ns) = omega arith
+leaf-size t ns = grind arith
 
 group-size : (t : Seen) (ns : List Nest) → sizes (group t ns) ≤ suc (sizes ns)
-group-size t [] = omega arith
-group-size t (n ∷ []) = omega arith
-group-size t (n ∷ m ∷ ns) = omega arith
+group-size t ns = grind arith
 
 nests-size : (xs : List Answer) → sizes (nests xs) ≤ tokens_in xs
 nests-size [] = omega arith
@@ -120,8 +92,7 @@ nests-size (Finish t ∷ xs) = omega (arith, nests-size xs)
 nests-size (Note kind place ∷ xs) = nests-size xs
 
 first-size : (ns : List Nest) → nest_size (first_nest ns) ≤ sizes ns
-first-size [] = omega arith
-first-size (n ∷ ns) = omega arith
+first-size ns = grind arith
 
 pub nest-size : (xs : List Answer) → nest_size (nest xs) ≤ tokens_in xs
 nest-size xs = omega (arith, first-size (nests xs), nests-size xs)

@@ -1,14 +1,12 @@
 -- The C texts of a book lie in its text, behind the code of a section.
-use Rattle.std.proofs.Common.{ℕ, zero, suc, ◌<◌, ◌≤◌, ◌^◌, Bool, true, false, not, List, [], ◌∷◌, ◌++◌, Option, Some}
-use Rattle.std.proofs.Common.{None, length, All, sym, subst, arith, if◌then◌else◌}
+use Rattle.std.proofs.Common.{ℕ, zero, suc, ◌<◌, ◌≤◌, ◌^◌, Bool, not, List, [], ◌∷◌, ◌++◌, Option, Some, None, length}
+use Rattle.std.proofs.Common.{All, arith, if◌then◌else◌}
 use Rattle.std.proofs.lemmas.List.Concat.{flat_map-cons}
-use Rattle.std.proofs.lemmas.List.Elements.{All-append, All-cons, All-filter, All-head, All-map, All-nil, All-tail}
-use Rattle.std.proofs.lemmas.List.Elements.{All-weaker}
+use Rattle.std.proofs.lemmas.List.Elements.{All-append, All-filter, All-head, All-map, All-nil, All-tail, All-weaker}
 use Rattle.cw_base.specs.Conditions.{list_if}
 use Rattle.cw_base.specs.Web.{MergedLine, text_of}
 use Rattle.cw_base.specs.declared.span.Span.{Span}
 use Rattle.cw_rules.specs.declared.codes.Code.{Code}
-use Rattle.cw_rules.specs.declared.codes.Code.TheVariants as at
 use Rattle.cw_rules.specs.declared.tokens.Mode.TheVariants as modes
 use Rattle.cw_rules.specs.declared.tokens.TokKind.{TokKind}
 use Rattle.cw_rules.specs.declared.tokens.TokKind.TheVariants as kinds
@@ -18,14 +16,14 @@ use Rattle.cw_lex.proofs.Covering.{tokens-cover}
 use Rattle.cw_lex.proofs.TokensWithin.{tokens-within}
 use Rattle.cw_phase1.specs.Book.{answers_of, book}
 use Rattle.cw_phase1.specs.Roles.{Placed, at_limbo, placed}
-use Rattle.cw_phase1.specs.Sections.{is_section_code, section_at, sections_of}
+use Rattle.cw_phase1.specs.Sections.{sections_of}
 use Rattle.cw_phase1.specs.Sound.{LiesIn}
 use Rattle.cw_phase1.specs.declared.sections.Section.{Section}
 use Rattle.cw_phase1.proofs.SpanLaws.{Follow, all-lie, follows}
 use Rattle.cw_secnames.specs.Uses.{NameUse}
-use Rattle.cw_texts.specs.Definitions.{begun_by, next_begin, definitions_in, definitions_of, ended_at, not_silent}
+use Rattle.cw_texts.specs.Definitions.{begun_by, next_begin, definitions_in, definitions_of, not_silent}
 use Rattle.cw_texts.specs.Definitions.{printed_definitions, with_begun}
-use Rattle.cw_texts.specs.Printed.{is_kept, is_printed}
+use Rattle.cw_texts.specs.Printed.{is_printed}
 use Rattle.cw_texts.specs.Scans.{scanned}
 use Rattle.cw_texts.specs.TexPieces.{Cited, Copied, InnerText, TexPiece, tex_pieces_of, tex_pieces, token_piece}
 use Rattle.cw_texts.specs.Texts.{definition_ref, definition_refs, part_refs, piece_refs, refs_from, section_refs}
@@ -52,14 +50,10 @@ ArePiecesIn low high (piece ∷ pieces) = IsPieceIn low high piece × ArePiecesI
 
 module _ (low high : ℕ) where
   code-piece : (c : Code) (t : Seen) → IsIn low high t.span → IsPieceIn low high (token_piece (kinds.Code c) t)
-  code-piece at.SectionName t h = h
-  code-piece at.FileName t h = h
-  code-piece _ t h = tt
+  code-piece c t h = grind arith
 
   token-piece : (k : TokKind) (t : Seen) → IsIn low high t.span → IsPieceIn low high (token_piece k t)
-  token-piece (kinds.Code c) t h = code-piece c t h
-  token-piece kinds.Text t h = tt
-  token-piece _ t h = tt
+  token-piece k t h = grind (arith, code-piece)
 
   abbrev IsOpen : ℕ → ℕ → Type 0
   IsOpen zero start = Unit {0}
@@ -72,16 +66,10 @@ module _ (low high : ℕ) where
   pieces-in zero start (Begin t ∷ answers) h o =
       pieces-in (suc zero) t.span.«end» answers h.1 (omega (arith, h.0.0, h.0.1))
   pieces-in (suc depth) start (Begin t ∷ answers) h o = pieces-in (suc (suc depth)) start answers h.1 o
-  pieces-in zero start (Token t ∷ answers) h o = (
-    token-piece t.kind t (record { begins = h.0.0; ends = h.0.2 }),
-    pieces-in zero start answers h.1 o,
-  )
+  pieces-in zero start (Token t ∷ answers) h o = grind (arith, pieces-in zero start answers h.1 o, token-piece)
   pieces-in (suc depth) start (Token t ∷ answers) h o = pieces-in (suc depth) start answers h.1 o
   pieces-in zero start (Finish t ∷ answers) h o = pieces-in zero start answers h.1 o
-  pieces-in (suc zero) start (Finish t ∷ answers) h o = (
-    record { begins = o; ends = omega (arith, h.0.1, h.0.2) },
-    pieces-in zero start answers h.1 tt,
-  )
+  pieces-in (suc zero) start (Finish t ∷ answers) h o = grind (arith, pieces-in zero start answers h.1 tt)
   pieces-in (suc (suc depth)) start (Finish t ∷ answers) h o = pieces-in (suc depth) start answers h.1 o
 
   -- a definition begins in the part too
@@ -95,15 +83,10 @@ module _ (low high : ℕ) where
   MayBegin (Some b) = (low ≤ b.start) × (b.start ≤ high)
 
   code-begins : (c : Code) (start : ℕ) → low ≤ start → start ≤ high → MayBegin (begun_by (kinds.Code c) start)
-  code-begins at.Define start h g = (h, g)
-  code-begins at.Format start h g = (h, g)
-  code-begins at.SilentFormat start h g = (h, g)
-  code-begins _ start h g = tt
+  code-begins c start h g = grind arith
 
   kind-begins : (k : TokKind) (start : ℕ) → low ≤ start → start ≤ high → MayBegin (begun_by k start)
-  kind-begins (kinds.Code c) start h g = code-begins c start h g
-  kind-begins kinds.Text start h g = tt
-  kind-begins _ start h g = tt
+  kind-begins k start h g = grind (arith, code-begins)
 
   module _ (end : ℕ) (within : end ≤ high) where
     beginning-in : (ds : List Definition) → All IsDefined ds → next_begin end ds ≤ high
@@ -112,16 +95,11 @@ module _ (low high : ℕ) where
 
     begun-in : (o : Option Begun) (ds : List Definition) → MayBegin o → All IsDefined ds
         → All IsDefined (with_begun o end ds)
-    begun-in None ds h all = all
-    begun-in (Some b) ds h all =
-        All-cons IsDefined (ended_at (next_begin end ds) b) ds
-        (record { begins = h.0; starts = h.1; ends = beginning-in ds all }) all
+    begun-in o ds h all = grind (arith, beginning-in)
 
     definitions-in : (answers : List Answer) → AreWithin low high answers → All IsDefined (definitions_of end answers)
     definitions-in [] h = All-nil IsDefined
-    definitions-in (Token t ∷ answers) h =
-        begun-in (begun_by t.kind t.span.start) (definitions_of end answers)
-        (kind-begins t.kind t.span.start h.0.0 (omega (arith, h.0.1, h.0.2))) (definitions-in answers h.1)
+    definitions-in (Token t ∷ answers) h = grind (arith, definitions-in answers h.1, begun-in, kind-begins)
     definitions-in (Begin t ∷ answers) h = definitions-in answers h.1
     definitions-in (Finish t ∷ answers) h = definitions-in answers h.1
     definitions-in (Note note place ∷ answers) h = definitions-in answers h
@@ -132,8 +110,7 @@ abbrev IsInsideRef : TextRef → Type 0
 IsInsideRef ref = IsInside ref.span
 
 one-if : (b : Bool) (ref : TextRef) → IsInsideRef ref → All IsInsideRef (list_if b (ref ∷ []))
-one-if true ref is = All-cons IsInsideRef ref [] is (All-nil IsInsideRef)
-one-if false ref is = All-nil IsInsideRef
+one-if b ref is = grind arith
 
 module _ (low high : ℕ) (some : 0 < low) (short : high ≤ 2 ^ 24) where
   inside : (span : Span) → low ≤ span.start → span.«end» ≤ high → IsInside span
@@ -141,19 +118,13 @@ module _ (low high : ℕ) (some : 0 < low) (short : high ≤ 2 ^ 24) where
 
   piece-inside : (uses : List NameUse) (number : ℕ) (piece : TexPiece) → IsPieceIn low high piece
       → All IsInsideRef (piece_refs uses number piece)
-  piece-inside uses number (Copied token) h = All-nil IsInsideRef
-  piece-inside uses number (InnerText part) h =
-      one-if true (text_ref number modes.Inner part) (inside part h.begins h.ends)
-  piece-inside uses number (Cited part) h =
-      one-if (is_kept uses part.start) (text_ref number modes.Inner part) (inside part h.begins h.ends)
+  piece-inside uses number piece h = grind (arith, one-if, inside)
 
   tex-inside : (uses : List NameUse) (number : ℕ) (pieces : List TexPiece) → ArePiecesIn low high pieces
       → All IsInsideRef (tex_refs uses number pieces)
   tex-inside uses number [] h = All-nil IsInsideRef
   tex-inside uses number (piece ∷ pieces) h =
-      subst (All IsInsideRef) (sym (flat_map-cons (piece_refs uses number) piece pieces))
-      (All-append IsInsideRef (piece_refs uses number piece) (tex_refs uses number pieces)
-      (piece-inside uses number piece h.0) (tex-inside uses number pieces h.1))
+      grind (arith, tex-inside uses number pieces h.1, flat_map-cons, piece-inside)
 
   definitions-inside : (number : ℕ) (ds : List Definition) → All (IsDefined low high) ds
       → All IsInsideRef (definition_refs number (not_silent ds))
@@ -195,15 +166,12 @@ AreBehind (s ∷ sections) = (0 < s.tex.start) × AreBehind sections
 
 behind-by : (b : Bool) (s : Section) (rest : List Section) → 0 < s.tex.start → AreBehind rest
     → AreBehind (if b then s ∷ rest else rest)
-behind-by true s rest h all = (h, all)
-behind-by false s rest h all = all
+behind-by b s rest h all = grind arith
 
 behind : (lines : List MergedLine) (from size : ℕ) (ps : List Placed) → Follow from size ps
     → AreBehind (sections_of lines size ps)
 behind lines from size [] f = tt
-behind lines from size (p ∷ ps) f =
-    behind-by (is_section_code p.role) (section_at lines size p.token ps) (sections_of lines size ps)
-    (omega (arith, f.1)) (behind lines p.token.span.«end» size ps f.2)
+behind lines from size (p ∷ ps) f = grind (arith, behind lines p.token.span.«end» size ps f.2, behind-by)
 
 sections-inside : (test : Section → Bool) (text : List ℕ) (uses : List NameUse) (number : ℕ) (sections : List Section)
     → length text ≤ 2 ^ 24 → All (LiesIn (length text)) sections → AreBehind sections

@@ -1,5 +1,5 @@
 -- The file of blocks that may stand in a log is found to be a log with just these blocks.
-use Rattle.std.proofs.Common.{◌≡◌, ℕ, suc, List, drop, sym, ◌∙◌, subst}
+use Rattle.std.proofs.Common.{◌≡◌, ℕ, suc, List, arith}
 use Rattle.std.specs.List.{All}
 use Rattle.std.proofs.lemmas.List.{take-append-drop}
 use Rattle.cw_logtext.specs.Judgement.{Judgement, log, no_log}
@@ -9,11 +9,7 @@ use Rattle.cw_logtext.specs.LogText.{Block, IsFineBlock, log_lines}
 
 -- the lines of a log have no fault
 no-fault : (lines : List (List ℕ)) (good : ℕ) → IsLog lines → IsFault lines good → ⊥
-no-fault lines good is (wrong inside begins stuck) =
-    stuck (record {
-      later = drop (suc good) lines;
-      whole = subst IsLog (sym (take-append-drop (suc good) lines)) is;
-    })
+no-fault lines good is (wrong inside begins stuck) = grind (arith, take-append-drop (suc good) lines)
 no-fault lines good is (cut_off all begins none) = none is
 
 -- It is a log, and of these blocks.
@@ -23,6 +19,4 @@ IsOf blocks (no_log line fault) = ⊥
 
 pub judged-of : BlocksAreTold → (blocks : List Block) (lines : List (List ℕ)) → All IsFineBlock blocks
     → lines ≡ log_lines blocks → (j : Judgement lines) → IsOf blocks j
-judged-of told blocks lines fine is (log found) = told found.blocks blocks found.fine fine (sym found.is ∙ is)
-judged-of told blocks lines fine is (no_log line fault) =
-    no-fault lines fault.good (record { blocks = blocks; fine = fine; is = is }) fault.fault
+judged-of told blocks lines fine is j = grind (arith, no-fault)

@@ -1,7 +1,6 @@
 -- Names that are added, or whose categories change: they keep their places and texts, stay apart, and have categories.
-use Rattle.std.proofs.Common.{◌≡◌, ◌≢◌, ℕ, zero, suc, ◌+◌, ◌≤◌, Bool, true, false, not, cond, ◌&&◌, if◌then◌else◌}
-use Rattle.std.proofs.Common.{nat_lt, nat_eq, List, [], ◌∷◌, ◌++◌, length, map, slice_get, Option, Some, None, refl}
-use Rattle.std.proofs.Common.{◌∙◌, ap, arith}
+use Rattle.std.proofs.Common.{◌≡◌, ◌≢◌, ℕ, zero, suc, ◌+◌, ◌≤◌, Bool, true, false, not, cond, nat_eq, List, [], ◌∷◌}
+use Rattle.std.proofs.Common.{◌++◌, length, map, slice_get, Option, refl, arith}
 use Rattle.std.specs.List.{IsDistinct, AllByRecursion, list_all}
 use Rattle.cw_base.proofs.TestLaws.{both-left, both-right, not-true}
 use Rattle.cw_base.specs.Category.{is_end}
@@ -9,9 +8,8 @@ use Rattle.std.specs.Cmp.Lexicographic.{pointwise}
 use Rattle.std.proofs.lemmas.Bool.{ltb-false}
 use Rattle.std.proofs.lemmas.Cmp.{nat_list_eq_equiv}
 use Rattle.cw_base.specs.declared.category.Cat.{Cat}
-use Rattle.cw_base.specs.declared.category.Cat.TheVariants.{End, Exp}
+use Rattle.cw_base.specs.declared.category.Cat.TheVariants.{End}
 use Rattle.cw_names.specs.declared.entry.EntryKind.{EntryKind}
-use Rattle.cw_names.specs.declared.entry.EntryKind.TheVariants as kinds
 use Rattle.cw_names.specs.Names.{Entry, same_kind, is_entry, place_of, with_entry, AreDistinct}
 use Rattle.cw_translator.specs.Translating.{with_categories}
 use Rattle.cw_log_laws.specs.LoggedTexts.{IsKept, IsLater}
@@ -19,14 +17,10 @@ use Rattle.cw_log_laws.specs.LoggedTexts.{IsKept, IsLater}
 -- ## Places
 
 kept-same : (o : Option Entry) → IsKept o o
-kept-same None = tt
-kept-same (Some e) = (refl, refl)
+kept-same o = grind arith
 
 kept-on : (o p q : Option Entry) → IsKept o p → IsKept p q → IsKept o q
-kept-on None p q h g = tt
-kept-on (Some e) None q h g = absurd h
-kept-on (Some e) (Some d) None h g = absurd g
-kept-on (Some e) (Some d) (Some c) h g = (g.0 ∙ h.0, g.1 ∙ h.1)
+kept-on o p q h g = grind arith
 
 pub later-same : (names : List Entry) → IsLater names names
 later-same names k = kept-same (slice_get names k)
@@ -40,11 +34,7 @@ later-more (e ∷ es) more zero = (refl, refl)
 later-more (e ∷ es) more (suc k) = later-more es more k
 
 pub later-entry : (kind : EntryKind) (text : List ℕ) (es : List Entry) → IsLater es (with_entry kind text es)
-later-entry kind text es = by (nat_lt (place_of kind text es) (length es))
-  where
-    by : (b : Bool) → IsLater es (if b then es else es ++ record { kind = kind; text = text; category = Exp } ∷ [])
-    by true = later-same es
-    by false = later-more es (record { kind = kind; text = text; category = Exp } ∷ [])
+later-entry kind text es = grind (arith, later-same, later-more)
 
 pub later-categories : (cats : List Cat) (es : List Entry) → IsLater es (with_categories cats es)
 later-categories [] es k = kept-same (slice_get es k)
@@ -55,18 +45,13 @@ later-categories (c ∷ cats) (e ∷ es) (suc k) = later-categories cats es k
 -- ## No two are alike
 
 kind-flips : (k l : EntryKind) → same_kind k l ≡ same_kind l k
-kind-flips kinds.Ident kinds.Ident = refl
-kind-flips kinds.Roman kinds.Roman = refl
-kind-flips kinds.Typewriter kinds.Typewriter = refl
-kind-flips kinds.User kinds.User = refl
-kind-flips _ _ = refl
+kind-flips k l = grind arith
 
 text-flips : (t u : List ℕ) → pointwise nat_eq t u ≡ pointwise nat_eq u t
 text-flips t u = nat_list_eq_equiv.symm t u
 
 flips : (e d : Entry) → is_entry e.kind e.text d ≡ is_entry d.kind d.text e
-flips e d = ap (λ b. b && pointwise nat_eq e.text d.text) (kind-flips e.kind d.kind)
-    ∙ ap (λ b. same_kind d.kind e.kind && b) (text-flips e.text d.text)
+flips e d = grind (arith, nat_eq, kind-flips, text-flips)
 
 abbrev AreOthers : Entry → List Entry → Type 0
 AreOthers e es = AllByRecursion (λ d. is_entry e.kind e.text d ≡ false) es
@@ -79,8 +64,7 @@ others-more e n (d ∷ es) all h = (all.0, others-more e n es all.1 h)
 distinct-more : (n : Entry) (es : List Entry) → AreDistinct es → AreOthers n es → AreDistinct (es ++ n ∷ [])
 unfolding IsDistinct
 distinct-more n [] d all = (tt, tt)
-distinct-more n (e ∷ es) d all =
-    (others-more e n es d.0 (flips e n ∙ all.0), distinct-more n es d.1 all.1)
+distinct-more n (e ∷ es) d all = grind (arith, distinct-more n es d.1 all.1, others-more, flips)
 
 none-there : (kind : EntryKind) (text : List ℕ) (category : Cat) (es : List Entry) → length es ≤ place_of kind text es
     → AreOthers (record { kind = kind; text = text; category = category }) es
@@ -97,13 +81,7 @@ none-there kind text category (e ∷ es) h =
 
 pub distinct-entry : (kind : EntryKind) (text : List ℕ) (es : List Entry) → AreDistinct es
     → AreDistinct (with_entry kind text es)
-distinct-entry kind text es d = by (nat_lt (place_of kind text es) (length es)) refl
-  where
-    by : (b : Bool) → nat_lt (place_of kind text es) (length es) ≡ b
-        → AreDistinct (if b then es else es ++ record { kind = kind; text = text; category = Exp } ∷ [])
-    by true h = d
-    by false h = distinct-more (record { kind = kind; text = text; category = Exp }) es d
-        (none-there kind text Exp es (ltb-false _ _ h))
+distinct-entry kind text es d = grind (arith, distinct-more, none-there, ltb-false)
 
 others-categories : (e : Entry) (cats : List Cat) (es : List Entry) → AreOthers e es
     → AreOthers e (with_categories cats es)
@@ -115,8 +93,7 @@ pub distinct-categories : (cats : List Cat) (es : List Entry) → AreDistinct es
 unfolding IsDistinct
 distinct-categories [] es d = d
 distinct-categories (c ∷ cats) [] d = tt
-distinct-categories (c ∷ cats) (e ∷ es) d =
-    (others-categories e cats es d.0, distinct-categories cats es d.1)
+distinct-categories (c ∷ cats) (e ∷ es) d = grind (arith, distinct-categories cats es d.1, others-categories)
 
 -- ## Categories
 
@@ -134,11 +111,7 @@ have-more n (e ∷ es) all h = (all.0, have-more n es all.1 h)
 
 pub have-entry : (kind : EntryKind) (text : List ℕ) (es : List Entry) → HaveCats es
     → HaveCats (with_entry kind text es)
-have-entry kind text es all = by (nat_lt (place_of kind text es) (length es))
-  where
-    by : (b : Bool) → HaveCats (if b then es else es ++ record { kind = kind; text = text; category = Exp } ∷ [])
-    by true = all
-    by false = have-more (record { kind = kind; text = text; category = Exp }) es all (λ e. absurd cc)
+have-entry kind text es all = grind (arith, have-more)
 
 pub have-categories : (cats : List Cat) (es : List Entry) → AreReal cats → HaveCats es
     → HaveCats (with_categories cats es)
@@ -155,9 +128,7 @@ abbrev pub are_real : List Entry → Bool
 are_real es = list_all (λ e. not (is_end e.category)) es
 
 not-end : (c : Cat) → is_end c ≡ false → c ≢ End
-not-end End h = absurd cc
-not-end Exp h = λ e. absurd cc
-not-end _ h = λ e. absurd cc
+not-end c h = grind arith
 
 pub real-law : (es : List Entry) → are_real es ≡ true → HaveCats es
 real-law [] h = tt

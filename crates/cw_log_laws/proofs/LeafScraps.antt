@@ -1,14 +1,12 @@
 -- The scraps of single tokens, and the tokens of heads, are written with words of the names behind them.
 use Rattle.std.proofs.Common.{◌≡◌, ◌≢◌, ℕ, zero, suc, Bool, true, false, if◌then◌else◌, Option, Some, None, List, []}
-use Rattle.std.proofs.Common.{◌∷◌, ◌++◌, slice_get, unwrap_or, refl, ap, ◌∙◌}
+use Rattle.std.proofs.Common.{◌∷◌, ◌++◌, slice_get, unwrap_or, refl, arith}
 use Rattle.std.specs.Prelude.{nat_eq}
 use Rattle.std.specs.Cmp.Lexicographic.{pointwise}
 use Rattle.cw_base.specs.declared.category.Cat.{Cat}
-use Rattle.cw_base.specs.declared.category.Cat.TheVariants.{End, Exp}
+use Rattle.cw_base.specs.declared.category.Cat.TheVariants.{End}
 use Rattle.cw_rules.specs.declared.codes.Code.{Code}
-use Rattle.cw_rules.specs.declared.codes.Code.TheVariants as code
 use Rattle.cw_rules.specs.declared.signs.Sign.{Sign}
-use Rattle.cw_rules.specs.declared.signs.Sign.TheVariants as sign
 use Rattle.cw_rules.specs.declared.tokens.TokKind.{TokKind}
 use Rattle.cw_rules.specs.declared.tokens.TokKind.TheVariants as kind
 use Rattle.cw_names.specs.declared.entry.EntryKind.TheVariants.{Ident as ident_kind}
@@ -37,12 +35,7 @@ pub same-behind : (names : List Entry) → AreNamesBehind names names
 same-behind names = (later-same names, λ d. d, λ h. h)
 
 pub names-behind : (k : TokKind) (text : List ℕ) (names : List Entry) → AreNamesBehind names (names_with k text names)
-names-behind kind.Identifier text names = (
-  later-entry ident_kind text names,
-  λ d. distinct-entry ident_kind text names d,
-  λ h. have-entry ident_kind text names h,
-)
-names-behind _ text names = same-behind names
+names-behind k text names = grind (arith, later-entry, distinct-entry, have-entry, same-behind)
 
 -- ## Categories
 
@@ -79,52 +72,24 @@ MayBeForm names None = Unit {0}
 MayBeForm names (Some form) = IsForm names form
 
 named-word : (text : List ℕ) (o : Option Entry) → is_identifier text ≡ true → IsNamed text o → IsWordEntry o
-named-word text None h n = n
-named-word text (Some e) h n = (n.0, ap is_identifier n.1 ∙ h)
+named-word text o h n = grind arith
 
 word-there : (text : List ℕ) (names : List Entry) → is_identifier text ≡ true
     → IsWord (with_entry ident_kind text names) (place_of ident_kind text names)
-word-there text names h =
-    named-word text (slice_get (with_entry ident_kind text names) (place_of ident_kind text names)) h
-    (entry-there text names)
+word-there text names h = grind (arith, named-word, slice_get, entry-there)
 
 word-logged : (names : List Entry) (c : Cat) (id : NameId) (number : ℕ) → IsWord names id.index → c ≢ End
     → IsForm names (word_form c id number)
-word-logged names Exp id number w h = record { written = (w, tt); real = λ e. absurd cc; bare = refl }
-word-logged names End id number w h = absurd (h refl)
-word-logged names _ id number w h = record { written = (tt, tt); real = λ e. absurd cc; bare = tt }
+word-logged names c id number w h = grind arith
 
 sign-real : (s : Sign) → sign_cat s ≢ End
-sign-real sign.Slash = λ e. absurd cc
-sign-real _ = λ e. absurd cc
+sign-real s = grind arith
 
 code-logged : (names : List Entry) (c : Code) (number : ℕ) → MayBeForm names (code_form c number)
-code-logged names code.TexBox number = record { written = (tt, tt); real = λ e. absurd cc; bare = tt }
-code-logged names code.Verbatim number = record { written = (tt, tt); real = λ e. absurd cc; bare = tt }
-code-logged names code.Quote number = record { written = (tt, tt); real = λ e. absurd cc; bare = tt }
-code-logged names code.Join number = record { written = (tt, tt); real = λ e. absurd cc; bare = tt }
-code-logged names code.ThinSpace number = record { written = (tt, tt); real = λ e. absurd cc; bare = tt }
-code-logged names code.LineBreak number = record { written = (tt, tt); real = λ e. absurd cc; bare = tt }
-code-logged names code.BigBreak number = record { written = (tt, tt); real = λ e. absurd cc; bare = tt }
-code-logged names code.OptionalBreak number = record { written = (tt, tt); real = λ e. absurd cc; bare = tt }
-code-logged names code.NoBreak number =
-    record { written = (tt, (tt, (tt, (tt, (tt, tt))))); real = λ e. absurd cc; bare = tt }
-code-logged names code.HeaderFile number = record { written = (tt, (tt, (tt, tt))); real = λ e. absurd cc; bare = tt }
-code-logged names code.InvisibleSemicolon number = record { written = tt; real = λ e. absurd cc; bare = tt }
-code-logged names code.BeginArgument number = record { written = tt; real = λ e. absurd cc; bare = tt }
-code-logged names code.EndArgument number = record { written = tt; real = λ e. absurd cc; bare = tt }
-code-logged names _ number = tt
+code-logged names c number = grind arith
 
 form-logged : (names : List Entry) (k : TokKind) (number : ℕ) → MayBeForm names (form_of k number)
-form-logged names kind.Constant number = record { written = (tt, tt); real = λ e. absurd cc; bare = tt }
-form-logged names kind.Quoted number = record { written = (tt, tt); real = λ e. absurd cc; bare = tt }
-form-logged names kind.IncludeName number = record { written = (tt, tt); real = λ e. absurd cc; bare = tt }
-form-logged names kind.OtherByte number = record { written = (tt, tt); real = λ e. absurd cc; bare = tt }
-form-logged names (kind.Sign s) number = record { written = (tt, tt); real = sign-real s; bare = tt }
-form-logged names kind.HashLine number = record { written = (tt, (tt, tt)); real = λ e. absurd cc; bare = tt }
-form-logged names kind.HashLineEnd number = record { written = (tt, tt); real = λ e. absurd cc; bare = tt }
-form-logged names (kind.Code c) number = code-logged names c number
-form-logged names _ number = tt
+form-logged names k number = grind (arith, sign-real, code-logged)
 
 -- a token, over the names behind it
 pub token-logged : (k : TokKind) (text : List ℕ) (hash_line : Bool) (number : ℕ) (names : List Entry) → IsSpelt k text
@@ -152,5 +117,4 @@ tokens-append names (token.«List» list ∷ xs) ys h g = (h.0, tokens-append na
 
 pub form-tokens : (names : List Entry) (o : Option LeafForm) → MayBeForm names o
     → IsWritten names (tree_in [] (form_tokens o))
-form-tokens names None h = tt
-form-tokens names (Some form) h = h.written
+form-tokens names o h = grind arith

@@ -1,7 +1,7 @@
 -- What is made of tokens: scraps of which leaf lines tell all, and the states of texts that have ended.
-use Rattle.std.proofs.Common.{ℕ, suc, ◌+◌, ◌≤◌, Option, Some, None, List, [], ◌∷◌, length, arith, length-append}
+use Rattle.std.proofs.Common.{ℕ, suc, ◌+◌, ◌≤◌, Option, List, [], ◌∷◌, length, arith, length-append}
 use Rattle.std.specs.List.{All}
-use Rattle.std.proofs.lemmas.List.Elements.{All-append, All-cons, All-nil, All-push, All-weaker}
+use Rattle.std.proofs.lemmas.List.Elements.{All-append, All-nil, All-push, All-weaker}
 use Rattle.cw_base.specs.declared.flags.Flags.{Flags}
 use Rattle.cw_rules.specs.Answers.{Answer, Token, Begin, Finish, Note, Seen}
 use Rattle.cw_rules.specs.declared.codes.Code.TheVariants as code
@@ -16,9 +16,8 @@ use Rattle.cw_table.specs.Rewriting.{State}
 use Rattle.cw_scraps.specs.Leaves.{LeafForm, names_with, token_form}
 use Rattle.cw_logtext.specs.LogText.{greatest}
 use Rattle.cw_translator.specs.Translating.{CommentItem, Piece, InnerText, Known, Made, as_item, made_before, beside}
-use Rattle.cw_translator.specs.Translating.{comment_rest, comment_scrap, end_of, form_made, group_made, leaf_scrap}
-use Rattle.cw_translator.specs.Translating.{made, no_name, nothing, one_item, one_scrap, plain_text, state_in}
-use Rattle.cw_translator.specs.Translating.{token_made, with_names}
+use Rattle.cw_translator.specs.Translating.{comment_rest, comment_scrap, end_of, form_made, group_made, made, no_name}
+use Rattle.cw_translator.specs.Translating.{nothing, one_item, one_scrap, plain_text, state_in, token_made, with_names}
 use Rattle.cw_log_laws.specs.LoggedTexts.{IsLater}
 use Rattle.cw_log_laws.proofs.CountedTokens.{nest-size, nest_size, tokens_in}
 use Rattle.cw_log_laws.proofs.LaterNames.{HaveCats, cats-real, distinct-categories, have-categories, later-categories}
@@ -58,25 +57,14 @@ grows-names k names h b = record {
 }
 
 pub grows-then : (m n : ℕ) (a b c : Known) → Grows m a b → Grows n b c → Grows (m + n) a c
-grows-then m n a b c g h = record {
-  later = later-on a.names b.names c.names g.later h.later;
-  distinct = λ d. h.distinct (g.distinct d);
-  cats = h.cats;
-  ended = λ few f. h.ended (omega (arith, few)) (g.ended (omega (arith, few)) f);
-}
+grows-then m n a b c g h = grind (arith, later-on)
 
 pub grows-wider : (m n : ℕ) (a b : Known) → m ≤ n → Grows m a b → Grows n a b
-grows-wider m n a b less g = record {
-  later = g.later;
-  distinct = g.distinct;
-  cats = g.cats;
-  ended = λ few f. g.ended (omega (arith, few, less)) f;
-}
+grows-wider m n a b less g = grind arith
 
 -- few enough by themselves
 pub grows-few : (m n : ℕ) (a b : Known) → m ≤ greatest → Grows m a b → Grows n a b
-grows-few m n a b less g =
-    record { later = g.later; distinct = g.distinct; cats = g.cats; ended = λ few f. g.ended less f }
+grows-few m n a b less g = grind arith
 
 -- ## What is made
 
@@ -86,11 +74,7 @@ pub record IsWellMade (size : ℕ) (k : Known) (m : Made) : Type 0 where
   pub grows : Grows size k m.known
 
 pub well-wider : (m n : ℕ) (k : Known) (x : Made) → m ≤ n → IsWellMade m k x → IsWellMade n k x
-well-wider m n k x less w = record {
-  scraps = w.scraps;
-  few = omega (arith, w.few, less);
-  grows = grows-wider m n k x.known less w.grows;
-}
+well-wider m n k x less w = grind (arith, grows-wider)
 
 pub well-nothing : (n : ℕ) (k new : Known) → Grows n k new → IsWellMade n k (nothing new)
 well-nothing n k new g = record { scraps = All-nil (IsLogged new.names); few = omega arith; grows = g }
@@ -100,11 +84,7 @@ well-item n k new item g = record { scraps = All-nil (IsLogged new.names); few =
 
 pub well-scrap : (n : ℕ) (k new : Known) (scrap : Scrap) → 1 ≤ n → IsLogged new.names scrap → Grows n k new
     → IsWellMade n k (one_scrap scrap new)
-well-scrap n k new scrap some h g = record {
-  scraps = All-cons (IsLogged new.names) scrap [] h (All-nil (IsLogged new.names));
-  few = omega (arith, some);
-  grows = g;
-}
+well-scrap n k new scrap some h g = grind arith
 
 well-beside : (m n : ℕ) (k : Known) (a b : Made) → IsWellMade m k a → IsWellMade n a.known b
     → IsWellMade (m + n) k (beside a b)
@@ -147,8 +127,7 @@ AreWellNamed name = (number : ℕ) (k : Known) → HaveCats k.names → IsWellMa
 
 well-form : (o : Option LeafForm) (k new : Known) → MayBeForm new.names o → Grows 1 k new
     → IsWellMade 1 k (form_made o new)
-well-form None k new h g = well-nothing 1 k new g
-well-form (Some form) k new h g = well-scrap 1 k new (leaf_scrap form) (omega arith) h g
+well-form o k new h g = grind (arith, well-nothing, well-scrap)
 
 well-formed : (k : TokKind) (t : Seen) (known : Known) → HaveCats known.names → IsSpelt k t.text
     → IsWellMade 1 known (form_made (token_form k t.text t.hash_line t.span.start known.names)
@@ -161,8 +140,7 @@ well-formed k t known cats h =
     (grows-names known (names_with k t.text known.names) cats (names-behind k t.text known.names)))
 
 well-piece : (known : Known) (item : CommentItem) → HaveCats known.names → IsWellMade 1 known (one_item item known)
-well-piece known item cats =
-    well-item 1 known known item (grows-wider 0 1 known known (omega arith) (grows-none known cats))
+well-piece known item cats = grind (arith, well-item, grows-wider, grows-none)
 
 well-token : (name : ℕ → Known → Made) → AreWellNamed name → (k : TokKind) (t : Seen) (known : Known)
     → HaveCats known.names → IsSpelt k t.text → IsWellMade 1 known (token_made name k t known)
@@ -210,13 +188,10 @@ AreSpeltNests [] = Unit {0}
 AreSpeltNests (n ∷ ns) = IsSpeltNest n × AreSpeltNests ns
 
 leaf-spelt : (t : Seen) (ns : List Nest) → IsSpelt t.kind t.text → AreSpeltNests ns → AreSpeltNests (leaf t ns)
-leaf-spelt t [] h all = tt
-leaf-spelt t (n ∷ ns) h all = ((h, all.0), all.1)
+leaf-spelt t ns h all = grind arith
 
 group-spelt : (t : Seen) (ns : List Nest) → AreSpeltNests ns → AreSpeltNests (group t ns)
-group-spelt t [] all = tt
-group-spelt t (n ∷ []) all = ((all.0, tt), tt)
-group-spelt t (n ∷ m ∷ ns) all = ((all.0, all.1.0), all.1.1)
+group-spelt t ns all = grind arith
 
 nests-spelt : (xs : List Answer) → AreSpelt xs → AreSpeltNests (nests xs)
 nests-spelt [] h = (tt, tt)
@@ -226,8 +201,7 @@ nests-spelt (Finish t ∷ xs) h = (tt, nests-spelt xs h)
 nests-spelt (Note k place ∷ xs) h = nests-spelt xs h
 
 first-spelt : (ns : List Nest) → AreSpeltNests ns → IsSpeltNest (first_nest ns)
-first-spelt [] all = tt
-first-spelt (n ∷ ns) all = all.0
+first-spelt ns all = grind arith
 
 pub nest-spelt : (xs : List Answer) → AreSpelt xs → IsSpeltNest (nest xs)
 nest-spelt xs h = first-spelt (nests xs) (nests-spelt xs h)

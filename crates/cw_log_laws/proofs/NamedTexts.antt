@@ -1,17 +1,13 @@
 -- What section names and heads make, and whole texts.
-use Rattle.std.proofs.Common.{◌≢◌, ℕ, ◌+◌, ◌≤◌, Bool, true, false, Option, Some, None, List, [], ◌∷◌, ◌++◌, arith}
-use Rattle.std.proofs.Common.{if◌then◌else◌}
+use Rattle.std.proofs.Common.{◌≢◌, ℕ, ◌+◌, ◌≤◌, Option, Some, None, List, [], ◌∷◌, ◌++◌, arith}
 use Rattle.cw_base.specs.declared.category.Cat.{Cat}
 use Rattle.cw_base.specs.declared.category.Cat.TheVariants as cat
 use Rattle.cw_base.specs.declared.flags.Flags.{Flags}
 use Rattle.cw_base.specs.declared.mode.MathMode.{MathMode}
 use Rattle.cw_base.specs.declared.mode.MathMode.TheVariants.{Text, Maybe}
-use Rattle.cw_rules.specs.Answers.{Answer, Seen, is_head_sign}
-use Rattle.cw_rules.specs.declared.codes.Code.TheVariants as code
+use Rattle.cw_rules.specs.Answers.{Answer, Seen}
 use Rattle.cw_rules.specs.declared.tokens.TokKind.{TokKind}
-use Rattle.cw_rules.specs.declared.tokens.TokKind.TheVariants as kind
 use Rattle.cw_lex.specs.declared.heads.Wanted.{Wanted}
-use Rattle.cw_lex.specs.declared.heads.Wanted.TheVariants as wants
 use Rattle.cw_lex.specs.Heads.{Head, Headless, Macro, Format, Silent, Named, Headed, headed, headed_by, head_behind}
 use Rattle.cw_lex.specs.Heads.{Words, head_words, headless, named_headed, no_word, word_before}
 use Rattle.cw_lex.specs.Nest.{Nest, End, Leaf, Group, nest}
@@ -26,7 +22,7 @@ use Rattle.cw_logtext.specs.LogText.{greatest}
 use Rattle.cw_translator.specs.Translating.{Known, NameTexts, Spelled, made_before, begin, dead, dollared, end_of}
 use Rattle.cw_translator.specs.Translating.{first_word, format_made, head_made, headed_made, later_words, leaf_of_name}
 use Rattle.cw_translator.specs.Translating.{leaf_scrap, macro_made, made, plain_text, sign_behind, spelled, texts_made}
-use Rattle.cw_translator.specs.Translating.{is_macro, name_in_text, names_in_text, texts_named, translated, with_names}
+use Rattle.cw_translator.specs.Translating.{name_in_text, names_in_text, texts_named, translated, with_names}
 use Rattle.cw_translator.specs.Translating.{word_tokens}
 use Rattle.cw_log_laws.proofs.CountedTokens.{nest-size, nest_size, tokens_in}
 use Rattle.cw_log_laws.proofs.LaterNames.{HaveCats, later-on}
@@ -71,8 +67,7 @@ texts-grow flags (answers ∷ texts) rest known cats h =
 name-well : (flags : Flags) (o : Option (List (List Answer))) (c : Cat) (mode : MathMode) (rest : Tree) (number : ℕ)
     (known : Known) → c ≢ cat.End → IsPlainTree rest → HaveCats known.names → MayBePlain o
     → IsWellMade 1 known (texts_named flags o c mode rest number known)
-name-well flags None c mode rest number known real plain cats h =
-    well-nothing 1 known known (grows-wider 0 1 known known (omega arith) (grows-none known cats))
+name-well flags None c mode rest number known real plain cats h = grind (arith, well-nothing, grows-wider, grows-none)
 name-well flags (Some texts) c mode rest number known real plain cats h =
     let behind = Then (Sign control.NameEnd) rest in
     let all = texts_made flags texts behind known in
@@ -148,20 +143,11 @@ dollared-written names (first ∷ tokens) h =
 -- the names of a format definition
 split-written : (names : List Entry) (t : Token) (ts : List Token) → IsWritten names (tree_in [] (t ∷ ts))
     → IsWritten names (tree_in [] (t ∷ [])) × IsWritten names (tree_in [] ts)
-split-written names (token.Source number mode) ts h = ((h.0, tt), h.1)
-split-written names (token.Ident name number) ts h = ((h.0, tt), h.1)
-split-written names (token.Reserved name number c) ts h = ((h.0, tt), h.1)
-split-written names (token.Control c) ts h = ((h.0, tt), h.1)
-split-written names (token.Inner list) ts h = (tt, h)
-split-written names (token.«List» list) ts h = ((h.0, tt), h.1)
+split-written names t ts h = grind arith
 
 name-written : (names : List Entry) (t : Token) → IsWritten names (tree_in [] (t ∷ []))
     → IsWritten names (tree_in [] (name_in_text t))
-name-written names t h = by (is_macro t)
-  where
-    by : (b : Bool) → IsWritten names (tree_in [] (if b then dollared (t ∷ []) else t ∷ []))
-    by true = dollared-written names (t ∷ []) h
-    by false = h
+name-written names t h = grind (arith, dollared-written)
 
 names-written : (names : List Entry) (ts : List Token) → IsWritten names (tree_in [] ts)
     → IsWritten names (tree_in [] (names_in_text ts))
@@ -202,12 +188,10 @@ module _ (number : ℕ) (known : Known) where
       (grows-names known second.names cats (behind-on known.names first.names second.names s.behind t.behind)))
 
 first-words : (words : List Seen) → AreSpeltWords words → AreSpeltWords (first_word words)
-first-words [] h = tt
-first-words (word ∷ words) h = (h.0, tt)
+first-words words h = grind arith
 
 other-words : (words : List Seen) → AreSpeltWords words → AreSpeltWords (later_words words)
-other-words [] h = tt
-other-words (word ∷ words) h = h.1
+other-words words h = grind arith
 
 -- the words of a head
 abbrev IsSpeltHead : Head → Type 0
@@ -272,35 +256,14 @@ headless-fits n h = record { words = tt; rest = h; few = omega arith }
 
 named-fits : (name : Seen) (n : Nest) → IsSpelt name.kind name.text → IsSpeltNest n
     → FitsIn (Leaf name n) (named_headed name n)
-named-fits name End g h = headless-fits (Leaf name End) (g, h)
-named-fits name (Group t inner rest) g h = headless-fits (Leaf name (Group t inner rest)) (g, h)
-named-fits name (Leaf t rest) g h = by (is_head_sign t.kind)
-  where
-    by : (b : Bool) → FitsIn (Leaf name (Leaf t rest)) (if b then
-        record { head = Named name.span.start t.span.start; rest = rest }
-        else headless (Leaf name (Leaf t rest)))
-    by true = record { words = tt; rest = h.1; few = omega arith }
-    by false = headless-fits (Leaf name (Leaf t rest)) (g, h)
+named-fits name n g h = grind (arith, headless-fits)
 
 headed-by : (k : TokKind) (t : Seen) (n : Nest) → IsSpelt t.kind t.text → IsSpeltNest n
     → FitsIn (Leaf t n) (headed_by k t n)
-headed-by (kind.Code code.Define) t n g h =
-    let w = words-fit wants.Macro n h in
-    record { words = w.words; rest = w.rest; few = omega (arith, w.few) }
-headed-by (kind.Code code.Format) t n g h =
-    let w = words-fit (wants.First false) n h in
-    record { words = w.words; rest = w.rest; few = omega (arith, w.few) }
-headed-by (kind.Code code.SilentFormat) t n g h =
-    let w = words-fit (wants.First true) n h in
-    record { words = w.words; rest = w.rest; few = omega (arith, w.few) }
-headed-by (kind.Code code.SectionName) t n g h = named-fits t n g h
-headed-by (kind.Code code.FileName) t n g h = named-fits t n g h
-headed-by k t n g h = headless-fits (Leaf t n) (g, h)
+headed-by k t n g h = grind (arith, words-fit, named-fits, headless-fits)
 
 headed-fits : (n : Nest) → IsSpeltNest n → FitsIn n (headed n)
-headed-fits End h = headless-fits End h
-headed-fits (Group t inner rest) h = headless-fits (Group t inner rest) h
-headed-fits (Leaf t rest) h = headed-by t.kind t rest h.0 h.1
+headed-fits n h = grind (arith, headless-fits, headed-by)
 
 -- ## Whole texts
 

@@ -1,9 +1,9 @@
 -- Productions give names no category but that of types.
-use Rattle.std.proofs.Common.{◌≡◌, ◌≢◌, ℕ, zero, suc, List, [], ◌∷◌, set, sym, subst, refl}
+use Rattle.std.proofs.Common.{◌≡◌, ◌≢◌, ℕ, zero, suc, List, [], ◌∷◌, set, sym, subst, refl, arith}
 use Rattle.cw_base.specs.declared.category.Cat.{Cat}
-use Rattle.cw_base.specs.declared.category.Cat.TheVariants.{End, RawInt}
+use Rattle.cw_base.specs.declared.category.Cat.TheVariants.{End}
 use Rattle.cw_base.specs.declared.flags.Flags.{Flags}
-use Rattle.cw_trees.specs.Tree.{Search, Found, Stopped, Nothing}
+use Rattle.cw_trees.specs.Tree.{Search}
 use Rattle.cw_table.specs.declared.types.Row.{Row}
 use Rattle.cw_table.specs.Normal.{Place, Nowhere, At, next_place, steps, normal, weight}
 use Rattle.cw_table.specs.Rewriting.{State, rewrite, with_type}
@@ -16,9 +16,7 @@ set-real (d ∷ cats) zero c h all = (h, all.1)
 set-real (d ∷ cats) (suc n) c h all = (all.0, set-real cats n c h all.1)
 
 type-real : (s : Search) (cats : List Cat) → AreReal cats → AreReal (with_type s cats)
-type-real (Found name) cats all = set-real cats name RawInt (λ e. absurd cc) all
-type-real Stopped cats all = all
-type-real Nothing cats all = all
+type-real s cats all = grind (arith, set-real)
 
 steps-real : (rows : List Row) (flags : Flags) (n : ℕ) (st : State) → AreReal st.cats
     → AreReal (steps rows flags n st).cats

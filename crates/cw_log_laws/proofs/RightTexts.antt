@@ -15,10 +15,9 @@ use Rattle.cw_lex.specs.Lexing.{tokens_of}
 use Rattle.cw_lex.specs.Nested.{until_section}
 use Rattle.cw_names.specs.Names.{Entry}
 use Rattle.cw_secnames.specs.Kept.{SecName}
-use Rattle.cw_secnames.specs.Parts.{begins_with_bar, inner_parts, one_more, part_here, parts_from, size_to_bar}
+use Rattle.cw_secnames.specs.Parts.{begins_with_bar, one_more, part_here, parts_from, size_to_bar}
 use Rattle.cw_secnames.specs.Uses.{NameUse, name_at}
 use Rattle.cw_secnames.specs.declared.kinds.SecKind.{SecKind}
-use Rattle.cw_secnames.specs.declared.kinds.SecKind.TheVariants.{Named, File}
 use Rattle.cw_logtext.specs.Appending.{block_of}
 use Rattle.cw_logtext.specs.LogText.{greatest}
 use Rattle.cw_texts.specs.declared.text_list.TextRef.{TextRef}
@@ -47,8 +46,7 @@ IsSizeIn most None = Unit {0}
 IsSizeIn most (Some size) = size ≤ most
 
 more-size : (most : ℕ) (o : Option ℕ) → IsSizeIn most o → IsSizeIn (suc most) (one_more o)
-more-size most None h = tt
-more-size most (Some size) h = omega (arith, h)
+more-size most o h = grind arith
 
 size-in : (second : Bool) (bytes : List ℕ) → IsSizeIn (length bytes) (size_to_bar second bytes)
 size-in second [] = tt
@@ -66,8 +64,7 @@ size-in false (byte ∷ bytes) =
 
 part-in : (o : Option ℕ) (place end most : ℕ) (rest : ℕ → List Span) → IsSizeIn most o → 0 < place
     → place + most ≤ end → ((n : ℕ) → ArePartsIn end (rest n)) → ArePartsIn end (part_here o place rest)
-part-in None place end most rest h some fits later = tt
-part-in (Some size) place end most rest h some fits later = ((some, omega (arith, h, fits)), later (size + 1))
+part-in o place end most rest h some fits later = grind arith
 
 parts-in : (bytes : List ℕ) (place taken end : ℕ) → place + length bytes ≤ end
     → ArePartsIn end (parts_from bytes place taken)
@@ -100,9 +97,7 @@ spans-plain text (span ∷ spans) h =
     )
 
 kind-plain : (k : SecKind) (text : List ℕ) → length text ≤ 2 ^ 24 → ArePlainTexts (parts_by_kind k text)
-kind-plain Named text short =
-    spans-plain text (inner_parts text) (parts-in text 0 0 (2 ^ 24) (omega (arith, short)))
-kind-plain File text short = tt
+kind-plain k text short = grind (arith, spans-plain, parts-in)
 
 abbrev IsShortName : Option SecName → Type 0
 IsShortName None = Unit {0}
@@ -115,13 +110,11 @@ short-at (name ∷ kept) zero all = All-head (λ (n : SecName). length n.text �
 short-at (name ∷ kept) (suc k) all = short-at kept k (All-tail (λ (n : SecName). length n.text ≤ 2 ^ 24) name kept all)
 
 name-plain : (o : Option SecName) → IsShortName o → MayBePlain (texts_of_name o)
-name-plain None h = tt
-name-plain (Some name) h = kind-plain name.kind name.text h
+name-plain o h = grind (arith, kind-plain)
 
 kept-plain : (kept : List SecName) (o : Option ℕ) → All (λ name. length name.text ≤ 2 ^ 24) kept
     → MayBePlain (texts_kept kept o)
-kept-plain kept None all = tt
-kept-plain kept (Some k) all = name-plain (slice_get kept k) (short-at kept k all)
+kept-plain kept o all = grind (arith, name-plain, slice_get, short-at)
 
 names-plain : (kept : List SecName) (uses : List NameUse) → All (λ name. length name.text ≤ 2 ^ 24) kept
     → ArePlainNames (name_texts kept uses)

@@ -1,14 +1,12 @@
 -- The text of an identifier is a letter, and letters and digits behind it, in all answers of the scanner.
-use Rattle.std.proofs.Common.{◌≡◌, ℕ, zero, suc, ◌+◌, ◌-◌, Bool, true, false, ◌&&◌, ◌||◌, not, ◌==◌, nat_lt, List, []}
-use Rattle.std.proofs.Common.{◌∷◌, ◌++◌, Option, Some, None, slice_index, drop, take, refl, sym, ap, ◌∙◌, arith}
-use Rattle.std.proofs.Common.{if◌then◌else◌}
+use Rattle.std.proofs.Common.{◌≡◌, ℕ, zero, suc, ◌+◌, Bool, true, false, ◌&&◌, ◌||◌, not, ◌==◌, nat_lt, List, []}
+use Rattle.std.proofs.Common.{◌∷◌, ◌++◌, Option, slice_index, take, refl, sym, ap, ◌∙◌, arith, if◌then◌else◌}
 use Rattle.std.specs.List.{list_all}
 use Rattle.cw_base.proofs.TestLaws.{both}
 use Rattle.cw_rules.specs.declared.bodies.Noted.{Noted}
 use Rattle.cw_rules.specs.declared.classes.Class.TheVariants as classes
 use Rattle.cw_rules.specs.declared.codes.Code.{Code}
 use Rattle.cw_rules.specs.declared.codes.Effect.{Effect}
-use Rattle.cw_rules.specs.declared.codes.Effect.TheVariants as effects
 use Rattle.cw_rules.specs.declared.parts.Part.{Part}
 use Rattle.cw_rules.specs.declared.parts.Part.TheVariants as parts
 use Rattle.cw_rules.specs.declared.parts.Opened.{Opened}
@@ -18,29 +16,27 @@ use Rattle.cw_rules.specs.declared.signs.Sign.{Sign}
 use Rattle.cw_rules.specs.declared.tokens.Mode.{Mode}
 use Rattle.cw_rules.specs.declared.tokens.TokKind.{TokKind}
 use Rattle.cw_rules.specs.declared.tokens.TokKind.TheVariants as kinds
-use Rattle.cw_rules.specs.Answers.{Answer, Token, Begin, Finish, Note, Where, Cut, Found, note_answers, plain}
-use Rattle.cw_base.specs.Bytes.{newline, backslash}
-use Rattle.cw_rules.specs.Bytes.{apostrophe, slash, star, at_sign, hash, less, comma}
+use Rattle.cw_rules.specs.Answers.{Answer, Token, Begin, Finish, Note, Where, Cut, Found, note_answers}
+use Rattle.cw_base.specs.Bytes.{newline}
+use Rattle.cw_rules.specs.Bytes.{slash, star, at_sign, hash, less, begins, begins_by, is_letter, is_mark, is_digit}
+use Rattle.cw_rules.specs.Bytes.{is_in, run}
 use Rattle.cw_base.specs.Text.{bar}
-use Rattle.cw_rules.specs.Bytes.{right_paren, begins, begins_by, is_letter, is_mark, is_digit, is_in, run}
-use Rattle.cw_rules.specs.Codes.{code_at, begins_section, effect_in_limbo, effect_in_tex, has_control_text}
+use Rattle.cw_rules.specs.Codes.{code_at, begins_section}
 use Rattle.cw_rules.specs.Constants.{constant}
 use Rattle.cw_rules.specs.Prefixes.{prefix_size}
 use Rattle.cw_rules.specs.Signs.{all_signs, longest}
 use Rattle.cw_rules.specs.Tokens.{in_hash_line, behind_include, takes_hash_line, is_space, is_deep, ends_at_bar}
-use Rattle.cw_rules.specs.Tokens.{closes_on_line, moved, passed, comment_end, inner_cut, all_cut, section, is_quote}
-use Rattle.cw_rules.specs.Tokens.{section_code, section_name, string, control_text, alone_size, control_or_plain}
-use Rattle.cw_rules.specs.Tokens.{line_end, sign_or_other, start_of, effect_in, code_by, in_code, code_token}
+use Rattle.cw_rules.specs.Tokens.{closes_on_line, moved, passed, comment_end, section, section_code, string, line_end}
+use Rattle.cw_rules.specs.Tokens.{sign_or_other, start_of, effect_in, code_by, in_code, code_token, limbo_by}
+use Rattle.cw_rules.specs.Tokens.{limbo_text, tex_by, tex_text, name_follows, macro_name, parameter_follows, parameter}
+use Rattle.cw_rules.specs.Tokens.{format_name, include_name, piece_start, behind_white}
 use Rattle.cw_rules.specs.Apart.{code_text_apart, comment_text_apart, behind_head_apart, part_text_apart, in_text_apart}
 use Rattle.cw_rules.specs.Apart.{found_apart}
-use Rattle.cw_rules.specs.Tokens.{limbo_by, limbo_text, tex_by, tex_text, name_follows, macro_name}
-use Rattle.cw_rules.specs.Tokens.{parameter_follows, parameter, format_name}
-use Rattle.cw_rules.specs.Tokens.{is_name, include_name, piece_start, behind_white}
 use Rattle.cw_rules.specs.Bodies.{one_note, note_unless, noted}
 use Rattle.cw_base.specs.declared.notes.NoteKind.{NoteKind}
 use Rattle.cw_rules.proofs.Choices.{if-both}
 use Rattle.cw_rules.proofs.Taking.{AreBare, bare-all-cut}
-use Rattle.cw_lex.specs.Lexing.{still_fresh, answers, fresh_at, last_at, beginning, tokens_of}
+use Rattle.cw_lex.specs.Lexing.{still_fresh, answers, tokens_of}
 use Rattle.cw_lex.specs.Nested.{is_section_answer, until_section}
 use Rattle.cw_logtext.specs.LogText.{is_identifier}
 
@@ -59,32 +55,21 @@ AreSpelt (Note kind place ∷ answers) = AreSpelt answers
 -- ## Words
 
 run-on : (b : ℕ) (bs : List ℕ) → is_in classes.Word b ≡ true → run classes.Word (b ∷ bs) ≡ suc (run classes.Word bs)
-run-on b bs h =
-    let one : 1 + run classes.Word bs ≡ suc (run classes.Word bs) = omega arith in
-    ap (λ t. if t then 1 + run classes.Word bs else 0) h ∙ one
+run-on b bs h = grind arith
 
 run-none : (b : ℕ) (bs : List ℕ) → is_in classes.Word b ≡ false → run classes.Word (b ∷ bs) ≡ 0
 run-none b bs h = ap (λ t. if t then 1 + run classes.Word bs else 0) h
 
 run-words : (bs : List ℕ) → list_all (is_in classes.Word) (take (run classes.Word bs) bs) ≡ true
 run-words [] = refl
-run-words (b ∷ bs) = by (is_in classes.Word b) refl (run-words bs)
-  where
-    by : (t : Bool) → is_in classes.Word b ≡ t
-        → list_all (is_in classes.Word) (take (run classes.Word bs) bs) ≡ true
-        → list_all (is_in classes.Word) (take (run classes.Word (b ∷ bs)) (b ∷ bs)) ≡ true
-    by true h rest = ap (λ n. list_all (is_in classes.Word) (take n (b ∷ bs))) (run-on b bs h)
-        ∙ both (is_in classes.Word b) _ h rest
-    by false h rest = ap (λ n. list_all (is_in classes.Word) (take n (b ∷ bs))) (run-none b bs h)
+run-words (b ∷ bs) = grind (arith, run-words bs, run-on, both, run-none)
 
 letter-word : (b : ℕ) → is_letter b ≡ true → is_in classes.Word b ≡ true
 letter-word b h = ap (λ t. t || is_digit b) h
 
 word-spelt : (b : ℕ) (bs : List ℕ) → is_letter b ≡ true
     → is_identifier (take (run classes.Word (b ∷ bs)) (b ∷ bs)) ≡ true
-word-spelt b bs h =
-    ap (λ n. is_identifier (take n (b ∷ bs))) (run-on b bs (letter-word b h))
-    ∙ both (is_letter b) _ h (run-words bs)
+word-spelt b bs h = grind (arith, run-on, letter-word, both, run-words)
 
 -- ## Lists of answers
 
@@ -97,10 +82,9 @@ append-spelt (Note kind place ∷ xs) ys h g = append-spelt xs ys h g
 
 bare-spelt : (place : ℕ) (xs : List Answer) → AreBare place xs → AreSpelt xs
 bare-spelt place [] h = tt
-bare-spelt place (Token t ∷ xs) h = absurd h
-bare-spelt place (Begin t ∷ xs) h = absurd h
 bare-spelt place (Finish t ∷ xs) h = bare-spelt place xs h.3
 bare-spelt place (Note kind about ∷ xs) h = bare-spelt place xs h
+bare-spelt _ _ h = absurd h
 
 noted-spelt : (ns : List Noted) → AreSpelt (note_answers ns)
 noted-spelt [] = tt
@@ -111,17 +95,10 @@ abbrev IsOther : TokKind → Type 0
 IsOther kind = (text : List ℕ) → IsSpelt kind text
 
 code-token-other : (code : Code) (place : ℕ) (bytes : List ℕ) → IsOther (code_token code place bytes).kind
-code-token-other code place bytes =
-    let P : Cut → Type 0 = λ c. IsOther c.kind in
-    if-both P (is_name code) (section_name code place bytes) _ (λ h text. tt)
-    (λ h. if-both P (is_quote code) (string (kinds.Code code) 2 apostrophe place bytes)
-    (control_or_plain code place bytes) (λ h text. tt)
-    (λ h. if-both P (has_control_text code) (control_text code place bytes)
-    (plain (kinds.Code code) (alone_size bytes)) (λ h text. tt) (λ h text. tt)))
+code-token-other code place bytes = grind (arith, if-both)
 
 section-other : (bytes : List ℕ) → IsOther (section_code bytes).kind
-section-other bytes =
-    if-both (λ (c : Cut). IsOther c.kind) (begins star (drop 1 bytes)) _ _ (λ h text. tt) (λ h text. tt)
+section-other bytes = grind (arith, if-both)
 
 -- ## What begins at a place
 
@@ -132,31 +109,19 @@ abbrev missing : Opened → ℕ → List Noted
 missing c place = one_note (note_unless (c.braces == 0) NoteKind.MissingBrace place)
 
 line-end-spelt : (part : Part) (comments : List Opened) (last place : ℕ) → Spelt (line_end part comments last place)
-line-end-spelt part [] last place =
-    if-both Spelt (in_hash_line part && not (last == backslash)) _ _ (λ h. (tt, tt)) (λ h. tt)
+line-end-spelt part [] last place = grind (arith, if-both)
 line-end-spelt part (c ∷ comments) last place =
-    let hash_line = in_hash_line part in
-    if-both Spelt c.long _ _ (λ h. tt)
-    (λ h. append-spelt (inner_cut hash_line place place ++ comment_end hash_line c place 0 [])
-    (line_end (passed part) comments last place).answers (noted-spelt (missing c place))
-    (line-end-spelt (passed part) comments last place))
+    grind (arith, line-end-spelt (passed part) comments last place, if-both, append-spelt, noted-spelt)
 
 -- ## C text
 
 code-by-spelt : (effect : Effect) (code : Code) (w : Where) (place : ℕ) (bytes : List ℕ)
     → Spelt (code_by effect code w place bytes)
-code-by-spelt effects.Stands code w place bytes =
-    (code-token-other code place bytes _, noted-spelt (code_token code place bytes).notes)
-code-by-spelt (effects.Drops note) code w place bytes =
-    (tt, noted-spelt (control_or_plain code place bytes).notes)
-code-by-spelt effects.Defines code w place bytes = (tt, tt)
-code-by-spelt effects.Formats code w place bytes = (tt, tt)
-code-by-spelt effects.BeginsC code w place bytes = (tt, tt)
+code-by-spelt effect code w place bytes = grind (arith, code-token-other, noted-spelt)
 
 sign-spelt : (o : Option Sign) (w : Where) (place : ℕ) (bytes : List ℕ)
     → Spelt (in_code (sign_or_other o) w place bytes)
-sign-spelt None w place bytes = (tt, tt)
-sign-spelt (Some sign) w place bytes = (tt, tt)
+sign-spelt o w place bytes = grind arith
 
 in-code-spelt : (bar_ends : Bool) (w : Where) (place byte : ℕ) (bytes : List ℕ)
     → Spelt (in_code (start_of bar_ends byte bytes) w place (byte ∷ bytes))
@@ -202,38 +167,21 @@ comment-text-spelt part c comments last place byte bytes =
 
 limbo-by-spelt : (effect : Effect) (code : Code) (w : Where) (place : ℕ) (bytes : List ℕ)
     → Spelt (limbo_by effect code w place bytes)
-limbo-by-spelt effects.Stands code w place bytes =
-    (code-token-other code place bytes _, noted-spelt (code_token code place bytes).notes)
-limbo-by-spelt effects.Formats code w place bytes = (tt, tt)
-limbo-by-spelt (effects.Drops note) code w place bytes = (tt, tt)
-limbo-by-spelt effects.Defines code w place bytes = tt
-limbo-by-spelt effects.BeginsC code w place bytes = tt
+limbo-by-spelt effect code w place bytes = grind (arith, code-token-other, noted-spelt)
 
 limbo-text-spelt : (w : Where) (place byte : ℕ) (bytes : List ℕ) → Spelt (limbo_text w place byte bytes)
-limbo-text-spelt w place byte bytes =
-    if-both Spelt (byte == at_sign) _ _
-    (λ h. limbo-by-spelt (effect_in_limbo (code_at bytes)) (code_at bytes) w place (byte ∷ bytes)) (λ h. (tt, tt))
+limbo-text-spelt w place byte bytes = grind (arith, if-both, limbo-by-spelt)
 
 tex-by-spelt : (effect : Effect) (code : Code) (w : Where) (place : ℕ) (bytes : List ℕ)
     → Spelt (tex_by effect code w place bytes)
-tex-by-spelt effects.Stands code w place bytes =
-    (code-token-other code place bytes _, noted-spelt (code_token code place bytes).notes)
-tex-by-spelt (effects.Drops note) code w place bytes =
-    (tt, noted-spelt (control_or_plain code place bytes).notes)
-tex-by-spelt effects.Defines code w place bytes = (tt, tt)
-tex-by-spelt effects.Formats code w place bytes = (tt, tt)
-tex-by-spelt effects.BeginsC code w place bytes = (tt, tt)
+tex-by-spelt effect code w place bytes = grind (arith, code-token-other, noted-spelt)
 
 tex-text-spelt : (w : Where) (place byte : ℕ) (bytes : List ℕ) → Spelt (tex_text w place byte bytes)
-tex-text-spelt w place byte bytes =
-    if-both Spelt (byte == at_sign) _ _
-    (λ h. tex-by-spelt (effect_in_tex (code_at bytes)) (code_at bytes) w place (byte ∷ bytes))
-    (λ h. if-both Spelt (byte == bar) _ _ (λ h. tt) (λ h. (tt, tt)))
+tex-text-spelt w place byte bytes = grind (arith, if-both, tex-by-spelt)
 
 -- a name that follows at a byte which isn't white begins there
 not-white : (byte : ℕ) (bytes : List ℕ) → is_in classes.White byte ≡ false → behind_white (byte ∷ bytes) ≡ byte ∷ bytes
-not-white byte bytes h = ap (λ t. drop (if t then 1 + run classes.White bytes else 0)
-    (byte ∷ bytes)) h
+not-white byte bytes h = grind arith
 
 name-here : (byte : ℕ) (bytes : List ℕ) → name_follows (byte ∷ bytes) ≡ true → is_in classes.White byte ≡ false
     → is_letter byte ≡ true
@@ -241,22 +189,14 @@ name-here byte bytes follows white = ap (begins_by is_letter) (sym (not-white by
 
 macro-name-spelt : (code : ℕ) (w : Where) (place byte : ℕ) (bytes : List ℕ) → name_follows (byte ∷ bytes) ≡ true
     → Spelt (macro_name code w place byte bytes)
-macro-name-spelt code w place byte bytes follows =
-    if-both Spelt (is_in classes.White byte) _ _ (λ h. tt)
-    (λ h. (word-spelt byte bytes (name-here byte bytes follows h), tt))
+macro-name-spelt code w place byte bytes follows = grind (arith, if-both, word-spelt, name-here)
 
 format-name-spelt : (code : ℕ) (second limbo : Bool) (w : Where) (place byte : ℕ) (bytes : List ℕ)
     → name_follows (byte ∷ bytes) ≡ true → Spelt (format_name code second limbo w place byte bytes)
-format-name-spelt code second limbo w place byte bytes follows =
-    if-both Spelt (is_in classes.White byte) _ _ (λ h. tt)
-    (λ h. (word-spelt byte bytes (name-here byte bytes follows h), tt))
+format-name-spelt code second limbo w place byte bytes follows = grind (arith, if-both, word-spelt, name-here)
 
 parameter-spelt : (w : Where) (place byte : ℕ) (bytes : List ℕ) → Spelt (parameter w place byte bytes)
-parameter-spelt w place byte bytes =
-    if-both Spelt (is_in classes.White byte) _ _ (λ h. tt)
-    (λ h. if-both Spelt (is_letter byte) _ _ (λ h. (word-spelt byte bytes h, tt))
-    (λ h. if-both Spelt (byte == comma) _ _ (λ h. (tt, tt))
-    (λ h. if-both Spelt (byte == right_paren) _ _ (λ h. (tt, tt)) (λ h. (tt, tt)))))
+parameter-spelt w place byte bytes = grind (arith, if-both, word-spelt)
 
 behind-head-spelt : (limbo : Bool) (w : Where) (fresh : Bool) (last place byte : ℕ) (bytes : List ℕ)
     → Spelt (behind_head_apart limbo w fresh last place byte bytes)
@@ -283,27 +223,15 @@ part-text-spelt (parts.FormatName code second limbo) w fresh last place byte byt
     if-both Spelt (name_follows (byte ∷ bytes)) _ _
     (λ h. format-name-spelt code second limbo w place byte bytes h)
     (λ h. behind-head-spelt limbo w fresh last place byte bytes)
-part-text-spelt parts.TexInner w fresh last place byte bytes = code-text-spelt w fresh last place byte bytes
-part-text-spelt parts.Begin w fresh last place byte bytes = code-text-spelt w fresh last place byte bytes
-part-text-spelt (parts.Plain hash_line include) w fresh last place byte bytes =
-    code-text-spelt w fresh last place byte bytes
-part-text-spelt parts.Definition w fresh last place byte bytes = code-text-spelt w fresh last place byte bytes
-part-text-spelt parts.Inner w fresh last place byte bytes = code-text-spelt w fresh last place byte bytes
+part-text-spelt _ w fresh last place byte bytes = code-text-spelt w fresh last place byte bytes
 
 in-text-spelt : (part : Part) (comments : List Opened) (fresh : Bool) (last place byte : ℕ) (bytes : List ℕ)
     → Spelt (in_text_apart part comments fresh last place byte bytes)
-in-text-spelt part [] fresh last place byte bytes =
-    part-text-spelt part (record { part = part; comments = [] }) fresh last place byte bytes
-in-text-spelt part (c ∷ comments) fresh last place byte bytes =
-    if-both Spelt c.inner _ _
-    (λ h. code-text-spelt (record { part = part; comments = c ∷ comments }) fresh last place byte bytes)
-    (λ h. comment-text-spelt part c comments last place byte bytes)
+in-text-spelt part comments fresh last place byte bytes =
+    grind (arith, part-text-spelt, if-both, code-text-spelt, comment-text-spelt)
 
 section-spelt : (w : Where) (place : ℕ) (bytes : List ℕ) → Spelt (section w place bytes)
-section-spelt w place bytes =
-    append-spelt (all_cut w.part w.comments place place) _
-    (bare-spelt place (all_cut w.part w.comments place place) (bare-all-cut w.part w.comments place place))
-    (section-other (at_sign ∷ bytes) _, noted-spelt (section_code (at_sign ∷ bytes)).notes)
+section-spelt w place bytes = grind (arith, append-spelt, bare-spelt, bare-all-cut, section-other, noted-spelt)
 
 found-spelt : (w : Where) (fresh : Bool) (last place byte : ℕ) (bytes : List ℕ)
     → Spelt (found_apart w fresh last place byte bytes)
@@ -313,8 +241,7 @@ found-spelt w fresh last place byte bytes =
 
 all-spelt : (bytes : List ℕ) (w : Where) (fresh : Bool) (last place taken : ℕ)
     → AreSpelt (answers bytes w fresh last place taken)
-all-spelt [] w fresh last place taken = bare-spelt place (all_cut w.part w.comments place (place - 1))
-    (bare-all-cut w.part w.comments place (place - 1))
+all-spelt [] w fresh last place taken = grind (arith, bare-spelt, bare-all-cut)
 all-spelt (byte ∷ bytes) w fresh last place zero =
     let f = found_apart w fresh last place byte bytes in
     append-spelt f.answers (answers bytes f.next (still_fresh fresh byte) byte (place + 1) f.more)
@@ -325,9 +252,7 @@ all-spelt (byte ∷ bytes) w fresh last place (suc taken) =
 
 -- the answers over a part of a text
 pub tokens-spelt : (text : List ℕ) (start end : ℕ) (mode : Mode) → AreSpelt (tokens_of text start end mode)
-tokens-spelt text start end mode =
-    let cut = take end text in
-    all-spelt (drop start cut) (beginning mode) (fresh_at cut start) (last_at cut start) start 0
+tokens-spelt text start end mode = grind (arith, all-spelt)
 
 pub until-spelt : (xs : List Answer) → AreSpelt xs → AreSpelt (until_section xs)
 until-spelt [] h = tt

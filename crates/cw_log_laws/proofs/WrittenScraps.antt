@@ -1,13 +1,13 @@
 -- Scraps of which leaf lines tell all: their trees, their leaf lines, and the blocks of states that have such scraps.
 use Rattle.std.proofs.Common.{◌≡◌, ◌≢◌, ℕ, ◌≤◌, Bool, true, false, Option, Some, None, List, [], ◌∷◌, length, map}
-use Rattle.std.proofs.Common.{slice_get, refl, sym, ap, ◌∙◌, subst, arith, eq-eqb}
+use Rattle.std.proofs.Common.{slice_get, refl, sym, ap, subst, arith, eq-eqb}
 use Rattle.std.specs.List.{All, list_all}
 use Rattle.std.proofs.lemmas.Bool.{lt-ltb}
 use Rattle.std.proofs.lemmas.List.{length-map}
-use Rattle.std.proofs.lemmas.List.Elements.{All-append, All-cons, All-head, All-map, All-nil, All-tail, All-weaker}
+use Rattle.std.proofs.lemmas.List.Elements.{All-append, All-head, All-map, All-nil, All-tail, All-weaker}
 use Rattle.cw_base.proofs.TestLaws.{both}
 use Rattle.cw_base.specs.declared.category.Cat.{Cat}
-use Rattle.cw_base.specs.declared.category.Cat.TheVariants.{CaseLike, End, Exp}
+use Rattle.cw_base.specs.declared.category.Cat.TheVariants.{End}
 use Rattle.cw_base.specs.declared.flags.Flags.{Flags}
 use Rattle.cw_base.specs.Category.{may_be_bare}
 use Rattle.cw_names.specs.declared.entry.EntryKind.TheVariants.{Ident as ident_kind}
@@ -42,17 +42,13 @@ abbrev pub IsWord : List Entry → ℕ → Type 0
 IsWord names name = IsWordEntry (slice_get names name)
 
 word-kept : (o p : Option Entry) → IsKept o p → IsWordEntry o → IsWordEntry p
-word-kept None p k h = absurd h
-word-kept (Some e) None k h = absurd k
-word-kept (Some e) (Some d) k h = (k.0 ∙ h.0, ap is_identifier k.1 ∙ h.1)
+word-kept o p k h = grind arith
 
 word-ident : (o : Option Entry) → IsWordEntry o → IsIdentEntry o
-word-ident None h = h
-word-ident (Some e) h = h.0
+word-ident o h = grind arith
 
 word-text : (o : Option Entry) → IsWordEntry o → is_identifier (text_by o) ≡ true
-word-text None h = absurd h
-word-text (Some e) h = h.1
+word-text o h = grind arith
 
 -- ## Trees
 
@@ -71,34 +67,25 @@ IsWritten names (Sub tree rest) = IsWritten names tree × IsWritten names rest
 IsWritten names (Inner tree rest) = IsWritten names rest
 
 sign-later : (names later : List Entry) (c : Control) → IsWrittenLeaf names (Sign c) → IsWrittenLeaf later (Sign c)
-sign-later names later Inserted h = h
-sign-later names later _ h = tt
+sign-later names later c h = grind arith
 
 leaf-later : (names later : List Entry) → IsLater names later → (leaf : Leaf) → IsWrittenLeaf names leaf
     → IsWrittenLeaf later leaf
-leaf-later names later l (Source number mode) h = tt
-leaf-later names later l (Ident name number) h = word-kept (slice_get names name) (slice_get later name) (l name) h
-leaf-later names later l (Reserved name number cat) h = tt
-leaf-later names later l (Sign control) h = sign-later names later control h
+leaf-later names later l leaf h = grind (arith, word-kept, slice_get, sign-later)
 
 pub written-later : (names later : List Entry) → IsLater names later → (tree : Tree) → IsWritten names tree
     → IsWritten later tree
 written-later names later l Empty h = tt
-written-later names later l (Then leaf rest) h =
-    (leaf-later names later l leaf h.0, written-later names later l rest h.1)
+written-later names later l (Then leaf rest) h = grind (arith, written-later names later l rest h.1, leaf-later)
 written-later names later l (Sub tree rest) h =
     (written-later names later l tree h.0, written-later names later l rest h.1)
 written-later names later l (Inner tree rest) h = written-later names later l rest h
 
 sign-clear : (names : List Entry) (c : Control) → IsWrittenLeaf names (Sign c) → IsClear (Sign c)
-sign-clear names Inserted h = h
-sign-clear names _ h = tt
+sign-clear names c h = grind arith
 
 leaf-clear : (names : List Entry) (leaf : Leaf) → IsWrittenLeaf names leaf → IsClear leaf
-leaf-clear names (Source number mode) h = tt
-leaf-clear names (Ident name number) h = tt
-leaf-clear names (Reserved name number cat) h = tt
-leaf-clear names (Sign control) h = sign-clear names control h
+leaf-clear names leaf h = grind (arith, sign-clear)
 
 unmarked : (names : List Entry) (tree : Tree) → IsWritten names tree → HasNoMark tree
 unmarked names Empty h = tt
@@ -117,22 +104,15 @@ module _ (names : List Entry) where
   behind-words ns false rest h g = All-append (IsWord names) ns rest.names h g
 
   search-words : (c : Cat) → Words (told_by (search_word c)).names
-  search-words CaseLike = All-nil (IsWord names)
-  search-words _ = All-nil (IsWord names)
+  search-words c = grind arith
 
   leaf-words : (leaf : Leaf) → IsWrittenLeaf names leaf → Words (told_by (said_by leaf)).names
-  leaf-words (Source number mode) h = All-nil (IsWord names)
-  leaf-words (Ident name number) h = All-cons (IsWord names) name [] h (All-nil (IsWord names))
-  leaf-words (Reserved name number cat) h = search-words cat
-  leaf-words (Sign control) h = All-nil (IsWord names)
+  leaf-words leaf h = grind (arith, search-words)
 
   said-words : (tree : Tree) → IsWritten names tree → Words (said tree).names
   said-words Empty h = All-nil (IsWord names)
-  said-words (Then leaf rest) h =
-      behind-words (told_by (said_by leaf)).names (told_by (said_by leaf)).stops (said rest) (leaf-words leaf h.0)
-      (said-words rest h.1)
-  said-words (Sub tree rest) h =
-      behind-words (said tree).names (said tree).stops (said rest) (said-words tree h.0) (said-words rest h.1)
+  said-words (Then leaf rest) h = grind (arith, said-words rest h.1, behind-words, leaf-words)
+  said-words (Sub tree rest) h = grind (arith, said-words tree h.0, said-words rest h.1, behind-words)
   said-words (Inner tree rest) h = said-words rest h
 
 -- ## Scraps
@@ -148,23 +128,16 @@ pub record IsLogged (names : List Entry) (scrap : Scrap) : Type 0 where
 
 pub logged-later : (names later : List Entry) → IsLater names later → (scrap : Scrap) → IsLogged names scrap
     → IsLogged later scrap
-logged-later names later l scrap h =
-    record { written = written-later names later l scrap.tree h.written; real = h.real; bare = h.bare }
+logged-later names later l scrap h = grind (arith, written-later)
 
 told : (names : List Entry) (scrap : Scrap) → IsLogged names scrap → IsTold names scrap
-told names scrap h = record {
-  unmarked = unmarked names scrap.tree h.written;
-  idents = All-weaker (IsWord names) (λ n. IsIdentEntry (slice_get names n)) (λ n w. word-ident (slice_get names n) w)
-      (said scrap.tree).names (said-words names scrap.tree h.written);
-}
+told names scrap h = grind (arith, unmarked, slice_get, word-ident, said-words)
 
 exp-bare : (c : Cat) → is_exp c ≡ true → may_be_bare c ≡ true
-exp-bare Exp h = refl
-exp-bare _ h = absurd cc
+exp-bare c h = grind arith
 
 fine-by : (b : Option ℕ) (c : Cat) → BareIsExp b c → fine_with c b ≡ true
-fine-by None c h = refl
-fine-by (Some name) c h = exp-bare c h
+fine-by b c h = grind (arith, exp-bare)
 
 scraps-fine : (names : List Entry) (scraps : List Scrap) → All (IsLogged names) scraps → list_all is_fine scraps ≡ true
 scraps-fine names [] all = refl
@@ -176,23 +149,11 @@ scraps-fine names (s ∷ scraps) all =
 
 -- one identifier says one name
 bare-one : (t : Tree) (n : ℕ) → bare_name t ≡ Some n → length (said t).names ≡ 1
-bare-one Empty n e = absurd cc
-bare-one (Then (Source number mode) rest) n e = absurd cc
-bare-one (Then (Ident m number) Empty) n e = refl
-bare-one (Then (Ident m number) (Then l r)) n e = absurd cc
-bare-one (Then (Ident m number) (Sub t r)) n e = absurd cc
-bare-one (Then (Ident m number) (Inner t r)) n e = absurd cc
-bare-one (Then (Reserved m number c) rest) n e = absurd cc
-bare-one (Then (Sign c) rest) n e = absurd cc
-bare-one (Sub t r) n e = absurd cc
-bare-one (Inner t r) n e = absurd cc
+bare-one t n e = grind arith
 
 kind-fits : (b : Option ℕ) (c : Cat) (ns : List ℕ) (stops : Bool) (count : ℕ) → count ≡ length ns → BareIsExp b c
     → ((n : ℕ) → b ≡ Some n → length ns ≡ 1) → fits_kind (kind_by b stops ns) c count ≡ true
-kind-fits (Some n) c ns stops count e bare one = both (is_exp c) _ bare (eq-eqb count 1 (e ∙ one n refl))
-kind-fits None c ns true count e bare one = refl
-kind-fits None c [] false count e bare one = eq-eqb count 0 e
-kind-fits None c (n ∷ ns) false count e bare one = lt-ltb 0 count (omega (arith, e))
+kind-fits b c ns stops count e bare one = grind (arith, both, eq-eqb, lt-ltb)
 
 line-fine : (names : List Entry) (scrap : Scrap) → IsLogged names scrap → IsFineLine (leaf_line names scrap)
 line-fine names scrap h = record {
@@ -218,18 +179,12 @@ texts-said names [] = refl
 texts-said names (n ∷ ns) = ap (λ ts. text_at names n ∷ ts) (texts-said names ns)
 
 line-said : (names : List Entry) (scrap : Scrap) → spelled names (line_of scrap) ≡ leaf_line names scrap
-line-said names scrap = ap (λ ts. record {
-  kind = kind_by (bare_name scrap.tree) (said scrap.tree).stops (said scrap.tree).names;
-  cat = scrap.cat;
-  names = ts;
-}) (texts-said names (said scrap.tree).names)
+line-said names scrap = grind (arith, texts-said)
 
 lines-said : (names : List Entry) (scraps : List Scrap)
     → map (spelled names) (map line_of scraps) ≡ map (leaf_line names) scraps
 lines-said names [] = refl
-lines-said names (s ∷ scraps) =
-    ap (λ l. l ∷ map (spelled names) (map line_of scraps)) (line-said names s)
-    ∙ ap (λ ls. leaf_line names s ∷ ls) (lines-said names scraps)
+lines-said names (s ∷ scraps) = grind (arith, lines-said names scraps, line-said)
 
 items-said : (ps : List Production) → map production_of (map item_of ps) ≡ ps
 items-said [] = refl
@@ -267,11 +222,7 @@ told-right flags names state distinct h = record {
 
 block-said : (flags : Flags) (names : List Entry) (state : State)
     → block_of names (logged flags state) ≡ block_told flags names state
-block-said flags names state =
-    ap (λ ls. record { leaves = ls; items = map production_of (map item_of (log productions flags state)) })
-    (lines-said names state.scraps)
-    ∙ ap (λ is. record { leaves = map (leaf_line names) state.scraps; items = is })
-    (items-said (log productions flags state))
+block-said flags names state = grind (arith, lines-said, items-said)
 
 -- the same as it is recorded
 pub block-right : (flags : Flags) (names : List Entry) (state : State) → AreDistinct names → IsFineState names state

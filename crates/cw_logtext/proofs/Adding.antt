@@ -1,7 +1,7 @@
 -- Identifiers that are added to a list of names: those that are there keep their places, and each has one.
-use Rattle.std.proofs.Common.{◌≡◌, ℕ, zero, suc, ◌+◌, ◌<◌, ◌≤◌, Bool, true, false, not, cond, if◌then◌else◌}
-use Rattle.std.proofs.Common.{nat_lt, List, [], ◌∷◌, ◌++◌, length, map, slice_get, slice_index_or, All, Option, Some}
-use Rattle.std.proofs.Common.{None, refl, sym, ◌∙◌, ap, subst, arith}
+use Rattle.std.proofs.Common.{◌≡◌, ℕ, zero, suc, ◌<◌, ◌≤◌, Bool, true, false, not, if◌then◌else◌, nat_lt, List, []}
+use Rattle.std.proofs.Common.{◌∷◌, ◌++◌, length, map, slice_get, slice_index_or, All, Option, Some, None, refl, sym}
+use Rattle.std.proofs.Common.{◌∙◌, ap, subst, arith}
 use Rattle.std.specs.Cmp.Lexicographic.{bytes_decides}
 use Rattle.std.proofs.lemmas.Bool.{ltb-true, ltb-false}
 use Rattle.std.proofs.lemmas.List.Sums.{prefix_len-le-length}
@@ -25,8 +25,7 @@ slot-kept (e ∷ es) more (suc i) h = slot-kept es more i h
 
 slot-kept-by : (b : Bool) (e : Entry) (es : List Entry) (i : ℕ) → IsIdentEntry (slice_get es i)
     → slice_get (if b then es else es ++ e ∷ []) i ≡ slice_get es i
-slot-kept-by true e es i h = refl
-slot-kept-by false e es i h = slot-kept es (e ∷ []) i h
+slot-kept-by b e es i h = grind (arith, slot-kept)
 
 entry-kept : (text : List ℕ) (es : List Entry) (i : ℕ) → IsIdentEntry (slice_get es i)
     → slice_get (with_entry kinds.Ident text es) i ≡ slice_get es i
@@ -41,9 +40,7 @@ slots-kept (text ∷ texts) es i h =
 
 pub idents-kept : (old new : List Entry) (ids : List NameId) → IsExtended old new → AreIdents old ids
     → AreIdents new ids
-idents-kept old new ids x h = λ k d lt.
-    let n : ℕ = (slice_index_or ids k d).index in
-    subst IsIdentEntry (sym (ap (λ es. slice_get es n) x.is ∙ slots-kept x.added old n (h k d lt))) (h k d lt)
+idents-kept old new ids x h = grind (arith, slice_index_or, slice_get, slots-kept)
 
 pub texts-kept : (old new : List Entry) (ids : List NameId) → IsExtended old new → AreIdents old ids
     → map (λ id. text_at new id.index) ids ≡ map (λ id. text_at old id.index) ids
@@ -56,8 +53,7 @@ texts-kept old new (id ∷ ids) x h =
 
 pub spelled-kept : (old new : List Entry) (leaf : LeafLine) → IsExtended old new → AreIdents old leaf.names
     → spelled new leaf ≡ spelled old leaf
-spelled-kept old new leaf x h =
-    ap (λ ts. record { kind = leaf.kind; cat = leaf.cat; names = ts }) (texts-kept old new leaf.names x h)
+spelled-kept old new leaf x h = grind (arith, texts-kept)
 
 pub lines-kept : (old new : List Entry) (leaves : List LeafLine) → IsExtended old new
     → All (λ leaf. AreIdents old leaf.names) leaves → map (spelled new) leaves ≡ map (spelled old) leaves
@@ -77,8 +73,7 @@ ident-within (e ∷ es) (suc i) h = omega (arith, ident-within es i h)
 
 pub all-known : (es : List Entry) (leaves : List LeafLine) → All (λ leaf. AreIdents es leaf.names) leaves
     → All (IsKnown es) leaves
-all-known es leaves h = λ k d lt n e less.
-    ident-within es (slice_index_or (slice_index_or leaves k d).names n e).index (h k d lt n e less)
+all-known es leaves h = grind (arith, ident-within, slice_index_or)
 
 -- ## Several in a row
 
@@ -92,16 +87,10 @@ none-added es = record { added = []; is = refl }
 
 pub one-added : (text : List ℕ) (old mid new : List Entry) → IsExtended old mid → new ≡ with_entry kinds.Ident text mid
     → IsExtended old new
-one-added text old mid new x is = record {
-  added = x.added ++ text ∷ [];
-  is = is ∙ (ap (with_entry kinds.Ident text) x.is ∙ sym (idents-append x.added (text ∷ []) old));
-}
+one-added text old mid new x is = grind (arith, idents-append x.added (text ∷ []) old)
 
 pub both-added : (old mid new : List Entry) → IsExtended old mid → IsExtended mid new → IsExtended old new
-both-added old mid new x y = record {
-  added = x.added ++ y.added;
-  is = y.is ∙ (ap (with_idents y.added) x.is ∙ sym (idents-append x.added y.added old));
-}
+both-added old mid new x y = grind (arith, idents-append x.added y.added old)
 
 -- ## The one that is added
 
@@ -111,10 +100,7 @@ IsNamed text None = ⊥
 IsNamed text (Some entry) = (entry.kind ≡ kinds.Ident) × (entry.text ≡ text)
 
 kind-is : (kind : EntryKind) → same_kind kinds.Ident kind ≡ true → kind ≡ kinds.Ident
-kind-is kinds.Ident h = refl
-kind-is kinds.Roman h = absurd cc
-kind-is kinds.Typewriter h = absurd cc
-kind-is kinds.User h = absurd cc
+kind-is kind h = grind arith
 
 entry-named : (text : List ℕ) (e : Entry) → is_entry kinds.Ident text e ≡ true → IsNamed text (Some e)
 entry-named text e h = (
@@ -125,16 +111,7 @@ entry-named text e h = (
 place-there : (text : List ℕ) (es : List Entry) → place_of kinds.Ident text es < length es
     → IsNamed text (slice_get es (place_of kinds.Ident text es))
 place-there text [] lt = absurd (omega (arith, lt))
-place-there text (e ∷ es) lt = by (is_entry kinds.Ident text e) refl lt (place-there text es)
-  where
-    by : (b : Bool) → is_entry kinds.Ident text e ≡ b
-        → cond (not b) (1 + place_of kinds.Ident text es) 0 < suc (length es)
-        → (place_of kinds.Ident text es < length es → IsNamed text (slice_get es (place_of kinds.Ident text es)))
-        → IsNamed text (slice_get (e ∷ es) (cond (not b) (1 + place_of kinds.Ident text es) 0))
-    by true h lt later = entry-named text e h
-    by false h lt later =
-        let next : 1 + place_of kinds.Ident text es ≡ suc (place_of kinds.Ident text es) = omega arith in
-        subst (λ n. IsNamed text (slice_get (e ∷ es) n)) (sym next) (later (omega (arith, lt)))
+place-there text (e ∷ es) lt = grind (arith, place-there text es, slice_get, entry-named)
 
 slot-last : (es : List Entry) (e : Entry) → slice_get (es ++ e ∷ []) (length es) ≡ Some e
 slot-last [] e = refl
@@ -162,18 +139,12 @@ entry-there text es = by (nat_lt (place_of kinds.Ident text es) (length es)) ref
         last ∙ slot-last es (record { kind = kinds.Ident; text = text; category = Exp }))) (refl, refl)
 
 named-ident : (text : List ℕ) (o : Option Entry) → IsNamed text o → IsIdentEntry o
-named-ident text None h = h
-named-ident text (Some e) h = h.0
+named-ident text o h = grind arith
 
 named-text : (text : List ℕ) (o : Option Entry) → IsNamed text o → text_by o ≡ text
-named-text text None h = absurd h
-named-text text (Some e) h = h.1
+named-text text o h = grind arith
 
 pub new-ident : (text : List ℕ) (es new : List Entry) (id : NameId) → new ≡ with_entry kinds.Ident text es
     → id.index ≡ place_of kinds.Ident text es
     → IsIdentEntry (slice_get new id.index) × (text_at new id.index ≡ text)
-new-ident text es new id is place =
-    let here : IsNamed text (slice_get new id.index) =
-    subst (λ n. IsNamed text (slice_get new n)) (sym place)
-    (subst (λ ns. IsNamed text (slice_get ns (place_of kinds.Ident text es))) (sym is) (entry-there text es)) in
-    (named-ident text _ here, named-text text _ here)
+new-ident text es new id is place = grind (arith, slice_get, entry-there, named-ident, named-text)

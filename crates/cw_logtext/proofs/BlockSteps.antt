@@ -1,6 +1,6 @@
 -- The lines of a block are read one after another.
-use Rattle.std.proofs.Common.{◌≡◌, ◌≢◌, ℕ, suc, ◌≤◌, List, [], ◌∷◌, ◌++◌, length, map, All, refl, sym, ◌∙◌}
-use Rattle.std.proofs.Common.{ap, subst, arith}
+use Rattle.std.proofs.Common.{◌≡◌, ◌≢◌, ℕ, suc, ◌≤◌, List, [], ◌∷◌, ◌++◌, length, map, All, refl, sym, ◌∙◌, ap, subst}
+use Rattle.std.proofs.Common.{arith}
 use Rattle.std.proofs.lemmas.List.{append_assoc, length-map, map-append}
 use Rattle.std.proofs.lemmas.Grind.{flat_map-append}
 use Rattle.cw_base.specs.Text.{pieces_of}
@@ -8,7 +8,7 @@ use Rattle.cw_names.specs.Names.{Entry}
 use Rattle.cw_table.specs.Normal.{Production}
 use Rattle.cw_leaves.specs.declared.lines.LeafLine.{LeafLine}
 use Rattle.cw_leaves.specs.LeafLines.{Line}
-use Rattle.cw_leaves.specs.Spelling.{production_of, spelled}
+use Rattle.cw_leaves.specs.Spelling.{spelled}
 use Rattle.cw_logtext.specs.declared.blocks.ReadItems.{ReadItems}
 use Rattle.cw_logtext.specs.declared.blocks.ReadLeaves.{ReadLeaves}
 use Rattle.cw_logtext.specs.declared.reading.Spot.{Spot}
@@ -17,9 +17,8 @@ use Rattle.cw_logtext.specs.Blocks.{with_idents, names_in, AreIdents, HasBlock, 
 use Rattle.cw_logtext.specs.Blocks.{IsExtended, IsLeafLine}
 use Rattle.cw_logtext.specs.LinePieces.{IsFirstLine}
 use Rattle.cw_logtext.specs.Lines.{NoItem}
-use Rattle.cw_logtext.specs.LogReading.{IsLog, Reads, none, more, Step, opens, leaf, item, closes}
-use Rattle.cw_logtext.specs.LogText.{block_lines, end_text, greatest, head_text, item_text, line_text, IsFineItem}
-use Rattle.cw_logtext.specs.LogText.{IsFineLine}
+use Rattle.cw_logtext.specs.LogReading.{IsLog, Reads, more, Step, opens, leaf, item, closes}
+use Rattle.cw_logtext.specs.LogText.{end_text, greatest, head_text, item_text, line_text, IsFineItem, IsFineLine}
 use Rattle.cw_logtext.proofs.Adding.{all-kept, all-known, idents-append, lines-kept}
 use Rattle.cw_logtext.proofs.Cutting.{all-append, all-cons}
 use Rattle.cw_logtext.proofs.Decimals.{head-injective, item-not-end}
@@ -44,8 +43,7 @@ apart : (k : ℕ) → Inside k ≡ Outside → ⊥
 apart k e = cc
 
 read-some : (first last : Spot) (lines : List (List ℕ)) → Reads first lines last → (first ≡ last → ⊥) → lines ≢ []
-read-some first last lines (none spot) differ e = differ refl
-read-some first last lines (more a next b l ls step r) differ e = cc
+read-some first last lines h differ e = grind arith
 
 pub block-goes-on : (k : ℕ) (text : List ℕ) → Reads (Inside k) (pieces_of text) Outside → text ≢ []
 block-goes-on k text r e = read-some (Inside k) Outside (pieces_of text) r (apart k) (ap pieces_of e)
@@ -59,25 +57,15 @@ pub record Opened (line : List ℕ) (next : Spot) : Type 0 where
   pub at : next ≡ Inside count
 
 pub opened : (first next : Spot) (line : List ℕ) → Step first line next → first ≡ Outside → Opened line next
-opened first next line (opens l count few is) e = record { count = count; few = few; is = is; at = refl }
-opened first next line (leaf l k said fine is) e = absurd cc
-opened first next line (item l p fine is) e = absurd cc
-opened first next line (closes l is) e = absurd cc
+opened first next line h e = grind arith
 
 pub head-there : (line : List ℕ) (lines : List (List ℕ)) → Reads Outside (line ∷ lines) Outside
     → (count : ℕ) × (count ≤ greatest) × (line ≡ head_text count)
-head-there line lines r =
-    let f : First Outside Outside line lines = first-of Outside Outside line lines r in
-    let o : Opened line f.next = opened Outside f.next line f.step refl in
-    (o.count, o.few, o.is)
+head-there line lines r = grind (arith, first-of, opened)
 
 pub behind-head : (line : List ℕ) (lines : List (List ℕ)) (count : ℕ) → count ≤ greatest → line ≡ head_text count
     → Reads Outside (line ∷ lines) Outside → Reads (Inside count) lines Outside
-behind-head line lines count few is r =
-    let f : First Outside Outside line lines = first-of Outside Outside line lines r in
-    let o : Opened line f.next = opened Outside f.next line f.step refl in
-    subst (λ s. Reads s lines Outside)
-    (o.at ∙ ap Inside (head-injective o.count count o.few few (sym o.is ∙ is))) f.later
+behind-head line lines count few is r = grind (arith, first-of, opened, head-injective)
 
 -- ## Its leaf lines
 
@@ -90,25 +78,15 @@ fewer m k e = cc
 
 pub leaf-step : (first next : Spot) (line : List ℕ) (k : ℕ) → Step first line next → first ≡ Inside (suc k)
     → Leaf k line next
-leaf-step first next line k (opens l count few is) e = absurd cc
-leaf-step first next line k (leaf l m said fine is) e = record {
-  is = record { said = said; fine = fine; is = is };
-  at = fewer m k e;
-}
-leaf-step first next line k (item l p fine is) e = absurd cc
-leaf-step first next line k (closes l is) e = absurd cc
+leaf-step first next line k h e = grind (arith, fewer)
 
 pub leaf-there : (line : List ℕ) (lines : List (List ℕ)) (k : ℕ) → Reads (Inside (suc k)) (line ∷ lines) Outside
     → IsLeafLine line
-leaf-there line lines k r =
-    let f : First (Inside (suc k)) Outside line lines = first-of (Inside (suc k)) Outside line lines r in
-    (leaf-step (Inside (suc k)) f.next line k f.step refl).is
+leaf-there line lines k r = grind (arith, first-of, leaf-step)
 
 behind-leaf : (line : List ℕ) (lines : List (List ℕ)) (k : ℕ) → Reads (Inside (suc k)) (line ∷ lines) Outside
     → Reads (Inside k) lines Outside
-behind-leaf line lines k r =
-    let f : First (Inside (suc k)) Outside line lines = first-of (Inside (suc k)) Outside line lines r in
-    subst (λ s. Reads s lines Outside) (leaf-step (Inside (suc k)) f.next line k f.step refl).at f.later
+behind-leaf line lines k r = grind (arith, first-of, leaf-step)
 
 -- these leaf lines are read, and so many are left
 pub record LeavesSoFar (old new : List Entry) (text : List ℕ) (leaves : List LeafLine) (rest : List ℕ)
@@ -122,21 +100,12 @@ pub record LeavesSoFar (old new : List Entry) (text : List ℕ) (leaves : List L
 
 pub no-leaves : (old : List Entry) (text : List ℕ) (count : ℕ) → Reads (Inside count) (pieces_of text) Outside
     → LeavesSoFar old old text [] text count
-no-leaves old text count r = record {
-  idents = λ k d lt. absurd (omega (arith, lt));
-  added = refl;
-  fine = λ k d lt. absurd (omega (arith, lt));
-  is = refl;
-  later = r;
-  shorter = omega arith;
-}
+no-leaves old text count r = grind arith
 
 more-lines : (mid new : List Entry) (leaves : List LeafLine) (one : LeafLine) → IsExtended mid new
     → All (λ leaf. AreIdents mid leaf.names) leaves
     → map (spelled new) (leaves ++ one ∷ []) ≡ map (spelled mid) leaves ++ spelled new one ∷ []
-more-lines mid new leaves one x idents =
-    map-append (spelled new) leaves (one ∷ [])
-    ∙ ap (λ ls. ls ++ spelled new one ∷ []) (lines-kept mid new leaves x idents)
+more-lines mid new leaves one x idents = grind (arith, map-append, lines-kept)
 
 append-none-of : (xs : List (List ℕ)) → xs ++ [] ≡ xs
 append-none-of [] = refl
@@ -184,13 +153,7 @@ inner first next line (closes l is) e = out is refl
 
 behind-item : (line : List ℕ) (lines : List (List ℕ)) (p : Production) → line ≡ item_text p
     → Reads (Inside 0) (line ∷ lines) Outside → Reads (Inside 0) lines Outside
-behind-item line lines p is r =
-    let f : First (Inside 0) Outside line lines = first-of (Inside 0) Outside line lines r in
-    go f.next f.later (inner (Inside 0) f.next line f.step refl)
-  where
-    go : (next : Spot) → Reads next lines Outside → Inner line next → Reads (Inside 0) lines Outside
-    go next r (on q fine d at) = subst (λ s. Reads s lines Outside) at r
-    go next r (out d at) = absurd (item-not-end p (sym is ∙ d))
+behind-item line lines p is r = grind (arith, first-of, inner, item-not-end)
 
 record Ended (line : List ℕ) (lines : List (List ℕ)) : Type 0 where
   is : line ≡ end_text
@@ -198,13 +161,7 @@ record Ended (line : List ℕ) (lines : List (List ℕ)) : Type 0 where
 
 behind-end : (line : List ℕ) (lines : List (List ℕ)) → NoItem line → Reads (Inside 0) (line ∷ lines) Outside
     → Ended line lines
-behind-end line lines lack r =
-    let f : First (Inside 0) Outside line lines = first-of (Inside 0) Outside line lines r in
-    go f.next f.later (inner (Inside 0) f.next line f.step refl)
-  where
-    go : (next : Spot) → Reads next lines Outside → Inner line next → Ended line lines
-    go next r (on p fine is at) = absurd (lack p fine is)
-    go next r (out is at) = record { is = is; later = subst (λ s. Reads s lines Outside) at r }
+behind-end line lines lack r = grind (arith, first-of, inner)
 
 -- these productions are read, and this line is the next
 pub record ItemsSoFar (text : List ℕ) (items : List Production) (line rest : List ℕ) : Type 0 where
@@ -215,12 +172,7 @@ pub record ItemsSoFar (text : List ℕ) (items : List Production) (line rest : L
 
 pub no-items : (text line rest : List ℕ) → IsFirstLine text line rest → Reads (Inside 0) (pieces_of text) Outside
     → ItemsSoFar text [] line rest
-no-items text line rest cut r = record {
-  fine = λ k d lt. absurd (omega (arith, lt));
-  is = cut.cut;
-  later = read-cut (Inside 0) Outside text line rest cut r;
-  shorter = omega (arith, cut.shorter);
-}
+no-items text line rest cut r = grind (arith, read-cut)
 
 pub items-go-on : (text line rest : List ℕ) (items : List Production) (p : Production) → line ≡ item_text p
     → ItemsSoFar text items line rest → rest ≢ []
@@ -249,14 +201,7 @@ pub record AllItems (text : List ℕ) (items : List Production) (rest : List ℕ
 
 pub all-items : (text line rest : List ℕ) (items : List Production) → NoItem line → ItemsSoFar text items line rest
     → AllItems text items rest
-all-items text line rest items lack s =
-    let e : Ended line (pieces_of rest) = behind-end line (pieces_of rest) lack s.later in
-    record {
-      fine = s.fine;
-      is = s.is ∙ ap (λ l. map item_text items ++ l ∷ pieces_of rest) e.is;
-      later = e.later;
-      shorter = s.shorter;
-    }
+all-items text line rest items lack s = grind (arith, behind-end)
 
 -- ## The whole block
 
@@ -272,26 +217,4 @@ pub whole-block : (old new : List Entry) (log line rest : List ℕ) (count : ℕ
       rest = items.rest;
     })
 whole-block old new log line rest count leaves items cut few is h k =
-    let ls : List Line = map (spelled new) leaves.leaves in
-    let ps : List Production = map production_of items.items in
-    let many : length ls ≡ count = length-map leaves.leaves (spelled new) ∙ h.many in
-    record {
-      known = all-known new leaves.leaves h.idents;
-      idents = h.idents;
-      added = h.added;
-      fine = record { few = omega (arith, many, few); leaves = h.fine; items = k.fine };
-      is = cut.cut
-          ∙ (ap (λ l. l ∷ pieces_of rest) (is ∙ ap head_text (sym many))
-          ∙ (ap (λ xs. head_text (length ls) ∷ xs) (h.is ∙ ap (λ xs. map line_text ls ++ xs) k.is)
-          ∙ sym (block-before ls ps (pieces_of items.rest.now))));
-      later = read-is-log (pieces_of items.rest.now) k.later;
-      shorter = omega (arith, cut.shorter, h.shorter, k.shorter);
-    }
-  where
-    block-before : (ls : List Line) (ps : List Production) (rest : List (List ℕ))
-        → block_lines (record { leaves = ls; items = ps }) ++ rest
-        ≡ head_text (length ls) ∷ map line_text ls ++ (map item_text ps ++ end_text ∷ rest)
-    block-before ls ps rest =
-        ap (λ x. head_text (length ls) ∷ x)
-        (append_assoc (map line_text ls) (map item_text ps ++ end_text ∷ []) rest
-        ∙ ap (λ x. map line_text ls ++ x) (append_assoc (map item_text ps) (end_text ∷ []) rest))
+    grind (arith, length-map, all-known, read-is-log, append_assoc)

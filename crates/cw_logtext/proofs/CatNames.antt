@@ -1,6 +1,5 @@
 -- Each category stands in the list of all.
-use Rattle.std.proofs.Common.{◌≡◌, ◌≢◌, ℕ, ◌+◌, ◌<◌, ◌≤◌, List, get_or, refl, sym, ◌∙◌, ap, arith, inl, inr, Bool}
-use Rattle.std.proofs.Common.{true, false, ◌↔◌, IsTrue}
+use Rattle.std.proofs.Common.{◌≡◌, ◌≢◌, ℕ, ◌+◌, ◌<◌, ◌≤◌, List, get_or, sym, ◌∙◌, ap, arith, Bool, false, ◌↔◌, IsTrue}
 use Rattle.std.proofs.lemmas.Bool.Decides.{eqb_tells}
 use Rattle.cw_base.specs.declared.category.Cat.{Cat}
 use Rattle.cw_base.specs.declared.category.Cat.TheVariants.{End}
@@ -8,12 +7,10 @@ use Rattle.cw_base.specs.Category.{all_cats, number_of}
 use Rattle.cw_logtext.specs.LogText.{cat_text}
 
 pub at-number : (c : Cat) → get_or all_cats (number_of c) End ≡ c
-at-number End = refl
-at-number _ = refl
+at-number c = grind arith
 
 pub within : (c : Cat) → number_of c < 53
-within End = omega arith
-within _ = omega arith
+within c = grind arith
 
 pub no-cat : (name : List ℕ) (count : ℕ) → ((i : ℕ) → i < count → name ≢ cat_text (get_or all_cats i End)) → 53 ≤ count
     → (cat : Cat) → name ≢ cat_text cat
@@ -24,11 +21,4 @@ pub one-more-cat : (name : List ℕ) (count : ℕ) (cat : Cat) (found : Bool)
     → ((i : ℕ) → i < count → name ≢ cat_text (get_or all_cats i End)) → (IsTrue found ↔ (name ≡ cat_text cat))
     → found ≡ false → get_or all_cats count End ≡ cat → (i : ℕ) → i < count + 1
     → name ≢ cat_text (get_or all_cats i End)
-one-more-cat name count cat found none named fails here i below is = elim (eqb_tells i count) [
-  | inl e ↦
-      let yes : IsTrue found =
-      named.1 (is ∙ (ap (λ k. cat_text (get_or all_cats k End)) e.1 ∙ ap cat_text here)) in
-      let both : true ≡ false = sym yes ∙ fails in
-      absurd cc
-  | inr e ↦ none i (omega (arith, below, e.1)) is
-]
+one-more-cat name count cat found none named fails here i below is = grind (arith, eqb_tells)

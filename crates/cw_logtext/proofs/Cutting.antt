@@ -1,9 +1,8 @@
 -- The lines of a log's text are its lines.
-use Rattle.std.proofs.Common.{◌≡◌, ℕ, zero, suc, Bool, true, false, not, eqb, List, [], ◌∷◌, ◌++◌, map, All, refl}
-use Rattle.std.proofs.Common.{◌∙◌, ap, arith, ◌==◌}
+use Rattle.std.proofs.Common.{◌≡◌, ℕ, zero, suc, true, not, eqb, List, [], ◌∷◌, ◌++◌, map, All, refl, ◌∙◌, ap, arith}
 use Rattle.std.specs.List.{flat_map}
 use Rattle.std.proofs.lemmas.List.{append_assoc}
-use Rattle.cw_base.specs.Text.{pieces_by, pieces_of}
+use Rattle.cw_base.specs.Text.{pieces_of}
 use Rattle.cw_base.proofs.TestLaws.{both-left, both-right}
 use Rattle.cw_logtext.specs.LogText.{Block, line_text, head_text, item_text, end_text, block_lines, log_lines, ended}
 use Rattle.cw_logtext.specs.LogText.{IsFineLine, IsFineItem, IsFineBlock}
@@ -14,12 +13,7 @@ use Rattle.cw_logtext.proofs.Plain.{line-end, head-end, item-end}
 -- a line and its end are a piece
 pub one-cut : (line rest : List ℕ) → lacks 10 line ≡ true → pieces_of (line ++ 10 ∷ rest) ≡ line ∷ pieces_of rest
 one-cut [] rest h = refl
-one-cut (c ∷ cs) rest h = rw (one-cut cs rest (both-right (not (eqb c 10)) _ h))
-    (byte-kept (c == 10) (both-left (not (eqb c 10)) _ h))
-  where
-    byte-kept : (b : Bool) → not b ≡ true → pieces_by b c (cs ∷ pieces_of rest) ≡ (c ∷ cs) ∷ pieces_of rest
-    byte-kept true k = absurd cc
-    byte-kept false k = refl
+one-cut (c ∷ cs) rest h = grind (arith, one-cut cs rest (both-right (not (eqb c 10)) _ h), both-right, both-left)
 
 all-cut : (lines : List (List ℕ)) → All (λ line. lacks 10 line ≡ true) lines → pieces_of (flat_map ended lines) ≡ lines
 all-cut [] all = refl
@@ -29,8 +23,7 @@ all-cut (line ∷ lines) all =
     ∙ ap (λ ls. line ∷ ls) (all-cut lines (λ i d lt. all (suc i) d (omega arith))))
 
 pub all-cons : {A : Type 0} (P : A → Type 0) (x : A) (xs : List A) → P x → All P xs → All P (x ∷ xs)
-all-cons P x xs p all zero d lt = p
-all-cons P x xs p all (suc i) d lt = all i d (omega arith)
+all-cons P x xs p all h d lt = grind arith
 
 pub all-append : {A : Type 0} (P : A → Type 0) (xs ys : List A) → All P xs → All P ys → All P (xs ++ ys)
 all-append P [] ys h k = k

@@ -1,10 +1,11 @@
 -- Each file is a log, or one of its lines is the first that no log has: what a line may be is tried in turn.
-use Rattle.std.proofs.Common.{◌≡◌, ◌≢◌, ◌⊎◌, inl, inr, ℕ, zero, suc, ◌+◌, ◌≤◌, Bool, true, false, List, [], ◌∷◌}
-use Rattle.std.proofs.Common.{◌++◌, length, take, drop, get_or, refl, sym, ◌∙◌, ap, subst, arith, length-drop}
+use Rattle.std.proofs.Common.{◌≡◌, ◌≢◌, ◌⊎◌, inl, inr, ℕ, zero, suc, ◌+◌, ◌≤◌, Bool, true, List, [], ◌∷◌, ◌++◌, length}
+use Rattle.std.proofs.Common.{take, drop, get_or, refl, sym, ◌∙◌, ap, subst, arith, length-drop}
 use Rattle.std.proofs.Math.Seq.{drop-append_seam, take-append_seam}
-use Rattle.std.proofs.lemmas.Bool.Decides.{eqb_tells}
+use Rattle.std.proofs.lemmas.Bool.Decides.{eqb_tells, nat_tests}
 use Rattle.std.proofs.lemmas.List.{length-append, take-append-drop}
 use Rattle.std.specs.List.{flat_map}
+use Rattle.std.proofs.lemmas.Grind.{common_steps}
 use Rattle.cw_base.specs.declared.category.Cat.{Cat}
 use Rattle.cw_base.specs.declared.category.Cat.TheVariants as cats
 use Rattle.cw_base.specs.Category.{all_cats, number_of}
@@ -21,7 +22,7 @@ use Rattle.cw_logtext.specs.LinePieces.{AreIdentifiers}
 use Rattle.cw_logtext.specs.LogReading.{IsFault, Reads, none, more, Step, Stuck, opens, leaf, item, closes}
 use Rattle.cw_logtext.specs.LogText.{blank_and, cat_text, end_text, fits_kind, greatest, head_text, is_identifier}
 use Rattle.cw_logtext.specs.LogText.{item_text, letter, line_text, IsFineLine}
-use Rattle.cw_logtext.proofs.BlockSteps.{Opened, opened, leaf-step, Inner, inner, on, out}
+use Rattle.cw_logtext.proofs.BlockSteps.{Opened, opened, leaf-step, inner, on, out}
 use Rattle.cw_logtext.proofs.CatNames.{at-number, within}
 use Rattle.cw_logtext.proofs.Cutting.{all-cons}
 use Rattle.cw_logtext.proofs.Judging.{AtHand, at-hand, all-taken}
@@ -39,24 +40,18 @@ same_number m n = elim (eqb_tells m n) [ inl e ↦ inl e.1 | inr e ↦ inr e.1 ]
 
 same_cons : (x y : ℕ) (xs ys : List ℕ) → Known (x ≡ y) → Known (xs ≡ ys)
     → Known (◌≡◌ {A = List ℕ} (x ∷ xs) (y ∷ ys))
-same_cons x y xs ys (inl e) (inl d) = inl (ap (λ z. z ∷ xs) e ∙ ap (λ zs. y ∷ zs) d)
-same_cons x y xs ys (inl e) (inr d) = inr (λ k. d cc)
-same_cons x y xs ys (inr e) same = inr (λ k. e cc)
+same_cons x y xs ys h same = grind arith
 
 same_text : (xs ys : List ℕ) → Known (xs ≡ ys)
 same_text [] [] = inl refl
-same_text [] (y ∷ ys) = inr (λ e. cc)
-same_text (x ∷ xs) [] = inr (λ e. cc)
 same_text (x ∷ xs) (y ∷ ys) = same_cons x y xs ys (same_number x y) (same_text xs ys)
+same_text _ _ = inr (λ e. cc)
 
 is_true : (b : Bool) → Known (b ≡ true)
-is_true true = inl refl
-is_true false = inr (λ e. cc)
+is_true b = grind arith
 
 both : (P Q : Type 0) → Known P → Known Q → Known (P × Q)
-both P Q (inl p) (inl q) = inl (p, q)
-both P Q (inl p) (inr n) = inr (λ h. n h.1)
-both P Q (inr n) k = inr (λ h. n h.0)
+both P Q h k = grind arith
 
 -- a number up to a greatest one that passes
 record Upto (most : ℕ) (P : ℕ → Type 0) : Type 0 where
@@ -65,13 +60,7 @@ record Upto (most : ℕ) (P : ℕ → Type 0) : Type 0 where
   is : P at
 
 later_upto : (P : ℕ → Type 0) (most : ℕ) → Known (Upto most P) → Known (P (suc most)) → Known (Upto (suc most) P)
-later_upto P most (inl u) k = inl (record { at = u.at; below = omega (arith, u.below); is = u.is })
-later_upto P most (inr lack) (inl p) = inl (record { at = suc most; below = omega arith; is = p })
-later_upto P most (inr lack) (inr not) = inr (λ u. by u (same_number u.at (suc most)))
-  where
-    by : (u : Upto (suc most) P) → Known (u.at ≡ suc most) → ⊥
-    by u (inl e) = not (subst P e u.is)
-    by u (inr e) = lack (record { at = u.at; below = omega (arith, u.below, e); is = u.is })
+later_upto P most h k = grind (arith, same_number)
 
 upto : (P : ℕ → Type 0) → ((n : ℕ) → Known (P n)) → (most : ℕ) → Known (Upto most P)
 upto P each zero = by (each 0)
@@ -117,22 +106,16 @@ no_name bytes lack l = go l.names l.fine l.is
         })
 
 other_byte : (byte : ℕ) (bytes : List ℕ) → (byte ≡ 32 → ⊥) → Later (byte ∷ bytes) → ⊥
-other_byte byte bytes not l = go l.names l.is
-  where
-    go : (names : List (List ℕ)) → byte ∷ bytes ≡ flat_map blank_and names → ⊥
-    go [] is = cc
-    go (m ∷ ms) is = not cc
+other_byte byte bytes not l = grind (arith, nat_tests, common_steps)
 
 abbrev NameEnds : List ℕ → ℕ → Type 0
 NameEnds bytes n = (is_identifier (take n bytes) ≡ true) × Later (drop n bytes)
 
 by_names : (bytes : List ℕ) → Known (Upto (length bytes) (NameEnds bytes)) → Known (Later (32 ∷ bytes))
-by_names bytes (inl u) = inl (some_name u.at bytes u.is.0 u.is.1)
-by_names bytes (inr lack) = inr (no_name bytes lack)
+by_names bytes h = grind (arith, some_name, no_name)
 
 by_byte : (byte : ℕ) (bytes : List ℕ) → Known (byte ≡ 32) → Known (Later (32 ∷ bytes)) → Known (Later (byte ∷ bytes))
-by_byte byte bytes (inl e) k = subst (λ b. Known (Later (b ∷ bytes))) (sym e) k
-by_byte byte bytes (inr e) k = inr (other_byte byte bytes e)
+by_byte byte bytes h k = grind (arith, other_byte)
 
 names_in : (fuel : ℕ) (text : List ℕ) → length text ≤ fuel → Known (Later text)
 names_in fuel [] enough = inl (record { names = []; fine = λ i d lt. absurd (omega (arith, lt)); is = refl })
@@ -152,12 +135,7 @@ record Behind (front text : List ℕ) : Type 0 where
 behind_in : (front text : List ℕ) → Known (Behind front text)
 behind_in [] text = inl (record { rest = text; is = refl })
 behind_in (x ∷ xs) [] = inr (λ b. let e : [] ≡ x ∷ xs ++ b.rest = b.is in absurd cc)
-behind_in (x ∷ xs) (y ∷ ys) = by (same_number y x) (behind_in xs ys)
-  where
-    by : Known (y ≡ x) → Known (Behind xs ys) → Known (Behind (x ∷ xs) (y ∷ ys))
-    by (inl e) (inl b) = inl (record { rest = b.rest; is = ap (λ z. z ∷ ys) e ∙ ap (λ zs. x ∷ zs) b.is })
-    by (inl e) (inr not) = inr (λ b. not (record { rest = b.rest; is = tail-of y x ys (xs ++ b.rest) b.is }))
-    by (inr e) k = inr (λ b. let d : y ∷ ys ≡ x ∷ xs ++ b.rest = b.is in e cc)
+behind_in (x ∷ xs) (y ∷ ys) = grind (arith, behind_in xs ys, same_number y x)
 
 -- the letter, the category and the names of a leaf line
 abbrev front_of : LeafKind → Cat → List ℕ
@@ -172,8 +150,7 @@ record LeafBy (k : LeafKind) (c : Cat) (line : List ℕ) : Type 0 where
   is : line ≡ line_text (line_by k c names)
 
 is_real : (c : Cat) → Known (c ≢ cats.End)
-is_real cats.End = inr (λ not. not refl)
-is_real _ = inl (λ e. cc)
+is_real c = grind arith
 
 same-rest : (front xs ys : List ℕ) → front ++ xs ≡ front ++ ys → xs ≡ ys
 same-rest [] xs ys e = e
@@ -185,11 +162,7 @@ module _ (k : LeafKind) (c : Cat) (line : List ℕ) where
 
   with_names : (b : Behind (front_of k c) line) (l : Later b.rest)
       → Known ((fits_kind k c (length l.names) ≡ true) × (c ≢ cats.End)) → Known (LeafBy k c line)
-  with_names b l (inl h) = inl (record {
-    names = l.names;
-    fine = record { kind = h.0; real = h.1; names = l.fine };
-    is = b.is ∙ ap (λ xs. front_of k c ++ xs) l.is;
-  })
+  with_names b l (inl h) = grind arith
   with_names b l (inr not) = inr (λ o.
       let same : o.names ≡ l.names = names-same o.names l.names o.fine.names l.fine (sym (rest-names b o) ∙ l.is) in
       not (subst (λ ns. fits_kind k c (length ns) ≡ true) same o.fine.kind, o.fine.real))
@@ -209,15 +182,10 @@ abbrev OfSomeCat : LeafKind → List ℕ → Type 0
 OfSomeCat k line = Upto 52 (λ n. LeafBy k (get_or all_cats n cats.End) line)
 
 of_some_cat : (k : LeafKind) (line : List ℕ) → Known (OfSomeCat k line)
-of_some_cat k line = upto (λ n. LeafBy k (get_or all_cats n cats.End) line)
-    (λ n. leaf_by k (get_or all_cats n cats.End) line (behind_in (front_of k (get_or all_cats n cats.End)) line)) 52
+of_some_cat k line = grind (arith, upto, leaf_by, behind_in)
 
 line-said : (k : LeafKind) (line : List ℕ) → OfSomeCat k line → IsLeafLine line
-line-said k line u = record {
-  said = line_by k (get_or all_cats u.at cats.End) u.is.names;
-  fine = u.is.fine;
-  is = u.is.is;
-}
+line-said k line u = grind arith
 
 said-line : (k : LeafKind) (c : Cat) (line : List ℕ) → LeafBy k c line → OfSomeCat k line
 said-line k c line l = record {
@@ -261,8 +229,7 @@ abbrev ItemOf : List ℕ → Type 0
 ItemOf line = Upto ROW_COUNT (λ n. (n ≢ 0) × Upto greatest (λ place. line ≡ item_text (production n place)))
 
 not_zero : (n : ℕ) → Known (n ≢ 0)
-not_zero zero = inr (λ not. not refl)
-not_zero (suc n) = inl (λ e. omega (arith, e))
+not_zero n = grind arith
 
 item_line : (line : List ℕ) → Known (ItemOf line)
 item_line line = upto (λ n. (n ≢ 0) × Upto greatest (λ place. line ≡ item_text (production n place)))
@@ -296,15 +263,7 @@ step_item line (inl u) ended = inl (record {
       (record { from_one = omega (arith, u.is.0); to_last = u.below; near = u.is.1.below }) u.is.1.is;
 })
 step_item line (inr not) (inl e) = inl (record { next = Outside; step = closes line e })
-step_item line (inr not) (inr unended) = inr (λ next step. by next (inner (Inside 0) next line step refl))
-  where
-    by : (next : Spot) → Inner line next → ⊥
-    by next (on p fine is at) = not (record {
-      at = p.number;
-      below = fine.to_last;
-      is = (λ e. omega (arith, e, fine.from_one), record { at = p.place; below = fine.near; is = is });
-    })
-    by next (out is at) = unended is
+step_item line (inr not) (inr unended) = grind (arith, inner, on, out)
 
 step_on : (spot : Spot) (line : List ℕ) → Goes spot line
 step_on Outside line = step_outside line (head_line line)

@@ -1,7 +1,9 @@
 -- A file has one first line that no log has, at most, and none where it is a log.
-use Rattle.std.proofs.Common.{◌≡◌, ℕ, zero, suc, ◌≤◌, ◌<◌, List, [], ◌∷◌, ◌++◌, length, take, refl, sym, ◌∙◌}
-use Rattle.std.proofs.Common.{ap, subst, arith, append_assoc}
+use Rattle.std.proofs.Common.{◌≡◌, ℕ, zero, suc, ◌≤◌, ◌<◌, List, [], ◌∷◌, ◌++◌, length, take, refl, sym, ◌∙◌, subst}
+use Rattle.std.proofs.Common.{arith, append_assoc}
 use Rattle.std.proofs.lemmas.List.{append-nil, take_all}
+use Rattle.std.proofs.lemmas.Bool.Decides.{nat_tests}
+use Rattle.std.proofs.lemmas.Grind.{common_steps}
 use Rattle.cw_logtext.specs.LogReading.{Begins, IsFault, IsFaultAt, IsLog, wrong, cut_off}
 
 record Longer (lines : List (List ℕ)) (m n : ℕ) : Type 0 where
@@ -12,26 +14,16 @@ longer : (lines : List (List ℕ)) (m n : ℕ) → m ≤ n → Longer lines m n
 longer lines zero n le = record { more = take n lines; is = refl }
 longer lines (suc m) zero le = absurd (omega (arith, le))
 longer [] (suc m) (suc n) le = record { more = []; is = refl }
-longer (l ∷ ls) (suc m) (suc n) le =
-    let h : Longer ls m n = longer ls m n (omega (arith, le)) in
-    record { more = h.more; is = ap (λ x. l ∷ x) h.is }
+longer (l ∷ ls) (suc m) (suc n) le = grind (arith, longer ls m n (omega (arith, le)))
 
 begins-fewer : (lines : List (List ℕ)) (m n : ℕ) → m ≤ n → Begins (take n lines) → Begins (take m lines)
-begins-fewer lines m n le b =
-    let h : Longer lines m n = longer lines m n le in
-    record {
-      later = h.more ++ b.later;
-      whole = subst IsLog (ap (λ ls. ls ++ b.later) h.is ∙ append_assoc (take m lines) h.more b.later) b.whole;
-    }
+begins-fewer lines m n le b = grind (arith, nat_tests, common_steps, longer lines m n le, longer, append_assoc)
 
 fault-begins : (lines : List (List ℕ)) (n : ℕ) → IsFault lines n → Begins (take n lines)
-fault-begins lines n (wrong lt b none) = b
-fault-begins lines n (cut_off last b none) =
-    subst Begins (sym (ap (λ k. take k lines) last ∙ take_all (length lines) lines (omega arith))) b
+fault-begins lines n h = grind (arith, take_all)
 
 fault-within : (lines : List (List ℕ)) (n : ℕ) → IsFault lines n → n ≤ length lines
-fault-within lines n (wrong lt b none) = omega (arith, lt)
-fault-within lines n (cut_off last b none) = omega (arith, last)
+fault-within lines n h = grind arith
 
 earlier-fault : (lines : List (List ℕ)) (m n : ℕ) → m < n → IsFault lines m → IsFault lines n → ⊥
 earlier-fault lines m n lt (wrong l b none) f = none (begins-fewer lines (suc m) n (omega (arith, lt))

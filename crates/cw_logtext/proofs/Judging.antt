@@ -1,13 +1,13 @@
 -- Reading a file line by line.
-use Rattle.std.proofs.Common.{◌≡◌, ℕ, zero, suc, ◌+◌, ◌<◌, ◌≤◌, List, [], ◌∷◌, ◌++◌, length, take, drop, get_or, refl}
-use Rattle.std.proofs.Common.{sym}
-use Rattle.std.proofs.Common.{◌∙◌, ap, arith, subst}
+use Rattle.std.proofs.Common.{◌≡◌, ℕ, zero, suc, ◌+◌, ◌<◌, ◌≤◌, List, [], ◌∷◌, length, take, drop, get_or, refl, ◌∙◌}
+use Rattle.std.proofs.Common.{arith}
+use Rattle.std.proofs.lemmas.Grind.{common_steps}
 use Rattle.cw_base.specs.Text.{pieces_of}
 use Rattle.cw_logtext.specs.declared.reading.Spot.{Spot}
 use Rattle.cw_logtext.specs.declared.reading.Spot.TheVariants.{Outside, Inside}
 use Rattle.cw_logtext.specs.LinePieces.{IsFirstLine}
-use Rattle.cw_logtext.specs.LogReading.{IsFault, IsLog, IsFaultAt, Reads, none, more, Step, Stuck}
-use Rattle.cw_logtext.proofs.StepLaws.{joined-reads, take-next, read-is-log, stuck-is-fault, inside-is-fault}
+use Rattle.cw_logtext.specs.LogReading.{IsLog, IsFaultAt, Reads, none, more, Step, Stuck}
+use Rattle.cw_logtext.proofs.StepLaws.{joined-reads, read-is-log, stuck-is-fault, inside-is-fault}
 
 -- The lines before this one are read, and those from it on are the rest.
 pub record ReadSoFar (file rest : List ℕ) (spot : Spot) (line : ℕ) : Type 0 where
@@ -31,60 +31,31 @@ pub at-hand : (lines : List (List ℕ)) (good : ℕ) (line : List ℕ) (later : 
 at-hand [] zero line later e = absurd cc
 at-hand [] (suc n) line later e = absurd cc
 at-hand (l ∷ ls) zero line later e = record { within = omega arith; is = cc; later = cc }
-at-hand (l ∷ ls) (suc n) line later e =
-    let h : AtHand ls n line later = at-hand ls n line later e in
-    record { within = omega (arith, h.within); is = h.is; later = h.later }
+at-hand (l ∷ ls) (suc n) line later e = grind (arith, at-hand ls n line later e)
 
 pub one-more : (file rest line tail : List ℕ) (spot next : Spot) (count : ℕ) → ReadSoFar file rest spot count
     → IsFirstLine rest line tail → Step spot line next → ReadSoFar file tail next (count + 1)
-one-more file rest line tail spot next count r cut step =
-    let h : AtHand (pieces_of file) r.good line (pieces_of tail) =
-    at-hand (pieces_of file) r.good line (pieces_of tail) (r.left ∙ cut.cut) in
-    record {
-      good = suc r.good;
-      next = omega (arith, r.next);
-      within = omega (arith, h.within);
-      read = subst (λ ls. Reads Outside ls next)
-          (sym (take-next (pieces_of file) r.good h.within
-          ∙ ap (λ l. take r.good (pieces_of file) ++ l ∷ []) h.is))
-          (joined-reads Outside spot next (take r.good (pieces_of file)) (line ∷ []) r.read
-          (more spot next next line [] step (none next)));
-      left = h.later;
-    }
+one-more file rest line tail spot next count r cut step = grind (
+  arith,
+  common_steps,
+  at-hand (pieces_of file) r.good line (pieces_of tail) (r.left ∙ cut.cut),
+  joined-reads Outside spot next (take r.good (pieces_of file)) (line ∷ []) r.read (more spot next next line [] step (none next)),
+)
 
 pub stuck-here : (file rest line tail : List ℕ) (spot : Spot) (count : ℕ) → ReadSoFar file rest spot count
     → IsFirstLine rest line tail → Stuck spot line → IsFaultAt (pieces_of file) count
-stuck-here file rest line tail spot count r cut stuck =
-    let h : AtHand (pieces_of file) r.good line (pieces_of tail) =
-    at-hand (pieces_of file) r.good line (pieces_of tail) (r.left ∙ cut.cut) in
-    record {
-      good = r.good;
-      next = r.next;
-      fault = stuck-is-fault (pieces_of file) r.good spot h.within r.read (subst (Stuck spot) (sym h.is) stuck);
-    }
+stuck-here file rest line tail spot count r cut stuck = grind (arith, at-hand, stuck-is-fault)
 
 pub all-taken : (lines : List (List ℕ)) (n : ℕ) → n ≤ length lines → drop n lines ≡ []
     → (take n lines ≡ lines) × (n ≡ length lines)
 all-taken [] zero within e = (refl, refl)
 all-taken [] (suc n) within e = absurd (omega (arith, within))
 all-taken (l ∷ ls) zero within e = absurd cc
-all-taken (l ∷ ls) (suc n) within e =
-    let h = all-taken ls n (omega (arith, within)) e in
-    (ap (λ x. l ∷ x) h.0, ap suc h.1)
+all-taken (l ∷ ls) (suc n) within e = grind (arith, all-taken ls n (omega (arith, within)) e)
 
 pub whole-read : (file : List ℕ) (count : ℕ) → ReadSoFar file [] Outside count → IsLog (pieces_of file)
-whole-read file count r =
-    let h = all-taken (pieces_of file) r.good r.within r.left in
-    read-is-log (pieces_of file) (subst (λ ls. Reads Outside ls Outside) h.0 r.read)
+whole-read file count r = grind (arith, all-taken, read-is-log)
 
 pub cut-inside : (file : List ℕ) (to_come count : ℕ) → ReadSoFar file [] (Inside to_come) count
     → IsFaultAt (pieces_of file) count
-cut-inside file to_come count r =
-    let h = all-taken (pieces_of file) r.good r.within r.left in
-    record {
-      good = r.good;
-      next = r.next;
-      fault = subst (λ n. IsFault (pieces_of file) n) (sym h.1)
-          (inside-is-fault (pieces_of file) to_come
-          (subst (λ ls. Reads Outside ls (Inside to_come)) h.0 r.read));
-    }
+cut-inside file to_come count r = grind (arith, all-taken, inside-is-fault)

@@ -1,6 +1,5 @@
 -- What the lines of a log are, from their pieces.
-use Rattle.std.proofs.Common.{◌≡◌, ◌≢◌, ℕ, true, false, List, ◌∷◌, ◌++◌, length}
-use Rattle.std.proofs.Common.{sym, ◌∙◌, ap, arith}
+use Rattle.std.proofs.Common.{◌≡◌, ◌≢◌, ℕ, true, false, List, ◌∷◌, sym, ◌∙◌, ap, arith}
 use Rattle.std.specs.List.{flat_map}
 use Rattle.std.specs.Fmt.{decimal}
 use Rattle.std.proofs.lemmas.Fmt.{decimal_injective}
@@ -43,29 +42,13 @@ pub leaf-whole : (kind : LeafKind) (cat : Cat) (byte : ℕ) (behind word rest : 
     → fits_kind kind cat count ≡ true
     → IsFineLine (record { kind = kind; cat = cat; names = names.names })
     × (byte ∷ 32 ∷ behind ≡ line_text (record { kind = kind; cat = cat; names = names.names }))
-leaf-whole kind cat byte behind word rest count letters cut real named names fit = (
-  record {
-    kind = ap (fits_kind kind cat) names.many ∙ fit;
-    real = real;
-    names = names.fine;
-  },
-  ap (λ b. b ∷ 32 ∷ behind) letters
-      ∙ ap (λ bytes. letter kind ∷ 32 ∷ bytes) (cut.is ∙ (ap (λ w. w ++ rest) named
-      ∙ ap (λ r. cat_text cat ++ r) names.is)),
-)
+leaf-whole kind cat byte behind word rest count letters cut real named names fit = grind arith
 
 pub leaf-unfit : (kind : LeafKind) (cat : Cat) (rest : List ℕ) (count : ℕ) (said : Line) → AreNames rest count
     → kind ≡ said.kind → cat ≡ said.cat → rest ≡ flat_map blank_and said.names → IsFineLine said
     → fits_kind kind cat count ≡ false → ⊥
 leaf-unfit kind cat rest count said names k c is fine fit =
-    let same : names.names ≡ said.names =
-    names-same names.names said.names names.fine fine.names (sym names.is ∙ is) in
-    let many : count ≡ length said.names = sym names.many ∙ ap (λ (ns : List (List ℕ)). length ns) same in
-    let yes : fits_kind kind cat count ≡ true =
-    ap (λ x. fits_kind x cat count) k ∙ (ap (λ x. fits_kind said.kind x count) c
-    ∙ (ap (fits_kind said.kind said.cat) many ∙ fine.kind)) in
-    let no : true ≡ false = sym yes ∙ fit in
-    cc
+    grind (arith, names-same names.names said.names names.fine fine.names (sym names.is ∙ is))
 
 -- ## Productions
 
@@ -85,17 +68,14 @@ item-parts behind word rest cut p fine is =
 pub item-whole : (behind word digits : List ℕ) (number place : ℕ) → IsCut behind word (32 ∷ digits)
     → word ≡ decimal number → digits ≡ decimal place
     → 80 ∷ behind ≡ item_text (record { number = number; place = place })
-item-whole behind word digits number place cut n p =
-    ap (λ bytes. 80 ∷ bytes) (cut.is ∙ (ap (λ w. w ++ 32 ∷ digits) n ∙ ap (λ d. decimal number ++ 32 ∷ d) p))
+item-whole behind word digits number place cut n p = grind arith
 
 -- ## From what a line begins with
 
 -- the pieces of a line whose first byte is cut off, and the blank behind it
 pub leaf-of : (line behind words word rest : List ℕ) (byte blank : ℕ) → line ≡ byte ∷ behind → behind ≡ blank ∷ words
     → blank ≡ 32 → IsCut words word rest → (said : Line) → line ≡ line_text said → LeafParts byte word rest said
-leaf-of line behind words word rest byte blank l b is cut said e =
-    leaf-parts byte words word rest cut said
-    (sym (l ∙ ap (λ bs. byte ∷ bs) (b ∙ ap (λ n. n ∷ words) is)) ∙ e)
+leaf-of line behind words word rest byte blank l b is cut said e = grind (arith, leaf-parts)
 
 pub item-of : (line behind word rest digits : List ℕ) (letter blank : ℕ) → line ≡ letter ∷ behind → letter ≡ 80
     → IsCut behind word rest → rest ≡ blank ∷ digits → (p : Production) → IsFineItem p → line ≡ item_text p
@@ -107,8 +87,4 @@ item-of line behind word rest digits letter blank l is cut r p fine e =
 
 pub no-zero : (word : List ℕ) (number : ℕ) (p : Production) → IsFineItem p → number ≡ 0 → word ≡ decimal number
     → word ≡ decimal p.number → ⊥
-no-zero word number p fine zeros is e =
-    let same : number ≡ p.number =
-    decimal_injective number p.number (omega (arith, zeros)) (omega (arith, fine.to_last))
-    (sym is ∙ e) in
-    absurd (omega (arith, zeros, same, fine.from_one))
+no-zero word number p fine zeros is e = grind (arith, decimal_injective)

@@ -31,22 +31,13 @@ pub record NamesSoFar (old new : List Entry) (text : List ℕ) (ids : List NameI
   pub texts : (texts : List (List ℕ)) → AreIdentifiers texts → text ≡ flat_map blank_and texts → Left new ids rest texts
 
 pub no-names : (old : List Entry) (text : List ℕ) → NamesSoFar old old text [] text
-no-names old text = record {
-  idents = λ k d lt. absurd (omega (arith, lt));
-  added = refl;
-  texts = λ texts fine is. record { left = texts; fine = fine; behind = is; is = refl };
-}
+no-names old text = grind arith
 
 -- the texts of the names, and that of the new one
 more-texts : (mid new : List Entry) (ids : List NameId) (id : NameId) (word : List ℕ) → AreIdents mid ids
     → new ≡ with_entry Ident word mid → id.index ≡ place_of Ident word mid
     → map (λ i. text_at new i.index) (ids ++ id ∷ []) ≡ map (λ i. text_at mid i.index) ids ++ word ∷ []
-more-texts mid new ids id word idents is place =
-    map-append (λ i. text_at new i.index) ids (id ∷ [])
-    ∙ (ap (λ ts. ts ++ text_at new id.index ∷ []) (texts-kept mid new ids
-    (one-added word mid mid new (none-added mid) is)
-    idents)
-    ∙ ap (λ t. map (λ i. text_at mid i.index) ids ++ t ∷ []) (new-ident word mid new id is place).1)
+more-texts mid new ids id word idents is place = grind (arith, map-append, texts-kept, one-added, none-added, new-ident)
 
 tail-of : (a b : ℕ) (xs ys : List ℕ) → ◌≡◌ {A = List ℕ} (a ∷ xs) (b ∷ ys) → xs ≡ ys
 tail-of a b xs ys e = cc

@@ -1,7 +1,9 @@
 -- Names each behind a blank, one after another.
-use Rattle.std.proofs.Common.{◌≡◌, ◌≢◌, ℕ, suc, ◌+◌, ◌≤◌, true, List, [], ◌∷◌, ◌++◌, length, refl, sym}
-use Rattle.std.proofs.Common.{◌∙◌, ap, arith, append_assoc, length-append}
+use Rattle.std.proofs.Common.{◌≡◌, ◌≢◌, ℕ, suc, ◌+◌, ◌≤◌, true, List, [], ◌∷◌, ◌++◌, length, refl, sym, ◌∙◌, ap, arith}
+use Rattle.std.proofs.Common.{append_assoc, length-append}
 use Rattle.std.specs.List.{flat_map}
+use Rattle.std.proofs.lemmas.Bool.Decides.{nat_tests}
+use Rattle.std.proofs.lemmas.Grind.{common_steps}
 use Rattle.cw_logtext.specs.LogText.{blank_and, is_identifier}
 use Rattle.cw_logtext.specs.LinePieces.{HasName, NoName, AreNames, AreIdentifiers}
 use Rattle.cw_logtext.proofs.Cutting.{all-append, all-cons}
@@ -26,8 +28,7 @@ none-counted text = record { names = []; fine = λ i d lt. absurd (omega arith);
 names-append : (xs ys : List (List ℕ))
     → flat_map blank_and (xs ++ ys) ≡ flat_map blank_and xs ++ flat_map blank_and ys
 names-append [] ys = refl
-names-append (x ∷ xs) ys = ap (λ r. blank_and x ++ r) (names-append xs ys)
-    ∙ sym (append_assoc (blank_and x) (flat_map blank_and xs) (flat_map blank_and ys))
+names-append (x ∷ xs) ys = grind (arith, names-append xs ys, append_assoc)
 
 append-none : (xs : List ℕ) → xs ++ [] ≡ xs
 append-none [] = refl
@@ -58,21 +59,10 @@ one-later rest name tail h l = go l.names l.fine l.is
     }
 
 pub none-later : (rest : List ℕ) → rest ≢ [] → NoName rest → Later rest → ⊥
-none-later rest some none l = go l.names l.fine l.is
-  where
-    go : (names : List (List ℕ)) → AreIdentifiers names → rest ≡ flat_map blank_and names → ⊥
-    go [] fine is = some is
-    go (n ∷ ns) fine is = none n (flat_map blank_and ns) (fine 0 n (omega arith)) (names-blanked ns) is
+none-later rest some none l = grind (arith, nat_tests, common_steps, names-blanked)
 
 pub all-counted : (text : List ℕ) (count : ℕ) → Counted text [] count → AreNames text count
-all-counted text count c = record {
-  names = c.names;
-  fine = c.fine;
-  many = c.many;
-  is = c.is ∙ append-none (flat_map blank_and c.names);
-}
+all-counted text count c = grind (arith, append-none)
 
 pub name-shorter : (text name rest : List ℕ) → HasName text name rest → length rest + 1 ≤ length text
-name-shorter text name rest h =
-    let e : length text ≡ suc (length (name ++ rest)) = ap (λ (xs : List ℕ). length xs) h.is in
-    omega (arith, e, length-append name rest)
+name-shorter text name rest h = grind (arith, length-append)

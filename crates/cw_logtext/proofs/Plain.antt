@@ -1,6 +1,6 @@
 -- Which bytes the lines of a log lack.
-use Rattle.std.proofs.Common.{◌≡◌, ℕ, suc, ◌<◌, ◌≤◌, ◌^◌, Bool, true, false, not, ◌&&◌, List, [], ◌∷◌, ◌++◌}
-use Rattle.std.proofs.Common.{eqb, All, refl, sym, ◌∙◌, ap, arith, subst, ◌||◌, inl, inr}
+use Rattle.std.proofs.Common.{◌≡◌, ℕ, suc, ◌<◌, ◌≤◌, ◌^◌, Bool, true, false, not, ◌&&◌, List, [], ◌∷◌, ◌++◌, eqb, All}
+use Rattle.std.proofs.Common.{refl, sym, ◌∙◌, ap, arith, ◌||◌}
 use Rattle.std.specs.List.{flat_map, list_all}
 use Rattle.std.specs.Fmt.{decimal}
 use Rattle.std.specs.Str.Parse.{AllDigits}
@@ -10,14 +10,12 @@ use Rattle.std.proofs.lemmas.List.Folds.{list_all-append}
 use Rattle.cw_base.proofs.TestLaws.{both-left, both-right}
 use Rattle.std.specs.Char.{digit_value}
 use Rattle.cw_base.specs.declared.category.Cat.{Cat}
-use Rattle.cw_base.specs.declared.category.Cat.TheVariants as cats
 use Rattle.cw_leaves.specs.declared.kinds.LeafKind.{LeafKind}
-use Rattle.cw_leaves.specs.declared.kinds.LeafKind.TheVariants as leaf
 use Rattle.cw_leaves.specs.LeafLines.{Line}
 use Rattle.cw_table.specs.Normal.{Production}
 use Rattle.cw_logtext.specs.LogText.{letter, cat_text, blank_and, line_text, head_text, item_text, greatest}
-use Rattle.cw_logtext.specs.LinePieces.{lacks}
 use Rattle.cw_logtext.specs.LogText.{is_identifier, IsFineLine, IsFineItem}
+use Rattle.cw_logtext.specs.LinePieces.{lacks}
 use Rattle.cw_rules.specs.declared.classes.Class.TheVariants as classes
 use Rattle.cw_rules.specs.Bytes.{is_digit, is_letter, is_in}
 
@@ -28,15 +26,11 @@ pub lacks-append : (n : ℕ) (xs ys : List ℕ) → lacks n xs ≡ true → lack
 lacks-append n xs ys h k = list_all-append (λ b. not (eqb b n)) xs ys ∙ (ap (λ b. b && lacks n ys) h ∙ k)
 
 pub differs : (c n : ℕ) → (c ≡ n → ⊥) → not (eqb c n) ≡ true
-differs c n h = elim (eqb_tells c n) [
-  | inl k ↦ absurd (h k.1)
-  | inr k ↦ ap not k.0
-]
+differs c n h = grind (arith, eqb_tells)
 
 digits-lack : (n : ℕ) → (digit_value n < 10 → ⊥) → (ds : List ℕ) → AllDigits 10 ds → lacks n ds ≡ true
 digits-lack n h [] all = refl
-digits-lack n h (c ∷ cs) all = and-both (not (eqb c n)) _
-    (differs c n (λ e. h (subst (λ x. digit_value x < 10) e all.0))) (digits-lack n h cs all.1)
+digits-lack n h (c ∷ cs) all = grind (arith, digits-lack n h cs all.1, and-both, differs)
 
 pub decimal-lacks : (n m : ℕ) → (digit_value n < 10 → ⊥) → m < 2 ^ 64 → lacks n (decimal m) ≡ true
 decimal-lacks n m h lt = digits-lack n h (decimal m) (decimal_is_IsNumeral m lt).0.1
@@ -48,12 +42,10 @@ pub no-end : digit_value 10 < 10 → ⊥
 no-end h = omega (arith, h)
 
 pub cat-blank : (c : Cat) → lacks 32 (cat_text c) ≡ true
-cat-blank cats.End = refl
-cat-blank _ = refl
+cat-blank c = grind arith
 
 pub cat-end : (c : Cat) → lacks 10 (cat_text c) ≡ true
-cat-end cats.End = refl
-cat-end _ = refl
+cat-end c = grind arith
 
 -- an identifier has neither
 abbrev pub is_word : ℕ → Bool
@@ -71,10 +63,7 @@ words-lack n none (c ∷ cs) all = and-both (not (eqb c n)) _ (word-lacks n c no
     (words-lack n none cs (both-right (is_word c) _ all))
 
 pub name-lacks : (n : ℕ) → is_word n ≡ false → (name : List ℕ) → is_identifier name ≡ true → lacks n name ≡ true
-name-lacks n none [] h = absurd cc
-name-lacks n none (c ∷ cs) h =
-    and-both (not (eqb c n)) _ (word-lacks n c none (letter-word c (both-left (is_letter c) _ h)))
-    (words-lack n none cs (both-right (is_letter c) _ h))
+name-lacks n none name h = grind (arith, and-both, word-lacks, letter-word, both-left, words-lack, both-right)
 
 names-end : (names : List (List ℕ)) → All (λ name. is_identifier name ≡ true) names
     → lacks 10 (flat_map blank_and names) ≡ true
@@ -83,20 +72,13 @@ names-end (name ∷ names) all = lacks-append 10 (blank_and name) (flat_map blan
     (name-lacks 10 refl name (all 0 name (omega arith))) (names-end names (λ i d lt. all (suc i) d (omega arith)))
 
 letter-end : (k : LeafKind) → not (eqb (letter k) 10) ≡ true
-letter-end leaf.B = refl
-letter-end leaf.C = refl
-letter-end leaf.I = refl
-letter-end leaf.S = refl
+letter-end k = grind arith
 
 pub line-end : (l : Line) → IsFineLine l → lacks 10 (line_text l) ≡ true
-line-end l fine = and-both (not (eqb (letter l.kind) 10)) _ (letter-end l.kind)
-    (lacks-append 10 (blank_and (cat_text l.cat)) (flat_map blank_and l.names) (cat-end l.cat)
-    (names-end l.names fine.names))
+line-end l fine = grind (arith, and-both, letter-end, lacks-append, cat-end, names-end)
 
 pub head-end : (n : ℕ) → n ≤ greatest → lacks 10 (head_text n) ≡ true
 head-end n most = decimal-lacks 10 n no-end (omega (arith, most))
 
 pub item-end : (p : Production) → IsFineItem p → lacks 10 (item_text p) ≡ true
-item-end p fine = lacks-append 10 (decimal p.number) (blank_and (decimal p.place))
-    (decimal-lacks 10 p.number no-end (omega (arith, fine.to_last)))
-    (decimal-lacks 10 p.place no-end (omega (arith, fine.near)))
+item-end p fine = grind (arith, lacks-append, decimal-lacks, no-end)

@@ -1,7 +1,6 @@
 -- Reading line by line.
-use Rattle.std.proofs.Common.{◌≡◌, ℕ, zero, suc, ◌<◌, List, [], ◌∷◌, ◌++◌, length, take, map, All}
-use Rattle.std.proofs.Common.{get_or}
-use Rattle.std.proofs.Common.{refl, sym, ◌∙◌, ap, arith, subst, true, append_assoc}
+use Rattle.std.proofs.Common.{◌≡◌, ℕ, zero, suc, ◌<◌, List, [], ◌∷◌, ◌++◌, length, take, map, All, get_or, refl, sym}
+use Rattle.std.proofs.Common.{◌∙◌, ap, arith, subst, true, append_assoc}
 use Rattle.cw_base.specs.declared.category.Cat.TheVariants as cats
 use Rattle.cw_leaves.specs.declared.kinds.LeafKind.TheVariants as kinds
 use Rattle.cw_table.specs.Normal.{Production}
@@ -10,9 +9,8 @@ use Rattle.cw_logtext.specs.LogText.{Block, line_text, head_text, item_text, end
 use Rattle.cw_logtext.specs.LogText.{IsFineLine, IsFineItem, IsFineBlock, is_identifier}
 use Rattle.cw_logtext.specs.declared.reading.Spot.{Spot}
 use Rattle.cw_logtext.specs.declared.reading.Spot.TheVariants.{Outside, Inside}
-use Rattle.cw_logtext.specs.LogReading.{IsLog, Begins, wrong, cut_off, Step, opens}
-use Rattle.cw_logtext.specs.LogReading.{leaf}
-use Rattle.cw_logtext.specs.LogReading.{item, closes, Reads, none, more}
+use Rattle.cw_logtext.specs.LogReading.{IsLog, Begins, wrong, cut_off, Step, opens, leaf, item, closes, Reads, none}
+use Rattle.cw_logtext.specs.LogReading.{more}
 use Rattle.cw_logtext.specs.LogLaws.{ReadIsLog, LogIsRead, StuckIsFault, InsideIsFault}
 use Rattle.cw_logtext.proofs.Decimals.{head-injective, item-not-end}
 
@@ -68,18 +66,14 @@ Meaning Outside lines = IsLog lines
 Meaning (Inside to_come) lines = Rest to_come lines
 
 all-cons : {A : Type 0} (P : A → Type 0) (x : A) (xs : List A) → P x → All P xs → All P (x ∷ xs)
-all-cons P x xs p all zero d lt = p
-all-cons P x xs p all (suc i) d lt = all i d (omega arith)
+all-cons P x xs p all h d lt = grind arith
 
 all-none : {A : Type 0} (P : A → Type 0) → All P []
 all-none P i d lt = absurd (omega arith)
 
 block-joined : (b : Block) (bs : List Block) → log_lines (b ∷ bs)
     ≡ head_text (length b.leaves) ∷ map line_text b.leaves ++ (map item_text b.items ++ end_text ∷ log_lines bs)
-block-joined b bs =
-    ap (λ x. head_text (length b.leaves) ∷ x)
-    (append_assoc (map line_text b.leaves) (map item_text b.items ++ end_text ∷ []) (log_lines bs)
-    ∙ ap (λ x. map line_text b.leaves ++ x) (append_assoc (map item_text b.items) (end_text ∷ []) (log_lines bs)))
+block-joined b bs = grind (arith, append_assoc)
 
 step-means : (first next : Spot) (line : List ℕ) (lines : List (List ℕ)) → Step first line next → Meaning next lines
     → Meaning first (line ∷ lines)
@@ -132,8 +126,7 @@ step-means first next line lines (closes l is) r = record {
 }
 
 reads-mean : (first last : Spot) (lines : List (List ℕ)) → Reads first lines last → last ≡ Outside → Meaning first lines
-reads-mean first last lines (none spot) e =
-    subst (λ s. Meaning s []) (sym e) (record { blocks = []; fine = all-none IsFineBlock; is = refl })
+reads-mean first last lines (none spot) e = grind (arith, all-none)
 reads-mean first last lines (more a next b line rest step r) e =
     step-means first next line rest step (reads-mean next last rest r e)
 
@@ -179,10 +172,9 @@ step-same : (first second third : Spot) (line : List ℕ) → Step first line se
     → second ≡ third
 step-same first second third line (opens l m hm e) (opens k n hn d) = ap Inside (head-injective m n hm hn (sym e ∙ d))
 step-same first second third line (leaf l m s g e) (leaf k n t h d) = cc
-step-same first second third line (item l p g e) (item k q h d) = refl
 step-same first second third line (item l p g e) (closes k d) = absurd (item-not-end p (sym e ∙ d))
 step-same first second third line (closes l e) (item k q h d) = absurd (item-not-end q (sym d ∙ e))
-step-same first second third line (closes l e) (closes k d) = refl
+step-same _ _ _ _ _ _ = refl
 
 record Split (first last : Spot) (xs ys : List (List ℕ)) : Type 0 where
   middle : Spot

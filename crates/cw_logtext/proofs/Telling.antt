@@ -1,7 +1,6 @@
 -- The lines of a log tell its blocks.
-use Rattle.std.proofs.Common.{◌≡◌, ℕ, suc, true, false, not, List, [], ◌∷◌, ◌++◌, if◌then◌else◌}
-use Rattle.std.proofs.Common.{length}
-use Rattle.std.proofs.Common.{eqb, nat_eq, map, All, refl, sym, ◌∙◌, ap, arith}
+use Rattle.std.proofs.Common.{◌≡◌, ℕ, suc, true, not, List, [], ◌∷◌, ◌++◌, if◌then◌else◌, length, eqb, nat_eq, map, All}
+use Rattle.std.proofs.Common.{refl, sym, ◌∙◌, ap, arith}
 use Rattle.std.specs.List.{flat_map}
 use Rattle.std.specs.Fmt.{decimal}
 use Rattle.std.specs.Cmp.Lexicographic.{pointwise}
@@ -16,8 +15,7 @@ use Rattle.cw_leaves.specs.declared.kinds.LeafKind.{LeafKind}
 use Rattle.cw_leaves.specs.declared.kinds.LeafKind.TheVariants as leaf
 use Rattle.cw_leaves.specs.LeafLines.{Line}
 use Rattle.cw_logtext.specs.LogText.{Block, letter, cat_text, blank_and, line_text, head_text, item_text, end_text}
-use Rattle.cw_logtext.specs.LogText.{log_lines, IsFineLine, IsFineItem}
-use Rattle.cw_logtext.specs.LogText.{IsFineBlock}
+use Rattle.cw_logtext.specs.LogText.{log_lines, IsFineLine, IsFineItem, IsFineBlock}
 use Rattle.cw_logtext.specs.LinePieces.{lacks, IsBlanked, nothing, something, AreIdentifiers}
 use Rattle.cw_logtext.specs.LogLaws.{BlocksAreTold}
 use Rattle.cw_logtext.proofs.Decimals.{head-injective, item-not-end}
@@ -36,8 +34,7 @@ cat_in (c ∷ cs) text = if pointwise nat_eq (cat_text c) text then c else cat_i
 
 cat-back : (c : Cat) → cat_in all_cats (cat_text c) ≡ c
 unfolding cat_in
-cat-back cats.End = refl
-cat-back _ = refl
+cat-back c = grind arith
 
 pub cat-injective : (c d : Cat) → cat_text c ≡ cat_text d → c ≡ d
 cat-injective c d e = sym (cat-back c) ∙ (ap (cat_in all_cats) e ∙ cat-back d)
@@ -47,10 +44,7 @@ letter_in n = if eqb n 98 then leaf.B else if eqb n 99 then leaf.C else if eqb n
 
 letter-back : (k : LeafKind) → letter_in (letter k) ≡ k
 unfolding letter_in
-letter-back leaf.B = refl
-letter-back leaf.C = refl
-letter-back leaf.I = refl
-letter-back leaf.S = refl
+letter-back k = grind arith
 
 pub letter-injective : (k l : LeafKind) → letter k ≡ letter l → k ≡ l
 letter-injective k l e = sym (letter-back k) ∙ (ap letter_in e ∙ letter-back l)
@@ -61,10 +55,7 @@ pub record Same (xs ys zs ws : List ℕ) : Type 0 where
   pub back : zs ≡ ws
 
 blank-differs : (c : ℕ) (cs : List ℕ) → lacks 32 (c ∷ cs) ≡ true → 32 ≡ c → ⊥
-blank-differs c cs h e =
-    let k : not (eqb 32 32) ≡ true = ap (λ x. not (eqb x 32)) e ∙ both-left (not (eqb c 32)) _ h in
-    let j : false ≡ true = k in
-    cc
+blank-differs c cs h e = grind (arith, both-left)
 
 never-byte : (zs : List ℕ) (c : ℕ) (cs ws : List ℕ) → IsBlanked zs → lacks 32 (c ∷ cs) ≡ true → zs ≡ c ∷ ws → ⊥
 never-byte zs c cs ws nothing h e = cc
@@ -134,8 +125,6 @@ leaves-same : (ls ms : List Line) (xs ys : List (List ℕ)) → length ls ≡ le
     → All IsFineLine ms
     → map line_text ls ++ xs ≡ map line_text ms ++ ys → SameLeaves ls ms xs ys
 leaves-same [] [] xs ys n h k e = record { leaves = refl; later = e }
-leaves-same [] (m ∷ ms) xs ys n h k e = absurd (omega (arith, n))
-leaves-same (l ∷ ls) [] xs ys n h k e = absurd (omega (arith, n))
 leaves-same (l ∷ ls) (m ∷ ms) xs ys n h k e =
     let s : SameLeaves ls ms xs ys = leaves-same ls ms xs ys (omega (arith, n)) (λ i d lt. h (suc i) d (omega arith))
     (λ i d lt. k (suc i) d (omega arith)) (tail-of (line_text l) (line_text m) _ _ e) in
@@ -144,6 +133,7 @@ leaves-same (l ∷ ls) (m ∷ ms) xs ys n h k e =
           (head-of (line_text l) (line_text m) _ _ e)) ∙ ap (λ x. m ∷ x) s.leaves;
       later = s.later;
     }
+leaves-same _ _ _ _ n _ _ _ = absurd (omega (arith, n))
 
 record SameItems (ps qs : List Production) (xs ys : List (List ℕ)) : Type 0 where
   items : ps ≡ qs
@@ -165,10 +155,7 @@ items-same (p ∷ ps) (q ∷ qs) xs ys h k e =
 
 block-joined : (b : Block) (bs : List Block) → log_lines (b ∷ bs)
     ≡ head_text (length b.leaves) ∷ map line_text b.leaves ++ (map item_text b.items ++ end_text ∷ log_lines bs)
-block-joined b bs =
-    ap (λ x. head_text (length b.leaves) ∷ x)
-    (append_assoc (map line_text b.leaves) (map item_text b.items ++ end_text ∷ []) (log_lines bs)
-    ∙ ap (λ x. map line_text b.leaves ++ x) (append_assoc (map item_text b.items) (end_text ∷ []) (log_lines bs)))
+block-joined b bs = grind (arith, append_assoc)
 
 pub blocks-are-told : BlocksAreTold
 blocks-are-told [] [] h k e = refl

@@ -1,11 +1,11 @@
 -- Where a word, a line and a name end.
-use Rattle.std.proofs.Common.{◌≡◌, ◌≢◌, ℕ, zero, suc, ◌+◌, ◌<◌, ◌≤◌, Bool, true, false, not, ◌==◌, eqb, List, []}
-use Rattle.std.proofs.Common.{◌∷◌, ◌++◌, length, take, drop, get_or, refl, sym, ◌∙◌, ap, arith, subst, drop-cons}
-use Rattle.std.proofs.Common.{length-drop, if◌then◌else◌}
+use Rattle.std.proofs.Common.{◌≡◌, ◌≢◌, ℕ, zero, suc, ◌+◌, ◌<◌, ◌≤◌, Bool, true, false, not, eqb, List, [], ◌∷◌, ◌++◌}
+use Rattle.std.proofs.Common.{length, take, drop, get_or, refl, sym, ◌∙◌, ap, arith, subst, drop-cons, length-drop}
+use Rattle.std.proofs.Common.{if◌then◌else◌}
 use Rattle.std.specs.List.{list_all}
 use Rattle.std.proofs.lemmas.List.{take-append-drop}
 use Rattle.std.proofs.Math.Seq.{drop-append_seam}
-use Rattle.cw_base.specs.Text.{pieces_by, pieces_of}
+use Rattle.cw_base.specs.Text.{pieces_of}
 use Rattle.cw_base.proofs.TestLaws.{both-left, both-right}
 use Rattle.cw_rules.specs.declared.classes.Class.TheVariants as classes
 use Rattle.cw_rules.specs.Bytes.{is_in, is_letter, run}
@@ -17,8 +17,7 @@ use Rattle.cw_logtext.proofs.Cutting.{one-cut}
 -- ## Up to a byte
 
 fails-by : (b : Bool) → (b ≡ true → ⊥) → not b ≡ true
-fails-by true h = absurd (h refl)
-fails-by false h = refl
+fails-by b h = grind arith
 
 lacks-before : (byte : ℕ) (text : List ℕ) (n : ℕ) → n ≤ length text
     → ((k : ℕ) → k < n → eqb (get_or text k 0) byte ≡ true → ⊥) → lacks byte (take n text) ≡ true
@@ -39,11 +38,7 @@ same-byte c n h = grind (arith, h)
 
 parted : (byte : ℕ) (text : List ℕ) (n : ℕ) → n < length text → eqb (get_or text n 0) byte ≡ true
     → take n text ++ byte ∷ drop (n + 1) text ≡ text
-parted byte text n within found =
-    let next : suc n ≡ n + 1 = omega arith in
-    ap (λ b. take n text ++ b ∷ drop (n + 1) text) (sym (same-byte (get_or text n 0) byte found))
-    ∙ (ap (λ m. take n text ++ get_or text n 0 ∷ drop m text) (sym next)
-    ∙ (ap (λ rest. take n text ++ rest) (sym (drop-cons text n 0 within)) ∙ take-append-drop n text))
+parted byte text n within found = grind (arith, same-byte, drop-cons, take-append-drop)
 
 blanked-at : (text : List ℕ) (n : ℕ) → n < length text → eqb (get_or text n 0) 32 ≡ true → IsBlanked (drop n text)
 blanked-at text n within found =
@@ -54,11 +49,7 @@ blanked-at text n within found =
 pub cut-at : (text : List ℕ) (n : ℕ) → n < length text
     → ((k : ℕ) → k < n → eqb (get_or text k 0) 32 ≡ true → ⊥) → eqb (get_or text n 0) 32 ≡ true
     → IsCut text (take n text) (drop n text)
-cut-at text n within none found = record {
-  is = sym (take-append-drop n text);
-  plain = lacks-before 32 text n (omega (arith, within)) none;
-  blanked = blanked-at text n within found;
-}
+cut-at text n within none found = grind (arith, take-append-drop, lacks-before, blanked-at)
 
 pub cut-nowhere : (text : List ℕ) → ((k : ℕ) → k < length text → eqb (get_or text k 0) 32 ≡ true → ⊥)
     → IsCut text text []
@@ -85,25 +76,14 @@ line-at text n within none found = record {
 
 last-piece : (byte : ℕ) (bytes : List ℕ) → lacks 10 (byte ∷ bytes) ≡ true
     → pieces_of (byte ∷ bytes) ≡ (byte ∷ bytes) ∷ []
-last-piece byte [] h = last-byte (byte == 10) (both-left (not (eqb byte 10)) _ h)
-  where
-    last-byte : (b : Bool) → not b ≡ true → pieces_by b byte [] ≡ (byte ∷ []) ∷ []
-    last-byte true k = absurd cc
-    last-byte false k = refl
-last-piece byte (c ∷ cs) h = rw (last-piece c cs (both-right (not (eqb byte 10)) _ h))
-    (byte-kept (byte == 10) (both-left (not (eqb byte 10)) _ h))
-  where
-    byte-kept : (b : Bool) → not b ≡ true → pieces_by b byte ((c ∷ cs) ∷ []) ≡ (byte ∷ c ∷ cs) ∷ []
-    byte-kept true k = absurd cc
-    byte-kept false k = refl
+last-piece byte [] h = grind (arith, both-left)
+last-piece byte (c ∷ cs) h = grind (arith, last-piece c cs (both-right (not (eqb byte 10)) _ h), both-right, both-left)
 
 pub line-nowhere : (text : List ℕ) → text ≢ [] → ((k : ℕ) → k < length text → eqb (get_or text k 0) 10 ≡ true → ⊥)
     → IsFirstLine text text []
 line-nowhere [] some none = absurd (some refl)
-line-nowhere (byte ∷ bytes) some none = record {
-  cut = last-piece byte bytes (lacks-all 10 (byte ∷ bytes) none);
-  shorter = omega arith;
-}
+line-nowhere (byte ∷ bytes) some none =
+    grind (arith, last-piece byte bytes (lacks-all 10 (byte ∷ bytes) none), lacks-all 10 (byte ∷ bytes) none)
 
 -- ## Names
 
@@ -113,10 +93,7 @@ run-name : (name rest : List ℕ) → list_all (is_in classes.Word) name ≡ tru
 run-name [] [] h b = refl
 run-name [] rest h (something bytes) = refl
 run-name (c ∷ cs) rest h b =
-    let k : is_in classes.Word c ≡ true = both-left (is_in classes.Word c) _ h in
-    let next : 1 + length cs ≡ suc (length cs) = omega arith in
-    ap (λ w. if w then 1 + run classes.Word (cs ++ rest) else 0) k
-    ∙ (ap (λ n. 1 + n) (run-name cs rest (both-right (is_in classes.Word c) _ h) b) ∙ next)
+    grind (arith, run-name cs rest (both-right (is_in classes.Word c) _ h) b, both-left, both-right)
 
 run-all : (bytes : List ℕ) → list_all (is_in classes.Word) (take (run classes.Word bytes) bytes) ≡ true
 run-all [] = refl
@@ -131,9 +108,7 @@ run-all (c ∷ cs) = go (is_in classes.Word c) refl (run-all cs)
     go false e more = refl
 
 word-name : (name : List ℕ) → is_identifier name ≡ true → list_all (is_in classes.Word) name ≡ true
-word-name [] h = absurd cc
-word-name (c ∷ cs) h = and-both (is_in classes.Word c) _ (letter-word c (both-left (is_letter c) _ h))
-    (both-right (is_letter c) _ h)
+word-name name h = grind (arith, and-both, letter-word, both-left, both-right)
 
 first-fine : (first : ℕ) (more : List ℕ) → is_letter first ≡ true
     → is_identifier (take (run classes.Word (first ∷ more)) (first ∷ more)) ≡ true
@@ -160,25 +135,14 @@ name-here first more h = record {
 }
 
 pub no-letter : (first : ℕ) (more : List ℕ) → is_letter first ≡ false → NoName (32 ∷ first ∷ more)
-no-letter first more h [] rest fine blanked is = absurd cc
-no-letter first more h (c ∷ cs) rest fine blanked is =
-    let e : first ≡ c = cc in
-    let k : is_letter c ≡ true = both-left (is_letter c) _ fine in
-    let j : true ≡ false = sym k ∙ (ap is_letter (sym e) ∙ h) in
-    cc
+no-letter first more h g rest fine blanked is = grind (arith, both-left)
 
 pub no-more : NoName (32 ∷ [])
-no-more [] rest fine blanked is = absurd cc
-no-more (c ∷ cs) rest fine blanked is = absurd cc
+no-more h rest fine blanked is = grind arith
 
 -- a name at the front of a text, as it is cut off
 pub name-cut : (text behind more rest : List ℕ) (blank first size : ℕ) → text ≡ blank ∷ behind → blank ≡ 32
     → behind ≡ first ∷ more → is_letter first ≡ true → size ≡ run classes.Word behind → rest ≡ drop size behind
     → HasName text (take size behind) rest
 name-cut text behind more rest blank first size is is_blank is_first letter many is_rest =
-    let h : HasName (32 ∷ behind) (take (run classes.Word behind) behind) (drop (run classes.Word behind) behind) =
-    subst (λ bs. HasName (32 ∷ bs) (take (run classes.Word bs) bs) (drop (run classes.Word bs) bs)) (sym is_first)
-    (name-here first more letter) in
-    subst (λ t. HasName t (take size behind) rest) (sym (is ∙ ap (λ b. b ∷ behind) is_blank))
-    (subst (λ r. HasName (32 ∷ behind) (take size behind) r) (sym is_rest)
-    (subst (λ n. HasName (32 ∷ behind) (take n behind) (drop n behind)) (sym many) h))
+    grind (arith, name-here first more letter)

@@ -1,6 +1,6 @@
 -- No entry has the category of tests, and no change brings one.
-use Rattle.std.proofs.Common.{◌≡◌, ◌≢◌, ℕ, zero, suc, Bool, true, false, ◌&&◌, not, List, [], ◌∷◌, Some, refl, sym, ap}
-use Rattle.std.proofs.Common.{◌∙◌, slice_get, map, if◌then◌else◌}
+use Rattle.std.proofs.Common.{◌≡◌, ◌≢◌, ℕ, zero, suc, Bool, true, false, ◌&&◌, not, List, [], ◌∷◌, Some, refl, ap}
+use Rattle.std.proofs.Common.{slice_get, map, if◌then◌else◌, arith}
 use Rattle.indexmap.specs.IndexMap.{insert_entry, set_value_at}
 use Rattle.cw_base.specs.declared.category.Cat.{Cat}
 use Rattle.cw_base.specs.declared.category.Cat.TheVariants.{Exp, End}
@@ -9,10 +9,10 @@ use Rattle.std.specs.List.{list_all}
 use Rattle.cw_names.specs.Inside.{entry_of, has_no_end_entry}
 use Rattle.cw_base.specs.Category.{is_end}
 use Rattle.cw_base.proofs.TestLaws.{both-left, both-right, both}
+use Rattle.std.proofs.lemmas.Bool.Decides.{nat_tests}
 
 pub real : (cat : Cat) → cat ≢ End → is_end cat ≡ false
-real End differs = absurd (differs refl)
-real _ differs = refl
+real x1 differs = grind (arith, nat_tests)
 
 -- it is seen of the entries themselves
 pub of-view : (entries : List (Key × Cat)) → has_no_end_entry entries
@@ -24,10 +24,7 @@ inserted-by : (b : Bool) (eq : Key → Key → Bool) (e : Key × Cat) (entries :
     → has_no_end_entry (e ∷ entries) ≡ true
     → has_no_end_entry (insert_entry eq entries key Exp) ≡ true
     → has_no_end_entry (if b then (e.0, Exp) ∷ entries else e ∷ insert_entry eq entries key Exp) ≡ true
-inserted-by true eq e entries key none rest = both-right (not (is_end e.1)) (has_no_end_entry entries) none
-inserted-by false eq e entries key none rest =
-    both (not (is_end e.1)) (has_no_end_entry (insert_entry eq entries key Exp))
-    (both-left (not (is_end e.1)) (has_no_end_entry entries) none) rest
+inserted-by x1 eq e entries key none rest = grind (arith, nat_tests, both-right, nat_tests, both, both-left)
 
 pub inserted : (eq : Key → Key → Bool) (entries : List (Key × Cat)) (key : Key) → has_no_end_entry entries ≡ true
     → has_no_end_entry (insert_entry eq entries key Exp) ≡ true
@@ -39,8 +36,7 @@ inserted eq (e ∷ entries) key none =
 pub changed : (entries : List (Key × Cat)) (i : ℕ) (cat : Cat) → cat ≢ End → has_no_end_entry entries ≡ true
     → has_no_end_entry (set_value_at entries i cat) ≡ true
 changed [] i cat differs none = refl
-changed (e ∷ entries) zero cat differs none = both (not (is_end cat)) (has_no_end_entry entries)
-    (ap not (real cat differs)) (both-right (not (is_end e.1)) (has_no_end_entry entries) none)
+changed (e ∷ entries) zero cat differs none = grind (arith, nat_tests, both, real, both-right)
 changed (e ∷ entries) (suc i) cat differs none =
     both (not (is_end e.1)) (has_no_end_entry (set_value_at entries i cat))
     (both-left (not (is_end e.1)) (has_no_end_entry entries) none)
@@ -49,10 +45,6 @@ changed (e ∷ entries) (suc i) cat differs none =
 pub found : (entries : List (Key × Cat)) (i : ℕ) (e : Key × Cat) → slice_get entries i ≡ Some e
     → has_no_end_entry entries ≡ true → e.1 ≢ End
 found [] i e is none = λ end. cc
-found (x ∷ entries) zero e is none =
-    λ end. let same : x ≡ e = cc in
-    let good : not (is_end x.1) ≡ true = both-left (not (is_end x.1)) (has_no_end_entry entries) none in
-    absurd (let wrong : false ≡ true = sym (ap (λ (p : Key × Cat). not (is_end p.1)) same
-    ∙ ap (λ c. not (is_end c)) end) ∙ good in cc)
+found (x ∷ entries) zero e is none = grind (arith, nat_tests, both-left)
 found (x ∷ entries) (suc i) e is none =
     found entries i e is (both-right (not (is_end x.1)) (has_no_end_entry entries) none)

@@ -1,12 +1,12 @@
 -- The built-in words stand first, whatever is done to the names.
-use Rattle.std.proofs.Common.{◌≡◌, ℕ, zero, suc, Bool, true, false, List, [], ◌∷◌, ◌++◌, length, nat_lt, refl, sym, ap}
-use Rattle.std.proofs.Common.{◌∙◌, append_assoc, if◌then◌else◌}
+use Rattle.std.proofs.Common.{◌≡◌, ℕ, zero, suc, Bool, List, [], ◌∷◌, ◌++◌, refl, sym, ap, ◌∙◌, append_assoc}
+use Rattle.std.proofs.Common.{if◌then◌else◌, arith}
 use Rattle.std.proofs.lemmas.List.{map-append, append-nil}
 use Rattle.cw_base.specs.declared.category.Cat.{Cat}
-use Rattle.cw_base.specs.declared.category.Cat.TheVariants.{Exp}
 use Rattle.cw_names.specs.declared.entry.EntryKind.{EntryKind}
-use Rattle.cw_names.specs.Names.{Entry, place_of, with_entry, with_category}
+use Rattle.cw_names.specs.Names.{Entry, with_entry, with_category}
 use Rattle.cw_names.specs.Words.{built_in_words, words_of, BeginsWithWords}
+use Rattle.std.proofs.lemmas.Bool.Decides.{nat_tests}
 
 pub words-first : BeginsWithWords built_in_words
 unfolding BeginsWithWords
@@ -17,8 +17,7 @@ words-with_category : (place : ℕ) (cat : Cat) (entries : List Entry) → words
     ≡ words_of entries
 words-with_category place cat [] = refl
 words-with_category zero cat (entry ∷ entries) = refl
-words-with_category (suc place) cat (entry ∷ entries) =
-    ap (λ words. (entry.kind, entry.text) ∷ words) (words-with_category place cat entries)
+words-with_category (suc place) cat (entry ∷ entries) = grind (arith, nat_tests, words-with_category place cat entries)
 
 pub words-changed : (place : ℕ) (cat : Cat) (entries : List Entry) → BeginsWithWords entries
     → BeginsWithWords (with_category place cat entries)
@@ -36,11 +35,8 @@ more entry entries begins = (
 
 by-test : (b : Bool) (entry : Entry) (entries : List Entry) → BeginsWithWords entries
     → BeginsWithWords (if b then entries else entries ++ entry ∷ [])
-by-test true entry entries begins = begins
-by-test false entry entries begins = more entry entries begins
+by-test x1 entry entries begins = grind (arith, nat_tests, more)
 
 pub words-entered : (kind : EntryKind) (text : List ℕ) (entries : List Entry) → BeginsWithWords entries
     → BeginsWithWords (with_entry kind text entries)
-words-entered kind text entries begins =
-    by-test (nat_lt (place_of kind text entries) (length entries)) (record { kind = kind; text = text; category = Exp })
-    entries begins
+words-entered kind text entries begins = grind (arith, nat_tests, by-test)

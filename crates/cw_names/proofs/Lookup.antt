@@ -1,7 +1,7 @@
 -- What the hash table says of the list of entries.
 use Rattle.std.proofs.Common.{◌≡◌, ℕ, zero, suc, ◌+◌, ◌<◌, Bool, true, false, List, [], ◌∷◌, ◌++◌, length, map, Some}
-use Rattle.std.proofs.Common.{None, refl, sym, ap, ◌∙◌, arith, length-append, not, cond, nat_lt, ◌≤◌, if◌then◌else◌}
-use Rattle.std.proofs.Common.{slice_get, subst, IsTrue}
+use Rattle.std.proofs.Common.{None, refl, sym, ap, ◌∙◌, arith, length-append, not, cond, slice_get}
+use Rattle.std.proofs.Common.{subst, IsTrue}
 use Rattle.std.specs.List.{position, position_or_len, IsDistinct, AllByRecursion}
 use Rattle.std.proofs.lemmas.List.{length-map}
 use Rattle.std.proofs.lemmas.List.Sums.{prefix_len-le-length}
@@ -12,12 +12,12 @@ use Rattle.cw_base.specs.declared.category.Cat.{Cat}
 use Rattle.cw_base.specs.declared.category.Cat.TheVariants.{Exp}
 use Rattle.cw_names.specs.declared.entry.Key.{Key}
 use Rattle.cw_names.specs.declared.entry.EntryKind.{EntryKind}
-use Rattle.cw_names.specs.declared.entry.EntryKind.TheVariants.{Ident, Roman, Typewriter, User}
 use Rattle.cw_names.specs.contracts.entry.KeyPartialEq.TheImpl.{eq-value}
 use Rattle.cw_names.specs.Names.{Entry, is_entry, place_of, with_entry, with_category}
 use Rattle.cw_names.specs.declared.entry.Wanted.{Wanted}
 use Rattle.cw_names.specs.Inside.{entry_of, is_wanted}
 use Rattle.cw_names.specs.Wanting.{alike}
+use Rattle.std.proofs.lemmas.Bool.Decides.{nat_tests}
 
 -- what `==` says of two keys
 abbrev pub key_eq : Key → Key → Bool
@@ -25,22 +25,7 @@ key_eq = eq-value.it
 
 key_eq-by : (a b : EntryKind) (k l : Key) (c : Cat) → key_eq (record k { kind = a }) (record l { kind = b })
     ≡ is_entry a k.text.items (entry_of (record l { kind = b }, c))
-key_eq-by Ident Ident k l c = refl
-key_eq-by Ident Roman k l c = refl
-key_eq-by Ident Typewriter k l c = refl
-key_eq-by Ident User k l c = refl
-key_eq-by Roman Ident k l c = refl
-key_eq-by Roman Roman k l c = refl
-key_eq-by Roman Typewriter k l c = refl
-key_eq-by Roman User k l c = refl
-key_eq-by Typewriter Ident k l c = refl
-key_eq-by Typewriter Roman k l c = refl
-key_eq-by Typewriter Typewriter k l c = refl
-key_eq-by Typewriter User k l c = refl
-key_eq-by User Ident k l c = refl
-key_eq-by User Roman k l c = refl
-key_eq-by User Typewriter k l c = refl
-key_eq-by User User k l c = refl
+key_eq-by x1 x2 k l c = grind (arith, nat_tests)
 
 pub key_eq-is : (k : Key) (e : Key × Cat) → key_eq k e.0 ≡ is_entry k.kind k.text.items (entry_of e)
 key_eq-is k e = key_eq-by k.kind e.0.kind k e.0 e.1
@@ -49,57 +34,27 @@ key_eq-is k e = key_eq-by k.kind e.0.kind k e.0 e.1
 pub place-keys : (k : Key) (es : List (Key × Cat)) → position_or_len (key_eq k) (keys_of es)
     ≡ place_of k.kind k.text.items (map entry_of es)
 place-keys k [] = refl
-place-keys k (e ∷ es) =
-    ap (λ b. cond (not b) (1 + position_or_len (key_eq k) (keys_of es)) 0) (key_eq-is k e)
-    ∙ ap (λ n. cond (not (is_entry k.kind k.text.items (entry_of e))) (1 + n) 0) (place-keys k es)
+place-keys k (e ∷ es) = grind (arith, nat_tests, place-keys k es, key_eq-is)
 
 -- so is the position of a key that is looked for
 place-wanted : (wanted : Wanted) (es : List (Key × Cat)) → position_or_len (is_wanted wanted) (keys_of es)
     ≡ place_of wanted.kind wanted.text.now (map entry_of es)
 place-wanted wanted [] = refl
-place-wanted wanted (e ∷ es) = ap (λ n. cond (not (is_entry wanted.kind wanted.text.now (entry_of e))) (1 + n) 0)
-    (place-wanted wanted es)
+place-wanted wanted (e ∷ es) = grind (arith, nat_tests, place-wanted wanted es)
 
 pub position-found : {X : Type 0} (test : X → Bool) (xs : List X) (i : ℕ) → position test xs ≡ Some i
     → position_or_len test xs ≡ i
-position-found test xs i h = pick (nat_lt (position_or_len test xs) (length xs)) (position_or_len test xs) i h
-  where
-    pick : (b : Bool) (n i : ℕ) → cond b (Some n) None ≡ Some i → n ≡ i
-    pick true n i e = cc
-    pick false n i e = cc
+position-found test xs i h = grind (arith, nat_tests)
 
 pub position-none : {X : Type 0} (test : X → Bool) (xs : List X) → position test xs ≡ None → position_or_len test xs
     ≡ length xs
-position-none test xs h = pick (nat_lt (position_or_len test xs) (length xs)) refl h
-  where
-    pick : (b : Bool) → nat_lt (position_or_len test xs) (length xs) ≡ b → cond b (Some (position_or_len test xs)) None
-        ≡ None → position_or_len test xs ≡ length xs
-    pick true t e = cc
-    pick false t e = omega (arith, ltb-false, prefix_len-le-length (λ x. not (test x)) xs)
+position-none test xs h = grind (arith, nat_tests, ltb-false, prefix_len-le-length)
 
 -- a key without an entry goes last
 pub insert_entry-last : (k : Key) (es : List (Key × Cat)) → place_of k.kind k.text.items (map entry_of es) ≡ length es
     → map entry_of (insert_entry key_eq es k Exp) ≡ map entry_of es ++ entry_of (k, Exp) ∷ []
 insert_entry-last k [] h = refl
-insert_entry-last k (e ∷ es) h = by (key_eq k e.0) refl (insert_entry-last k es)
-  where
-    by : (b : Bool) → key_eq k e.0 ≡ b → (place_of k.kind k.text.items (map entry_of es) ≡ length es
-        → map entry_of (insert_entry key_eq es k Exp) ≡ map entry_of es ++ entry_of (k, Exp) ∷ [])
-        → map entry_of (insert_entry key_eq (e ∷ es) k Exp) ≡ map entry_of (e ∷ es) ++ entry_of (k, Exp) ∷ []
-    by true t more = absurd (omega (
-      arith,
-      ap (λ b. cond (not b) (1 + place_of k.kind k.text.items (map entry_of es)) 0)
-          (sym t ∙ key_eq-is k e) ∙ h,
-    ))
-    by false t more =
-        let rest : place_of k.kind k.text.items (map entry_of es) ≡ length es =
-        omega (
-          arith,
-          ap (λ b. cond (not b) (1 + place_of k.kind k.text.items (map entry_of es)) 0) (sym t
-              ∙ key_eq-is k e) ∙ h,
-        ) in
-        ap (λ b. map entry_of (if b then (e.0, Exp) ∷ es else e ∷ insert_entry key_eq es k Exp)) t
-        ∙ ap (λ l. entry_of e ∷ l) (more rest)
+insert_entry-last k (e ∷ es) h = grind (arith, nat_tests, insert_entry-last k es, key_eq-is)
 
 pub with_category-map : (es : List (Key × Cat)) (i : ℕ) (w : Cat) → map entry_of (set_value_at es i w)
     ≡ with_category i w (map entry_of es)
@@ -120,44 +75,26 @@ module _ (es : List (Key × Cat)) (names : List Entry) (view : map entry_of es �
 
   pub found-place : (wanted : Wanted) → wanted.kind ≡ kind → wanted.text.now ≡ text → (i : ℕ)
       → Some i ≡ position (is_wanted wanted) (keys_of es) → i ≡ place_of kind text names
-  found-place wanted p q i h = sym (position-found (is_wanted wanted) (keys_of es) i (sym h))
-      ∙ place-looked-for wanted p q
+  found-place wanted p q i h = grind (arith, nat_tests, position-found, place-looked-for)
 
   pub new-place : (wanted : Wanted) → wanted.kind ≡ kind → wanted.text.now ≡ text
       → position (is_wanted wanted) (keys_of es) ≡ None → length es ≡ place_of kind text names
-  new-place wanted p q h = sym (length-map es (λ (e : Key × Cat). e.0))
-      ∙ sym (position-none (is_wanted wanted) (keys_of es) h) ∙ place-looked-for wanted p q
+  new-place wanted p q h = grind (arith, nat_tests, length-map, position-none, place-looked-for)
 
   pub new-last : (wanted : Wanted) → wanted.kind ≡ kind → wanted.text.now ≡ text
       → position (is_wanted wanted) (keys_of es) ≡ None → place_of kind text names ≡ length names
   new-last wanted p q h = sym (new-place wanted p q h) ∙ sym (length-map es entry_of) ∙ ap length view
 
   pub with_entry-present : place_of kind text names < length names → with_entry kind text names ≡ names
-  with_entry-present h = ap (λ b. if b then names else names ++ record { kind = kind; text = text; category = Exp }
-      ∷ []) (lt-ltb (place_of kind text names) (length names) h)
+  with_entry-present h = grind (arith, nat_tests, lt-ltb)
 
   pub with_entry-new : length es ≡ place_of kind text names → (k : Key) → k.kind ≡ kind → k.text.items ≡ text
       → map entry_of (insert_entry key_eq es k Exp) ≡ with_entry kind text names
-  with_entry-new h k p q =
-      let place : place_of k.kind k.text.items (map entry_of es) ≡ length es = sym (place-keys k es) ∙ place-names k p q
-      ∙ sym h in
-      let past : length names ≤ place_of kind text names = omega (arith, h, ap length view, length-map es entry_of) in
-      insert_entry-last k es place
-      ∙ (λ i. view i ++ record { kind = p i; text = q i; category = Exp } ∷ [])
-      ∙ sym (ap (λ b. if b then names else names ++ record { kind = kind; text = text; category = Exp } ∷ [])
-      (le-ltb (place_of kind text names) (length names) past))
+  with_entry-new h k p q = grind (arith, nat_tests, place-keys, place-names, length-map, insert_entry-last, le-ltb)
 
   pub length-new : length es ≡ place_of kind text names → (k : Key) → k.kind ≡ kind → k.text.items ≡ text
       → length (map entry_of (insert_entry key_eq es k Exp)) ≡ length es + 1
-  length-new h k p q =
-      let place : place_of k.kind k.text.items (map entry_of es) ≡ length es = sym (place-keys k es) ∙ place-names k p q
-      ∙ sym h in
-      omega (
-        arith,
-        ap length (insert_entry-last k es place),
-        length-append (map entry_of es) (entry_of (k, Exp) ∷ []),
-        length-map es entry_of,
-      )
+  length-new h k p q = grind (arith, nat_tests, place-keys, place-names, insert_entry-last, length-append, length-map)
 
 -- what is said of each item is said of the one at a place
 said-at : {X : Type 0} (P : X → Type 0) (es : List (X × Cat)) (i : ℕ) (e : X × Cat) → AllByRecursion P (keys_of es)
@@ -172,10 +109,7 @@ pub wanted-place : (wanted : Wanted) (es : List (Key × Cat)) (i : ℕ) (e : Key
     → i ≡ place_of wanted.kind wanted.text.now (map entry_of es)
 unfolding IsDistinct
 wanted-place wanted [] i e distinct is here = cc
-wanted-place wanted (x ∷ es) zero e distinct is here =
-    let same : x ≡ e = cc in
-    let found : is_wanted wanted x.0 ≡ true = ap (λ (y : Key × Cat). is_wanted wanted y.0) same ∙ here in
-    sym (ap (λ b. cond (not b) (1 + place_of wanted.kind wanted.text.now (map entry_of es)) 0) found)
+wanted-place wanted (x ∷ es) zero e distinct is here = grind (arith, nat_tests)
 wanted-place wanted (x ∷ es) (suc i) e distinct is here =
     by (is_wanted wanted x.0) refl (wanted-place wanted es i e distinct.1 is here)
   where

@@ -1,7 +1,7 @@
 -- The names that come of a table of words, each of which is added with its category.
 use Rattle.std.proofs.Common.{◌≡◌, ℕ, ◌+◌, ◌<◌, ◌≤◌, Bool, true, false, not, ◌&&◌, List, [], ◌∷◌, ◌++◌, Bor, Vec}
-use Rattle.std.proofs.Common.{Global, get_or, length, drop, map, refl, sym, ap, ◌∙◌, add-one, append_assoc, drop-cons}
-use Rattle.std.proofs.Common.{if◌then◌else◌}
+use Rattle.std.proofs.Common.{Global, get_or, length, drop, map, refl, sym, ap, ◌∙◌, append_assoc, drop-cons}
+use Rattle.std.proofs.Common.{if◌then◌else◌, arith}
 use Rattle.std.specs.List.{list_all}
 use Rattle.std.proofs.lemmas.List.{append-nil, drop_all}
 use Rattle.indexmap.specs.IndexMap.{insert_entry}
@@ -14,6 +14,7 @@ use Rattle.cw_names.specs.Inside.{entry_of}
 use Rattle.cw_names.specs.Table.{with_word, with_table, row}
 use Rattle.cw_names.specs.Words.{built_in_words}
 use Rattle.cw_names.proofs.Lookup.{key_eq, key_eq-is}
+use Rattle.std.proofs.lemmas.Bool.Decides.{nat_tests}
 
 with_table-nil : (names : List Entry) → with_table [] names ≡ names
 unfolding with_table
@@ -75,8 +76,7 @@ table-all = with_table-new table [] table-new ∙ table-entries
 inserted-by : (b : Bool) (e : Key × Cat) (es : List (Key × Cat)) (c : Cat) (rest : List (Key × Cat))
     → map entry_of (if b then (e.0, c) ∷ es else e ∷ rest)
     ≡ (if b then record (entry_of e) { category = c } ∷ map entry_of es else entry_of e ∷ map entry_of rest)
-inserted-by true e es c rest = refl
-inserted-by false e es c rest = refl
+inserted-by x1 e es c rest = grind (arith, nat_tests)
 
 pub inserted-word : (text : Vec ℕ Global) (c : Cat) (es : List (Key × Cat))
     → map entry_of (insert_entry key_eq es (record { kind = Ident; text = text }) c)
@@ -93,15 +93,9 @@ pub with_table-step : (items : List (Bor (List ℕ) × Cat)) (i : ℕ) (d : Bor 
     → i < length items
     → new ≡ with_word (row (get_or items i d)) names → with_table (map row (drop i items)) names ≡ all
     → with_table (map row (drop (i + 1) items)) new ≡ all
-with_table-step items i d names new all h e t =
-    let front : drop i items ≡ get_or items i d ∷ drop (i + 1) items = rw (add-one, drop-cons items i d) refl in
-    ap (with_table (map row (drop (i + 1) items))) e
-    ∙ sym (with_table-cons (row (get_or items i d)) (map row (drop (i + 1) items)) names)
-    ∙ sym (ap (λ l. with_table (map row l) names) front)
-    ∙ t
+with_table-step items i d names new all h e t = grind (arith, nat_tests, drop-cons, with_table-cons)
 
 -- at the end of the table
 pub with_table-end : (items : List (Bor (List ℕ) × Cat)) (i : ℕ) (names all : List Entry) → length items ≤ i
     → with_table (map row (drop i items)) names ≡ all → names ≡ all
-with_table-end items i names all h t =
-    sym (with_table-nil names) ∙ sym (ap (λ l. with_table (map row l) names) (drop_all i items h)) ∙ t
+with_table-end items i names all h t = grind (arith, nat_tests, with_table-nil, drop_all)

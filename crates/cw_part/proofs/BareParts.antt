@@ -1,28 +1,24 @@
 -- Where no bytes stand, there is no definition and no C text: nothing is printed, and nothing is left.
-use Rattle.std.proofs.Common.{◌≡◌, ℕ, ◌==◌, ◌&&◌, ◌||◌, Bool, true, false, not, List, [], ◌∷◌, ◌++◌, drop, take}
-use Rattle.std.proofs.Common.{refl, sym, ap, ◌∙◌, length-take, arith}
+use Rattle.std.proofs.Common.{◌≡◌, ℕ, ◌==◌, ◌&&◌, ◌||◌, Bool, true, false, not, List, [], ◌∷◌, drop, take, refl, sym}
+use Rattle.std.proofs.Common.{ap, ◌∙◌, length-take, arith}
 use Rattle.std.specs.Prelude.{Ok, is_some, nat_lt}
 use Rattle.std.proofs.lemmas.Bool.{eqb-true}
 use Rattle.std.proofs.lemmas.List.{append-nil, drop_all}
 use Rattle.cw_base.specs.declared.flags.Flags.{Flags}
 use Rattle.cw_base.specs.declared.span.Span.{Span}
-use Rattle.cw_lex.specs.Lexing.{answers, beginning, fresh_at, last_at, tokens_of}
-use Rattle.cw_rules.specs.Answers.{Answer}
-use Rattle.cw_rules.specs.declared.tokens.Mode.{Mode}
-use Rattle.cw_rules.specs.declared.tokens.Mode.TheVariants.{CPart, Definition}
+use Rattle.cw_lex.specs.Lexing.{tokens_of}
+use Rattle.cw_rules.specs.declared.tokens.Mode.TheVariants.{CPart}
 use Rattle.cw_lines.specs.WritesLaws.{puts-none}
 use Rattle.cw_names.specs.Names.{Entry}
-use Rattle.cw_names.specs.declared.xrefs.Occurrence.{Occurrence}
 use Rattle.cw_scraps.specs.Applying.{categories}
 use Rattle.cw_table.specs.Normal.{count, log, normal}
 use Rattle.cw_table.specs.NormalWalk.{positions}
 use Rattle.cw_table.specs.WalkCounts.{looks}
 use Rattle.cw_trees.specs.Joining.{whole}
 use Rattle.cw_translator.specs.Counting.{scraps_in}
-use Rattle.cw_translator.specs.NameParts.{name_texts}
 use Rattle.cw_translator.specs.Translating.{Ended, NameTexts, begin, end_of, nothing, state_in, translated}
 use Rattle.cw_translator.specs.Translating.{with_categories}
-use Rattle.cw_texts.specs.Definitions.{definitions_of, not_silent, printed_definitions}
+use Rattle.cw_texts.specs.Definitions.{printed_definitions}
 use Rattle.cw_part.specs.Parts.{has_no_part, paragraph_if, part_by, part_opening}
 use Rattle.cw_phase1.specs.declared.sections.Section.{Section}
 use Rattle.cw_texpart.specs.declared.beside.Beside.{Beside}
@@ -37,19 +33,11 @@ use Rattle.cw_texpart.proofs.WeavingLaws.{underlined-none, weaves-as}
 no-bytes : (text : List ℕ) (n : ℕ) → drop n (take n text) ≡ []
 no-bytes text n = drop_all n (take n text) (omega (arith, length-take n text))
 
-abbrev scanned_from : Mode → List ℕ → ℕ → List ℕ → List Answer
-scanned_from mode text n bytes =
-    answers bytes (beginning mode) (fresh_at (take n text) n) (last_at (take n text) n) n 0
-
 no-tokens : (text : List ℕ) (m n : ℕ) → m ≡ n → tokens_of text m n CPart ≡ []
-no-tokens text m n same =
-    ap (λ (k : ℕ). tokens_of text m k CPart) (sym same) ∙ ap (scanned_from CPart text m) (no-bytes text m)
+no-tokens text m n same = grind (arith, no-bytes)
 
 pub no-definitions : (text : List ℕ) (part : Span) → part.start ≡ part.«end» → printed_definitions text part ≡ []
-no-definitions text part same =
-    ap (λ (found : List Answer). not_silent (definitions_of part.«end» found))
-    (ap (λ (k : ℕ). tokens_of text part.start k Definition) (sym same)
-    ∙ ap (scanned_from Definition text part.start) (no-bytes text part.start))
+no-definitions text part same = grind (arith, no-bytes)
 
 -- ## What is left of a text without scraps
 
@@ -83,32 +71,17 @@ empty_part s span names = ended_done s CPart false span (empty_text names)
 
 no-text : (s : Setting) (span : Span) (names : List Entry) → span.start ≡ span.«end»
     → text_done s CPart false span names ≡ empty_part s span names
-no-text s span names same =
-    ap (ended_done s CPart false span)
-    (ap (λ (found : List Answer).
-    translated s.flags (name_texts s.book.sec_names s.book.name_uses) found names [])
-    (no-tokens s.text span.start span.«end» same)
-    ∙ no-answers s.flags (name_texts s.book.sec_names s.book.name_uses) names)
+no-text s span names same = grind (arith, no-tokens, no-answers)
 
 -- it prints nothing and counts nothing
 left-out : {s : Setting} {old : Press} {counts : Counts} (span : Span) → counts.scraps ≡ 0 → counts.productions ≡ 0
     → Weaves s (reprinted (λ out. []) (empty_part s span old.book.names)) old old (Ok counts)
 unfolding count log positions looks
-left-out {s = s} {old = old} {counts = counts} span scraps prods = record {
-  puts = puts-none old.line old.told counts;
-  names = refl;
-  occurrences = sym (append-nil old.book.xrefs)
-      ∙ ap (λ (os : List Occurrence). old.book.xrefs ++ os) (sym (underlined-none s.section));
-  same = refl;
-  scraps = scraps;
-  productions = prods;
-  steps_are = omega arith;
-  bound = omega arith;
-}
+left-out {s = s} {old = old} {counts = counts} span scraps prods =
+    grind (arith, puts-none old.line old.told counts, append-nil old.book.xrefs, underlined-none s.section)
 
 bare : (named : Bool) (m n : ℕ) → (not named && m == n) ≡ true → (named ≡ false) × (m ≡ n)
-bare true m n h = absurd cc
-bare false m n h = (refl, eqb-true m n h)
+bare named m n h = grind (arith, eqb-true)
 
 pub no-part : (s : Setting) (code : Beside) (section : Section) {old : Press} {counts : Counts}
     → has_no_part section ≡ true → counts.scraps ≡ 0 → counts.productions ≡ 0

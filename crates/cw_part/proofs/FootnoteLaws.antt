@@ -1,34 +1,6 @@
 -- Footnotes, and the numbers in them.
-use Rattle.std.proofs.Common.{
-  ◌≡◌,
-  ℕ,
-  suc,
-  ◌-◌,
-  ◌<◌,
-  ◌≤◌,
-  ◌≢◌,
-  ◌==◌,
-  Bool,
-  true,
-  false,
-  refl,
-  sym,
-  ap,
-  ◌∙◌,
-  List,
-  [],
-  ◌∷◌,
-  ◌++◌,
-  append_assoc,
-  codes,
-  drop,
-  get_or,
-  length,
-  map,
-  ne_eqb,
-  take,
-  arith,
-}
+use Rattle.std.proofs.Common.{arith}
+use Rattle.std.proofs.Common.{◌≡◌, ℕ, suc, ◌-◌, ◌<◌, ◌≤◌, ◌==◌, Bool, true, false, refl, sym, ap, List, [], ◌∷◌, ◌++◌, codes, drop, get_or, length, map, take, arith}
 use Rattle.std.proofs.lemmas.List.{take_all}
 use Rattle.std.specs.Prelude.{Option, Some, None, slice_get}
 use Rattle.std.specs.Option.{option_map}
@@ -51,10 +23,7 @@ pub later-next : (shown : ℕ → List ℕ) (numbers sep : List ℕ) → 1 ≤ l
     → later_numbers (map shown numbers) ≡ sep
     ++ (shown (get_or numbers 0 0) ++ later_numbers (map shown (take (length numbers - 1) (drop 1 numbers))))
 later-next shown [] sep some is = absurd (omega arith)
-later-next shown (n ∷ ns) sep some is =
-    append_assoc (separator (map shown ns)) (shown n) (later_numbers (map shown ns))
-    ∙ (λ i. sym (is ∙ ap (λ (rest : List ℕ). separator (map shown rest)) (behind-first n ns)) i
-    ++ (shown n ++ later_numbers (map shown (sym (behind-first n ns) i))))
+later-next shown (n ∷ ns) sep some is = grind (arith, behind-first n ns)
 
 pub no-numbers : (shown : ℕ → List ℕ) (numbers : List ℕ) → length numbers < 1
     → [] ≡ footnote_numbers (map shown numbers)
@@ -70,18 +39,15 @@ several-numbers shown one (next ∷ third ∷ more) two = refl
 -- ## One footnote
 
 not-none : (n : ℕ) → (suc n == 0) ≡ true → ⊥
-not-none n is = let some : suc n ≢ 0 = omega arith in let e : (suc n == 0) ≡ false = ne_eqb (suc n) 0 some in
-    absurd (cc)
+not-none n is = grind arith
 
 pub no-footnote : (sections : List Section) (letter numbers : List ℕ) → (length numbers == 0) ≡ true
     → [] ≡ footnote sections letter numbers
-no-footnote sections letter [] none = refl
-no-footnote sections letter (n ∷ ns) none = absurd (not-none (length ns) none)
+no-footnote sections letter numbers none = grind (arith, not-none)
 
 pub some-footnote : (sections : List Section) (letter numbers : List ℕ) → (length numbers == 0) ≡ false
     → letter ++ footnote_numbers (map (number_in sections) numbers) ++ codes ".\n" ≡ footnote sections letter numbers
-some-footnote sections letter [] some = absurd (cc)
-some-footnote sections letter (n ∷ ns) some = refl
+some-footnote sections letter numbers some = grind arith
 
 -- ## The footnotes of a name
 
@@ -95,8 +61,7 @@ used_by sections name = footnote sections (codes "\\U") name.used
 used-kept : (sections : List Section) (found : Option SecName) (used : List ℕ)
     → option_map (λ n. n.used) found ≡ Some used
     → footnote sections (codes "\\U") used ≡ of_kept (used_by sections) found
-used-kept sections None used is = absurd (cc)
-used-kept sections (Some name) used is = ap (footnote sections (codes "\\U")) (part-is (λ n. n.used) name used is)
+used-kept sections found used is = grind (arith, part-is)
 
 pub used-last : (sections : List Section) (kept : List SecName) (id : SecId) (used : List ℕ)
     → option_map (λ n. n.used) (slice_get kept id.index) ≡ Some used
@@ -106,10 +71,7 @@ used-last sections kept id used is = used-kept sections (slice_get kept id.index
 cited-kept : (sections : List Section) (found : Option SecName) (cited : List ℕ)
     → option_map (λ n. n.cited) found ≡ Some cited
     → footnote sections (codes "\\Q") cited ++ of_kept (used_by sections) found ≡ of_kept (use_footnotes sections) found
-cited-kept sections None cited is = absurd (cc)
-cited-kept sections (Some name) cited is =
-    ap (λ (ns : List ℕ). footnote sections (codes "\\Q") ns ++ used_by sections name)
-    (part-is (λ n. n.cited) name cited is)
+cited-kept sections found cited is = grind (arith, part-is)
 
 pub cited-first : (sections : List Section) (kept : List SecName) (id : SecId) (cited : List ℕ)
     → option_map (λ n. n.cited) (slice_get kept id.index) ≡ Some cited
@@ -121,22 +83,17 @@ defined-kept : (sections : List Section) (found : Option SecName) (defined other
     → option_map (λ n. n.defined) found ≡ Some defined → others ≡ drop 1 defined
     → footnote sections (codes "\\A") others ++ of_kept (use_footnotes sections) found
     ≡ of_kept (name_footnotes sections) found
-defined-kept sections None defined others is rest = absurd (cc)
-defined-kept sections (Some name) defined others is rest =
-    ap (λ (ns : List ℕ). footnote sections (codes "\\A") ns ++ use_footnotes sections name)
-    (rest ∙ ap (drop 1) (part-is (λ n. n.defined) name defined is))
+defined-kept sections found defined others is rest = grind (arith, part-is)
 
 pub defined-first : (sections : List Section) (kept : List SecName) (id : SecId) (defined others : List ℕ)
     → option_map (λ n. n.defined) (slice_get kept id.index) ≡ Some defined
     → others ≡ drop 1 defined
     → footnote sections (codes "\\A") others ++ of_name (use_footnotes sections) kept (Some id)
     ≡ of_name (name_footnotes sections) kept (Some id)
-defined-first sections kept id defined others is rest =
-    defined-kept sections (slice_get kept id.index) defined others is rest
+defined-first sections kept id defined others is rest = grind (arith, defined-kept)
 
 not-kept : (notes : SecName → List ℕ) (found : Option SecName) → found ≡ None → [] ≡ of_kept notes found
-not-kept notes None is = refl
-not-kept notes (Some name) is = absurd (cc)
+not-kept notes found is = grind arith
 
 pub no-name : (notes : SecName → List ℕ) (kept : List SecName) (id : SecId) → slice_get kept id.index ≡ None
     → [] ≡ of_name notes kept (Some id)
@@ -149,14 +106,11 @@ where-by first is notes e = ap (λ (b : Bool). list_if b notes) (sym e)
 
 pub unnamed : (notes : SecName → List ℕ) (kept : List SecName) (name : Option SecId) (number : ℕ) → name ≡ None
     → [] ≡ list_if (defines_first kept name number) (of_name notes kept name)
-unnamed notes kept None number is = refl
-unnamed notes kept (Some id) number is = absurd (cc)
+unnamed notes kept name number is = grind arith
 
 pub named : (notes : SecName → List ℕ) (kept : List SecName) (name : Option SecId) (id : SecId) (number : ℕ)
     (first : Bool) → name ≡ Some id
     → defines_first kept (Some id) number ≡ first
     → list_if first (of_name notes kept (Some id)) ≡ list_if (defines_first kept name number)
     (of_name notes kept name)
-named notes kept name id number first is e =
-    where-by (defines_first kept (Some id) number) first (of_name notes kept (Some id)) e
-    ∙ ap (λ (n : Option SecId). list_if (defines_first kept n number) (of_name notes kept n)) (sym is)
+named notes kept name id number first is e = grind (arith, where-by)

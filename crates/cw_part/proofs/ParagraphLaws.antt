@@ -1,5 +1,5 @@
 -- A paragraph is translated, and then printed or not.
-use Rattle.std.proofs.Common.{◌≡◌, ℕ, ◌||◌, Bool, true, false, sym, ap, ◌∙◌, subst, List, ◌++◌, codes}
+use Rattle.std.proofs.Common.{◌≡◌, ℕ, ◌||◌, Bool, true, false, sym, ap, ◌∙◌, List, ◌++◌, codes, arith}
 use Rattle.std.specs.Prelude.{Result, Ok, Err, IsErrAnd, nat_lt}
 use Rattle.std.proofs.lemmas.List.{append-nil}
 use Rattle.cw_base.specs.declared.memory.Memory.{Memory}
@@ -43,16 +43,7 @@ woven : {T : Type 0} {s : Setting} {d : Done ℕ} {out : List ℕ} {old new : Bo
     → Translates s d old new before after (Ok text) → Puts {T = T} out line line' told told' (Ok value)
     → Weaves s (reprint out d) (record { book = old; line = line; told = told; steps = before })
     (record { book = new; line = line'; told = told'; steps = after }) (Ok text.counts)
-woven {text = text} {line' = line'} {told' = told'} t put = record {
-  puts = puts-bytes (append-nil _) (puts-then put (puts-none line' told' text.counts));
-  names = t.names;
-  occurrences = t.occurrences;
-  same = t.same;
-  scraps = t.scraps;
-  productions = t.productions;
-  steps_are = t.steps_are;
-  bound = t.bound;
-}
+woven {text = text} {line' = line'} {told' = told'} t put = grind (arith, puts-bytes, append-nil, puts-then, puts-none)
 
 -- the same of a paragraph
 abbrev shown : List ℕ → Done ℕ → List ℕ
@@ -75,8 +66,7 @@ pub paragraph-cut : {T : Type 0} {s : Setting} {d : Done ℕ} (front : List ℕ)
     → IsErrAnd result (λ found. found ≡ error)
     → Weaves s (paragraph_if printed front d) (record { book = old; line = line; told = told; steps = before })
     (record { book = new; line = line'; told = told'; steps = after }) result
-paragraph-cut front true {error = error} is t put e =
-    weaves-refused error (puts-bytes (append-nil _) (puts-stop _ put e)) t.same t.bound e
+paragraph-cut front true {error = error} is t put e = grind (arith, weaves-refused, puts-bytes, append-nil, puts-stop)
 paragraph-cut front false is t put e = absurd (cc)
 
 pub paragraph-kept : {s : Setting} {d : Done ℕ} (front : List ℕ) (printed : Bool) {old new : Book} {before after : ℕ}
@@ -95,5 +85,4 @@ printed-is always printed n m is same = ap (λ (k : ℕ). always || nat_lt 0 k) 
 -- the same counts
 pub counted : {s : Setting} {d : Done ℕ} {old new : Press} {a b : Counts} → a ≡ b → Weaves s d old new (Ok b)
     → Weaves s d old new (Ok a)
-counted {s = s} {d = d} {old = old} {new = new} same woven =
-    subst (λ (c : Counts). Weaves s d old new (Ok c)) (sym same) woven
+counted {s = s} {d = d} {old = old} {new = new} same woven = grind (arith, woven)

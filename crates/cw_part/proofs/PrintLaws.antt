@@ -1,5 +1,5 @@
 -- Bytes are printed one after another.
-use Rattle.std.proofs.Common.{◌≡◌, ℕ, refl, sym, ap, ◌∙◌, List, [], ◌++◌, append_assoc}
+use Rattle.std.proofs.Common.{◌≡◌, ℕ, refl, ◌∙◌, List, [], ◌++◌, append_assoc, arith}
 use Rattle.std.specs.Prelude.{Result, Ok, Err, IsErrAnd, ⊤}
 use Rattle.std.proofs.lemmas.List.{append-nil}
 use Rattle.cw_desk.specs.Told.{Told}
@@ -38,5 +38,4 @@ printing-stopped rest p put is = prints-bytes p.goes (prints-then p.put (prints-
 -- the same rest
 pub printing-as : {D : Type 0} {told : D → Told} {rest rest' all : List ℕ} {old new : Sheet D} → rest ≡ rest'
     → Printing told rest all old new → Printing told rest' all old new
-printing-as same p = record
-    { done = p.done; put = p.put; goes = ap (λ (rest : List ℕ). p.done ++ rest) (sym same) ∙ p.goes }
+printing-as same p = grind arith

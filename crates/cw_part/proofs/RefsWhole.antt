@@ -1,13 +1,11 @@
 -- The C texts of whole sections are whole.
-use Rattle.std.proofs.Common.{ℕ, suc, Bool, true, false, not, List, [], ◌∷◌, ◌++◌, All, refl, sym, subst, length}
+use Rattle.std.proofs.Common.{ℕ, suc, Bool, not, List, [], ◌∷◌, ◌++◌, All, sym, subst, length, arith}
 use Rattle.std.specs.Prelude.{◌^◌, ◌≤◌}
 use Rattle.std.proofs.lemmas.List.Concat.{flat_map-cons}
 use Rattle.std.proofs.lemmas.List.Elements.{All-append, All-cons, All-filter, All-head, All-map, All-nil, All-tail}
 use Rattle.std.proofs.lemmas.List.Elements.{All-weaker}
 use Rattle.cw_base.specs.Conditions.{list_if}
-use Rattle.cw_base.specs.Web.{text_of}
 use Rattle.cw_base.specs.declared.span.Span.{Span}
-use Rattle.cw_phase1.specs.Book.{book}
 use Rattle.cw_phase1.specs.Whole.{IsWholeSection, SectionsAreWhole}
 use Rattle.cw_phase1.specs.declared.sections.Section.{Section}
 use Rattle.cw_rules.specs.declared.tokens.Mode.TheVariants.{CPart, Inner}
@@ -15,8 +13,7 @@ use Rattle.cw_secnames.specs.Uses.{NameUse}
 use Rattle.cw_texpart.specs.TexParts.{IsWhole, IsWholePiece}
 use Rattle.cw_texpart.specs.WholePieces.{TexPartsAreWhole}
 use Rattle.cw_texts.specs.Definitions.{definitions_in, not_silent, printed_definitions}
-use Rattle.cw_texts.specs.Printed.{is_kept, is_printed}
-use Rattle.cw_texts.specs.TexPieces.{Cited, Copied, InnerText, TexPiece, tex_pieces_of}
+use Rattle.cw_texts.specs.TexPieces.{TexPiece, tex_pieces_of}
 use Rattle.cw_texts.specs.Texts.{definition_ref, definition_refs, part_refs, piece_refs, refs_from, section_refs}
 use Rattle.cw_texts.specs.Texts.{tex_refs, text_ref}
 use Rattle.cw_texts.specs.declared.definitions.Definition.{Definition}
@@ -40,28 +37,21 @@ module _ (text : List ℕ) (short : length text ≤ 2 ^ 24) where
   one ref is = All-cons (IsWholeRef text) ref [] is none
 
   one-if : (b : Bool) (ref : TextRef) → IsWholeRef text ref → AreWhole (list_if b (ref ∷ []))
-  one-if true ref is = one ref is
-  one-if false ref is = none
+  one-if b ref is = grind (arith, one, none)
 
   inner-whole : (number : ℕ) (part : Span) → IsWhole text part → IsWholeRef text (text_ref number Inner part)
-  inner-whole number part is =
-      record { order = is.order; within = is.within; short = short; c_mode = refl; uncut = is.uncut }
+  inner-whole number part is = grind arith
 
   definition-whole : (number : ℕ) (d : Definition) → IsWholeDefinition text d
       → IsWholeRef text (definition_ref number d)
-  definition-whole number d is =
-      record { order = is.order; within = is.within; short = short; c_mode = refl; uncut = is.uncut }
+  definition-whole number d is = grind arith
 
   c_part-whole : (number : ℕ) (part : Span) → IsWholeIn CPart text part → IsWholeRef text (text_ref number CPart part)
-  c_part-whole number part is =
-      record { order = is.order; within = is.within; short = short; c_mode = refl; uncut = is.uncut }
+  c_part-whole number part is = grind arith
 
   piece-whole : (uses : List NameUse) (number : ℕ) (piece : TexPiece) → IsWholePiece text piece
       → AreWhole (piece_refs uses number piece)
-  piece-whole uses number (Copied token) is = none
-  piece-whole uses number (InnerText part) is = one (text_ref number Inner part) (inner-whole number part is)
-  piece-whole uses number (Cited part) is =
-      one-if (is_kept uses part.start) (text_ref number Inner part) (inner-whole number part is)
+  piece-whole uses number piece is = grind (arith, none, one, inner-whole, one-if)
 
   tex-whole : (uses : List NameUse) (number : ℕ) (pieces : List TexPiece) → All (IsWholePiece text) pieces
       → AreWhole (tex_refs uses number pieces)
@@ -105,7 +95,4 @@ module _ (text : List ℕ) (short : length text ≤ 2 ^ 24) where
 
 -- Those of a book, by the laws of its parts.
 pub texts-whole : SectionsAreWhole → TexPartsAreWhole → RestsAreWhole → TextsAreWhole
-texts-whole sections tex rest lines short =
-    let text = text_of lines in
-    sections-whole text short tex rest (is_printed text (book lines).name_uses) (book lines).name_uses 1
-    (book lines).outline.sections (sections lines)
+texts-whole sections tex rest lines short = grind (arith, sections-whole)

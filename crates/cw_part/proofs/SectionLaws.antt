@@ -1,5 +1,5 @@
 -- Pieces of a section, in the setting of the section.
-use Rattle.std.proofs.Common.{◌≡◌, ℕ, ◌+◌, refl, subst, List}
+use Rattle.std.proofs.Common.{◌≡◌, ℕ, ◌+◌, refl, subst, List, arith}
 use Rattle.std.specs.Prelude.{Result}
 use Rattle.cw_base.specs.declared.flags.Flags.{Flags}
 use Rattle.cw_lines.specs.declared.put_error.PutError.{PutError}
@@ -21,22 +21,19 @@ pub moved : (p : Present) (d : Setting → Done ℕ) {l l' : Lasting} {old new :
     → l ≡ l'
     → Weaves (part_setting p l) (d (part_setting p l)) old new result
     → Weaves (part_setting p l') (d (part_setting p l')) old new result
-moved p d {old = old} {new = new} {result = result} same woven =
-    subst (λ (l : Lasting). Weaves (part_setting p l) (d (part_setting p l)) old new result) same woven
+moved p d {old = old} {new = new} {result = result} same woven = grind arith
 
 -- the same rest
 pub weaving-as : {s : Setting} {rest rest' : List Entry → Done ℕ} {all : Done ℕ} {old now : Press} {counts : Counts}
     → rest ≡ rest'
     → Weaving s rest all old now counts → Weaving s rest' all old now counts
-weaving-as {s = s} {all = all} {old = old} {now = now} {counts = counts} same w =
-    subst (λ (rest : List Entry → Done ℕ). Weaving s rest all old now counts) same w
+weaving-as {s = s} {all = all} {old = old} {now = now} {counts = counts} same w = grind arith
 
 -- ## The section of a number, and the text of a web
 
 pub whole-as : {text text' : List ℕ} {s s' : Section} → text ≡ text' → s ≡ s' → IsWholeRest text s
     → IsWholeRest text' s'
-whole-as {text' = text'} {s = s} same is whole =
-    subst (λ (x : Section). IsWholeRest text' x) is (subst (λ (x : List ℕ). IsWholeRest x s) same whole)
+whole-as {text' = text'} {s = s} same is whole = grind arith
 
 pub woven-as : (flags : Flags) (n : ℕ) (b : Book) {text text' : List ℕ} {s s' : Section} {old new : Press}
     {result : Result Counts PutError} → text ≡ text' → s ≡ s'

@@ -1,17 +1,16 @@
 -- The definitions of a whole part are whole.
-use Rattle.std.proofs.Common.{◌≡◌, ℕ, ◌≤◌, Bool, true, false, ◌||◌, List, [], ◌∷◌, ◌++◌, Option, Some, None, All}
-use Rattle.std.proofs.Common.{length, take, refl, sym, ap, subst, ◌∙◌, arith, append_assoc, ◌⊎◌, inl, inr}
+use Rattle.std.proofs.Common.{◌≡◌, ℕ, ◌≤◌, Bool, false, List, [], ◌∷◌, ◌++◌, Option, Some, None, All, length, take}
+use Rattle.std.proofs.Common.{refl, sym, ap, subst, ◌∙◌, arith, append_assoc, ◌⊎◌, inl, inr}
 use Rattle.std.proofs.lemmas.List.{take_all, take-take, length-take}
 use Rattle.std.proofs.lemmas.List.Elements.{All-nil, All-cons, All-weaker}
 use Rattle.cw_phase1.proofs.PartEnds.{uncut-before}
 use Rattle.cw_rules.specs.declared.codes.Code.{Code}
-use Rattle.cw_rules.specs.declared.codes.Code.TheVariants as at
 use Rattle.cw_rules.specs.declared.tokens.Mode.TheVariants as modes
 use Rattle.cw_rules.specs.declared.tokens.TokKind.{TokKind}
 use Rattle.cw_rules.specs.declared.tokens.TokKind.TheVariants as kinds
 use Rattle.cw_rules.specs.Answers.{Answer, Token, Begin, Finish, Note, has_sign}
 use Rattle.cw_lex.specs.Lexing.{answers_at, tokens_of, beginning as begun}
-use Rattle.cw_lex.specs.Nested.{is_section_answer, begins_section_in}
+use Rattle.cw_lex.specs.Nested.{begins_section_in}
 use Rattle.cw_lex.specs.Openings.{opened_by, TextsEndAtOpenings}
 use Rattle.cw_rules.specs.Order.{AreWithin}
 use Rattle.cw_lex.proofs.TokensWithin.{tokens-within}
@@ -20,19 +19,14 @@ use Rattle.cw_texts.specs.declared.definitions.Begun.{Begun}
 use Rattle.cw_texts.specs.declared.definitions.Definition.{Definition}
 use Rattle.cw_texts.specs.Definitions.{begun_by, next_begin, ended_at, with_begun, definitions_of}
 use Rattle.cw_part.specs.WholeDefinitions.{DefinitionsAreWhole, RestsAreWhole}
-use Rattle.cw_part.specs.WholeTexts.{IsWholeIn, IsWholeDefinition}
+use Rattle.cw_part.specs.WholeTexts.{IsWholeDefinition}
 use Rattle.cw_texts.specs.Scans.{scanned}
 
 -- ## Section codes among answers
 
 uncut-left : (xs ys : List Answer) → begins_section_in (xs ++ ys) ≡ false → begins_section_in xs ≡ false
 uncut-left [] ys h = refl
-uncut-left (x ∷ xs) ys h = by (is_section_answer x) h (uncut-left xs ys)
-  where
-    by : (b : Bool) → (b || begins_section_in (xs ++ ys)) ≡ false → (begins_section_in (xs ++ ys) ≡ false →
-        begins_section_in xs ≡ false) → (b || begins_section_in xs) ≡ false
-    by true k rec = absurd cc
-    by false k rec = rec k
+uncut-left (x ∷ xs) ys h = grind (arith, uncut-left xs ys)
 
 -- ## Where a definition begins
 
@@ -45,32 +39,10 @@ record Told (kind : TokKind) (start : ℕ) : Type 0 where
   so : (begun_by kind start ≡ None) ⊎ ((b : Begun) × (begun_by kind start ≡ Some b) × Begins kind start b)
 
 told-code : (code : Code) (start : ℕ) → Told (kinds.Code code) start
-told-code at.Define start = record {
-  so = inr (
-    record { start = start; silent = false },
-    refl,
-    record { at = refl; opened = λ h. refl },
-  );
-}
-told-code at.Format start = record {
-  so = inr (
-    record { start = start; silent = false },
-    refl,
-    record { at = refl; opened = λ h. refl },
-  );
-}
-told-code at.SilentFormat start = record {
-  so = inr (
-    record { start = start; silent = true },
-    refl,
-    record { at = refl; opened = λ h. refl },
-  );
-}
-told-code _ start = record { so = inl refl }
+told-code code start = grind arith
 
 told : (kind : TokKind) (start : ℕ) → Told kind start
-told (kinds.Code code) start = told-code code start
-told _ start = record { so = inl refl }
+told kind start = grind (arith, told-code)
 
 -- ## The definitions of a text
 
@@ -95,12 +67,7 @@ module _ (openings : TextsEndAtOpenings) (text : List ℕ) where
   up-to-next : (start : ℕ) (xs ys : List Answer) → start ≤ length text → scan start ≡ xs ++ ys →
       begins_section_in (xs ++ ys) ≡ false → AreWithin 0 (length text) ys
       → IsGood text start (next_begin (length text) (definitions_of (length text) ys))
-  up-to-next start xs [] l e h a = record {
-    order = l;
-    within = omega arith;
-    uncut = ap (λ l. begins_section_in (answers_at l (begun modes.Definition) start))
-        (take_all (length text) text (omega arith)) ∙ ap begins_section_in e ∙ h;
-  }
+  up-to-next start xs [] l e h a = grind (arith, take_all)
   up-to-next start xs (Token t ∷ ys) l e h a =
       by (told t.kind t.span.start).so (up-to-next start (xs ++ Token t ∷ []) ys l
       (e ∙ sym (append_assoc xs (Token t ∷ []) ys)) (ap begins_section_in (append_assoc xs (Token t ∷ []) ys) ∙ h)
@@ -175,15 +142,7 @@ wider low from to (Note kind place ∷ answers) l a = wider low from to answers 
 -- a part of the text's beginning is a part of the text
 in-text : (text : List ℕ) (end : ℕ) (d : Definition) → end ≤ length text → IsGoodDefinition (take end text) d →
     IsWholeDefinition text d
-in-text text end d l g =
-    let size : length (take end text) ≡ end = omega (arith, length-take end text, l) in
-    let fits : d.span.«end» ≤ end = omega (arith, g.within, size) in
-    record {
-      order = g.order;
-      within = omega (arith, fits, l);
-      uncut = ap (λ t. begins_section_in (answers_at t (begun modes.Definition) d.span.start))
-          (sym (take-take d.span.«end» end text fits)) ∙ g.uncut;
-    }
+in-text text end d l g = grind (arith, length-take, take-take)
 
 pub definitions-whole : TextsEndAtOpenings → DefinitionsAreWhole
 definitions-whole openings text part w =
@@ -200,15 +159,4 @@ definitions-whole openings text part w =
     (definitions_of (length cut) answers) good)
 
 pub rests-whole : TextsEndAtOpenings → RestsAreWhole
-rests-whole openings text section w =
-    let lies = w.lies in
-    let definitions : IsWholeIn modes.Definition text section.definitions = record {
-      order = lies.definitions;
-      within = omega (arith, lies.definitions_end, lies.c_part, lies.within);
-      uncut = w.definitions;
-    } in
-    record {
-      definitions = definitions;
-      each = definitions-whole openings text section.definitions definitions;
-      c_part = record { order = lies.c_part; within = lies.within; uncut = w.c_part };
-    }
+rests-whole openings text section w = grind (arith, each, definitions-whole)

@@ -11,13 +11,12 @@ use Rattle.cw_lines.specs.declared.put_error.PutError.TheVariants.{Memory}
 use Rattle.cw_names.specs.Names.{Entry}
 use Rattle.cw_names.specs.declared.xrefs.Occurrence.{Occurrence}
 use Rattle.cw_translator.specs.Counting.{limit_in, productions_in, scraps_in, ticks_in}
-use Rattle.cw_table.specs.Productions.{productions}
 use Rattle.cw_texpart.specs.declared.counts.Counts.{Counts}
 use Rattle.cw_texpart.specs.Done.{Done, joined_done, as_it_is, done_then}
 use Rattle.cw_texpart.specs.Texts.{Setting}
 use Rattle.cw_texpart.specs.Weaving.{Press, Weaves, underlined}
-use Rattle.cw_texpart.proofs.WeavingLaws.{joined-joined, limit-append, productions-append, scraps-append}
-use Rattle.cw_texpart.proofs.WeavingLaws.{ticks-append, underlined-append, underlined-none, weaves-as, weaves-refused}
+use Rattle.cw_texpart.proofs.WeavingLaws.{joined-joined, limit-append, productions-append, scraps-append, ticks-append}
+use Rattle.cw_texpart.proofs.WeavingLaws.{underlined-append, underlined-none, weaves-as, weaves-refused}
 
 -- ## One piece
 
@@ -38,17 +37,8 @@ pub weaves-bytes : {T : Type 0} {s : Setting} {bytes : List ℕ} {old : Press} {
     → Puts {T = T} bytes old.line line old.told told (Ok value)
     → Weaves s (as_it_is bytes old.book.names) old
     (record { book = old.book; line = line; told = told; steps = old.steps }) (Ok no_counts)
-weaves-bytes {s = s} {old = old} {line = line} {told = told} put = record {
-  puts = puts-bytes (append-nil _) (puts-then put (puts-none line told no_counts));
-  names = refl;
-  occurrences = sym (append-nil old.book.xrefs)
-      ∙ ap (λ (os : List Occurrence). old.book.xrefs ++ os) (sym (underlined-none s.section));
-  same = refl;
-  scraps = refl;
-  productions = refl;
-  steps_are = omega arith;
-  bound = omega arith;
-}
+weaves-bytes {s = s} {old = old} {line = line} {told = told} put =
+    grind (arith, puts-bytes, append-nil, puts-then, puts-none, underlined-none)
 
 pub weaves-nothing : (s : Setting) (old : Press) → Weaves s (as_it_is [] old.book.names) old old (Ok no_counts)
 weaves-nothing s old = weaves-bytes (puts-none old.line old.told (tt {0}))
@@ -58,8 +48,7 @@ pub bytes-refused : {T : Type 0} {s : Setting} {bytes : List ℕ} {old : Press} 
     → Puts {T = T} bytes old.line line old.told told (Err error) → IsErrAnd result (λ found. found ≡ error)
     → Weaves s (as_it_is bytes old.book.names) old
     (record { book = old.book; line = line; told = told; steps = old.steps }) result
-bytes-refused {error = error} put is =
-    weaves-refused error (puts-bytes (append-nil _) (puts-stop [] put is)) refl (omega arith) is
+bytes-refused {error = error} put is = grind (arith, weaves-refused, puts-bytes, append-nil, puts-stop)
 
 -- ## A piece and then another
 
@@ -103,11 +92,7 @@ pub weaves-stopped : {s : Setting} {a : Done ℕ} (b : Done ℕ) {old new : Pres
     → Weaves s a old new (Err error) → IsErrAnd result (λ found. found ≡ error)
     → Weaves s (joined_done a b) old new result
 weaves-stopped {s = s} {a = a} b {old = old} {new = new} {error = error} begun is =
-    weaves-refused error (puts-stop b.out begun.puts is) begun.same
-    (let x : new.steps ≤ old.steps + limit_in s.flags a.ended = begun.bound in
-    let z : limit_in s.flags (a.ended ++ b.ended) ≡ limit_in s.flags a.ended + limit_in s.flags b.ended =
-    limit-append s.flags a.ended b.ended in omega (arith, x, z))
-    is
+    grind (arith, puts-stop b.out begun.puts is, limit-append s.flags a.ended b.ended)
 
 -- the second is refused
 pub weaves-joined-refused : {s : Setting} {a b : Done ℕ} {old mid new : Press} {first : Counts} {error : PutError}
@@ -147,19 +132,14 @@ pub record Weaving (s : Setting) (rest : List Entry → Done ℕ) (all : Done �
 pub weaving-begun : (s : Setting) (rest : List Entry → Done ℕ) (press : Press) {counts : Counts}
     → AreSums counts no_counts no_counts
     → Weaving s rest (rest press.book.names) press press counts
-weaving-begun s rest press none = record {
-  done = as_it_is [] press.book.names;
-  woven = weaves-joined (weaves-nothing s press) (weaves-nothing s press) none;
-  goes = refl;
-}
+weaving-begun s rest press none =
+    grind (arith, weaves-joined (weaves-nothing s press) (weaves-nothing s press) none, weaves-nothing s press)
 
 -- what is to come behind a piece that is woven next
 goes-next : {s : Setting} (d rest : List Entry → Done ℕ) {all : Done ℕ} {old mid : Press} {counts : Counts}
     (w : Weaving s (λ names. done_then (d names) rest) all old mid counts)
     → joined_done w.done (joined_done (d mid.book.names) (rest (d mid.book.names).names)) ≡ all
-goes-next d rest {mid = mid} w =
-    ap (λ (names : List Entry). joined_done w.done (joined_done (d names) (rest (d names).names))) w.woven.names
-    ∙ w.goes
+goes-next d rest {mid = mid} w = grind arith
 
 pub weaving-next : {s : Setting} (d rest : List Entry → Done ℕ) {all : Done ℕ} {old mid new : Press}
     {counts more sum : Counts}
@@ -199,15 +179,11 @@ pub weaving-last : {s : Setting} {d : List Entry → Done ℕ} {all : Done ℕ} 
     {counts more sum : Counts}
     → Weaving s d all old mid counts → Weaves s (d mid.book.names) mid new (Ok more) → AreSums sum counts more
     → Weaves s all old new (Ok sum)
-weaving-last {d = d} w woven sums =
-    weaves-as (ap (λ (names : List Entry). joined_done w.done (d names)) w.woven.names ∙ w.goes)
-    (weaves-joined w.woven woven sums)
+weaving-last {d = d} w woven sums = grind (arith, weaves-joined w.woven woven sums)
 
 pub weaving-last-stopped : {s : Setting} {d : List Entry → Done ℕ} {all : Done ℕ} {old mid new : Press}
     {counts : Counts} {error : PutError} {result : Result Counts PutError}
     → Weaving s d all old mid counts → Weaves s (d mid.book.names) mid new (Err error)
     → IsErrAnd result (λ found. found ≡ error)
     → Weaves s all old new result
-weaving-last-stopped {d = d} w woven is =
-    weaves-as (ap (λ (names : List Entry). joined_done w.done (d names)) w.woven.names ∙ w.goes)
-    (weaves-joined-refused w.woven woven is)
+weaving-last-stopped {d = d} w woven is = grind (arith, weaves-joined-refused w.woven woven is)

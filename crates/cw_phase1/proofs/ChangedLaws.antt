@@ -1,6 +1,6 @@
 -- Whether a section is changed is asked of the rows one by one, and the last row is the last section.
-use Rattle.std.proofs.Common.{◌≡◌, ℕ, zero, suc, ◌+◌, ◌<◌, ◌∙◌, ◌||◌, Bool, true, false, List, [], ◌∷◌, ap, sym, refl}
-use Rattle.std.proofs.Common.{arith, cond, map, drop, length, get_or, set}
+use Rattle.std.proofs.Common.{◌≡◌, ℕ, zero, suc, ◌+◌, ◌<◌, ◌∙◌, ◌||◌, true, false, List, [], ◌∷◌, ap, refl, arith, map}
+use Rattle.std.proofs.Common.{drop, length, get_or, set}
 use Rattle.std.proofs.lemmas.List.{at_drop_more, get_or-map, length-map}
 use Rattle.cw_phase1.specs.Changed.{has_changed, with_last_changed, with_last_marked}
 use Rattle.cw_phase1.specs.Packed.{unpacked}
@@ -18,18 +18,13 @@ has-more rows k d h =
 pub changed-found : (rows : List Row) (sections : List Section) (k : ℕ) (d : Row) → map unpacked rows ≡ sections
     → has_changed (drop k sections) ≡ has_changed sections → k < length rows → (get_or rows k d).changed ≡ true
     → true ≡ has_changed sections
-changed-found rows sections k d v i h e =
-    sym (ap (λ b. b || has_changed (drop (k + 1) (map unpacked rows))) e) ∙ (sym (has-more rows k d h)
-    ∙ (ap (λ (s : List Section). has_changed (drop k s)) v ∙ i))
+changed-found rows sections k d v i h e = grind (arith, has-more rows k d h)
 
 -- one that isn't
 pub unchanged-passed : (rows : List Row) (sections : List Section) (k : ℕ) (d : Row) → map unpacked rows ≡ sections
     → has_changed (drop k sections) ≡ has_changed sections → k < length rows → (get_or rows k d).changed ≡ false
     → has_changed (drop (k + 1) sections) ≡ has_changed sections
-unchanged-passed rows sections k d v i h e =
-    sym (ap (λ (s : List Section). has_changed (drop (k + 1) s)) v)
-    ∙ (sym (ap (λ b. b || has_changed (drop (k + 1) (map unpacked rows))) e) ∙ (sym (has-more rows k d h)
-    ∙ (ap (λ (s : List Section). has_changed (drop k s)) v ∙ i)))
+unchanged-passed rows sections k d v i h e = grind (arith, has-more rows k d h)
 
 -- the last row is the last section
 pub last-marked : (rows : List Row) (k : ℕ) (last : Row) → k + 1 ≡ length rows → last ≡ get_or rows k last
@@ -43,22 +38,16 @@ last-marked (r ∷ next ∷ rows) (suc k) last n e =
 
 pub marked-changed : (sections : List Section) → true ≡ has_changed sections
     → with_last_changed sections ≡ with_last_marked sections
-marked-changed sections e =
-    ap (λ b. cond b (with_last_changed sections) sections) e
+marked-changed sections e = grind arith
 
 pub none-changed : (rows : List Row) → (0 < length rows → ⊥) → true ≡ has_changed (map unpacked rows) → ⊥
 none-changed [] n e = cc
 none-changed (r ∷ rows) n e = n (omega arith)
 
 length-changed : (sections : List Section) → length (with_last_changed sections) ≡ length sections
-length-changed [] = refl
-length-changed (s ∷ []) = refl
 length-changed (s ∷ next ∷ sections) = ap suc (length-changed (next ∷ sections))
+length-changed _ = refl
 
 -- as many sections as before
 pub length-marked : (sections : List Section) → length (with_last_marked sections) ≡ length sections
-length-marked sections = by (has_changed sections)
-  where
-    by : (b : Bool) → length (cond b (with_last_changed sections) sections) ≡ length sections
-    by true = length-changed sections
-    by false = refl
+length-marked sections = grind (arith, length-changed)

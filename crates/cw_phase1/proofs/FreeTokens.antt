@@ -1,11 +1,10 @@
 -- A word or a sign in no head leaves the text standing as it does.
-use Rattle.std.proofs.Common.{◌≡◌, ◌∙◌, ap, sym, refl, false, true, List, None}
+use Rattle.std.proofs.Common.{◌≡◌, ap, false, true, List, None, arith}
 use Rattle.cw_base.specs.declared.span.Span.{Span}
 use Rattle.cw_base.specs.Web.{MergedLine}
 use Rattle.cw_lex.specs.Heads.{head_behind}
 use Rattle.cw_lex.specs.declared.heads.Wanted.TheVariants as wants
 use Rattle.cw_rules.specs.Answers.{Seen}
-use Rattle.cw_rules.specs.declared.signs.Sign.TheVariants as signs
 use Rattle.cw_rules.specs.declared.tokens.TokKind.{TokKind}
 use Rattle.cw_rules.specs.declared.tokens.TokKind.TheVariants as kinds
 use Rattle.cw_phase1.specs.declared.held.Held.{Held}
@@ -13,31 +12,19 @@ use Rattle.cw_phase1.specs.declared.roles.Role.{Role}
 use Rattle.cw_phase1.specs.declared.roles.Role.TheVariants as roles
 use Rattle.cw_phase1.specs.declared.roles.Standing.{Standing}
 use Rattle.cw_phase1.specs.declared.told.Told.{Told}
-use Rattle.cw_phase1.specs.Holding.{HeldState, held_of, is_silent, plain_by, plain_held, remark_of, waiting_of}
-use Rattle.cw_phase1.specs.Roles.{free_step, placed_by, stay, token_step, token_step_by}
+use Rattle.cw_phase1.specs.Holding.{HeldState, held_of, is_silent, plain_held, remark_of, waiting_of}
+use Rattle.cw_phase1.specs.Roles.{free_step, placed_by, stay, token_step}
 use Rattle.cw_phase1.specs.Telling.{told_step}
 
 no-head : (kind : TokKind) (span : Span) → head_behind wants.Nothing kind span ≡ None
-no-head kinds.Identifier span = refl
-no-head (kinds.Sign signs.LeftParen) span = refl
-no-head (kinds.Sign signs.Comma) span = refl
-no-head (kinds.Sign signs.Ellipsis) span = refl
-no-head (kinds.Sign signs.RightParen) span = refl
-no-head (kinds.Sign sign) span = refl
-no-head kind span = refl
+no-head kind span = grind arith
 
 free : (kind : TokKind) (s : Standing) (span : Span) (role : Role) → s.wanted ≡ wants.Nothing
     → ((t : Standing) → free_step kind false t ≡ stay role t) → token_step kind false s span ≡ stay role s
-free kind s span role none is =
-    ap (λ o. token_step_by o kind false s) (ap (λ w. head_behind w kind span) none ∙ no-head kind span)
-    ∙ is (record s { wanted = wants.Nothing })
-    ∙ ap (λ w. stay role (record s { wanted = w })) (sym none)
+free kind s span role none is = grind (arith, no-head)
 
 silent : (kind : TokKind) → is_silent kind ≡ true → (t : Standing) → free_step kind false t ≡ stay roles.Plain t
-silent kinds.Identifier is t = absurd (let wrong : false ≡ true = is in cc)
-silent (kinds.Code code) is t = absurd (let wrong : false ≡ true = is in cc)
-silent kinds.HeadSign is t = absurd (let wrong : false ≡ true = is in cc)
-silent kind is t = refl
+silent kind is t = grind arith
 
 word : (kind : TokKind) → kind ≡ kinds.Identifier → (t : Standing) → free_step kind false t ≡ stay roles.Word t
 word kind is t = ap (λ k. free_step k false t) is
@@ -63,12 +50,4 @@ pub stays-held : (role : Role) (lines : List MergedLine) (h : Held) (t : Seen) (
     → token_step t.kind false h.standing t.span ≡ stay role h.standing → h.waiting ≡ None
     → told ≡ told_step lines (placed_by t None (stay role h.standing)) h.told → with_told h told
     ≡ plain_held lines t (held_of h)
-stays-held role lines h t told step waits is =
-    (λ i. record {
-      pass = record { standing = h.standing; waiting = waiting_of (waits i) };
-      kept = h.kept;
-      told = is i;
-      remark = remark_of h.remark;
-      notes = h.notes;
-    })
-    ∙ ap (λ st. plain_by st lines t (held_of h)) (sym step)
+stays-held role lines h t told step waits is = grind arith

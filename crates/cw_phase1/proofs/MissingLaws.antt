@@ -1,33 +1,27 @@
 -- Where each section name has a definition, no section lacks a `=`; else the notes come section by section.
-use Rattle.std.proofs.Common.{◌≡◌, ℕ, zero, suc, ◌+◌, ◌<◌, ◌==◌, ◌&&◌, ◌||◌, Bool, true, false, List, [], ◌∷◌, ◌++◌}
-use Rattle.std.proofs.Common.{Option, Some, None, ◌∙◌, refl, ap, sym, append_assoc, arith, drop, filter, length, map}
+use Rattle.std.proofs.Common.{◌≡◌, ℕ, zero, suc, ◌+◌, ◌<◌, ◌||◌, Bool, false, List, [], ◌∷◌, ◌++◌, Option, Some, ◌∙◌}
+use Rattle.std.proofs.Common.{refl, ap, sym, append_assoc, arith, drop, filter, length}
 use Rattle.std.proofs.lemmas.List.{at_drop_more}
 use Rattle.std.proofs.lemmas.Option.{get_or_from_slice_get, slice_get_within}
 use Rattle.std.specs.List.{list_any, slice_get}
+use Rattle.std.proofs.lemmas.Grind.{common_steps}
 use Rattle.cw_base.specs.Conditions.{list_if}
-use Rattle.cw_base.specs.Web.{MergedLine, text_of}
+use Rattle.cw_base.specs.Web.{MergedLine}
 use Rattle.cw_base.specs.declared.notes.Note.{Note}
 use Rattle.cw_base.specs.declared.span.Span.{Span}
-use Rattle.cw_lex.specs.Lexing.{tokens_of}
 use Rattle.cw_rules.specs.Answers.{Seen}
-use Rattle.cw_rules.specs.declared.tokens.Mode.TheVariants.{TexText}
 use Rattle.cw_secnames.specs.Kept.{SecName}
-use Rattle.cw_secnames.specs.Uses.{NameUse, name_at}
+use Rattle.cw_secnames.specs.Uses.{NameUse}
 use Rattle.cw_phase1.specs.Missing.{has_no_definition, is_undefined, is_undefined_name, lacks_equals, missing_equals}
-use Rattle.cw_phase1.specs.Missing.{missing_in, missing_note, outer_names, stands_alone}
+use Rattle.cw_phase1.specs.Missing.{missing_in}
 use Rattle.cw_phase1.specs.declared.sections.Section.{Section}
 
 -- one of two tests that fail together
 pub left-false : (a b : Bool) → (a || b) ≡ false → a ≡ false
-left-false true b e = e
-left-false false b e = refl
+left-false a b e = grind arith
 
 pub right-false : (a b : Bool) → (a || b) ≡ false → b ≡ false
-right-false true b e = absurd (never e)
-  where
-    never : true ≡ false → ⊥
-    never e = cc
-right-false false b e = e
+right-false a b e = grind arith
 
 pub defined-at : (names : List SecName) (k : ℕ) → list_any has_no_definition names ≡ false
     → is_undefined (slice_get names k) ≡ false
@@ -38,14 +32,11 @@ defined-at (n ∷ names) (suc k) e =
 
 undefined-none : (names : List SecName) (name : Option ℕ) → list_any has_no_definition names ≡ false
     → is_undefined_name names name ≡ false
-undefined-none names None e = refl
-undefined-none names (Some k) e = defined-at names k e
+undefined-none names name e = grind (arith, defined-at)
 
 not-lacking : (text : List ℕ) (uses : List NameUse) (names : List SecName) (tex : Span) (token : Seen)
     → list_any has_no_definition names ≡ false → lacks_equals text uses names tex token ≡ false
-not-lacking text uses names tex token e =
-    ap (λ undefined. undefined && stands_alone text tex token.span)
-    (undefined-none names (name_at token.span.start uses) e)
+not-lacking text uses names tex token e = grind (arith, undefined-none)
 
 none-lack : (text : List ℕ) (uses : List NameUse) (names : List SecName) (tex : Span) (tokens : List Seen)
     → list_any has_no_definition names ≡ false → filter (lacks_equals text uses names tex) tokens ≡ []
@@ -54,15 +45,11 @@ none-lack text uses names tex (token ∷ tokens) e =
     rw (not-lacking text uses names tex token e) (none-lack text uses names tex tokens e)
 
 empty-if : {X : Type 0} (test : Bool) (xs : List X) → xs ≡ [] → list_if test xs ≡ []
-empty-if true xs e = e
-empty-if false xs e = refl
+empty-if test xs e = grind arith
 
 none-in : (lines : List MergedLine) (uses : List NameUse) (names : List SecName) (s : Section)
     → list_any has_no_definition names ≡ false → missing_in lines uses names s ≡ []
-none-in lines uses names s e =
-    empty-if (s.c_part.start == s.c_part.«end») _
-    (ap (map (missing_note lines)) (none-lack (text_of lines) uses names s.tex
-    (outer_names 0 (tokens_of (text_of lines) s.tex.start s.tex.«end» TexText)) e))
+none-in lines uses names s e = grind (arith, empty-if, none-lack)
 
 pub none_missing : (lines : List MergedLine) (uses : List NameUse) (names : List SecName) (sections : List Section)
     → list_any has_no_definition names ≡ false → missing_equals lines uses names sections ≡ []
@@ -76,10 +63,7 @@ pub any-more : (names : List SecName) (k : ℕ) → k < length names → list_an
     ≡ (is_undefined_name names (Some k) || list_any has_no_definition (drop (k + 1) names))
 any-more [] k h = absurd (omega arith)
 any-more (n ∷ names) zero h = refl
-any-more (n ∷ names) (suc k) h =
-    any-more names k (omega arith) ∙
-    ap (λ rest. is_undefined_name names (Some k) || list_any has_no_definition rest)
-    (let one : suc (k + 1) ≡ suc k + 1 = omega arith in ap (λ m. drop m (n ∷ names)) one)
+any-more (n ∷ names) (suc k) h = grind (arith, common_steps, any-more names k (omega arith))
 
 -- ## Section by section
 

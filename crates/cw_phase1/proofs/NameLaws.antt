@@ -1,5 +1,5 @@
 -- A name keeps its place.
-use Rattle.std.proofs.Common.{◌≡◌, ℕ, zero, suc, Bool, true, false, List, [], ◌∷◌, ◌++◌, length, refl, ap, ◌∙◌, sym}
+use Rattle.std.proofs.Common.{◌≡◌, ℕ, zero, suc, Bool, false, List, [], ◌∷◌, ◌++◌, length, refl, ap, arith}
 use Rattle.cw_base.specs.declared.category.Cat.{Cat}
 use Rattle.cw_names.specs.declared.entry.EntryKind.TheVariants.{Ident}
 use Rattle.cw_names.specs.Names as names
@@ -8,7 +8,7 @@ use Rattle.cw_phase1.specs.Roles.{Placed}
 use Rattle.cw_names.specs.declared.entry.NameId.{NameId}
 use Rattle.cw_phase1.specs.declared.words.Words.{Words}
 use Rattle.cw_phase1.specs.Words.{with_format, name_id}
-use Rattle.cw_phase1.specs.Telling.{told_as, word_told, word_occurrence}
+use Rattle.cw_phase1.specs.Telling.{word_told, word_occurrence}
 
 pub category-length : (place : ℕ) (category : Cat) (entries : List names.Entry)
     → length (names.with_category place category entries) ≡ length entries
@@ -22,9 +22,4 @@ pub second-told : (silent : Bool) (p : Placed) (old w : Words) (second : NameId)
     → w.names ≡ names.with_entry Ident p.token.text old.names
     → w.waits ≡ false → w.xrefs ≡ old.xrefs ++ word_occurrence silent old.waits p old.names
     → record w { names = with_format w.first second w.names } ≡ word_told p old
-second-told true p old w second role s f n t x =
-    (λ i. record { names = with_format (f i) (s i) (n i); first = f i; waits = t i; xrefs = x i })
-    ∙ ap (λ r. told_as r p old) (sym role)
-second-told false p old w second role s f n t x =
-    (λ i. record { names = with_format (f i) (s i) (n i); first = f i; waits = t i; xrefs = x i })
-    ∙ ap (λ r. told_as r p old) (sym role)
+second-told silent p old w second role s f n t x = grind arith

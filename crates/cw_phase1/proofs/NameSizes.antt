@@ -1,26 +1,19 @@
 -- No kept name is longer than the text of the web.
-use Rattle.std.proofs.Common.{ℕ, zero, suc, ◌+◌, ◌-◌, ◌≤◌, ◌==◌, Bool, true, false, List, [], ◌∷◌, ◌++◌, Option, Some}
-use Rattle.std.proofs.Common.{None, All, drop, take, length, length-drop, sym, subst, arith, if◌then◌else◌}
-use Rattle.std.specs.List.{position}
+use Rattle.std.proofs.Common.{ℕ, zero, suc, ◌+◌, ◌≤◌, ◌==◌, Bool, List, [], ◌∷◌, ◌++◌, Option, All, drop, length}
+use Rattle.std.proofs.Common.{length-drop, sym, subst, arith, if◌then◌else◌}
 use Rattle.std.proofs.lemmas.List.{length-take}
-use Rattle.std.proofs.lemmas.List.Elements.{All-nil, All-cons}
-use Rattle.cw_rules.specs.declared.codes.Code.TheVariants as at
+use Rattle.std.proofs.lemmas.List.Elements.{All-nil}
 use Rattle.cw_rules.specs.declared.tokens.TokKind.{TokKind}
-use Rattle.cw_rules.specs.declared.tokens.TokKind.TheVariants as kinds
 use Rattle.cw_rules.specs.Answers.{Seen, Answer, Token, Begin, Finish, Note}
-use Rattle.cw_rules.specs.Bytes.{at_sign, is_in}
+use Rattle.cw_rules.specs.Bytes.{at_sign}
 use Rattle.cw_rules.specs.Names.{is_void, uncoded}
 use Rattle.cw_rules.specs.Order.{Covers}
-use Rattle.cw_rules.specs.declared.classes.Class.TheVariants.{White}
 use Rattle.cw_secnames.specs.declared.kinds.Earliest.{Earliest}
-use Rattle.cw_secnames.specs.declared.kinds.Earliest.TheVariants.{Nobody, One, Several}
 use Rattle.cw_secnames.specs.declared.kinds.SecKind.{SecKind}
-use Rattle.cw_secnames.specs.declared.kinds.SecKind.TheVariants.{Named, File}
-use Rattle.cw_secnames.specs.Kept.{SecName, unreferred, with_text, has_text, grows_to, conflicts_with, enter_by}
-use Rattle.cw_secnames.specs.Kept.{positions_from, is_candidate, is_shorter, grown, earliest, enter_prefix_by}
+use Rattle.cw_secnames.specs.Kept.{SecName, unreferred, with_text, enter_by, is_shorter, grown, enter_prefix_by}
 use Rattle.cw_secnames.specs.References.{Reference, referred}
-use Rattle.cw_phase1.specs.Texts.{blank_before, single_blanks, without_first_blank, Naming, Void, Full}
-use Rattle.cw_phase1.specs.Texts.{Prefix, ends_in_dots, naming_by, naming, named_text, name_text, unless_void}
+use Rattle.cw_phase1.specs.Texts.{blank_before, single_blanks, without_first_blank, Naming, Void, Full, Prefix}
+use Rattle.cw_phase1.specs.Texts.{naming_by, naming, named_text, name_text, unless_void}
 use Rattle.cw_phase1.specs.Entering.{entering, kept_by, kept_behind, kept_after}
 use Rattle.cw_phase1.proofs.Underway.{covers-end, text-length}
 
@@ -28,47 +21,28 @@ use Rattle.cw_phase1.proofs.Underway.{covers-end, text-length}
 
 size-by : (t : Bool) (n : ℕ) (xs ys : List ℕ) → length xs ≤ n → length ys ≤ n
     → length (if t then xs else ys) ≤ n
-size-by true n xs ys h k = h
-size-by false n xs ys h k = k
+size-by t n xs ys h k = grind arith
 
 size-if : (t : Bool) (n : ℕ) (xs ys : List ℕ) → length xs ≤ n → length ys ≤ n → length (if t then xs else ys) ≤ n
-size-if true n xs ys h k = h
-size-if false n xs ys h k = k
+size-if t n xs ys h k = grind arith
 
 blank-size : (bytes : List ℕ) → length (blank_before bytes) ≤ 1 + length bytes
-blank-size [] = omega arith
-blank-size (byte ∷ bytes) = size-by (byte == 32) (1 + length (byte ∷ bytes)) (byte ∷ bytes) (32 ∷ byte ∷ bytes)
-    (omega arith) (omega arith)
+blank-size bytes = grind (arith, size-by)
 
 single-size : (bytes : List ℕ) → length (single_blanks bytes) ≤ length bytes
 single-size [] = omega arith
-single-size (byte ∷ bytes) =
-    size-by (is_in White byte) (length (byte ∷ bytes)) (blank_before (single_blanks bytes)) (byte ∷ single_blanks bytes)
-    (omega (arith, blank-size (single_blanks bytes), single-size bytes)) (omega (arith, single-size bytes))
+single-size (byte ∷ bytes) = grind (arith, single-size bytes, size-by, blank-size)
 
 first-size : (bytes : List ℕ) → length (without_first_blank bytes) ≤ length bytes
-first-size [] = omega arith
-first-size (byte ∷ bytes) = size-by (byte == 32) (length (byte ∷ bytes)) bytes (byte ∷ bytes) (omega arith)
-    (omega arith)
+first-size bytes = grind (arith, size-by)
 
 uncoded-size : (bytes : List ℕ) → length (uncoded bytes) ≤ length bytes
 uncoded-size [] = omega arith
 uncoded-size (byte ∷ []) = size-if (byte == at_sign) 1 [] (byte ∷ []) (omega arith) (omega arith)
-uncoded-size (byte ∷ next ∷ bytes) =
-    size-if (byte == at_sign) (length (byte ∷ next ∷ bytes)) _ (byte ∷ uncoded (next ∷ bytes))
-    (size-if (next == at_sign) (length (byte ∷ next ∷ bytes)) (at_sign ∷ uncoded bytes) (uncoded bytes)
-    (omega (arith, uncoded-size bytes)) (omega (arith, uncoded-size bytes)))
-    (omega (arith, uncoded-size (next ∷ bytes)))
+uncoded-size (byte ∷ next ∷ bytes) = grind (arith, uncoded-size bytes, uncoded-size (next ∷ bytes), size-if)
 
 name-size : (token : List ℕ) → length (name_text token) ≤ length token
-name-size token =
-    omega (
-      arith,
-      first-size (single_blanks (uncoded (drop 2 token))),
-      single-size (uncoded (drop 2 token)),
-      uncoded-size (drop 2 token),
-      length-drop 2 token,
-    )
+name-size token = grind (arith, first-size, single-size, uncoded-size, length-drop)
 
 -- ## Names that are entered
 
@@ -79,24 +53,17 @@ IsShort n (Prefix text) = length text ≤ n
 
 short-by : (t : Bool) (n : ℕ) (x y : Naming) → IsShort n x → IsShort n y
     → IsShort n (if t then x else y)
-short-by true n x y h k = h
-short-by false n x y h k = k
+short-by t n x y h k = grind arith
 
 short-unless : (void : Bool) (n : ℕ) (x : Naming) → IsShort n x → IsShort n (unless_void void x)
-short-unless true n x h = tt
-short-unless false n x h = h
+short-unless void n x h = grind arith
 
 short-named : (n : ℕ) (text : List ℕ) → length text ≤ n → IsShort n (named_text text)
-short-named n text h =
-    short-by (ends_in_dots text) n (Prefix (take (length text - 3) text)) (Full Named text)
-    (omega (arith, length-take (length text - 3) text)) h
+short-named n text h = grind (arith, short-by, length-take)
 
 short-naming : (n : ℕ) (void : Bool) (kind : TokKind) (text : List ℕ) → length text ≤ n
     → IsShort n (naming_by void kind text)
-short-naming n void (kinds.Code at.SectionName) text h = short-unless void n (named_text text) (short-named n text h)
-short-naming n void (kinds.Code at.FileName) text h = short-unless void n (Full File text) h
-short-naming n void (kinds.Code code) text h = tt
-short-naming n void kind text h = tt
+short-naming n void kind text h = grind (arith, short-unless, short-named)
 
 abbrev AreShort : ℕ → List SecName → Type 0
 AreShort n [] = Unit {0}
@@ -117,8 +84,7 @@ short-text n (suc i) text complete (name ∷ names) t h = (h.0, short-text n i t
 grown-by : (b : Bool) (n : ℕ) (prefix : List ℕ) (name : SecName) (names : List SecName) → length prefix ≤ n
     → AreShort n (name ∷ names)
     → AreShort n (if b then record name { text = prefix } ∷ names else name ∷ names)
-grown-by true n prefix name names t h = (t, h.1)
-grown-by false n prefix name names t h = h
+grown-by b n prefix name names t h = grind arith
 
 short-grown : (n : ℕ) (prefix : List ℕ) (i : ℕ) (names : List SecName) → length prefix ≤ n → AreShort n names
     → AreShort n (grown prefix i names)
@@ -129,25 +95,15 @@ short-grown n prefix (suc i) (name ∷ names) t h = (h.0, short-grown n prefix i
 short-enter : (n : ℕ) (a b c : Option ℕ) (kind : SecKind) (text : List ℕ) (names : List SecName) → length text ≤ n
     → AreShort n names
     → AreShort n (enter_by a b c kind text names).kept
-short-enter n (Some k) b c kind text names t h = h
-short-enter n None (Some k) c kind text names t h = short-text n k text true names t h
-short-enter n None None (Some k) kind text names t h = h
-short-enter n None None None kind text names t h = short-last n names kind text true t h
+short-enter n a b c kind text names t h = grind (arith, short-text, short-last)
 
 short-prefix : (n : ℕ) (e : Earliest) (prefix : List ℕ) (names : List SecName) → length prefix ≤ n → AreShort n names
     → AreShort n (enter_prefix_by e prefix names).kept
-short-prefix n Nobody prefix names t h = short-last n names Named prefix false t h
-short-prefix n (One k) prefix names t h = short-grown n prefix k names t h
-short-prefix n (Several k next) prefix names t h = h
+short-prefix n e prefix names t h = grind (arith, short-last, short-grown)
 
 short-entering : (n : ℕ) (m : Naming) (names : List SecName) → IsShort n m → AreShort n names
     → AreShort n (kept_by (entering m names) names)
-short-entering n Void names t h = h
-short-entering n (Full kind text) names t h =
-    short-enter n (position (has_text kind text) names) (position (grows_to kind text) names)
-    (position (conflicts_with kind text) names) kind text names t h
-short-entering n (Prefix text) names t h = short-prefix n (earliest (positions_from 0 (is_candidate text) names)) text
-    names t h
+short-entering n m names t h = grind (arith, short-enter, short-prefix)
 
 short-behind : (n : ℕ) (t : Seen) (names : List SecName) → length t.text ≤ n → AreShort n names
     → AreShort n (kept_behind t names)
@@ -171,12 +127,9 @@ short-kept text from names (Note kind place ∷ answers) c h = short-kept text f
 short-referred : (n k : ℕ) (references : List Reference) (names : List SecName) → AreShort n names
     → All (λ (name : SecName). length name.text ≤ n) (referred references k names)
 short-referred n k references [] h = All-nil (λ (name : SecName). length name.text ≤ n)
-short-referred n k references (name ∷ names) h =
-    All-cons (λ (name : SecName). length name.text ≤ n) _ (referred references (k + 1) names) h.0
-    (short-referred n (k + 1) references names h.1)
+short-referred n k references (name ∷ names) h = grind (arith, short-referred n (k + 1) references names h.1)
 
 pub all-short : (text : List ℕ) (answers : List Answer) (references : List Reference)
     → Covers text 0 (length text) answers
     → All (λ (name : SecName). length name.text ≤ length text) (referred references 0 (kept_after [] answers))
-all-short text answers references c = short-referred (length text) 0 references (kept_after [] answers)
-    (short-kept text 0 [] answers c tt)
+all-short text answers references c = grind (arith, short-referred, short-kept)

@@ -1,6 +1,6 @@
 -- The sections that are told are those of the whole list.
-use Rattle.std.proofs.Common.{◌≡◌, ℕ, ◌||◌, Bool, true, false, not, List, [], ◌∷◌, ◌++◌, Option, Some, None, refl, ap}
-use Rattle.std.proofs.Common.{sym, ◌∙◌, append_assoc, if◌then◌else◌}
+use Rattle.std.proofs.Common.{◌≡◌, ℕ, Bool, true, false, List, [], ◌∷◌, ◌++◌, Option, Some, None, refl, ap, ◌∙◌}
+use Rattle.std.proofs.Common.{append_assoc, if◌then◌else◌, arith}
 use Rattle.std.proofs.lemmas.List.{append-nil}
 use Rattle.cw_base.specs.Web.{MergedLine}
 use Rattle.cw_secnames.specs.declared.kinds.SecId.{SecId}
@@ -11,10 +11,10 @@ use Rattle.cw_phase1.specs.declared.told.Told.{Told}
 use Rattle.cw_phase1.specs.Places.{holds_changed}
 use Rattle.cw_phase1.specs.Roles.{Placed}
 use Rattle.cw_phase1.specs.Sections.{span, ends_tex, ends_definitions, ends_section, first_start, c_part_name}
-use Rattle.cw_phase1.specs.Sections.{is_program, section_at, sections_of, is_section_code, is_tex}
-use Rattle.cw_phase1.specs.Outlining.{or_here, name_here, opened, with_token, closed_at, closing, closing_by}
+use Rattle.cw_phase1.specs.Sections.{sections_of, is_section_code}
+use Rattle.cw_phase1.specs.Outlining.{or_here, name_here, opened, with_token, closed_at, closing, closing_by, open_with}
+use Rattle.cw_phase1.specs.Outlining.{section_told_by}
 use Rattle.std.specs.Prelude.{unwrap_or}
-use Rattle.cw_phase1.specs.Outlining.{open_with, section_told_by}
 use Rattle.cw_phase1.specs.Telling.{told_all, told_step, told_start}
 
 -- the name of the token that ends the definitions, now or later
@@ -50,31 +50,23 @@ IsNamed o = o.definitions_end ≡ None → o.name ≡ None
 
 first-by : (t : Bool) (here later : ℕ)
     → (if t then here else later) ≡ unwrap_or (or_here None t here) later
-first-by true here later = refl
-first-by false here later = refl
+first-by t here later = grind arith
 
 first-here : (o : Option ℕ) (test : Placed → Bool) (size : ℕ) (p : Placed) (ps : List Placed)
     → unwrap_or o (first_start test size (p ∷ ps)) ≡ unwrap_or (or_here o (test p) p.token.span.start)
     (first_start test size ps)
-first-here (Some first) test size p ps = refl
-first-here None test size p ps = first-by (test p) p.token.span.start (first_start test size ps)
+first-here o test size p ps = grind (arith, first-by)
 
 name-by : (t : Bool) (place : ℕ) (before here later : Option SecId)
     → (if t then here else later)
     ≡ name_or (or_here None t place) (name_here None t before here) later
-name-by true place before here later = refl
-name-by false place before here later = refl
+name-by t place before here later = grind arith
 
 named-here : (o : Option ℕ) (before : Option SecId) (p : Placed) (ps : List Placed) → is_section_code p.role ≡ false
     → name_or o before (c_part_name (p ∷ ps))
     ≡ name_or (or_here o (ends_definitions p) p.token.span.start) (name_here o (ends_definitions p) before p.name)
     (c_part_name ps)
-named-here (Some first) before p ps h = refl
-named-here None before p ps h =
-    ap (λ (t : Bool). if t then None else if is_program p.part then p.name else c_part_name ps) h ∙
-    (name-by (is_program p.part) p.token.span.start before p.name (c_part_name ps) ∙
-    ap (λ (t : Bool). name_or (or_here None (t || is_program p.part) p.token.span.start)
-    (name_here None (t || is_program p.part) before p.name) (c_part_name ps)) (sym h))
+named-here o before p ps h = grind (arith, name-by)
 
 no-end : (size : ℕ) (p : Placed) (ps : List Placed) → is_section_code p.role ≡ false
     → first_start ends_section size (p ∷ ps) ≡ first_start ends_section size ps
@@ -83,34 +75,21 @@ no-end size p ps h = ap (λ (t : Bool). if t then p.token.span.start else first_
 goes-on : (lines : List MergedLine) (size : ℕ) (o : Open) (p : Placed) (ps : List Placed) → is_section_code p.role
     ≡ false
     → open_section lines size o (p ∷ ps) ≡ open_section lines size (with_token p o) ps
-goes-on lines size o p ps h = λ i. record {
-  starred = o.starred;
-  depth = o.depth;
-  tex = span o.behind (first-here o.tex_end ends_tex size p ps i);
-  definitions = span (first-here o.tex_end ends_tex size p ps i) (first-here o.definitions_end ends_definitions size p
-      ps i);
-  c_part = span (first-here o.definitions_end ends_definitions size p ps i) (no-end size p ps h i);
-  name = named-here o.definitions_end o.name p ps h i;
-  changed = holds_changed lines 0 o.start (no-end size p ps h i);
-}
+goes-on lines size o p ps h = grind (arith, first-here, no-end, named-here)
 
 none-here : (lines : List MergedLine) (size : ℕ) (p : Placed) (ps : List Placed) → is_section_code p.role ≡ false
     → sections_of lines size (p ∷ ps) ≡ sections_of lines size ps
-none-here lines size p ps h =
-    ap (λ (t : Bool). if t then section_at lines size p.token ps ∷ sections_of lines size ps
-    else sections_of lines size ps) h
+none-here lines size p ps h = grind arith
 
 goes-by : (o : Option Open) (lines : List MergedLine) (size : ℕ) (p : Placed) (ps : List Placed)
     → is_section_code p.role ≡ false
     → sections_by o lines size (p ∷ ps) ≡ sections_by (open_with o p) lines size ps
-goes-by None lines size p ps h = none-here lines size p ps h
-goes-by (Some o) lines size p ps h = λ i. goes-on lines size o p ps h i ∷ none-here lines size p ps h i
+goes-by o lines size p ps h = grind (arith, none-here, goes-on)
 
 -- ## The section that is open closes
 
 name-end : (d : Option ℕ) (name : Option SecId) → (d ≡ None → name ≡ None) → name ≡ name_or d name None
-name-end None name h = h refl
-name-end (Some place) name h = refl
+name-end d name h = grind arith
 
 abbrev AreNamed : Option Open → Type 0
 AreNamed None = Unit {0}
@@ -118,70 +97,39 @@ AreNamed (Some o) = IsNamed o
 
 named-by : (d : Option ℕ) (t : Bool) (place : ℕ) (before here : Option SecId) → (d ≡ None → before ≡ None)
     → or_here d t place ≡ None → name_here d t before here ≡ None
-named-by None true place before here n h = absurd (cc)
-named-by None false place before here n h = n refl
-named-by (Some first) t place before here n h = absurd (cc)
+named-by d t place before here n h = grind arith
 
 named-with : (o : Option Open) (p : Placed) → AreNamed o → AreNamed (open_with o p)
-named-with None p n = tt
-named-with (Some o) p n = named-by o.definitions_end (ends_definitions p) p.token.span.start o.name p.name n
+named-with o p n = grind (arith, named-by)
 
 named-told : (b : Bool) (lines : List MergedLine) (p : Placed) (s : Sections) → AreNamed s.open_one
     → AreNamed (section_told_by b lines p s).open_one
-named-told true lines p s n = λ h. refl
-named-told false lines p s n = named-with s.open_one p n
+named-told b lines p s n = grind (arith, named-with)
 
 ends-now : (lines : List MergedLine) (size : ℕ) (o : Open) (p : Placed) (ps : List Placed) → IsNamed o
     → is_section_code p.role ≡ true
     → closed_at lines p.token.span.start o ≡ open_section lines size o (p ∷ ps)
-ends-now lines size o p ps n h =
-    (λ i. record (closed_at lines p.token.span.start o) { name = name-end o.definitions_end o.name n i }) ∙
-    ap (λ (t : Bool). record {
-      starred = o.starred;
-      depth = o.depth;
-      tex = span o.behind (unwrap_or o.tex_end (if t || not (is_tex p.part) then p.token.span.start
-          else first_start ends_tex size ps));
-      definitions = span (unwrap_or o.tex_end (if t || not (is_tex p.part) then p.token.span.start
-          else first_start ends_tex size ps))
-          (unwrap_or o.definitions_end (if t || is_program p.part then p.token.span.start
-          else first_start ends_definitions size ps));
-      c_part = span (unwrap_or o.definitions_end (if t || is_program p.part then p.token.span.start
-          else first_start ends_definitions size ps))
-          (if t then p.token.span.start else first_start ends_section size ps);
-      name = name_or o.definitions_end o.name (if t then None
-          else if is_program p.part then p.name
-          else c_part_name ps);
-      changed = holds_changed lines 0 o.start (if t then p.token.span.start else first_start ends_section size ps);
-    }) (sym h)
+ends-now lines size o p ps n h = grind (arith, name-end)
 
 one-here : (lines : List MergedLine) (size : ℕ) (p : Placed) (ps : List Placed) → is_section_code p.role ≡ true
     → open_section lines size (opened p.token) ps ∷ sections_of lines size ps ≡ sections_of lines size (p ∷ ps)
-one-here lines size p ps h =
-    ap (λ (t : Bool). if t then section_at lines size p.token ps ∷ sections_of lines size ps
-    else sections_of lines size ps) (sym h)
+one-here lines size p ps h = grind arith
 
 closes-by : (o : Option Open) (lines : List MergedLine) (size : ℕ) (closed : List Section) (p : Placed)
     (ps : List Placed) → AreNamed o → is_section_code p.role ≡ true
     → closing_by o lines p.token.span.start closed ++ (open_section lines size (opened p.token) ps
     ∷ sections_of lines size ps)
     ≡ closed ++ sections_by o lines size (p ∷ ps)
-closes-by None lines size closed p ps n h = ap (λ ss. closed ++ ss) (one-here lines size p ps h)
-closes-by (Some o) lines size closed p ps n h =
-    append_assoc closed (closed_at lines p.token.span.start o ∷ []) (open_section lines size (opened p.token) ps
-    ∷ sections_of lines size ps) ∙
-    (λ i. closed ++ (ends-now lines size o p ps n h i ∷ one-here lines size p ps h i))
+closes-by o lines size closed p ps n h = grind (arith, one-here, append_assoc, ends-now)
 
 told-section : (b : Bool) (lines : List MergedLine) (size : ℕ) (s : Sections) (p : Placed) (ps : List Placed)
     → AreNamed s.open_one → is_section_code p.role ≡ b
     → sections_behind lines size (section_told_by b lines p s) ps ≡ sections_behind lines size s (p ∷ ps)
-told-section true lines size s p ps n h = closes-by s.open_one lines size s.closed p ps n h
-told-section false lines size s p ps n h = ap (λ ss. s.closed ++ ss) (sym (goes-by s.open_one lines size p ps h))
+told-section b lines size s p ps n h = grind (arith, closes-by, goes-by)
 
 ends-by : (o : Option Open) (lines : List MergedLine) (size : ℕ) (closed : List Section) → AreNamed o
     → closing_by o lines size closed ≡ closed ++ sections_by o lines size []
-ends-by None lines size closed n = sym (append-nil closed)
-ends-by (Some o) lines size closed n = λ i. closed
-    ++ (record (closed_at lines size o) { name = name-end o.definitions_end o.name n i } ∷ [])
+ends-by o lines size closed n = grind (arith, append-nil, name-end)
 
 -- The sections that are told in the end.
 sections-told : (lines : List MergedLine) (size : ℕ) (ps : List Placed) (t : Told) → AreNamed t.sections.open_one
@@ -199,17 +147,13 @@ limbo-by : (b : Bool) (lines : List MergedLine) (size : ℕ) (s : Sections) (p :
     → is_section_code p.role ≡ b
     → unwrap_or (section_told_by b lines p s).limbo_end (first_start ends_section size ps)
     ≡ unwrap_or s.limbo_end (first_start ends_section size (p ∷ ps))
-limbo-by true lines size s p ps h =
-    sym (first-here s.limbo_end ends_section size p ps
-    ∙ ap (λ (t : Bool). unwrap_or (or_here s.limbo_end t p.token.span.start) (first_start ends_section size ps)) h)
-limbo-by false lines size s p ps h = ap (unwrap_or s.limbo_end) (sym (no-end size p ps h))
+limbo-by b lines size s p ps h = grind (arith, first-here, no-end)
 
 limbo-told : (lines : List MergedLine) (size : ℕ) (ps : List Placed) (t : Told)
     → unwrap_or (told_all lines ps t).sections.limbo_end size
     ≡ unwrap_or t.sections.limbo_end (first_start ends_section size ps)
 limbo-told lines size [] t = refl
-limbo-told lines size (p ∷ ps) t = limbo-told lines size ps (told_step lines p t)
-    ∙ limbo-by (is_section_code p.role) lines size t.sections p ps refl
+limbo-told lines size (p ∷ ps) t = grind (arith, limbo-told lines size ps (told_step lines p t), limbo-by)
 
 pub all-limbo : (lines : List MergedLine) (size : ℕ) (ps : List Placed)
     → unwrap_or (told_all lines ps told_start).sections.limbo_end size ≡ first_start ends_section size ps

@@ -1,20 +1,18 @@
 -- The first token of a list of answers at which a part of a section ends.
-use Rattle.std.proofs.Common.{◌≡◌, ℕ, Bool, true, false, not, ◌||◌, List, [], ◌∷◌, ◌++◌, Option, Some, None, append-nil}
-use Rattle.std.proofs.Common.{refl, sym, ap, subst, ◌∙◌, ◌⊎◌, inl, inr, if◌then◌else◌}
+use Rattle.std.proofs.Common.{arith, ◌≡◌, ℕ, Bool, true, false, not, ◌||◌, List, [], ◌∷◌, ◌++◌, Option, Some, None}
+use Rattle.std.proofs.Common.{append-nil, refl, sym, ap, subst, ◌∙◌, ◌⊎◌, inl, inr, if◌then◌else◌}
 use Rattle.std.specs.List.{list_any}
 use Rattle.cw_base.proofs.TestLaws.{one-failed-left, one-failed-right}
 use Rattle.cw_base.specs.declared.span.Span.{Span}
 use Rattle.cw_rules.specs.declared.codes.Code.{Code}
 use Rattle.cw_rules.specs.declared.codes.Code.TheVariants as at
 use Rattle.cw_lex.specs.declared.heads.Wanted.{Wanted}
-use Rattle.cw_lex.specs.declared.heads.Wanted.TheVariants as wants
 use Rattle.cw_rules.specs.declared.tokens.Mode.{Mode}
 use Rattle.cw_rules.specs.declared.tokens.Mode.TheVariants as modes
 use Rattle.cw_rules.specs.declared.tokens.TokKind.{TokKind}
 use Rattle.cw_rules.specs.declared.tokens.TokKind.TheVariants as kinds
 use Rattle.cw_rules.specs.Answers.{Answer, Token, Begin, Finish, Note, Seen, has_sign}
 use Rattle.cw_rules.proofs.Choices.{or-false}
-use Rattle.cw_lex.specs.Heads.{head_behind}
 use Rattle.cw_lex.specs.Nested.{is_section_kind, is_section_answer, begins_section_in}
 use Rattle.cw_lex.specs.Lexing.{tokens_of}
 use Rattle.cw_lex.specs.Openings.{named, opened_by, tokens_in, opens_part_before, opens_part_in, EndsBefore}
@@ -32,36 +30,17 @@ use Rattle.cw_phase1.specs.Sections.{is_section_code, is_tex, first_start}
 
 -- A section code has its role, and nothing else has it.
 word-role : (wanted : Wanted) → is_section_code (word_role wanted) ≡ false
-word-role wants.Nothing = refl
-word-role wants.Macro = refl
-word-role (wants.Parenthesis place) = refl
-word-role wants.Parameters = refl
-word-role (wants.First silent) = refl
-word-role (wants.Second silent) = refl
+word-role wanted = grind arith
 
 head-word : (wanted : Wanted) (kind : TokKind) → is_section_code (head_role wanted kind) ≡ false
-head-word wanted kinds.Identifier = word-role wanted
-head-word wanted kind = refl
+head-word wanted kind = grind (arith, word-role)
 
 name-role : (headed : Bool) (s : Standing) → is_section_code (name_step headed s).role ≡ false
-name-role true s = refl
-name-role false s = refl
+name-role headed s = grind arith
 
 code-role : (code : Code) (headed : Bool) (s : Standing) → is_section_code (code_step code headed s).role
     ≡ is_section_kind (kinds.Code code)
-code-role at.SectionName headed s = name-role headed s
-code-role at.FileName headed s = name-role headed s
-code-role at.Section headed s = refl
-code-role at.StarredSection headed s = refl
-code-role at.Define headed s = refl
-code-role at.Format headed s = refl
-code-role at.SilentFormat headed s = refl
-code-role at.Program headed s = refl
-code-role at.Roman headed s = refl
-code-role at.Typewriter headed s = refl
-code-role at.UserEntry headed s = refl
-code-role at.Underline headed s = refl
-code-role _ headed s = refl
+code-role code headed s = grind (arith, name-role)
 
 -- what a token does to the part that the text stands in
 abbrev pub part_of : Option Mode → Part → Part
@@ -74,24 +53,11 @@ part_behind true opened part = parts.Tex
 part_behind false opened part = part_of opened part
 
 name-part : (headed : Bool) (s : Standing) → (name_step headed s).next.part ≡ part_of (named headed) s.part
-name-part true s = refl
-name-part false s = refl
+name-part headed s = grind arith
 
 code-part : (code : Code) (headed : Bool) (s : Standing) → (code_step code headed s).next.part
     ≡ part_behind (is_section_kind (kinds.Code code)) (opened_by (kinds.Code code) headed) s.part
-code-part at.SectionName headed s = name-part headed s
-code-part at.FileName headed s = name-part headed s
-code-part at.Section headed s = refl
-code-part at.StarredSection headed s = refl
-code-part at.Define headed s = refl
-code-part at.Format headed s = refl
-code-part at.SilentFormat headed s = refl
-code-part at.Program headed s = refl
-code-part at.Roman headed s = refl
-code-part at.Typewriter headed s = refl
-code-part at.UserEntry headed s = refl
-code-part at.Underline headed s = refl
-code-part _ headed s = refl
+code-part code headed s = grind (arith, name-part)
 
 record IsTold (kind : TokKind) (headed : Bool) (part : Part) (step : Step) : Type 0 where
   role : is_section_code step.role ≡ is_section_kind kind
@@ -103,28 +69,11 @@ told-other : (o : Option Wanted) (kind : TokKind) (headed : Bool) (s : Standing)
     → is_section_code (free_step kind headed (behind_begin s)).role ≡ false
     → (free_step kind headed (behind_begin s)).next.part ≡ s.part
     → IsTold kind headed s.part (token_step_by o kind headed s)
-told-other None kind headed s k n r p = record {
-  role = r ∙ sym k;
-  part-is = p
-      ∙ sym (λ i. part_behind (k i) (n i) s.part);
-}
-told-other (Some next) kind headed s k n r p = record {
-  role = head-word s.wanted kind
-      ∙ sym k;
-  part-is = sym (λ i. part_behind (k i) (n i) s.part);
-}
+told-other o kind headed s k n r p = grind (arith, head-word)
 
 told : (kind : TokKind) (headed : Bool) (s : Standing) (span : Span)
     → IsTold kind headed s.part (token_step kind headed s span)
-told (kinds.Code code) headed s span = record {
-  role = code-role code headed (behind_begin s);
-  part-is = code-part code headed (behind_begin s);
-}
-told kinds.Identifier headed s span = told-other (head_behind s.wanted kinds.Identifier span) kinds.Identifier headed s
-    refl refl refl refl
-told (kinds.Sign sign) headed s span = told-other (head_behind s.wanted (kinds.Sign sign) span) (kinds.Sign sign) headed
-    s refl refl refl refl
-told kind headed s span = told-other (head_behind s.wanted kind span) kind headed s refl refl refl refl
+told kind headed s span = grind (arith, code-role, code-part, told-other)
 
 -- ## What ends a part
 
@@ -179,8 +128,7 @@ plain-part s t answers o h e = (told t.kind (has_sign answers) s t.span).part-is
 
 pub section-part : (s : Standing) (t : Seen) (answers : List Answer) → is_section_kind t.kind ≡ true
     → (token_step t.kind (has_sign answers) s t.span).next.part ≡ parts.Tex
-section-part s t answers h = (told t.kind (has_sign answers) s t.span).part-is
-    ∙ ap (λ (b : Bool). part_behind b (opened_by t.kind (has_sign answers)) s.part) h
+section-part s t answers h = grind (arith, told)
 
 -- ## Lists
 
@@ -206,8 +154,7 @@ first-is test size p ps h = ap (λ (t : Bool). if t then p.token.span.start else
 
 -- what passes no test passes no stricter one
 no-stricter : (a b : Bool) → (a ≡ true → b ≡ true) → b ≡ false → a ≡ false
-no-stricter false b f h = refl
-no-stricter true b f h = absurd (let k : true ≡ false = sym (f refl) ∙ h in cc)
+no-stricter a b f h = grind arith
 
 pub none-stricter : (test other : Placed → Bool) (ps : List Placed) → ((p : Placed) → other p ≡ true → test p ≡ true)
     → list_any test ps ≡ false → list_any other ps ≡ false
@@ -243,18 +190,13 @@ tokens-append (Note kind place ∷ xs) ys = tokens-append xs ys
 pub uncut-before : (text : List ℕ) (start : ℕ) (mode : Mode) (answers : List Answer) (t : Seen)
     → EndsBefore text start mode answers t → begins_section_in answers ≡ false
     → begins_section_in (tokens_of text start t.span.start mode) ≡ false
-uncut-before text start mode answers t e h =
-    same-codes (tokens_of text start t.span.start mode) answers
-    (ap tokens_in e.alone ∙ tokens-append e.body e.cut ∙ ap (λ l. tokens_in e.body ++ l) (e.cut_tokens
-    ∙ sym e.rest_tokens) ∙ sym (tokens-append e.body e.rest) ∙ ap tokens_in (sym e.whole)) h
+uncut-before text start mode answers t e h = grind (arith, same-codes, tokens-append)
 
 -- The sign of a head stands behind a name within the text, or not at all.
 no-sign : (xs : List Answer) → tokens_in xs ≡ [] → has_sign (xs ++ []) ≡ false
-no-sign [] h = refl
 no-sign (Token t ∷ xs) h = absurd cc
-no-sign (Begin t ∷ xs) h = refl
-no-sign (Finish t ∷ xs) h = refl
 no-sign (Note kind place ∷ xs) h = no-sign xs h
+no-sign _ _ = refl
 
 sign-inside : (xs cut rest more : List Answer) → tokens_in cut ≡ [] → has_sign ((xs ++ cut) ++ []) ≡ true
     → has_sign ((xs ++ rest) ++ more) ≡ true
@@ -266,23 +208,15 @@ sign-inside (Note kind place ∷ xs) cut rest more n h = sign-inside xs cut rest
 
 unsigned-code : (code : Code) (headed : Bool) → is_some (opened_by (kinds.Code code) headed) ≡ false
     → is_some (opened_by (kinds.Code code) false) ≡ false
-unsigned-code at.SectionName headed h = refl
-unsigned-code at.FileName headed h = refl
-unsigned-code at.Define headed h = h
-unsigned-code at.Format headed h = h
-unsigned-code at.SilentFormat headed h = h
-unsigned-code at.Program headed h = h
-unsigned-code _ headed h = refl
+unsigned-code code headed h = grind arith
 
 unsigned : (kind : TokKind) (headed : Bool) → is_some (opened_by kind headed) ≡ false → is_some (opened_by kind false)
     ≡ false
-unsigned (kinds.Code code) headed h = unsigned-code code headed h
-unsigned _ headed h = refl
+unsigned kind headed h = grind (arith, unsigned-code)
 
 opened-less : (kind : TokKind) (a b : Bool) → (a ≡ true → b ≡ true) → is_some (opened_by kind b) ≡ false
     → is_some (opened_by kind a) ≡ false
-opened-less kind true b f h = ap (λ b. is_some (opened_by kind b)) (sym (f refl)) ∙ h
-opened-less kind false b f h = unsigned kind b h
+opened-less kind a b f h = grind (arith, unsigned)
 
 bare-opens : (cut : List Answer) → tokens_in cut ≡ [] → opens_part_before [] cut ≡ false
 bare-opens [] h = refl
@@ -311,9 +245,7 @@ opens-alone (Note kind place ∷ xs) cut rest more n h = opens-alone xs cut rest
 pub alone-before : (text : List ℕ) (start : ℕ) (mode : Mode) (answers : List Answer) (t : Seen) (more : List Answer)
     → EndsBefore text start mode answers t → opens_part_before more answers ≡ false
     → opens_part_in (tokens_of text start t.span.start mode) ≡ false
-alone-before text start mode answers t more e h =
-    ap opens_part_in e.alone ∙ opens-alone e.body e.cut e.rest more e.cut_tokens
-    (ap (opens_part_before more) (sym e.whole) ∙ h)
+alone-before text start mode answers t more e h = grind (arith, opens-alone)
 
 -- ## The first token at which a part ends
 
@@ -366,8 +298,7 @@ module _ (good : Part → Bool) where
       → Ended next kept answers ⊎ Stopped next kept answers → begins_section_in (a ∷ []) ≡ false
       → ((more xs : List Answer) → Keeps more xs → Keeps more (a ∷ xs)) → Ended s kept (a ∷ answers)
       ⊎ Stopped s kept (a ∷ answers)
-  ended-by s next kept a answers p u (inl e) n k =
-      inl (record { none = ap (list_any ends) p ∙ e.none; uncut = u ∙ e.uncut; keeps = k [] answers e.keeps })
+  ended-by s next kept a answers p u (inl e) n k = grind arith
   ended-by s next kept a answers p u (inr r) n k = inr (record {
     before = a ∷ r.before;
     token = r.token;
@@ -464,25 +395,14 @@ module _ (good : Part → Bool) where
 pub first-token : (good : Part → Bool) (test : Placed → Bool) (size : ℕ) (s : Standing) (kept : List SecName) (t : Seen)
     (answers : List Answer) → test (token_placed good s kept t answers) ≡ true
     → first_start test size (placed_from s kept (Token t ∷ answers)) ≡ t.span.start
-first-token good test size s kept t answers h =
-    first-is test size (token_placed good s kept t answers)
-    (placed_from (token_step t.kind (has_sign answers) s t.span).next (kept_behind t kept) answers) h
+first-token good test size s kept t answers h = grind (arith, first-is)
 
 -- ## TeX text
 
 -- In TeX text no other part begins.
 tex-token : (t : Seen) (headed : Bool) (how : Ending) → EndsBy t.kind headed how
     → KeepsToken is_tex t.kind (opened_by t.kind headed) → is_some (opened_by t.kind headed) ≡ false
-tex-token t headed AtSection h k = absurd (let wrong : true ≡ false = sym h ∙ k.plain in cc)
-tex-token t headed AtDefinitions h k =
-    absurd (no-tex k.part (ap (λ (o : Option Mode). is_tex (part_of o k.part)) (sym h.1) ∙ k.stays))
-  where
-    no-tex : (part : Part) → is_tex (defining part) ≡ true → ⊥
-    no-tex parts.Limbo e = cc
-    no-tex _ e = cc
-tex-token t headed AtCPart h k = absurd (let wrong : false ≡ true = ap (λ (o : Option Mode). is_tex (part_of o k.part))
-    (sym h.1) ∙ k.stays in cc)
-tex-token t headed Nowhere h k = ap is_some h.1
+tex-token t headed how h k = grind arith
 
 pub tex-opens : (more answers : List Answer) → Keeps is_tex more answers → opens_part_before more answers ≡ false
 tex-opens more [] k = refl

@@ -1,15 +1,15 @@
 -- Lines and the places where they begin in the merged text.
-use Rattle.std.proofs.Common.{◌≡◌, ℕ, zero, suc, ◌+◌, ◌<◌, ◌≤◌, ◌&&◌, ◌||◌, Bool, true, false, refl, sym, ap, ◌∙◌, List}
-use Rattle.std.proofs.Common.{[], ◌∷◌, length, take, drop, get_or, nat_lt, arith, length-append, if◌then◌else◌}
-use Rattle.std.proofs.lemmas.Bool.{lt-ltb, le-ltb, and_right, and_left, and_from, or_left}
+use Rattle.std.proofs.Common.{◌≡◌, ℕ, zero, suc, ◌+◌, ◌<◌, ◌≤◌, ◌&&◌, ◌||◌, Bool, true, false, refl, ap, ◌∙◌, List, []}
+use Rattle.std.proofs.Common.{◌∷◌, length, take, drop, get_or, nat_lt, arith, length-append, if◌then◌else◌}
+use Rattle.std.proofs.lemmas.Bool.{lt-ltb, le-ltb, and_right, and_left}
 use Rattle.std.proofs.lemmas.List.{drop_more, take_more}
+use Rattle.std.proofs.lemmas.Grind.{common_steps}
 use Rattle.cw_base.specs.WebLaws.{length-text_of-more}
 use Rattle.cw_base.specs.Web.{MergedLine, text_of, info_from, infos_of}
 use Rattle.cw_base.specs.declared.web.LineInfo.{LineInfo}
 use Rattle.cw_base.specs.declared.notes.Place.{Place}
-use Rattle.cw_phase1.specs.Places.{place_from}
+use Rattle.cw_phase1.specs.Places.{place_from, holds_changed}
 use Rattle.cw_phase1.specs.LinePlaces.{offset}
-use Rattle.cw_phase1.specs.Places.{holds_changed}
 
 offset-suc : (line : MergedLine) (lines : List MergedLine) (i : ℕ) → offset (line ∷ lines) (suc i)
     ≡ length line.text + 1 + offset lines i
@@ -21,21 +21,12 @@ pub info-at : (lines : List MergedLine) (at i : ℕ) (other : LineInfo) (none : 
 info-at [] at i other none h = absurd (let no : i < 0 = h in omega arith)
 info-at (line ∷ lines) at zero other none h = ap (λ (n : ℕ). info_from n line) (let e : at ≡ at + 0 = omega arith in e)
 info-at (line ∷ lines) at (suc i) other none h =
-    info-at lines (at + length line.text + 1) i other none (omega arith) ∙
-    ap (λ (n : ℕ). info_from n (get_or lines i none)) (omega (arith, offset-suc line lines i))
+    grind (arith, info-at lines (at + length line.text + 1) i other none (omega arith), offset-suc)
 
 first-place : (line : MergedLine) (lines : List MergedLine) (at byte : ℕ) (last : Place)
     → (0 < length lines → byte < at + length line.text + 1)
     → place_from (line ∷ lines) at byte last ≡ line.place
-first-place line [] at byte last inside =
-    elim (nat_lt byte (at + length line.text + 1)) as (λ b. (if b then line.place else line.place)
-    ≡ line.place) [ true ↦ refl | false ↦ refl ]
-first-place line (next ∷ lines) at byte last inside =
-    let short : 0 < length (next ∷ lines) = omega arith in
-    let test : nat_lt byte (at + length line.text + 1) ≡ true =
-    lt-ltb byte (at + length line.text + 1) (inside short) in
-    ap (λ (b : Bool). if b then line.place
-    else place_from (next ∷ lines) (at + length line.text + 1) byte line.place) test
+first-place line lines at byte last inside = grind (arith, common_steps, lt-ltb)
 
 -- The place of a byte is that of the line that has it.
 pub place-at : (lines : List MergedLine) (at byte i : ℕ) (last : Place) (none : MergedLine) → i < length lines
@@ -60,8 +51,7 @@ place-at (line ∷ lines) at byte (suc i) last none h from to =
 -- Lines that end before a part of the text begins don't matter to it, and neither do those that begin behind it.
 pub changed-skip : (lines : List MergedLine) (at i start end : ℕ) → i ≤ length lines → at + offset lines i ≤ start
     → holds_changed lines at start end ≡ holds_changed (drop i lines) (at + offset lines i) start end
-changed-skip lines at zero start end h past = ap (λ (n : ℕ). holds_changed lines n start end) (let e : at
-    ≡ at + 0 = omega arith in e)
+changed-skip lines at zero start end h past = grind arith
 changed-skip [] at (suc i) start end h past = absurd (let no : suc i ≤ 0 = h in omega arith)
 changed-skip (line ∷ lines) at (suc i) start end h past =
     let here : ℕ = at + length line.text + 1 in
@@ -86,8 +76,7 @@ changed-behind (line ∷ lines) at start end past =
 pub offset-more : (lines : List MergedLine) (i : ℕ) (none : MergedLine) → i < length lines → offset lines (i + 1)
     ≡ offset lines i + length (get_or lines i none).text + 1
 offset-more lines i none h =
-    ap (λ (first : List MergedLine). length (text_of first)) (take_more lines i none h)
-    ∙ length-text_of-more (take i lines) (get_or lines i none)
+    grind (arith, take_more lines i none h, length-text_of-more (take i lines) (get_or lines i none))
 
 -- One line of those that are left.
 pub changed-step : (lines : List MergedLine) (i start end : ℕ) (none : MergedLine) → i < length lines
@@ -95,47 +84,23 @@ pub changed-step : (lines : List MergedLine) (i start end : ℕ) (none : MergedL
     ≡ (((get_or lines i none).changed && (nat_lt (offset lines i) end
     && nat_lt start (offset lines i + length (get_or lines i none).text + 1)))
     || holds_changed (drop (i + 1) lines) (offset lines (i + 1)) start end)
-changed-step lines i start end none h =
-    let line : MergedLine = get_or lines i none in
-    ap (λ (rest : List MergedLine). holds_changed rest (offset lines i) start end) (drop_more lines i none h) ∙
-    ap (λ (n : ℕ). (line.changed && (nat_lt (offset lines i) end && nat_lt start (offset lines i + length line.text
-    + 1))) || holds_changed (drop (i + 1) lines) n start end)
-    (sym (offset-more lines i none h))
+changed-step lines i start end none h = grind (arith, drop_more, offset-more)
 
 pub changed-hit : (lines : List MergedLine) (i start end : ℕ) (none : MergedLine) → i < length lines
     → (get_or lines i none).changed ≡ true
     → offset lines i < end → start ≤ offset lines i + length (get_or lines i none).text
     → holds_changed (drop i lines) (offset lines i) start end ≡ true
 changed-hit lines i start end none h changed before reaches =
-    let line : MergedLine = get_or lines i none in
-    let first : nat_lt (offset lines i) end ≡ true = lt-ltb (offset lines i) end before in
-    let second : nat_lt start (offset lines i + length line.text + 1) ≡ true =
-    lt-ltb start (offset lines i + length line.text + 1) (omega arith) in
-    changed-step lines i start end none h ∙
-    or_left (line.changed && (nat_lt (offset lines i) end && nat_lt start (offset lines i + length line.text + 1)))
-    (holds_changed (drop (i + 1) lines) (offset lines (i + 1)) start end)
-    (and_from line.changed (nat_lt (offset lines i) end && nat_lt start (offset lines i + length line.text + 1)) changed
-    (and_from (nat_lt (offset lines i) end) (nat_lt start (offset lines i + length line.text + 1)) first second))
+    grind (arith, lt-ltb (offset lines i) end before, changed-step lines i start end none h)
 
 pub changed-plain : (lines : List MergedLine) (i start end : ℕ) (none : MergedLine) → i < length lines
     → (get_or lines i none).changed ≡ false
     → holds_changed (drop i lines) (offset lines i) start end
     ≡ holds_changed (drop (i + 1) lines) (offset lines (i + 1)) start end
-changed-plain lines i start end none h plain =
-    let line : MergedLine = get_or lines i none in
-    changed-step lines i start end none h ∙
-    ap (λ (b : Bool). b || holds_changed (drop (i + 1) lines) (offset lines (i + 1)) start end)
-    (and_left line.changed (nat_lt (offset lines i) end && nat_lt start (offset lines i + length line.text + 1)) plain)
+changed-plain lines i start end none h plain = grind (arith, changed-step lines i start end none h)
 
 pub changed-before : (lines : List MergedLine) (i start end : ℕ) (none : MergedLine) → i < length lines
     → offset lines i + length (get_or lines i none).text < start
     → holds_changed (drop i lines) (offset lines i) start end
     ≡ holds_changed (drop (i + 1) lines) (offset lines (i + 1)) start end
-changed-before lines i start end none h before =
-    let line : MergedLine = get_or lines i none in
-    let test : nat_lt start (offset lines i + length line.text + 1) ≡ false =
-    le-ltb start (offset lines i + length line.text + 1) (omega arith) in
-    changed-step lines i start end none h ∙
-    ap (λ (b : Bool). b || holds_changed (drop (i + 1) lines) (offset lines (i + 1)) start end)
-    (and_right line.changed (nat_lt (offset lines i) end && nat_lt start (offset lines i + length line.text + 1))
-    (and_right (nat_lt (offset lines i) end) (nat_lt start (offset lines i + length line.text + 1)) test))
+changed-before lines i start end none h before = grind (arith, changed-step lines i start end none h)

@@ -1,22 +1,17 @@
 -- References that are added one by one, and the notes on names one by one.
-use Rattle.std.proofs.Common.{◌≡◌, ℕ, zero, suc, ◌+◌, ◌<◌, Bool, true, false, List, [], ◌∷◌, ◌++◌, Option, Some, None}
-use Rattle.std.proofs.Common.{All, map, drop, length, get_or, refl, ap, sym, ◌∙◌, append_assoc, zero-add, arith}
-use Rattle.std.proofs.Common.{if◌then◌else◌}
+use Rattle.std.proofs.Common.{◌≡◌, ℕ, zero, suc, ◌+◌, ◌<◌, Bool, List, [], ◌∷◌, ◌++◌, Option, All, map, drop, length}
+use Rattle.std.proofs.Common.{get_or, refl, ap, sym, ◌∙◌, append_assoc, zero-add, arith, if◌then◌else◌}
 use Rattle.std.specs.Prelude.{slice_get}
-use Rattle.std.specs.List.{position}
 use Rattle.std.proofs.lemmas.List.{append-nil}
 use Rattle.cw_rules.specs.Answers.{Answer, Token, Begin, Finish, Note}
 use Rattle.cw_secnames.specs.declared.kinds.SecKind.{SecKind}
 use Rattle.cw_secnames.specs.declared.kinds.Earliest.{Earliest}
-use Rattle.cw_secnames.specs.declared.kinds.Earliest.TheVariants.{Nobody, One, Several}
-use Rattle.cw_secnames.specs.declared.kinds.SecKind.TheVariants.{Named}
-use Rattle.cw_secnames.specs.Kept.{SecName, unreferred, with_text, has_text, grows_to, conflicts_with, enter_by}
-use Rattle.cw_secnames.specs.Kept.{positions_from, is_candidate, is_shorter, grown, earliest, enter_prefix_by}
+use Rattle.cw_secnames.specs.Kept.{SecName, unreferred, with_text, enter_by, is_shorter, grown, enter_prefix_by}
 use Rattle.cw_secnames.specs.References.{Reference, referred}
 use Rattle.cw_secnames.specs.ReferenceLaws.{referred-more}
 use Rattle.cw_phase1.specs.declared.named.Referring.{Referring}
 use Rattle.cw_phase1.specs.Referring.{referring_of}
-use Rattle.cw_phase1.specs.Texts.{Naming, Void, Full, Prefix, naming}
+use Rattle.cw_phase1.specs.Texts.{Naming, naming}
 use Rattle.cw_phase1.specs.Entering.{entering, kept_by, kept_behind, kept_after}
 use Rattle.cw_phase1.specs.Notes.{name_notes_from}
 use Rattle.cw_phase1.specs.Ending.{notes_at_by, with_references}
@@ -49,8 +44,7 @@ bare-text (suc i) text complete (n ∷ names) h = (h.0, bare-text i text complet
 
 bare-by : (t : Bool) (prefix : List ℕ) (n : SecName) (names : List SecName) → AreBare (n ∷ names)
     → AreBare (if t then record n { text = prefix } ∷ names else n ∷ names)
-bare-by true prefix n names h = h
-bare-by false prefix n names h = h
+bare-by t prefix n names h = grind arith
 
 bare-grown : (prefix : List ℕ) (i : ℕ) (names : List SecName) → AreBare names → AreBare (grown prefix i names)
 bare-grown prefix i [] h = h
@@ -59,23 +53,14 @@ bare-grown prefix (suc i) (n ∷ names) h = (h.0, bare-grown prefix i names h.1)
 
 bare-enter : (a b c : Option ℕ) (kind : SecKind) (text : List ℕ) (names : List SecName) → AreBare names
     → AreBare (enter_by a b c kind text names).kept
-bare-enter (Some k) b c kind text names h = h
-bare-enter None (Some k) c kind text names h = bare-text k text true names h
-bare-enter None None (Some k) kind text names h = h
-bare-enter None None None kind text names h = bare-last names kind text true h
+bare-enter a b c kind text names h = grind (arith, bare-text, bare-last)
 
 bare-prefix : (e : Earliest) (prefix : List ℕ) (names : List SecName) → AreBare names
     → AreBare (enter_prefix_by e prefix names).kept
-bare-prefix Nobody prefix names h = bare-last names Named prefix false h
-bare-prefix (One k) prefix names h = bare-grown prefix k names h
-bare-prefix (Several k next) prefix names h = h
+bare-prefix e prefix names h = grind (arith, bare-last, bare-grown)
 
 bare-entering : (n : Naming) (names : List SecName) → AreBare names → AreBare (kept_by (entering n names) names)
-bare-entering Void names h = h
-bare-entering (Full kind text) names h =
-    bare-enter (position (has_text kind text) names) (position (grows_to kind text) names)
-    (position (conflicts_with kind text) names) kind text names h
-bare-entering (Prefix text) names h = bare-prefix (earliest (positions_from 0 (is_candidate text) names)) text names h
+bare-entering n names h = grind (arith, bare-enter, bare-prefix)
 
 bare-kept : (names : List SecName) (answers : List Answer) → AreBare names → AreBare (kept_after names answers)
 bare-kept names [] h = h
@@ -119,7 +104,4 @@ pub names-step : (names : List SecName) (j k : ℕ) → k < length names
     (drop (k + 1) names)
 names-step [] j k h = absurd (omega arith)
 names-step (n ∷ names) j zero h = refl
-names-step (n ∷ names) j (suc k) h =
-    names-step names j k (omega arith) ∙
-    ap (λ rest. notes_at_by (slice_get names k) j ++ name_notes_from (j + 1) rest)
-    (let one : suc (k + 1) ≡ suc k + 1 = omega arith in ap (λ m. drop m (n ∷ names)) one)
+names-step (n ∷ names) j (suc k) h = grind (arith, names-step names j k (omega arith))

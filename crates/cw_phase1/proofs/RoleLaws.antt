@@ -1,17 +1,14 @@
 -- Which tokens have names, and which section each stands in.
-use Rattle.std.proofs.Common.{◌≡◌, ℕ, zero, suc, ◌+◌, ◌<◌, ◌≤◌, ◌==◌, Bool, true, false, List, [], ◌∷◌, ◌++◌, Option}
-use Rattle.std.proofs.Common.{Some, None, All, map, length, refl, ap, sym, subst, ◌∙◌, ◌||◌, add-zero, zero-add, arith}
-use Rattle.std.proofs.Common.{nat_lt, true≢false, if◌then◌else◌}
+use Rattle.std.proofs.Common.{◌≡◌, ℕ, zero, suc, ◌+◌, ◌<◌, ◌≤◌, Bool, true, false, List, [], ◌∷◌, ◌++◌, Option, Some}
+use Rattle.std.proofs.Common.{None, All, map, length, refl, sym, ◌∙◌, add-zero, zero-add, arith, nat_lt, true≢false}
+use Rattle.std.proofs.Common.{if◌then◌else◌}
 use Rattle.std.specs.List.{filter}
 use Rattle.std.proofs.lemmas.Bool.{eqb-true, ltb-false, ltb-true}
 use Rattle.std.proofs.lemmas.List.Elements.{All-nil, All-cons}
 use Rattle.cw_base.specs.Web.{MergedLine}
 use Rattle.cw_rules.specs.declared.codes.Code.{Code}
-use Rattle.cw_rules.specs.declared.codes.Code.TheVariants as at
 use Rattle.cw_lex.specs.declared.heads.Wanted.{Wanted}
-use Rattle.cw_lex.specs.declared.heads.Wanted.TheVariants as wants
 use Rattle.cw_rules.specs.declared.tokens.TokKind.{TokKind}
-use Rattle.cw_rules.specs.declared.tokens.TokKind.TheVariants as kinds
 use Rattle.cw_rules.specs.Answers.{Seen, Answer, Token, Begin, Finish, Note, has_sign}
 use Rattle.cw_lex.specs.Heads.{head_behind}
 use Rattle.cw_secnames.specs.declared.kinds.RefKind.{RefKind}
@@ -26,11 +23,11 @@ use Rattle.cw_phase1.specs.declared.roles.Role.{Role}
 use Rattle.cw_phase1.specs.declared.roles.Role.TheVariants as roles
 use Rattle.cw_phase1.specs.declared.roles.Standing.{Standing}
 use Rattle.cw_phase1.specs.declared.sections.Section.{Section}
-use Rattle.cw_phase1.specs.Entering.{entered_name, kept_behind, name_of_entering}
+use Rattle.cw_phase1.specs.Entering.{entered_name, kept_behind}
 use Rattle.cw_lex.specs.Limbo.{is_name_kind}
 use Rattle.cw_phase1.specs.Roles.{Placed, Step, name_step, code_step, free_step, token_step, token_step_by, word_role}
 use Rattle.cw_phase1.specs.Roles.{head_role, behind_begin, placed_by, placed_from}
-use Rattle.cw_phase1.specs.Sections.{is_section_code, section_at, sections_of}
+use Rattle.cw_phase1.specs.Sections.{is_section_code, sections_of}
 use Rattle.cw_phase1.specs.Sound.{Ascend, RefersUpTo}
 use Rattle.cw_phase1.specs.Uses.{use_by, uses_of, reference_by, references_of}
 use Rattle.cw_phase1.proofs.Passing.{name-free, enters-nothing}
@@ -52,24 +49,11 @@ AreFit (p ∷ ps) = IsFit p × AreFit ps
 
 name-fits : (headed : Bool) (t : Seen) (name : Option SecId) (s : Standing)
     → IsFit (placed_by t name (name_step headed s))
-name-fits true t name s = record {
-  code = λ h. absurd (let wrong : false ≡ true = h in cc);
-  plain = λ h. absurd (let wrong : true ≡ false = h in cc);
-}
-name-fits false t name s = record {
-  code = λ h. absurd (let wrong : false ≡ true = h in cc);
-  plain = λ h. absurd (let wrong : true ≡ false = h in cc);
-}
+name-fits headed t name s = grind arith
 
 fits-by : (b : Bool) (t : Seen) (kept : List SecName) (headed : Bool) (s : Standing) → is_name_kind t.kind ≡ b
     → IsFit (placed_by t (entered_name t kept) (token_step t.kind headed s t.span))
-fits-by true t kept headed s e =
-    subst (λ (step : Step). IsFit (placed_by t (entered_name t kept) step)) (sym (name-free t.kind headed s t.span e))
-    (name-fits headed t (entered_name t kept) (behind_begin s))
-fits-by false t kept headed s e = record {
-  code = λ h. ap name_of_entering (enters-nothing t kept e);
-  plain = λ h. ap name_of_entering (enters-nothing t kept e);
-}
+fits-by b t kept headed s e = grind (arith, name-free, name-fits, enters-nothing)
 
 pub fits : (s : Standing) (kept : List SecName) (answers : List Answer) → AreFit (placed_from s kept answers)
 fits s kept [] = tt
@@ -96,8 +80,7 @@ use-below (roles.Name how) None place section n uses references h a k = k a
 use-below (roles.Name how) (Some id) place section n uses references h a k =
     All-cons (IsUse n) _ uses (a zero (record { name = id.index; how = how; section = section }) (omega arith))
     (k (λ j d l. a (suc j) d (omega arith)))
-use-below role name place section n uses references h a k =
-    subst (λ (m : Option SecId). All (IsUse n) (use_by m place ++ uses)) (sym (h refl)) (k a)
+use-below role name place section n uses references h a k = grind arith
 
 pub uses-below : (n : ℕ) (ps : List Placed) → AreFit ps → All (λ (r : Reference). r.name < n) (references_of ps)
     → All (λ (u : NameUse). u.name < n) (uses_of ps)
@@ -121,46 +104,23 @@ abbrev IsNumbered : ℕ → Step → Type 0
 IsNumbered m step = step.next.section ≡ m + count_by (is_section_code step.role)
 
 no-code-word : (wanted : Wanted) → is_section_code (word_role wanted) ≡ false
-no-code-word wants.Nothing = refl
-no-code-word wants.Macro = refl
-no-code-word (wants.Parenthesis place) = refl
-no-code-word wants.Parameters = refl
-no-code-word (wants.First silent) = refl
-no-code-word (wants.Second silent) = refl
+no-code-word wanted = grind arith
 
 no-code-head : (wanted : Wanted) (kind : TokKind) → is_section_code (head_role wanted kind) ≡ false
-no-code-head wanted kinds.Identifier = no-code-word wanted
-no-code-head wanted kind = refl
+no-code-head wanted kind = grind (arith, no-code-word)
 
 name-number : (headed : Bool) (s : Standing) → IsNumbered s.section (name_step headed s)
-name-number true s = sym (add-zero s.section)
-name-number false s = sym (add-zero s.section)
+name-number headed s = grind (arith, add-zero)
 
 code-number : (code : Code) (headed : Bool) (s : Standing) → IsNumbered s.section (code_step code headed s)
-code-number at.Section headed s = refl
-code-number at.StarredSection headed s = refl
-code-number at.Define headed s = sym (add-zero s.section)
-code-number at.Format headed s = sym (add-zero s.section)
-code-number at.SilentFormat headed s = sym (add-zero s.section)
-code-number at.Program headed s = sym (add-zero s.section)
-code-number at.SectionName headed s = name-number headed s
-code-number at.FileName headed s = name-number headed s
-code-number at.Roman headed s = sym (add-zero s.section)
-code-number at.Typewriter headed s = sym (add-zero s.section)
-code-number at.UserEntry headed s = sym (add-zero s.section)
-code-number at.Underline headed s = sym (add-zero s.section)
-code-number code headed s = sym (add-zero s.section)
+code-number code headed s = grind (arith, add-zero, name-number)
 
 free-number : (kind : TokKind) (headed : Bool) (s : Standing) → IsNumbered s.section (free_step kind headed s)
-free-number kinds.Identifier headed s = sym (add-zero s.section)
-free-number (kinds.Code code) headed s = code-number code headed s
-free-number kind headed s = sym (add-zero s.section)
+free-number kind headed s = grind (arith, add-zero, code-number)
 
 step-number : (o : Option Wanted) (kind : TokKind) (headed : Bool) (s : Standing)
     → IsNumbered s.section (token_step_by o kind headed s)
-step-number None kind headed s = free-number kind headed (behind_begin s)
-step-number (Some next) kind headed s = sym (ap (λ (b : Bool). s.section + count_by b) (no-code-head s.wanted kind)
-    ∙ add-zero s.section)
+step-number o kind headed s = grind (arith, free-number, no-code-head, add-zero)
 
 pub numbered : (s : Standing) (kept : List SecName) (answers : List Answer)
     → Numbered s.section (placed_from s kept answers)
@@ -180,15 +140,12 @@ codes (p ∷ ps) = count_by (is_section_code p.role) + codes ps
 
 count-section : (b : Bool) (s : Section) (rest : List Section)
     → length (if b then s ∷ rest else rest) ≡ count_by b + length rest
-count-section true s rest = omega arith
-count-section false s rest = sym (zero-add (length rest))
+count-section b s rest = grind (arith, zero-add)
 
 pub section-count : (lines : List MergedLine) (size : ℕ) (ps : List Placed) → length (sections_of lines size ps)
     ≡ codes ps
 section-count lines size [] = refl
-section-count lines size (p ∷ ps) =
-    count-section (is_section_code p.role) (section_at lines size p.token ps) (sections_of lines size ps) ∙
-    ap (λ n. count_by (is_section_code p.role) + n) (section-count lines size ps)
+section-count lines size (p ∷ ps) = grind (arith, section-count lines size ps, count-section)
 
 -- ## References
 
@@ -208,43 +165,30 @@ pub rise-reference : (role : Role) (name : Option SecId) (section low high : ℕ
     → low ≤ section → section ≤ high
     → Rise section high (sections_in references)
     → Rise low high (sections_in (reference_by role name section ++ references))
-rise-reference (roles.Name how) None section low high references l h r =
-    rise-more low section high (sections_in references) l r
-rise-reference (roles.Name how) (Some id) section low high references l h r = (l, h, r)
-rise-reference role name section low high references l h r = rise-more low section high (sections_in references) l r
+rise-reference role name section low high references l h r = grind (arith, rise-more)
 
 pub rise : (m high : ℕ) (ps : List Placed) → Numbered m ps → m + codes ps ≤ high
     → Rise m high (sections_in (references_of ps))
 rise m high [] n h = tt
-rise m high (p ∷ ps) n h =
-    rise-reference p.role p.name p.section m high (references_of ps) (omega (arith, n.0)) (omega (arith, n.0, h))
-    (rise p.section high ps n.1 (omega (arith, n.0, h)))
+rise m high (p ∷ ps) n h = grind (arith, rise p.section high ps n.1 (omega (arith, n.0, h)), rise-reference)
 
 rise-filter-by : (t : Bool) (test : Reference → Bool) (low high : ℕ) (r : Reference) (references : List Reference)
     → test r ≡ t
     → Rise low high (sections_in (r ∷ references)) → Rise r.section high (sections_in (filter test references))
     → Rise low high (sections_in (filter test (r ∷ references)))
-rise-filter-by true test low high r references e a k = rw e (a.0, a.1, k)
-rise-filter-by false test low high r references e a k =
-    rw e (rise-more low r.section high (sections_in (filter test references)) a.0 k)
+rise-filter-by t test low high r references e a k = grind (arith, rise-more)
 
 rise-filter : (test : Reference → Bool) (low high : ℕ) (references : List Reference)
     → Rise low high (sections_in references)
     → Rise low high (sections_in (filter test references))
 rise-filter test low high [] r = tt
 rise-filter test low high (reference ∷ references) r =
-    rise-filter-by (test reference) test low high reference references refl r
-    (rise-filter test reference.section high references r.2)
+    grind (arith, rise-filter test reference.section high references r.2, rise-filter-by)
 
 -- each of them is between the two
 risen : (low high : ℕ) (ns : List ℕ) → Rise low high ns → (k : ℕ) → is_one_of k ns ≡ true → (low ≤ k) × (k ≤ high)
 risen low high [] r k e = absurd (true≢false (sym e))
-risen low high (n ∷ ns) r k e = by (n == k) refl e (risen n high ns r.2 k)
-  where
-    by : (t : Bool) → (n == k) ≡ t → (t || is_one_of k ns) ≡ true → (is_one_of k ns ≡ true → (n ≤ k) × (k ≤ high))
-        → (low ≤ k) × (k ≤ high)
-    by true same e more = let is : n ≡ k = eqb-true n k same in (omega (arith, r.0), omega (arith, r.1))
-    by false same e more = let there : (n ≤ k) × (k ≤ high) = more e in (omega (arith, r.0, there.0), there.1)
+risen low high (n ∷ ns) r k e = grind (arith, risen n high ns r.2 k, eqb-true)
 
 -- what ascends between two numbers
 between : (low high least : ℕ) (ns : List ℕ) → AscendFrom least ns
@@ -269,9 +213,7 @@ once-between low high ns r = between low high 0 (once ns) (once-ascends ns)
 
 ascend : (name : ℕ) (how : RefKind) (high : ℕ) (references : List Reference) → Rise 1 high (sections_in references)
     → Ascend 1 high (once (sections_in (filter (is_of name how) references)))
-ascend name how high references r =
-    once-between 1 high (sections_in (filter (is_of name how) references))
-    (rise-filter (is_of name how) 1 high references r)
+ascend name how high references r = grind (arith, once-between, rise-filter)
 
 refers : (high : ℕ) (references : List Reference) (k : ℕ) (names : List SecName) → Rise 1 high (sections_in references)
     → All (RefersUpTo high) (referred references k names)

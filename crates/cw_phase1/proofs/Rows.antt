@@ -15,10 +15,10 @@ use Rattle.cw_names.specs.Words.{built_in_words}
 use Rattle.cw_secnames.specs.declared.kinds.SecKind.{SecKind}
 use Rattle.cw_secnames.specs.declared.kinds.SecKind.TheVariants.{Named, File}
 use Rattle.cw_secnames.specs.Kept.{SecName}
+use Rattle.cw_secnames.specs.Kept.{id}
 use Rattle.cw_names.specs.declared.xrefs.Occurrence.{Occurrence}
 use Rattle.cw_secnames.specs.Uses.{NameUse}
 use Rattle.std.specs.Option.{option_map}
-use Rattle.cw_secnames.specs.Kept.{id}
 use Rattle.cw_phase1.specs.declared.sections.Depth.{Depth}
 use Rattle.cw_phase1.specs.declared.sections.Depth.TheVariants.{Zero}
 use Rattle.cw_phase1.specs.declared.sections.Section.{Section}

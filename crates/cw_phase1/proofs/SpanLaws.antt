@@ -1,9 +1,8 @@
 -- The tokens of a web stand one behind another, and so do the parts of its sections.
 use Rattle.std.proofs.Common.{◌≡◌, ℕ, ◌<◌, ◌≤◌, ◌||◌, ◌==◌, Bool, true, false, not, List, [], ◌∷◌, ◌++◌, Option, Some}
-use Rattle.std.proofs.Common.{None, All, IfSome, suc, zero, refl, ap, sym, subst, ◌∙◌, append_assoc, arith}
-use Rattle.std.proofs.Common.{if◌then◌else◌}
+use Rattle.std.proofs.Common.{None, All, IfSome, suc, zero, refl, ap, subst, ◌∙◌, append_assoc, arith, if◌then◌else◌}
 use Rattle.std.proofs.lemmas.Bool.{eq-eqb}
-use Rattle.std.proofs.lemmas.List.Elements.{All-nil, All-cons, All-weaker}
+use Rattle.std.proofs.lemmas.List.Elements.{All-nil}
 use Rattle.std.specs.Option.{option_map}
 use Rattle.cw_base.proofs.TestLaws.{one-left}
 use Rattle.cw_base.specs.Web.{MergedLine}
@@ -13,7 +12,6 @@ use Rattle.cw_secnames.specs.declared.kinds.SecId.{SecId}
 use Rattle.cw_secnames.specs.Kept.{SecName, id}
 use Rattle.cw_secnames.specs.Uses.{NameUse, name_at}
 use Rattle.cw_phase1.specs.declared.roles.Part.{Part}
-use Rattle.cw_phase1.specs.declared.roles.Part.TheVariants as parts
 use Rattle.cw_phase1.specs.declared.roles.Standing.{Standing}
 use Rattle.cw_phase1.specs.declared.sections.Section.{Section}
 use Rattle.cw_phase1.specs.Ready.{AreBefore}
@@ -44,8 +42,7 @@ follows text from size s kept (Begin t ∷ answers) c =
     follow-more from t.span.«end» size _ (omega (arith, c.0.order, c.0.span))
     (follows text t.span.«end» size _ kept answers c.1)
 follows text from size s kept (Finish t ∷ answers) c =
-    follow-more from t.span.«end» size _ (omega (arith, c.0.order, c.0.span))
-    (follows text t.span.«end» size s kept answers c.1)
+    grind (arith, follows text t.span.«end» size s kept answers c.1, follow-more)
 follows text from size s kept (Note kind place ∷ answers) c = follows text from size s kept answers c
 
 follow-end : (from size : ℕ) (ps : List Placed) → Follow from size ps → from ≤ size
@@ -55,54 +52,38 @@ follow-end from size (p ∷ ps) f = omega (arith, f.0, f.1, follow-end p.token.s
 -- ## The first token that passes a test
 
 from-by : (t : Bool) (from here later : ℕ) → from ≤ here → from ≤ later → from ≤ (if t then here else later)
-from-by true from here later h l = h
-from-by false from here later h l = l
+from-by t from here later h l = grind arith
 
 to-by : (t : Bool) (here later size : ℕ) → here ≤ size → later ≤ size
     → (if t then here else later) ≤ size
-to-by true here later size h l = h
-to-by false here later size h l = l
+to-by t here later size h l = grind arith
 
 first-from : (test : Placed → Bool) (from size : ℕ) (ps : List Placed) → Follow from size ps
     → from ≤ first_start test size ps
 first-from test from size [] f = f
-first-from test from size (p ∷ ps) f =
-    from-by (test p) from p.token.span.start (first_start test size ps) f.0
-    (omega (arith, f.0, f.1, first-from test p.token.span.«end» size ps f.2))
+first-from test from size (p ∷ ps) f = grind (arith, first-from test p.token.span.«end» size ps f.2, from-by)
 
 first-to : (test : Placed → Bool) (from size : ℕ) (ps : List Placed) → Follow from size ps
     → first_start test size ps ≤ size
 first-to test from size [] f = omega arith
-first-to test from size (p ∷ ps) f =
-    to-by (test p) p.token.span.start (first_start test size ps) size
-    (omega (arith, f.1, follow-end p.token.span.«end» size ps f.2))
-    (first-to test p.token.span.«end» size ps f.2)
+first-to test from size (p ∷ ps) f = grind (arith, first-to test p.token.span.«end» size ps f.2, to-by, follow-end)
 
 earlier-by : (t other : Bool) (here a b : ℕ) → (t ≡ true → other ≡ true) → here ≤ b → a ≤ b
     → (if other then here else a) ≤ (if t then here else b)
-earlier-by true true here a b h l k = omega arith
-earlier-by true false here a b h l k = let wrong : false ≡ true = h refl in absurd (cc)
-earlier-by false true here a b h l k = l
-earlier-by false false here a b h l k = k
+earlier-by t other here a b h l k = grind arith
 
 first-earlier : (test other : Placed → Bool) (from size : ℕ) (ps : List Placed)
     → ((p : Placed) → test p ≡ true → other p ≡ true) → Follow from size ps
     → first_start other size ps ≤ first_start test size ps
 first-earlier test other from size [] h f = omega arith
 first-earlier test other from size (p ∷ ps) h f =
-    earlier-by (test p) (other p) p.token.span.start (first_start other size ps) (first_start test size ps) (h p)
-    (omega (arith, f.1, first-from test p.token.span.«end» size ps f.2))
-    (first-earlier test other p.token.span.«end» size ps h f.2)
+    grind (arith, first-earlier test other p.token.span.«end» size ps h f.2, earlier-by, first-from)
 
 code-ends : (p : Placed) → ends_section p ≡ true → ends_definitions p ≡ true
 code-ends p h = one-left (is_section_code p.role) (is_program p.part) h
 
 tex-by : (code : Bool) (part : Part) → (code || is_program part) ≡ true → (code || not (is_tex part)) ≡ true
-tex-by true part h = refl
-tex-by false parts.Limbo h = refl
-tex-by false parts.Tex h = let wrong : false ≡ true = h in absurd (cc)
-tex-by false parts.Definitions h = refl
-tex-by false parts.Program h = refl
+tex-by code part h = grind arith
 
 definitions-end-tex : (p : Placed) → ends_definitions p ≡ true → ends_tex p ≡ true
 definitions-end-tex p h = tex-by (is_section_code p.role) p.part h
@@ -111,19 +92,11 @@ definitions-end-tex p h = tex-by (is_section_code p.role) p.part h
 
 all-by : (P : Section → Type 0) (t : Bool) (s : Section) (rest : List Section) → P s → All P rest
     → All P (if t then s ∷ rest else rest)
-all-by P true s rest h a = All-cons P s rest h a
-all-by P false s rest h a = a
+all-by P t s rest h a = grind arith
 
 lies : (lines : List MergedLine) (size : ℕ) (head : Seen) (ps : List Placed) → Follow head.span.«end» size ps
     → LiesIn size (section_at lines size head ps)
-lies lines size head ps f = record {
-  tex = first-from ends_tex head.span.«end» size ps f;
-  definitions = first-earlier ends_definitions ends_tex head.span.«end» size ps definitions-end-tex f;
-  c_part = first-earlier ends_section ends_definitions head.span.«end» size ps code-ends f;
-  tex_ends = refl;
-  definitions_end = refl;
-  within = first-to ends_section head.span.«end» size ps f;
-}
+lies lines size head ps f = grind (arith, first-from, first-earlier, definitions-end-tex, code-ends, first-to)
 
 pub all-lie : (lines : List MergedLine) (from size : ℕ) (ps : List Placed) → Follow from size ps
     → All (LiesIn size) (sections_of lines size ps)
@@ -146,15 +119,11 @@ not-same-behind a b h = grind arith
 
 not-here : (name : Option SecId) (here place : ℕ) (uses : List NameUse) → (here == place) ≡ false
     → name_at place (use_by name here ++ uses) ≡ name_at place uses
-not-here None here place uses h = refl
-not-here (Some n) here place uses h = ap (λ (t : Bool). if t then Some n.index else name_at place uses) h
+not-here name here place uses h = grind arith
 
 here : (name : Option SecId) (place : ℕ) (uses : List NameUse) → name_at place uses ≡ None
     → option_map id (name_at place (use_by name place ++ uses)) ≡ name
-here None place uses h = ap (option_map id) h
-here (Some n) place uses h =
-    ap (λ (t : Bool). option_map id (if t then Some n.index else name_at place uses))
-    (eq-eqb place place refl)
+here name place uses h = grind (arith, eq-eqb)
 
 -- no name stands before the first token
 none-before : (place from size : ℕ) (ps : List Placed) → Follow from size ps → place < from → name_at place (uses_of ps)
@@ -171,10 +140,7 @@ name-by : (code program : Bool) (start later : ℕ) (name rest : Option SecId) (
     → option_map id (name_at (if code || program then start else later)
     (use_by name start ++ uses))
     ≡ (if code then None else if program then name else rest)
-name-by true program start later name rest uses n none apart e = here name start uses none ∙ n refl
-name-by false true start later name rest uses n none apart e = here name start uses none
-name-by false false start later name rest uses n none apart e =
-    ap (option_map id) (not-here name start later uses apart) ∙ e
+name-by code program start later name rest uses n none apart e = grind (arith, here, not-here)
 
 name-first : (from size : ℕ) (ps : List Placed) → Follow from size ps → AreFit ps
     → option_map id (name_at (first_start ends_definitions size ps) (uses_of ps)) ≡ c_part_name ps
@@ -199,16 +165,7 @@ skip-before from place (u ∷ uses) later h b =
 named-by : (lines : List MergedLine) (uses : List NameUse) (from size : ℕ) (p : Placed) (ps : List Placed)
     → AreBefore from uses → Follow from size (p ∷ ps)
     → AreFit ps → IsNamedBy (uses ++ (use_of p ++ uses_of ps)) (section_at lines size p.token ps)
-named-by lines uses from size p ps b f fit =
-    let place : ℕ = first_start ends_definitions size ps in
-    let behind : p.token.span.«end» ≤ first_start ends_definitions size ps =
-    first-from ends_definitions p.token.span.«end» size ps f.2 in
-    sym (
-    ap (option_map id) (skip-before from place uses (use_of p ++ uses_of ps) (omega (arith, f.0, f.1, behind)) b) ∙
-    (ap (option_map id) (not-here p.name p.token.span.start place (uses_of ps)
-    (not-same p.token.span.start place (omega (arith, f.1, behind)))) ∙
-    name-first p.token.span.«end» size ps f.2 fit)
-    )
+named-by lines uses from size p ps b f fit = grind (arith, first-from, skip-before, not-here, not-same, name-first)
 
 pub all-named : (lines : List MergedLine) (uses : List NameUse) (from size : ℕ) (ps : List Placed) → AreBefore from uses
     → Follow from size ps → AreFit ps
@@ -226,8 +183,7 @@ all-named lines uses from size (p ∷ ps) b f fit =
 -- A name that stands at a place is kept.
 at-by : (t : Bool) (name n : ℕ) (rest : Option ℕ) → name < n → IfSome (option_map id rest) (λ i. i.index < n)
     → IfSome (option_map id (if t then Some name else rest)) (λ i. i.index < n)
-at-by true name n rest h k = h
-at-by false name n rest h k = k
+at-by t name n rest h k = grind arith
 
 at-below : (place n : ℕ) (uses : List NameUse) → All (λ (u : NameUse). u.name < n) uses
     → IfSome (option_map id (name_at place uses)) (λ i. i.index < n)
@@ -239,7 +195,4 @@ at-below place n (u ∷ uses) a =
 pub named-below : (n : ℕ) (uses : List NameUse) (sections : List Section) → All (λ (u : NameUse). u.name < n) uses
     → All (IsNamedBy uses) sections
     → All (λ (s : Section). IfSome s.name (λ i. i.index < n)) sections
-named-below n uses sections a b =
-    All-weaker (IsNamedBy uses) (λ (s : Section). IfSome s.name (λ i. i.index < n))
-    (λ s e. subst (λ (name : Option SecId). IfSome name (λ i. i.index < n)) (sym e) (at-below s.c_part.start n uses a))
-    sections b
+named-below n uses sections a b = grind (arith, at-below)

@@ -1,21 +1,18 @@
 -- What holds while the answers come.
-use Rattle.std.proofs.Common.{◌≡◌, ℕ, ◌+◌, ◌<◌, ◌≤◌, ◌^◌, Bool, true, false, List, [], ◌∷◌, ◌++◌, Option, Some, None}
-use Rattle.std.proofs.Common.{All, IfSome, length, refl, ap, sym, subst, ◌∙◌, arith, length-append, ◌-◌, drop}
+use Rattle.std.proofs.Common.{◌≡◌, ℕ, ◌+◌, ◌<◌, ◌≤◌, Bool, true, false, List, [], ◌∷◌, ◌++◌, Option, Some, None, All}
+use Rattle.std.proofs.Common.{IfSome, length, ap, sym, subst, ◌∙◌, arith, length-append, ◌-◌, drop}
 use Rattle.std.specs.Prelude.{slice_range}
-use Rattle.std.proofs.lemmas.List.{append-nil, length-take}
-use Rattle.std.proofs.lemmas.List.Elements.{All-append, All-nil, All-cons, All-weaker}
-use Rattle.cw_base.specs.Web.{MergedLine}
+use Rattle.std.proofs.lemmas.List.{length-take}
+use Rattle.std.proofs.lemmas.List.Elements.{All-append, All-nil, All-cons}
+use Rattle.std.proofs.lemmas.Grind.{common_steps}
+use Rattle.cw_base.specs.Web.{MergedLine, text_of}
 use Rattle.cw_rules.specs.declared.codes.Code.{Code}
-use Rattle.cw_rules.specs.declared.codes.Code.TheVariants as at
 use Rattle.cw_lex.specs.declared.heads.Wanted.{Wanted}
-use Rattle.cw_lex.specs.declared.heads.Wanted.TheVariants as wants
 use Rattle.cw_rules.specs.declared.tokens.TokKind.{TokKind}
-use Rattle.cw_rules.specs.declared.tokens.TokKind.TheVariants as kinds
 use Rattle.cw_rules.specs.Answers.{Seen, Answer, Token, Begin, Finish, Note, is_head_sign}
 use Rattle.cw_lex.specs.Heads.{head_behind}
 use Rattle.cw_names.specs.Names as names
 use Rattle.cw_names.specs.declared.entry.EntryKind.{EntryKind}
-use Rattle.cw_names.specs.declared.entry.EntryKind.TheVariants.{Ident}
 use Rattle.cw_names.specs.declared.entry.NameId.{NameId}
 use Rattle.cw_secnames.specs.declared.kinds.SecId.{SecId}
 use Rattle.cw_secnames.specs.References.{Reference}
@@ -28,30 +25,23 @@ use Rattle.cw_phase1.specs.declared.sections.Section.{Section}
 use Rattle.cw_phase1.specs.declared.sections.Sections.{Sections}
 use Rattle.cw_phase1.specs.declared.words.Words.{Words}
 use Rattle.cw_phase1.specs.Roles.{Placed, Step, name_step, token_step, token_step_by, code_step, free_step}
-use Rattle.cw_phase1.specs.Roles.{section_step, word_role, head_role, behind_begin, placed_by, placed}
+use Rattle.cw_phase1.specs.Roles.{section_step, word_role, head_role, placed_by}
 use Rattle.cw_phase1.specs.Sections.{is_section_code}
-use Rattle.cw_rules.specs.ControlTexts.{text_behind_code}
 use Rattle.cw_phase1.specs.Uses.{use_by, reference_by}
-use Rattle.cw_phase1.specs.Outlining.{closing_by, closed_at, open_with, section_told_by}
+use Rattle.cw_phase1.specs.Outlining.{closing_by, open_with, section_told_by}
 use Rattle.cw_phase1.specs.Words.{KnownNames, known_behind, with_format}
-use Rattle.cw_phase1.specs.Telling.{IsKnown, word_told, known_of, told_step, told_all, told_start}
+use Rattle.cw_phase1.specs.Telling.{IsKnown, word_told, known_of, told_step, told_all}
 use Rattle.cw_phase1.specs.declared.told.Told.{Told}
 use Rattle.cw_phase1.specs.declared.held.Waiting.{Waiting as WaitingToken}
-use Rattle.cw_phase1.specs.Notes.{scanned_note, scanned_notes}
-use Rattle.cw_phase1.specs.Entering.{kept_after, with_notes, note_behind_end}
 use Rattle.cw_phase1.specs.Ending.{IsScanned, open_count, section_total}
-use Rattle.cw_phase1.specs.Book.{answers_of}
-use Rattle.cw_base.specs.Web.{text_of}
 use Rattle.cw_base.specs.declared.notes.NoteKind.{NoteKind}
 use Rattle.cw_rules.specs.Order.{Covers}
 use Rattle.cw_lex.specs.Lexing.{tokens_of}
 use Rattle.cw_rules.specs.declared.tokens.Mode.TheVariants as modes
 use Rattle.cw_phase1.proofs.Passing.{told_at_end, kept_at_end, notes_at_end, told-passes, kept-passes, notes-pass}
-use Rattle.cw_phase1.proofs.Passing.{settle-told}
 use Rattle.cw_phase1.specs.Holding.{Waiting, HeldState, waiting_of, settled_placed, settled_standing, settled}
+use Rattle.cw_phase1.specs.Holding.{remark_put, token_held_by, begun_held, ended_held, noted_held, held_step}
 use Rattle.cw_lex.specs.Limbo.{is_name_kind}
-use Rattle.cw_phase1.specs.Holding.{remark_notes, remark_put, token_held_by, begun_held, ended_held}
-use Rattle.cw_phase1.specs.Holding.{noted_held, held_step}
 use Rattle.cw_phase1.specs.Ready.{IsToken, AreBefore, WaitsBehind, CanSettle, WaitingIsKept, held_start}
 use Rattle.cw_phase1.proofs.NameLaws.{category-length}
 use Rattle.cw_phase1.proofs.WordLaws.{entered-below, entry-grows}
@@ -59,13 +49,11 @@ use Rattle.cw_phase1.proofs.WordLaws.{entered-below, entry-grows}
 -- ## The first name of a format definition
 
 known-more : (o : Option NameId) (m n : ℕ) → m ≤ n → IfSome o (λ id. id.index < m) → IfSome o (λ id. id.index < n)
-known-more None m n h k = k
-known-more (Some id) m n h k = omega arith
+known-more o m n h k = grind arith
 
 format-length : (o : Option NameId) (second : NameId) (entries : List names.Entry)
     → length (with_format o second entries) ≡ length entries
-format-length None second entries = refl
-format-length (Some first) second entries = category-length first.index _ entries
+format-length o second entries = grind (arith, category-length)
 
 word-known : (other : EntryKind) (text : List ℕ) (k : KnownNames) → IfSome k.first (λ id. id.index < length k.names)
     → IfSome k.first (λ id. id.index < length (names.with_entry other text k.names))
@@ -73,18 +61,7 @@ word-known other text k h = known-more k.first _ _ (entry-grows other text k.nam
 
 role-known : (role : Role) (text : List ℕ) (k : KnownNames) → IfSome k.first (λ id. id.index < length k.names)
     → IfSome (known_behind role text k).first (λ id. id.index < length (known_behind role text k).names)
-role-known roles.MacroName text k h = word-known Ident text k h
-role-known roles.Parameter text k h = word-known Ident text k h
-role-known roles.Word text k h = word-known Ident text k h
-role-known (roles.FirstName silent) text k h = entered-below Ident text k.names
-role-known (roles.SecondName silent) text k h =
-    subst (λ n. IfSome k.first (λ id. id.index < n))
-    (sym (format-length k.first _ (names.with_entry Ident text k.names))) (word-known Ident text k h)
-role-known (roles.Entry kind) text k h = word-known kind (text_behind_code text) k h
-role-known roles.SectionCode text k h = h
-role-known roles.Underline text k h = h
-role-known (roles.Name how) text k h = h
-role-known roles.Plain text k h = h
+role-known role text k h = grind (arith, word-known, entered-below, format-length)
 
 told-known : (p : Placed) (w : Words) → IsKnown w → IsKnown (word_told p w)
 told-known p w h = role-known p.role p.token.text (known_of w) h
@@ -100,8 +77,7 @@ before-use (Some id) place n uses h b =
     (All-nil (λ (u : NameUse). u.place < n)))
 
 pub before-more : (m n : ℕ) (uses : List NameUse) → m ≤ n → AreBefore m uses → AreBefore n uses
-before-more m n uses h b = All-weaker (λ (u : NameUse). u.place < m) (λ (u : NameUse). u.place < n) (λ u l. omega arith)
-    uses b
+before-more m n uses h b = grind arith
 
 abbrev AreOf : ℕ → List Reference → Type 0
 AreOf n references = All (λ (r : Reference). r.name < n) references
@@ -112,8 +88,7 @@ of-none n references a = All-append (λ (r : Reference). r.name < n) references 
 
 of-nothing : (role : Role) (n section : ℕ) (references : List Reference) → AreOf n references
     → AreOf n (references ++ reference_by role None section)
-of-nothing (roles.Name how) n section references a = of-none n references a
-of-nothing role n section references a = of-none n references a
+of-nothing role n section references a = grind (arith, of-none)
 
 of-some : (role : Role) (id : SecId) (n section : ℕ) (references : List Reference) → id.index < n → AreOf n references
     → AreOf n (references ++ reference_by role (Some id) section)
@@ -125,33 +100,24 @@ of-some role id n section references h a = of-none n references a
 of-more : (role : Role) (name : Option SecId) (n section : ℕ) (references : List Reference)
     → IfSome name (λ id. id.index < n) → AreOf n references
     → AreOf n (references ++ reference_by role name section)
-of-more role None n section references h a = of-nothing role n section references a
-of-more role (Some id) n section references h a = of-some role id n section references h a
+of-more role name n section references h a = grind (arith, of-nothing, of-some)
 
 of-grows : (m n : ℕ) (references : List Reference) → m ≤ n → AreOf m references → AreOf n references
-of-grows m n references h a = All-weaker (λ (r : Reference). r.name < m) (λ (r : Reference). r.name < n)
-    (λ r l. omega arith) references a
+of-grows m n references h a = grind arith
 
 -- ## Sections
 
 closing-length : (o : Option Open) (lines : List MergedLine) (end : ℕ) (closed : List Section)
     → length (closing_by o lines end closed) ≡ open_count o + length closed
-closing-length None lines end closed = sym (omega arith)
-closing-length (Some o) lines end closed = length-append closed (closed_at lines end o ∷ []) ∙ omega arith
+closing-length o lines end closed = grind (arith, length-append)
 
 with-count : (o : Option Open) (p : Placed) → open_count (open_with o p) ≡ open_count o
-with-count None p = refl
-with-count (Some o) p = refl
+with-count o p = grind arith
 
 total-by : (b : Bool) (lines : List MergedLine) (p : Placed) (s : Sections) (m n : ℕ) → section_total s ≤ m
     → (b ≡ true → m + 1 ≤ n) → m ≤ n
     → section_total (section_told_by b lines p s) ≤ n
-total-by true lines p s m n h more same = omega (
-  arith,
-  closing-length s.open_one lines p.token.span.start s.closed,
-  more refl,
-)
-total-by false lines p s m n h more same = omega (arith, with-count s.open_one p)
+total-by b lines p s m n h more same = grind (arith, closing-length, with-count)
 
 -- a section code begins the next section, and any other token stays in its section
 record Counts (s : Step) (m : ℕ) : Type 0 where
@@ -163,16 +129,10 @@ counts-stay : (s : Step) (m : ℕ) → s.next.section ≡ m → (is_section_code
 counts-stay s m e n = record { more = λ h. absurd (n h); same = omega arith; near = omega arith }
 
 not-code-word : (wanted : Wanted) → is_section_code (word_role wanted) ≡ true → ⊥
-not-code-word wants.Nothing h = let wrong : false ≡ true = h in cc
-not-code-word wants.Macro h = let wrong : false ≡ true = h in cc
-not-code-word (wants.Parenthesis place) h = let wrong : false ≡ true = h in cc
-not-code-word wants.Parameters h = let wrong : false ≡ true = h in cc
-not-code-word (wants.First silent) h = let wrong : false ≡ true = h in cc
-not-code-word (wants.Second silent) h = let wrong : false ≡ true = h in cc
+not-code-word wanted h = grind arith
 
 not-code-head : (wanted : Wanted) (kind : TokKind) → is_section_code (head_role wanted kind) ≡ true → ⊥
-not-code-head wanted kinds.Identifier h = not-code-word wanted h
-not-code-head wanted kind h = let wrong : false ≡ true = h in cc
+not-code-head wanted kind h = grind (arith, not-code-word)
 
 counts-begin : (s : Standing) → Counts (section_step s) s.section
 counts-begin s = record { more = λ h. omega arith; same = omega arith; near = omega arith }
@@ -181,32 +141,16 @@ plain-no-code : false ≡ true → ⊥
 plain-no-code h = cc
 
 code-counts : (code : Code) (s : Standing) → Counts (code_step code false s) s.section
-code-counts at.Section s = counts-begin s
-code-counts at.StarredSection s = counts-begin s
-code-counts at.Define s = counts-stay _ s.section refl plain-no-code
-code-counts at.Format s = counts-stay _ s.section refl plain-no-code
-code-counts at.SilentFormat s = counts-stay _ s.section refl plain-no-code
-code-counts at.Program s = counts-stay _ s.section refl plain-no-code
-code-counts at.SectionName s = counts-stay _ s.section refl plain-no-code
-code-counts at.FileName s = counts-stay _ s.section refl plain-no-code
-code-counts at.Roman s = counts-stay _ s.section refl plain-no-code
-code-counts at.Typewriter s = counts-stay _ s.section refl plain-no-code
-code-counts at.UserEntry s = counts-stay _ s.section refl plain-no-code
-code-counts at.Underline s = counts-stay _ s.section refl plain-no-code
-code-counts code s = counts-stay _ s.section refl plain-no-code
+code-counts code s = grind (arith, counts-begin, counts-stay, plain-no-code)
 
 free-counts : (kind : TokKind) (s : Standing) → Counts (free_step kind false s) s.section
-free-counts kinds.Identifier s = counts-stay _ s.section refl plain-no-code
-free-counts (kinds.Code code) s = code-counts code s
-free-counts kind s = counts-stay _ s.section refl plain-no-code
+free-counts kind s = grind (arith, counts-stay, plain-no-code, code-counts)
 
 step-counts : (o : Option Wanted) (kind : TokKind) (s : Standing) → Counts (token_step_by o kind false s) s.section
-step-counts None kind s = free-counts kind (behind_begin s)
-step-counts (Some next) kind s = counts-stay _ s.section refl (not-code-head s.wanted kind)
+step-counts o kind s = grind (arith, free-counts, counts-stay, not-code-head)
 
 name-counts : (headed : Bool) (s : Standing) → Counts (name_step headed s) s.section
-name-counts true s = counts-stay _ s.section refl plain-no-code
-name-counts false s = counts-stay _ s.section refl plain-no-code
+name-counts headed s = grind (arith, counts-stay, plain-no-code)
 
 -- ## What is held
 
@@ -249,21 +193,14 @@ pub record IsReady (from : ℕ) (h : HeldState) : Type 0 where
   few : length h.kept ≤ from
 
 name-section : (headed : Bool) (s : Standing) → (name_step headed s).next.section ≡ s.section
-name-section true s = refl
-name-section false s = refl
+name-section headed s = grind arith
 
 settle-quiet : (w : Option Waiting) (lines : List MergedLine) (headed : Bool) (from count : ℕ) (s : Standing) (t : Told)
     → s.section ≤ from → IsKnown t.words → WaitsHere w from t.named.uses → AreOf count t.named.references
     → section_total t.sections ≤ s.section → WaitingKept w count
     → IsQuiet from count (settled_standing headed w s) (told_all lines (settled_placed headed w s) t)
-settle-quiet None lines headed from count s t section known waits ids total id =
-    record { section = section; known = known; before = waits; ids = ids; total = total }
-settle-quiet (Some w) lines headed from count s t section known waits ids total id =
-    let counts : Counts (name_step headed s) s.section = name-counts headed s in
-    let same : (name_step headed s).next.section ≡ s.section = name-section headed s in
-    told-quiet lines (name_step headed s) w.token w.name from count s.section t counts (omega (arith, same)) known
-    waits.0
-    (before-more w.token.span.start from t.named.uses (omega (arith, waits.0)) waits.1.1) id ids total
+settle-quiet w lines headed from count s t section known waits ids total id =
+    grind (arith, common_steps, name-counts, name-section, told-quiet, before-more)
 
 ready-settled : (lines : List MergedLine) (headed : Bool) (from : ℕ) (h : HeldState) → IsReady from h
     → IsQuiet from (length h.kept) (settled_standing headed h.pass.waiting h.pass.standing)
@@ -274,43 +211,15 @@ ready-settled lines headed from h r =
 
 ready-begin : (lines : List MergedLine) (from to : ℕ) (h : HeldState) → from ≤ to → IsReady from h
     → IsReady to (begun_held (ended_held lines h))
-ready-begin lines from to h le r =
-    let q = ready-settled lines false from h r in
-    record {
-      section = omega (arith, q.section);
-      known = q.known;
-      waits = before-more from to _ le q.before;
-      ids = q.ids;
-      total = q.total;
-      id = tt;
-      few = omega (arith, r.few);
-    }
+ready-begin lines from to h le r = grind (arith, ready-settled lines false from h r)
 
 ready-finish : (lines : List MergedLine) (from to : ℕ) (h : HeldState) → from ≤ to → IsReady from h
     → IsReady to (ended_held lines h)
-ready-finish lines from to h le r =
-    let q = ready-settled lines false from h r in
-    record {
-      section = omega (arith, q.section);
-      known = q.known;
-      waits = before-more from to _ le q.before;
-      ids = q.ids;
-      total = q.total;
-      id = tt;
-      few = omega (arith, r.few);
-    }
+ready-finish lines from to h le r = grind (arith, ready-settled lines false from h r)
 
 ready-note : (lines : List MergedLine) (kind : NoteKind) (place from : ℕ) (h : HeldState) → IsReady from h
     → IsReady from (noted_held lines kind place h)
-ready-note lines kind place from h r = record {
-  section = r.section;
-  known = r.known;
-  waits = r.waits;
-  ids = r.ids;
-  total = r.total;
-  id = r.id;
-  few = r.few;
-}
+ready-note lines kind place from h r = grind arith
 
 token-ready : (b : Bool) (lines : List MergedLine) (t : Seen) (from : ℕ) (h : HeldState) → IsToken t
     → from ≤ t.span.start
@@ -319,15 +228,7 @@ token-ready : (b : Bool) (lines : List MergedLine) (t : Seen) (from : ℕ) (h : 
     → length h.kept ≤ length (token_held_by b lines t h).kept
     → length (token_held_by b lines t h).kept ≤ length h.kept + 1 → length h.kept ≤ from
     → IsReady t.span.end (token_held_by b lines t h)
-token-ready true lines t from h token le q id grows one few = record {
-  section = omega (arith, q.section, token.some);
-  known = q.known;
-  waits = (token.some, (token, before-more from t.span.start h.told.named.uses le q.before));
-  ids = of-grows (length h.kept) _ h.told.named.references grows q.ids;
-  total = q.total;
-  id = id;
-  few = omega (arith, one, few, token.some);
-}
+token-ready true lines t from h token le q id grows one few = grind (arith, before-more, of-grows)
 token-ready false lines t from h token le q id grows one few =
     let counts : Counts (token_step t.kind false h.pass.standing t.span) h.pass.standing.section =
     step-counts (head_behind h.pass.standing.wanted t.kind t.span) t.kind h.pass.standing in
@@ -356,8 +257,7 @@ ready-token lines t from h token le r id grows one =
     (ready-settled lines (is_head_sign t.kind) from h r) id grows one r.few
 
 can-settle-by : (w : Option Waiting) (from : ℕ) (uses : List NameUse) → WaitsHere w from uses → WaitsBehind w uses
-can-settle-by None from uses h = tt
-can-settle-by (Some w) from uses h = h.1
+can-settle-by w from uses h = grind arith
 
 pub ready-settles : (from : ℕ) (h : HeldState) → IsReady from h → CanSettle h
 ready-settles from h r = record { known = r.known; waits = can-settle-by h.pass.waiting from h.told.named.uses r.waits }
@@ -366,27 +266,9 @@ ready-settles from h r = record { known = r.known; waits = can-settle-by h.pass.
 
 pub covers-end : (text : List ℕ) (from end : ℕ) (answers : List Answer) → Covers text from end answers → from ≤ end
 covers-end text from end [] c = c.0
-covers-end text from end (Token t ∷ answers) c = omega (
-  arith,
-  c.0.order,
-  c.1,
-  covers-end text t.span.end end answers
-      c.2,
-)
-covers-end text from end (Begin t ∷ answers) c = omega (
-  arith,
-  c.0.order,
-  c.0.span,
-  covers-end text t.span.end end
-      answers c.1,
-)
-covers-end text from end (Finish t ∷ answers) c = omega (
-  arith,
-  c.0.order,
-  c.0.span,
-  covers-end text t.span.end end
-      answers c.1,
-)
+covers-end text from end (Token t ∷ answers) c = grind (arith, covers-end text t.span.end end answers c.2)
+covers-end text from end (Begin t ∷ answers) c = grind (arith, covers-end text t.span.end end answers c.1)
+covers-end text from end (Finish t ∷ answers) c = grind (arith, covers-end text t.span.end end answers c.1)
 covers-end text from end (Note kind place ∷ answers) c = covers-end text from end answers c
 
 pub record Underway (lines : List MergedLine) (text : List ℕ) (all : List Answer) (h : HeldState)
@@ -402,24 +284,7 @@ pub record Underway (lines : List MergedLine) (text : List ℕ) (all : List Answ
 pub start : (lines : List MergedLine) (text : List ℕ) (all : List Answer) (h : HeldState) → h ≡ held_start
     → Covers text 0 (length text) all → length text ≤ 16777216
     → Underway lines text all h all
-start lines text all h e c l = record {
-  from = 0;
-  told = ap (λ h. told_at_end lines h all) e;
-  kept = ap (λ h. kept_at_end h all) e;
-  notes = ap (λ h. notes_at_end lines h all) e;
-  covers = c;
-  limit = l;
-  ready = subst (IsReady 0) (sym e) (record {
-    section = omega arith;
-    known = tt;
-    waits = All-nil (λ (u : NameUse). u.place < 0);
-    ids = All-nil (λ (r : Reference). r.name < 0);
-    total =
-        omega arith;
-    id = tt;
-    few = omega arith;
-  });
-}
+start lines text all h e c l = grind (arith, told_at_end, kept_at_end, notes_at_end)
 
 pub text-length : (text : List ℕ) (a b : ℕ) → length (slice_range text a b) ≤ b - a
 text-length text a b = omega (arith, length-take (b - a) (drop a text))
@@ -427,22 +292,12 @@ text-length text a b = omega (arith, length-take (b - a) (drop a text))
 pub is-token : (lines : List MergedLine) (text : List ℕ) (all : List Answer) (h : HeldState) (t : Seen)
     (rest : List Answer)
     → Underway lines text all h (Token t ∷ rest) → IsToken t
-is-token lines text all h t rest u =
-    let end : t.span.end ≤ length text = covers-end text t.span.end (length text) rest u.covers.2 in
-    let small : t.span.end < 2 ^ 32 = omega (arith, u.limit) in
-    record {
-      some = u.covers.1;
-      within = small;
-      text = subst (λ (bytes : List ℕ). length bytes < 2 ^ 32) (sym u.covers.0.slice)
-          (omega (arith, text-length text t.span.start t.span.end));
-    }
+is-token lines text all h t rest u = grind (arith, covers-end, text-length)
 
 pub section-fits : (lines : List MergedLine) (text : List ℕ) (all : List Answer) (h : HeldState) (t : Seen)
     (rest : List Answer)
     → Underway lines text all h (Token t ∷ rest) → h.pass.standing.section < 4294967295
-section-fits lines text all h t rest u =
-    let from : u.from ≤ length text = covers-end text u.from (length text) (Token t ∷ rest) u.covers in
-    omega (arith, u.limit, u.ready.section)
+section-fits lines text all h t rest u = grind (arith, covers-end)
 
 pub token-step : (lines : List MergedLine) (text : List ℕ) (all : List Answer) (h new : HeldState) (t : Seen)
     (rest : List Answer)
@@ -509,32 +364,11 @@ note-step lines text all h new kind place rest u e = record {
 
 -- ## When all came
 
-last-remark : (lines : List MergedLine) (r : Option Answer) → scanned_notes lines (note_behind_end r [])
-    ≡ remark_notes lines r
-last-remark lines None = refl
-last-remark lines (Some note) = append-nil (scanned_note lines note)
-
 pub scanned : (lines : List MergedLine) (text : List ℕ) (all : List Answer) (h new : HeldState)
     → Underway lines text all h [] → new ≡ ended_held lines h
     → text ≡ text_of lines → all ≡ tokens_of text 0 (length text) modes.Limbo → Covers text 0 (length text) all
     → IsScanned lines new
-scanned lines text all h new u e same tokens covers =
-    let whole : all ≡ answers_of lines = tokens ∙ ap (λ (bytes : List ℕ). tokens_of bytes 0 (length bytes) modes.Limbo)
-    same in
-    let q = ready-settled lines false u.from h u.ready in
-    let from : u.from ≤ length text = covers-end text u.from (length text) [] u.covers in
-    subst (IsScanned lines) (sym e) (record {
-      told = sym (settle-told lines h []) ∙ (u.told ∙ ap (λ answers. told_all lines (placed answers) told_start) whole);
-      kept = u.kept ∙ ap (λ answers. kept_after [] answers) whole;
-      notes = ap (λ ns. h.notes ++ ns) (sym (last-remark lines h.remark))
-          ∙ (u.notes ∙ ap (λ answers. scanned_notes lines (with_notes answers)) whole);
-      ids = q.ids;
-      total = omega (arith, q.total, q.section, u.limit);
-      few = omega (arith, u.ready.few, u.limit);
-      covers = subst (Covers (text_of lines) 0 (length (text_of lines))) whole
-          (subst (λ (bytes : List ℕ). Covers bytes 0 (length bytes) all) same covers);
-    })
+scanned lines text all h new u e same tokens covers = grind (arith, common_steps)
 
 pub waiting-kept : (w : Option WaitingToken) (count : ℕ) → WaitingIsKept w count → WaitingKept (waiting_of w) count
-waiting-kept None count h = tt
-waiting-kept (Some w) count h = h
+waiting-kept w count h = grind arith

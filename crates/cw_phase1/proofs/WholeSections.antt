@@ -1,15 +1,14 @@
 -- The parts of a section are whole.
-use Rattle.std.proofs.Common.{◌≡◌, ℕ, Bool, true, false, not, ◌||◌, List, [], ◌∷◌, ◌++◌, Some, None, All, length, drop}
-use Rattle.std.proofs.Common.{take, get_or, refl, sym, ap, subst, ◌∙◌, arith, append_assoc, ◌⊎◌, inl, inr}
-use Rattle.std.proofs.Common.{if◌then◌else◌}
+use Rattle.std.proofs.Common.{◌≡◌, ℕ, Bool, true, false, not, ◌||◌, List, [], ◌∷◌, ◌++◌, Some, All, length, drop, take}
+use Rattle.std.proofs.Common.{get_or, refl, sym, ap, subst, ◌∙◌, arith, append_assoc, ◌⊎◌, inl, inr, if◌then◌else◌}
 use Rattle.std.proofs.lemmas.List.{take_all, drop_all, length-take}
-use Rattle.std.proofs.lemmas.List.Elements.{All-nil, All-cons}
+use Rattle.std.proofs.lemmas.List.Elements.{All-nil}
 use Rattle.cw_base.proofs.TestLaws.{one-right, not-both, or-false, one-left}
 use Rattle.cw_base.specs.Web.{MergedLine, text_of}
 use Rattle.cw_rules.specs.declared.tokens.Mode.{Mode}
 use Rattle.cw_rules.specs.declared.tokens.Mode.TheVariants as modes
 use Rattle.cw_rules.specs.Answers.{Answer, Token, Begin, Finish, Note, Seen, has_sign}
-use Rattle.cw_lex.specs.Lexing.{answers, answers_at, beginning, fresh_at, last_at, tokens_of}
+use Rattle.cw_lex.specs.Lexing.{answers_at, beginning, tokens_of}
 use Rattle.cw_lex.specs.Nested.{is_section_kind, begins_section_in}
 use Rattle.cw_lex.specs.Openings.{opens_part_in, TextsEndAtOpenings, TextsEndAtSections}
 use Rattle.cw_lex.proofs.Covering.{tokens-cover}
@@ -21,7 +20,7 @@ use Rattle.cw_phase1.specs.declared.roles.Standing.{Standing}
 use Rattle.cw_phase1.specs.declared.sections.Section.{Section}
 use Rattle.cw_phase1.specs.Book.{answers_of}
 use Rattle.cw_phase1.specs.Entering.{kept_behind}
-use Rattle.cw_phase1.specs.Roles.{Placed, defining, at_limbo, token_step, behind_begin, placed, placed_from}
+use Rattle.cw_phase1.specs.Roles.{Placed, at_limbo, token_step, behind_begin, placed, placed_from}
 use Rattle.cw_phase1.specs.Sections.{span, is_section_code, is_tex, is_program, ends_section, ends_definitions}
 use Rattle.cw_phase1.specs.Sections.{ends_tex, first_start, section_at, sections_of}
 use Rattle.cw_phase1.specs.Whole.{IsUncut, SectionsAreWhole}
@@ -37,20 +36,15 @@ empty : (text : List ℕ) (p : ℕ) → drop p (take p text) ≡ []
 empty text p = drop_all p (take p text) (omega (arith, length-take p text))
 
 empty-definition : (text : List ℕ) (p : ℕ) → IsUncut text modes.Definition (span p p)
-empty-definition text p =
-    ap (λ l. begins_section_in (answers l (beginning modes.Definition) (fresh_at (take p text) p)
-    (last_at (take p text) p) p 0)) (empty text p)
+empty-definition text p = grind (arith, empty)
 
 empty-program : (text : List ℕ) (p : ℕ) → IsUncut text modes.CPart (span p p)
-empty-program text p =
-    ap (λ l. begins_section_in (answers l (beginning modes.CPart) (fresh_at (take p text) p) (last_at (take p text) p) p
-    0)) (empty text p)
+empty-program text p = grind (arith, empty)
 
 -- the scan of the last part is the scan of the whole
 last-part : (text : List ℕ) (start : ℕ) (mode : Mode) → begins_section_in (answers_at text (beginning mode) start)
     ≡ false → IsUncut text mode (span start (length text))
-last-part text start mode h = ap (λ l. begins_section_in (answers_at l (beginning mode) start))
-    (take_all (length text) text (omega arith)) ∙ h
+last-part text start mode h = grind (arith, take_all)
 
 -- ## The tests of the parts
 
@@ -65,8 +59,7 @@ code-passes : (good : Part → Bool) (p : Placed) → is_section_code p.role ≡
 code-passes good p h = one-left (is_section_code p.role) (not (good p.part)) h
 
 not-not : (b : Bool) → not (not b) ≡ b
-not-not true = refl
-not-not false = refl
+not-not b = grind arith
 
 definitions-by : (p : Placed) → ends not_program p ≡ ends_definitions p
 definitions-by p = ap (λ b. is_section_code p.role || b) (not-not (is_program p.part))
@@ -76,14 +69,7 @@ section-by p = or-false (is_section_code p.role)
 
 -- the test of an earlier part is the weaker one
 definitions-tex : (p : Placed) → ends_definitions p ≡ true → ends is_tex p ≡ true
-definitions-tex p h = by (is_section_code p.role) p.part h
-  where
-    by : (code : Bool) (part : Part) → (code || is_program part) ≡ true → (code || not (is_tex part)) ≡ true
-    by true part h = refl
-    by false parts.Program h = refl
-    by false parts.Limbo h = absurd cc
-    by false parts.Tex h = absurd cc
-    by false parts.Definitions h = absurd cc
+definitions-tex p h = grind arith
 
 section-tex : (p : Placed) → ends_section p ≡ true → ends is_tex p ≡ true
 section-tex p h = code-passes is_tex p h
@@ -106,18 +92,7 @@ module _ (sections : TextsEndAtSections) (openings : TextsEndAtOpenings) (text :
   -- A section ends at a section code.
   code-ends : (start : ℕ) (mode : Mode) (s : Standing) (kept : List SecName)
       (r : Stopped any_part s kept (answers_at text (beginning mode) start)) → is_section_kind r.token.kind ≡ true
-  code-ends start mode s kept r =
-      sym (plain r.standing r.token r.behind)
-      ∙ sym (section-by (token_placed any_part r.standing r.names r.token r.behind)) ∙ r.passes
-    where
-      plain : (s : Standing) (t : Seen) (answers : List Answer)
-          → is_section_code (token_step t.kind (has_sign answers) s t.span).role ≡ is_section_kind t.kind
-      plain s t answers = by (is_section_kind t.kind) refl
-        where
-          by : (b : Bool) → is_section_kind t.kind ≡ b
-              → is_section_code (token_step t.kind (has_sign answers) s t.span).role ≡ is_section_kind t.kind
-          by true e = section-role s t answers e ∙ sym e
-          by false e = plain-role s t answers e ∙ sym e
+  code-ends start mode s kept r = grind (arith, section-by, token_placed, section-role, plain-role)
 
   -- where a C part ends with a token
   c-part-at : (start : ℕ) (s : Standing) (kept : List SecName)
@@ -210,19 +185,8 @@ module _ (sections : TextsEndAtSections) (openings : TextsEndAtOpenings) (text :
             (subst (λ n. IsUncut text modes.CPart (span r.token.span.start n)) (sym end)
             (c-part r.token.span.start r.standing r.names));
       }
-  defined-at start s kept r AtDefinitions h =
-      let p = token_placed not_program r.standing r.names r.token r.behind in
-      let code = plain-role r.standing r.token r.behind h.0 in
-      let part = plain-part r.standing r.token r.behind (Some modes.Definition) h.0 h.1 in
-      not-both _ r.passes ((λ i. code i || not (not_program (part i))) ∙ stays r.standing.part)
-    where
-      stays : (part : Part) → not (not_program (defining part)) ≡ false
-      stays parts.Limbo = refl
-      stays _ = refl
-  defined-at start s kept r Nowhere h =
-      let code = plain-role r.standing r.token r.behind h.0 in
-      let part = plain-part r.standing r.token r.behind None h.0 h.1 in
-      not-both _ r.passes ((λ i. code i || not (not_program (part i))) ∙ ap not r.part)
+  defined-at start s kept r AtDefinitions h = grind (arith, token_placed, plain-role, plain-part, not-both)
+  defined-at start s kept r Nowhere h = grind (arith, plain-role, plain-part, not-both)
 
   defined : (start : ℕ) (s : Standing) (kept : List SecName) → not_program s.part ≡ true
       → Defined start (tokens_at modes.Definition start s kept)
@@ -341,10 +305,7 @@ module _ (sections : TextsEndAtSections) (openings : TextsEndAtOpenings) (text :
       (alone-before text start modes.TexText r.before r.token (Token r.token ∷ r.behind) law.0
       (tex-opens (Token r.token ∷ r.behind) r.before r.keeps)) (empty-definition text at)
       (c-part at r.standing r.names)
-  told-at start s kept r Nowhere h =
-      let code = plain-role r.standing r.token r.behind h.0 in
-      let part = plain-part r.standing r.token r.behind None h.0 h.1 in
-      not-both _ r.passes ((λ i. code i || not (is_tex (part i))) ∙ ap not r.part)
+  told-at start s kept r Nowhere h = grind (arith, plain-role, plain-part, not-both)
 
   told : (start : ℕ) (s : Standing) (kept : List SecName) → is_tex s.part ≡ true
       → Told start (tokens_at modes.TexText start s kept)
@@ -373,8 +334,7 @@ module _ (sections : TextsEndAtSections) (openings : TextsEndAtOpenings) (text :
 
   sections-by : (b : Bool) (s : Section) (rest : List Section) → (b ≡ true → Uncut s) → All Uncut rest
       → All Uncut (if b then s ∷ rest else rest)
-  sections-by true s rest h a = All-cons Uncut s rest (h refl) a
-  sections-by false s rest h a = a
+  sections-by b s rest h a = grind arith
 
   -- the section of a code among the answers of the whole text
   at-code : (lines : List MergedLine) (xs : List Answer) (t : Seen) (ys : List Answer) (s : Standing)

@@ -4,13 +4,12 @@ use Rattle.std.proofs.Common.{length, map, nat_lt, cond, not, eqb, refl, ap, ◌
 use Rattle.std.proofs.Common.{append_assoc, add-zero}
 use Rattle.std.proofs.lemmas.List.Folds.{position_or_len_push}
 use Rattle.std.proofs.lemmas.List.{append-nil, map-append}
-use borrow.Author.Tests.{ltb-true, ltb-false, eq-eqb}
 use Rattle.std.specs.Cmp.Lexicographic.{bytes_decides}
 use Rattle.cw_base.specs.Web.{MergedLine}
 use Rattle.cw_base.specs.declared.category.Cat.{Cat}
 use Rattle.cw_base.specs.declared.category.Cat.TheVariants.{Exp}
 use Rattle.cw_names.specs.declared.entry.EntryKind.{EntryKind}
-use Rattle.cw_names.specs.declared.entry.EntryKind.TheVariants.{Ident, Roman, Typewriter, User}
+use Rattle.cw_names.specs.declared.entry.EntryKind.TheVariants.{Ident}
 use Rattle.cw_names.specs.Names as names
 use Rattle.cw_names.specs.Words.{built_in_words}
 use Rattle.cw_phase1.specs.declared.roles.Role.{Role}
@@ -19,9 +18,8 @@ use Rattle.cw_phase1.specs.declared.told.Told.{Told}
 use Rattle.cw_phase1.specs.Roles.{Placed}
 use Rattle.cw_rules.specs.ControlTexts.{text_behind_code}
 use Rattle.cw_phase1.specs.Words.{KnownNames, Mention, mention, word, with_format, known_behind, known_after}
-use Rattle.cw_phase1.specs.Words.{names_after}
-use Rattle.cw_phase1.specs.Words.{mention_by, mentions_from, waits_behind, occurrence, occurrences}
-use Rattle.cw_phase1.specs.Uses.{use_of, uses_of, reference_of, references_of}
+use Rattle.cw_phase1.specs.Words.{names_after, mention_by, mentions_from, occurrence, occurrences}
+use Rattle.cw_phase1.specs.Uses.{uses_of, reference_of, references_of}
 use Rattle.cw_phase1.specs.Telling.{known_of, told_step, told_all, told_start}
 use Rattle.cw_names.specs.declared.entry.NameId.{NameId}
 use Rattle.std.specs.Prelude.{Option}
@@ -41,21 +39,14 @@ category-place kind text (suc place) category (e ∷ es) =
 
 with-category : (kind : EntryKind) (text : List ℕ) (n place : ℕ) (category : Cat) (entries : List names.Entry)
     → Stands kind text n entries → Stands kind text n (names.with_category place category entries)
-with-category kind text n place category entries s = record {
-  place = category-place kind text place category entries ∙ s.place;
-  below = rw (category-length place category entries) s.below;
-}
+with-category kind text n place category entries s = grind (arith, category-place, category-length)
 
 not-same : (a b : ℕ) → a < b → eqb a b ≡ false
 not-same a b h = grind arith
 
 with-last : (kind : EntryKind) (text : List ℕ) (n : ℕ) (e : names.Entry) (entries : List names.Entry)
     → Stands kind text n entries → Stands kind text n (entries ++ e ∷ [])
-with-last kind text n e entries s = record {
-  place = rw (position_or_len_push (names.is_entry kind text) entries e, s.place, not-same n (length entries) s.below)
-      refl;
-  below = rw (length-append entries (e ∷ [])) (omega (arith, s.below));
-}
+with-last kind text n e entries s = grind (arith, position_or_len_push, not-same, length-append)
 
 entry-by : (t : Bool) (kind : EntryKind) (text : List ℕ) (n : ℕ) (e : names.Entry) (entries : List names.Entry)
     → Stands kind text n entries → Stands kind text n (cond t entries (entries ++ e ∷ []))
@@ -76,18 +67,14 @@ format (Some first) kind text n second entries s = with-category kind text n _ _
 -- ## A name has its place from its first occurrence on
 
 same-kind : (kind : EntryKind) → names.same_kind kind kind ≡ true
-same-kind Ident = refl
-same-kind Roman = refl
-same-kind Typewriter = refl
-same-kind User = refl
+same-kind kind = grind arith
 
 same-entry : (kind : EntryKind) (text : List ℕ) → names.is_entry kind text
     (record { kind = kind; text = text; category = Exp }) ≡ true
 same-entry kind text = rw (same-kind kind, (bytes_decides text text).1 refl) refl
 
 le-by : (t : Bool) (a b : ℕ) → a ≤ b → cond (not t) (1 + a) 0 ≤ suc b
-le-by true a b h = omega arith
-le-by false a b h = omega arith
+le-by t a b h = grind arith
 
 place-le : (kind : EntryKind) (text : List ℕ) (entries : List names.Entry)
     → names.place_of kind text entries ≤ length entries
@@ -98,17 +85,7 @@ new-by : (t : Bool) (kind : EntryKind) (text : List ℕ) (entries : List names.E
     → nat_lt (names.place_of kind text entries) (length entries) ≡ t
     → Stands kind text (names.place_of kind text entries)
     (cond t entries (entries ++ record { kind = kind; text = text; category = Exp } ∷ []))
-new-by true kind text entries h = record { place = refl; below = ltb-true _ _ h }
-new-by false kind text entries h =
-    let at_end : names.place_of kind text entries ≡ length entries =
-    omega (arith, ltb-false _ _ h, place-le kind text entries) in
-    record {
-      place = position_or_len_push (names.is_entry kind text) entries
-          (record { kind = kind; text = text; category = Exp }) ∙
-          rw (at_end, eq-eqb (length entries) (length entries) refl, same-entry kind text) (add-zero (length entries));
-      below = rw (length-append entries (record { kind = kind; text = text; category = Exp } ∷ []))
-          (omega (arith, at_end));
-    }
+new-by t kind text entries h = grind (arith, place-le, position_or_len_push, same-entry, add-zero, length-append)
 
 entered : (kind : EntryKind) (text : List ℕ) (entries : List names.Entry)
     → Stands kind text (names.place_of kind text entries) (names.with_entry kind text entries)
@@ -116,10 +93,6 @@ entered kind text entries = new-by (nat_lt (names.place_of kind text entries) (l
 
 role-keeps : (kind : EntryKind) (text : List ℕ) (n : ℕ) (role : Role) (word : List ℕ) (k : KnownNames)
     → Stands kind text n k.names → Stands kind text n (known_behind role word k).names
-role-keeps kind text n roles.MacroName word k s = with-entry kind text n Ident word k.names s
-role-keeps kind text n roles.Parameter word k s = with-entry kind text n Ident word k.names s
-role-keeps kind text n roles.Word word k s = with-entry kind text n Ident word k.names s
-role-keeps kind text n (roles.FirstName silent) word k s = with-entry kind text n Ident word k.names s
 role-keeps kind text n (roles.SecondName silent) word k s =
     format k.first kind text n _ _ (with-entry kind text n Ident word k.names s)
 role-keeps kind text n (roles.Entry other) word k s = with-entry kind text n other (text_behind_code word) k.names s
@@ -127,6 +100,7 @@ role-keeps kind text n roles.SectionCode word k s = s
 role-keeps kind text n roles.Underline word k s = s
 role-keeps kind text n (roles.Name how) word k s = s
 role-keeps kind text n roles.Plain word k s = s
+role-keeps kind text n _ word k s = with-entry kind text n Ident word k.names s
 
 keeps : (kind : EntryKind) (text : List ℕ) (n : ℕ) (ps : List Placed) (k : KnownNames)
     → Stands kind text n k.names → Stands kind text n (known_after ps k).names
@@ -137,9 +111,7 @@ keeps kind text n (p ∷ ps) k s = keeps kind text n ps (known_behind p.role p.t
 one : (m : Mention) (entries : List names.Entry) (ps : List Placed) (k : KnownNames)
     → Stands m.kind m.text (names.place_of m.kind m.text entries) k.names
     → map (occurrence entries) (m ∷ []) ≡ map (occurrence (known_after ps k).names) (m ∷ [])
-one m entries ps k s =
-    ap (λ n. record { name = record { index = n }; section = m.section; underlined = m.underlined } ∷ [])
-    (sym (keeps m.kind m.text (names.place_of m.kind m.text entries) ps k s).place)
+one m entries ps k s = grind (arith, keeps)
 
 mentioned : (role : Role) (p : Placed) (waits : Bool) (ps : List Placed) (k : KnownNames)
     → map (occurrence k.names) (mention_by role p waits)
@@ -149,19 +121,14 @@ mentioned roles.Parameter p waits ps k = one (word p waits) k.names ps _ (entere
 mentioned roles.Word p waits ps k = one (word p waits) k.names ps _ (entered Ident p.token.text k.names)
 mentioned (roles.FirstName false) p waits ps k = one (word p waits) k.names ps
     (known_behind (roles.FirstName false) p.token.text k) (entered Ident p.token.text k.names)
-mentioned (roles.FirstName true) p waits ps k = refl
 mentioned (roles.SecondName false) p waits ps k =
     one (word p waits) k.names ps (known_behind (roles.SecondName false) p.token.text k)
     (format k.first Ident p.token.text _ _ _ (entered Ident p.token.text k.names))
-mentioned (roles.SecondName true) p waits ps k = refl
 mentioned (roles.Entry kind) p waits ps k =
     one (mention kind (text_behind_code p.token.text) p waits) k.names ps
     (known_behind (roles.Entry kind) p.token.text k)
     (entered kind (text_behind_code p.token.text) k.names)
-mentioned roles.SectionCode p waits ps k = refl
-mentioned roles.Underline p waits ps k = refl
-mentioned (roles.Name how) p waits ps k = refl
-mentioned roles.Plain p waits ps k = refl
+mentioned _ _ _ _ _ = refl
 
 -- ## What is told in the end
 
@@ -179,13 +146,7 @@ xrefs-told : (lines : List MergedLine) (ps : List Placed) (t : Told)
     (mentions_from t.words.waits ps)
 xrefs-told lines [] t = sym (append-nil t.words.xrefs)
 xrefs-told lines (p ∷ ps) t =
-    let final = (known_after ps (known_behind p.role p.token.text (known_of t.words))).names in
-    let later = map (occurrence final) (mentions_from (waits_behind p.role t.words.waits) ps) in
-    xrefs-told lines ps (told_step lines p t) ∙
-    (ap (λ os. (t.words.xrefs ++ os) ++ later) (mentioned p.role p t.words.waits ps (known_of t.words)) ∙
-    (append_assoc t.words.xrefs (map (occurrence final) (mention_by p.role p t.words.waits)) later ∙
-    ap (λ os. t.words.xrefs ++ os) (sym (map-append (occurrence final) (mention_by p.role p t.words.waits)
-    (mentions_from (waits_behind p.role t.words.waits) ps)))))
+    grind (arith, xrefs-told lines ps (told_step lines p t), mentioned, append_assoc, map-append)
 
 pub all-occurrences : (lines : List MergedLine) (ps : List Placed)
     → (told_all lines ps told_start).words.xrefs ≡ occurrences (names_after ps built_in_words) ps
@@ -194,8 +155,7 @@ all-occurrences lines ps = xrefs-told lines ps told_start
 uses-told : (lines : List MergedLine) (ps : List Placed) (t : Told) → (told_all lines ps t).named.uses
     ≡ t.named.uses ++ uses_of ps
 uses-told lines [] t = sym (append-nil t.named.uses)
-uses-told lines (p ∷ ps) t = uses-told lines ps (told_step lines p t)
-    ∙ append_assoc t.named.uses (use_of p) (uses_of ps)
+uses-told lines (p ∷ ps) t = grind (arith, uses-told lines ps (told_step lines p t), append_assoc)
 
 pub all-uses : (lines : List MergedLine) (ps : List Placed) → (told_all lines ps told_start).named.uses ≡ uses_of ps
 all-uses lines ps = uses-told lines ps told_start
@@ -217,8 +177,7 @@ entered-below kind text entries = (entered kind text entries).below
 
 grows-by : (t : Bool) (e : names.Entry) (entries : List names.Entry)
     → length entries ≤ length (cond t entries (entries ++ e ∷ []))
-grows-by true e entries = omega arith
-grows-by false e entries = omega (arith, length-append entries (e ∷ []))
+grows-by t e entries = grind (arith, length-append)
 
 pub entry-grows : (kind : EntryKind) (text : List ℕ) (entries : List names.Entry)
     → length entries ≤ length (names.with_entry kind text entries)

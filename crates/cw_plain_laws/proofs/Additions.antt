@@ -1,41 +1,37 @@
 -- What plain text adds to its tokens is white space, bars and ends of comments.
-use Rattle.std.proofs.Common.{◌≡◌, ℕ, Bool, true, false, List, [], ◌∷◌, Option, Some, None, codes, cond, inl, inr, refl}
+use Rattle.std.proofs.Common.{◌≡◌, ℕ, Bool, true, false, List, [], ◌∷◌, Option, Some, codes, cond, inl, inr, refl}
+use Rattle.std.proofs.Common.{arith}
 use Rattle.std.proofs.lemmas.List.Elements.{All-cons, All-nil}
 use Rattle.std.specs.List.{All, list_all}
 use Rattle.cw_base.proofs.TestLaws.{both}
-use Rattle.cw_plain.specs.Lines.{Own, Added, Layout, Other, Run, Stretch, at_start, behind_piece, behind_run}
-use Rattle.cw_plain.specs.Lines.{blank_before, clash, laid_from, run_text, stretches}
-use Rattle.cw_plain.specs.Pieces.{Word, Part, Ending, Opening, Closing, Move, Nothing, Source, outside, pieces}
+use Rattle.cw_plain.specs.Lines.{Own, Added, Layout, Other, Run, Stretch, behind_piece, behind_run, blank_before, clash}
+use Rattle.cw_plain.specs.Lines.{laid_from}
+use Rattle.cw_plain.specs.Pieces.{Word, Part, Ending, Opening, Closing, Move, Nothing, Source}
 use Rattle.cw_plain_laws.proofs.Again.{AreWhite}
 use Rattle.cw_plain_laws.proofs.OwnInks.{StretchesOwn, pieces-own, stretched-own}
 use Rattle.cw_plain_laws.proofs.SpacedLaws.{white-run}
 use Rattle.cw_plain_laws.specs.OwnLaws.{AddsLittle, MayBeAdded, PlainAddsLittle}
 use Rattle.cw_rules.specs.Bytes.{is_in}
 use Rattle.cw_rules.specs.declared.classes.Class.TheVariants.{White}
-use Rattle.cw_trees.specs.Flat.{trimmed_items}
 
 white-all : (bytes : List ℕ) → AreWhite bytes → list_all (λ byte. is_in White byte) bytes ≡ true
 white-all [] white = refl
-white-all (b ∷ bytes) white = both (is_in White b) (list_all (λ byte. is_in White byte) bytes) white.0
-    (white-all bytes white.1)
+white-all (b ∷ bytes) white = grind (arith, white-all bytes white.1, both)
 
 white-added : (bytes : List ℕ) → AreWhite bytes → MayBeAdded bytes
 white-added bytes white = inl (white-all bytes white)
 
 white-blank : (last : Option ℕ) (bytes : List ℕ) → AreWhite (blank_before last bytes)
-white-blank None bytes = tt
-white-blank (Some byte) [] = tt
 white-blank (Some byte) (next ∷ bytes) = by (clash byte next)
   where
     by : (c : Bool) → AreWhite (cond c (codes " ") [])
     by true = (refl, tt)
     by false = tt
+white-blank _ _ = tt
 
 laid-adds : (s : Source) (l : Layout) (ss : List Stretch) → StretchesOwn s ss → All AddsLittle (laid_from l ss)
 laid-adds s l [] own = All-nil AddsLittle
-laid-adds s l (Run run ∷ ss) own =
-    All-cons AddsLittle (Added (run_text l run)) (laid_from (behind_run l run) ss)
-    (white-added (run_text l run) (white-run l run)) (laid-adds s (behind_run l run) ss own)
+laid-adds s l (Run run ∷ ss) own = grind (arith, laid-adds s (behind_run l run) ss own, white-added, white-run)
 laid-adds s l (Other (Word number bytes) ∷ ss) own =
     let next : Layout = behind_piece l (Word number bytes) in
     All-cons AddsLittle (Added (blank_before l.last bytes)) (Own number bytes ∷ laid_from next ss)
@@ -57,6 +53,4 @@ laid-adds s l (Other (Move control) ∷ ss) own = laid-adds s (behind_piece l (M
 laid-adds s l (Other Nothing ∷ ss) own = laid-adds s (behind_piece l Nothing) ss own.1
 
 pub plain-adds-little : PlainAddsLittle
-plain-adds-little s items =
-    let ps = pieces s (trimmed_items items) in
-    laid-adds s at_start (stretches ps) (stretched-own s ps (pieces-own s (trimmed_items items) outside))
+plain-adds-little s items = grind (arith, laid-adds, stretched-own, pieces-own)

@@ -1,6 +1,6 @@
 -- The tokens of a text that is made of tokens and white space.
-use Rattle.std.proofs.Common.{◌≡◌, ℕ, suc, ◌+◌, ◌-◌, Bool, true, false, ◌&&◌, ◌||◌, ◌==◌, nat_lt, List, []}
-use Rattle.std.proofs.Common.{◌∷◌, ◌++◌, length, codes, drop, inl, inr, refl, sym, ap, ◌∙◌, arith, subst}
+use Rattle.std.proofs.Common.{◌≡◌, ℕ, suc, ◌+◌, ◌-◌, Bool, true, false, ◌&&◌, ◌||◌, ◌==◌, nat_lt, List, [], ◌∷◌, ◌++◌}
+use Rattle.std.proofs.Common.{length, codes, drop, inl, inr, refl, sym, ap, ◌∙◌, arith, subst}
 use Rattle.std.specs.Prelude.{if◌then◌else◌}
 use Rattle.std.proofs.lemmas.Bool.Decides.{nat_tests}
 use Rattle.std.proofs.lemmas.List.{append-nil, take_at}
@@ -11,7 +11,6 @@ use Rattle.cw_rules.specs.declared.parts.Start.TheVariants as start
 use Rattle.cw_rules.specs.declared.tokens.TokKind.{TokKind}
 use Rattle.cw_rules.specs.declared.tokens.TokKind.TheVariants as kinds
 use Rattle.cw_rules.specs.declared.signs.Sign.{Sign}
-use Rattle.cw_rules.specs.declared.signs.Sign.TheVariants as signs
 use Rattle.cw_rules.specs.Signs.{spelling}
 use Rattle.cw_rules.specs.Answers.{Answer, Cut, Token, Where, Found, token_of, plain}
 use Rattle.cw_rules.specs.Bodies.{at_start}
@@ -21,17 +20,16 @@ use Rattle.cw_rules.specs.Prefixes.{is_prefix_letter, prefix_size}
 use Rattle.cw_rules.specs.Tokens.{skipped_byte, one, in_code, start_of, string, string_of}
 use Rattle.cw_rules.specs.Apart.{found_apart}
 use Rattle.cw_rules.proofs.Choices.{and-none, at-byte, or-false, or-first, or-second}
-use Rattle.cw_rules.specs.Constants.{constant, digits, more_digits}
+use Rattle.cw_rules.specs.Constants.{constant}
 use Rattle.cw_rules.specs.declared.bodies.Body.TheVariants as bodies
 use Rattle.cw_plain_laws.proofs.ConstantLaws.{constant-apart, no-constant}
 use Rattle.cw_plain_laws.proofs.StringLaws.{quote-cut, string-of-cut}
 use Rattle.cw_plain_laws.proofs.Tests.{differs, else-is, or-case, then-is, unless}
 use Rattle.cw_lex.specs.Lexing.{answers, joined, still_fresh}
-use Rattle.cw_plain.specs.Lines.{clash, is_bracket, is_wordy, is_joining, signs_touch, words_touch}
+use Rattle.cw_plain.specs.Lines.{clash, is_wordy, is_joining, signs_touch, words_touch}
 use Rattle.cw_plain_laws.proofs.Again.{IsAlone, IsApart, last_of, Spaced, spaced_text, AreSpaced, AreWhite, words}
-use Rattle.cw_plain_laws.proofs.Again.{alone_token}
-use Rattle.cw_plain_laws.proofs.Again.{Prefix, Bare, Wide, Utf16, Utf32, Utf8, prefix_bytes}
-use Rattle.cw_plain_laws.proofs.Again.{IsClosed, in_part}
+use Rattle.cw_plain_laws.proofs.Again.{alone_token, Prefix, Bare, Wide, Utf16, Utf32, Utf8, prefix_bytes, IsClosed}
+use Rattle.cw_plain_laws.proofs.Again.{in_part}
 use Rattle.cw_plain_laws.specs.PlainLaws.{all_unplaced, is_hash}
 
 -- ## Runs
@@ -77,18 +75,13 @@ free-behind last z apart wordy =
     sym (λ i. wordy i && (is_wordy z || is_mark z)) ∙ or-first (words_touch last z) (signs_touch last z) apart
 
 not-wordy : (last z : ℕ) → clash last z ≡ false → is_in classes.Word last ≡ true → is_in classes.Word z ≡ false
-not-wordy last z apart word =
-    or-first (is_in classes.Word z) (z == 46)
-    (or-first (is_wordy z) (is_mark z) (free-behind last z apart (λ i. word i || last == 46)))
+not-wordy last z apart word = grind (arith, or-first, free-behind)
 
 no-mark : (last z : ℕ) → clash last z ≡ false → is_in classes.Word last ≡ true → is_mark z ≡ false
-no-mark last z apart word =
-    or-second (is_wordy z) (is_mark z) (free-behind last z apart (λ i. word i || last == 46))
+no-mark last z apart word = grind (arith, or-second, free-behind)
 
 word-no-mark : (z : ℕ) → is_in classes.Word z ≡ true → is_mark z ≡ false
-word-no-mark z word =
-    or-false (z == 34) (z == 39) (unless (is_in classes.Word) z 34 word refl)
-    (unless (is_in classes.Word) z 39 word refl)
+word-no-mark z word = grind (arith, or-false, unless)
 
 -- ## A token
 
@@ -262,187 +255,7 @@ joins : (z o : ℕ) → is_joining z ≡ false → is_joining o ≡ true → (z 
 joins z o fails holds = differs is_joining z o fails holds
 
 begins : (s : Sign) → is_hash s ≡ false → Begins s (spelling s)
-begins signs.Hash h = absurd cc
-begins signs.Slash h = (
-  plain-code 47 refl refl refl refl,
-  by-rest 47 [] signs.Slash refl refl
-      (λ z more e. rw (joins z 42 e refl, joins z 47 e refl) refl),
-)
-begins signs.Dot h = (
-  plain-code 46 refl refl refl refl,
-  by-rest 46 [] signs.Dot refl refl
-      (λ z more e. let free = or-first (is_wordy z || is_mark z) (is_joining z) e in
-      let wordy = or-first (is_wordy z) (is_mark z) free in
-      let digit = or-second (is_letter z) (is_in classes.Digit z) (or-first (is_in classes.Word z) (z == 46) wordy) in
-      let none : digits classes.Digit (z ∷ more) ≡ 0 =
-      else-is (is_in classes.Digit z) (more_digits classes.Digit (z ∷ more)) 0 digit in
-      rw (none, or-second (is_in classes.Word z) (z == 46) wordy) refl),
-)
-begins signs.Less h = (
-  plain-code 60 refl refl refl refl,
-  by-rest 60 [] signs.Less refl refl
-      (λ z more e. rw (joins z 60 e refl, joins z 61 e refl) refl),
-)
-begins signs.Greater h = (
-  plain-code 62 refl refl refl refl,
-  by-rest 62 [] signs.Greater refl refl
-      (λ z more e. rw (joins z 62 e refl, joins z 61 e refl) refl),
-)
-begins signs.Bar h = (
-  plain-code 124 refl refl refl refl,
-  by-rest 124 [] signs.Bar refl refl
-      (λ z more e. rw (joins z 124 e refl) refl),
-)
-begins signs.Assign h = (
-  plain-code 61 refl refl refl refl,
-  by-rest 61 [] signs.Assign refl refl
-      (λ z more e. rw (joins z 61 e refl) refl),
-)
-begins signs.Not h = (
-  plain-code 33 refl refl refl refl,
-  by-rest 33 [] signs.Not refl refl
-      (λ z more e. rw (joins z 61 e refl) refl),
-)
-begins signs.Plus h = (
-  plain-code 43 refl refl refl refl,
-  by-rest 43 [] signs.Plus refl refl
-      (λ z more e. rw (joins z 43 e refl) refl),
-)
-begins signs.Minus h = (
-  plain-code 45 refl refl refl refl,
-  by-rest 45 [] signs.Minus refl refl
-      (λ z more e. rw (joins z 62 e refl, joins z 45 e refl) refl),
-)
-begins signs.Ampersand h = (
-  plain-code 38 refl refl refl refl,
-  by-rest 38 [] signs.Ampersand refl refl
-      (λ z more e. rw (joins z 38 e refl) refl),
-)
-begins signs.Caret h = (plain-code 94 refl refl refl refl, by-rest 94 [] signs.Caret refl refl (λ z more e. refl))
-begins signs.Percent h = (plain-code 37 refl refl refl refl, by-rest 37 [] signs.Percent refl refl (λ z more e. refl))
-begins signs.Tilde h = (plain-code 126 refl refl refl refl, by-rest 126 [] signs.Tilde refl refl (λ z more e. refl))
-begins signs.Star h = (plain-code 42 refl refl refl refl, by-rest 42 [] signs.Star refl refl (λ z more e. refl))
-begins signs.Question h = (
-  plain-code 63 refl refl refl refl,
-  by-rest 63 [] signs.Question refl refl
-      (λ z more e. rw (joins z 58 e refl) refl),
-)
-begins signs.LeftParen h = (
-  plain-code 40 refl refl refl refl,
-  by-rest 40 [] signs.LeftParen refl refl
-      (λ z more e. refl),
-)
-begins signs.LeftBracket h = (
-  plain-code 91 refl refl refl refl,
-  by-rest 91 [] signs.LeftBracket refl refl
-      (λ z more e. rw (differs is_bracket z 91 (or-first (is_bracket z) false e) refl) refl),
-)
-begins signs.RightParen h = (
-  plain-code 41 refl refl refl refl,
-  by-rest 41 [] signs.RightParen refl refl
-      (λ z more e. refl),
-)
-begins signs.RightBracket h = (
-  plain-code 93 refl refl refl refl,
-  by-rest 93 [] signs.RightBracket refl refl
-      (λ z more e. refl),
-)
-begins signs.LeftBrace h = (
-  plain-code 123 refl refl refl refl,
-  by-rest 123 [] signs.LeftBrace refl refl
-      (λ z more e. refl),
-)
-begins signs.RightBrace h = (
-  plain-code 125 refl refl refl refl,
-  by-rest 125 [] signs.RightBrace refl refl
-      (λ z more e. refl),
-)
-begins signs.Comma h = (plain-code 44 refl refl refl refl, by-rest 44 [] signs.Comma refl refl (λ z more e. refl))
-begins signs.Semicolon h = (
-  plain-code 59 refl refl refl refl,
-  by-rest 59 [] signs.Semicolon refl refl
-      (λ z more e. refl),
-)
-begins signs.Colon h = (
-  plain-code 58 refl refl refl refl,
-  by-rest 58 [] signs.Colon refl refl
-      (λ z more e. rw (joins z 58 e refl) refl),
-)
-begins signs.Arrow h = (
-  plain-code 45 refl refl refl refl,
-  by-rest 45 (62 ∷ []) signs.Arrow refl refl
-      (λ z more e. refl),
-)
-begins signs.ShiftLeft h = (
-  plain-code 60 refl refl refl refl,
-  by-rest 60 (60 ∷ []) signs.ShiftLeft refl refl
-      (λ z more e. refl),
-)
-begins signs.ShiftRight h = (
-  plain-code 62 refl refl refl refl,
-  by-rest 62 (62 ∷ []) signs.ShiftRight refl refl
-      (λ z more e. refl),
-)
-begins signs.Equal h = (
-  plain-code 61 refl refl refl refl,
-  by-rest 61 (61 ∷ []) signs.Equal refl refl
-      (λ z more e. refl),
-)
-begins signs.NotEqual h = (
-  plain-code 33 refl refl refl refl,
-  by-rest 33 (61 ∷ []) signs.NotEqual refl refl
-      (λ z more e. refl),
-)
-begins signs.AtMost h = (
-  plain-code 60 refl refl refl refl,
-  by-rest 60 (61 ∷ []) signs.AtMost refl refl
-      (λ z more e. refl),
-)
-begins signs.AtLeast h = (
-  plain-code 62 refl refl refl refl,
-  by-rest 62 (61 ∷ []) signs.AtLeast refl refl
-      (λ z more e. refl),
-)
-begins signs.AndAnd h = (
-  plain-code 38 refl refl refl refl,
-  by-rest 38 (38 ∷ []) signs.AndAnd refl refl
-      (λ z more e. refl),
-)
-begins signs.OrOr h = (
-  plain-code 124 refl refl refl refl,
-  by-rest 124 (124 ∷ []) signs.OrOr refl refl
-      (λ z more e. refl),
-)
-begins signs.PlusPlus h = (
-  plain-code 43 refl refl refl refl,
-  by-rest 43 (43 ∷ []) signs.PlusPlus refl refl
-      (λ z more e. refl),
-)
-begins signs.MinusMinus h = (
-  plain-code 45 refl refl refl refl,
-  by-rest 45 (45 ∷ []) signs.MinusMinus refl refl
-      (λ z more e. refl),
-)
-begins signs.Ellipsis h = (
-  plain-code 46 refl refl refl refl,
-  by-rest 46 (46 ∷ 46 ∷ []) signs.Ellipsis refl refl
-      (λ z more e. refl),
-)
-begins signs.DoubleColon h = (
-  plain-code 58 refl refl refl refl,
-  by-rest 58 (58 ∷ []) signs.DoubleColon refl refl
-      (λ z more e. refl),
-)
-begins signs.QuestionColon h = (
-  plain-code 63 refl refl refl refl,
-  by-rest 63 (58 ∷ []) signs.QuestionColon refl refl
-      (λ z more e. refl),
-)
-begins signs.DoubleBracket h = (
-  plain-code 91 refl refl refl refl,
-  by-rest 91 (91 ∷ []) signs.DoubleBracket refl refl
-      (λ z more e. refl),
-)
+begins s h = grind (arith, nat_tests, plain-code, by-rest, joins, or-first, or-second, else-is, differs)
 
 begins-taken : (s : Sign) (t : List ℕ) → length (spelling s) ≡ length t → Begins s t → IsTakenList (kinds.Sign s) t
 begins-taken s [] size is = absurd is
@@ -673,17 +486,7 @@ token-gives k first b bs rest want is apart gives fresh last place =
 -- white space is passed
 white-found : (first fresh : Bool) (last place b : ℕ) (bs : List ℕ) → is_in classes.White b ≡ true
     → found_apart (in_part first) fresh last place b bs ≡ skipped_byte (in_part first)
-white-found first fresh last place b bs white = by (b == newline) refl first
-  where
-    no-at : (b == at_sign) ≡ false
-    no-at = unless (is_in classes.White) b 64 white refl
-
-    by : (t : Bool) → (b == newline) ≡ t → (first : Bool)
-        → found_apart (in_part first) fresh last place b bs ≡ skipped_byte (in_part first)
-    by true e true = rw (no-at, e) refl
-    by true e false = rw (no-at, e) refl
-    by false e true = let blank = sym (λ i. e i || is_in classes.Blank b) ∙ white in rw (no-at, e, blank) refl
-    by false e false = let blank = sym (λ i. e i || is_in classes.Blank b) ∙ white in rw (no-at, e, blank) refl
+white-found first fresh last place b bs white = grind (arith, nat_tests, unless, in_part)
 
 pub white-gives : (first : Bool) (ws rest : List ℕ) (want : List Answer) → AreWhite ws → Gives first rest want
     → Gives first (ws ++ rest) want

@@ -1,15 +1,13 @@
 -- What begins at a place of a C part: white space, one token, or what is none of the tokens that are scanned again.
 -- These are tokens by themselves.
-use Rattle.std.proofs.Common.{◌≡◌, ℕ, zero, suc, ◌+◌, ◌-◌, ◌<◌, ◌≤◌, Bool, true, false, ◌&&◌, ◌||◌, ◌==◌, nat_lt, List}
-use Rattle.std.proofs.Common.{[], ◌∷◌, ◌++◌, codes, inl, inr, length, take, drop, refl, sym, ap, subst, ◌∙◌, arith, not}
-use Rattle.std.proofs.Common.{Option, Some, None, slice_index, if◌then◌else◌}
+use Rattle.std.proofs.Common.{◌≡◌, ℕ, zero, suc, ◌+◌, ◌-◌, ◌≤◌, Bool, true, false, ◌&&◌, ◌||◌, ◌==◌, nat_lt, List, []}
+use Rattle.std.proofs.Common.{◌∷◌, ◌++◌, codes, length, take, drop, refl, sym, ap, subst, ◌∙◌, arith, not, Option, Some}
+use Rattle.std.proofs.Common.{slice_index, if◌then◌else◌}
 use Rattle.std.proofs.lemmas.Bool.{eqb-true}
 use Rattle.std.proofs.lemmas.Bool.Decides.{nat_tests}
 use Rattle.std.proofs.lemmas.List.{length-take, take-append-drop}
-use Rattle.cw_base.specs.Text.{is_blank}
-use Rattle.cw_lex.specs.Lexing.{answers, fresh_at, joined, last_at, still_fresh, tokens_of}
-use Rattle.cw_plain_laws.proofs.Again.{Bare, IsAloneText, IsClosed, IsString, Prefix, Utf16, Utf32, Utf8, Wide}
-use Rattle.cw_plain_laws.proofs.Again.{in_part, prefix_bytes}
+use Rattle.cw_lex.specs.Lexing.{answers, joined, still_fresh, tokens_of}
+use Rattle.cw_plain_laws.proofs.Again.{Bare, IsAloneText, IsClosed, IsString, Prefix, in_part, prefix_bytes}
 use Rattle.cw_plain_laws.proofs.AgainLaws.{at-mark}
 use Rattle.cw_plain_laws.proofs.CutConstants.{constant-cut, constant-last, run-cut}
 use Rattle.cw_plain_laws.proofs.CutStrings.{sign-alone, string-closed}
@@ -21,20 +19,17 @@ use Rattle.cw_rules.proofs.Sizes.{constant-le, run-le}
 use Rattle.cw_rules.proofs.Taking.{AreNotes}
 use Rattle.cw_rules.specs.Answers.{Answer, Token, Begin, Finish, Note, Cut, Found, Seen, Where, note_answers, plain}
 use Rattle.cw_rules.specs.Answers.{token_of}
-use Rattle.cw_base.specs.declared.notes.NoteKind.TheVariants as notes
-use Rattle.cw_rules.specs.Bodies.{all_notes, at_start, extent}
-use Rattle.cw_rules.specs.Bytes.{at_sign, begins, begins_by, begins_with, hash, is_between, is_in, is_letter}
+use Rattle.cw_rules.specs.Bodies.{at_start, extent}
+use Rattle.cw_rules.specs.Bytes.{at_sign, begins, begins_by, begins_with, hash, is_in, is_letter, is_mark, less, run}
+use Rattle.cw_rules.specs.Bytes.{slash, star}
 use Rattle.cw_base.specs.Bytes.{newline}
-use Rattle.cw_rules.specs.Bytes.{is_letter_of, is_mark, less, run, slash, star}
 use Rattle.cw_rules.specs.Prefixes.{is_prefix_letter, prefix_size}
 use Rattle.cw_rules.specs.Codes.{begins_section, code_at, code_of}
 use Rattle.cw_rules.specs.Constants.{constant}
 use Rattle.cw_rules.specs.Signs.{all_signs, longest, spelling}
-use Rattle.cw_rules.specs.Tokens.{code_by, code_token, effect_in, in_code, in_hash_line}
+use Rattle.cw_rules.specs.Tokens.{code_by, code_token, effect_in, in_code, in_hash_line, is_space, moved, one, passed}
+use Rattle.cw_rules.specs.Tokens.{section, section_code, sign_or_other, skipped_byte, identifier, string, start_of}
 use Rattle.cw_rules.specs.Apart.{code_text_apart, found_apart}
-use Rattle.cw_rules.specs.Tokens.{is_space, moved, one, passed, section, section_code, sign_or_other, skipped_byte}
-use Rattle.cw_rules.specs.Tokens.{identifier, string}
-use Rattle.cw_rules.specs.Tokens.{start_of}
 use Rattle.cw_rules.specs.declared.bodies.Body.TheVariants as bodies
 use Rattle.cw_rules.specs.declared.bodies.Noted.{Noted}
 use Rattle.cw_rules.specs.declared.classes.Class.TheVariants as classes
@@ -52,12 +47,7 @@ use Rattle.cw_rules.specs.declared.tokens.TokKind.TheVariants as kinds
 -- where all of the same bytes is cut without what stands behind them
 whole-cut : (f : List ℕ → ℕ) → ((t r : List ℕ) → f (t ++ r) ≡ length t → f t ≡ length t) → (bytes : List ℕ)
     → f bytes ≤ length bytes → f (take (f bytes) bytes) ≡ length (take (f bytes) bytes)
-whole-cut f cut bytes most =
-    let t = take (f bytes) bytes in
-    let r = drop (f bytes) bytes in
-    let all : f (t ++ r) ≡ f bytes = ap f (take-append-drop (f bytes) bytes) in
-    let size : length t ≡ f bytes = omega (arith, length-take (f bytes) bytes) in
-    cut t r (all ∙ sym size)
+whole-cut f cut bytes most = grind (arith, take-append-drop (f bytes) bytes, length-take (f bytes) bytes)
 
 abbrev IsCutAlone : TokKind → (List ℕ → ℕ) → ℕ → List ℕ → Type 0
 IsCutAlone k f b bs = IsAloneText k (take (f (b ∷ bs)) (b ∷ bs))
@@ -74,10 +64,7 @@ identifier-alone b bs letter =
     subst (λ n. IsAloneText kinds.Identifier (take n (b ∷ bs))) (sym e) (letter, whole)
 
 some-more : (n : ℕ) → nat_lt 0 n ≡ true → n ≡ suc (n - 1)
-some-more n e = let some : 0 < n = there n e in omega arith
-  where
-    there : (n : ℕ) → nat_lt 0 n ≡ true → 0 < n
-    there n e = grind (arith, nat_tests)
+some-more n e = grind arith
 
 constant-alone : (b : ℕ) (bs : List ℕ) → is_letter b ≡ false → nat_lt 0 (constant (b ∷ bs)) ≡ true
     → IsCutAlone kinds.Constant constant b bs
@@ -120,12 +107,10 @@ tells-one first hash_line next place bytes cut on line alone =
     line (λ simple quiet. alone simple (none-noted cut.notes quiet))
 
 passed-on : (first : Bool) → moved (in_part first) (passed (in_part first).part) ≡ in_part false
-passed-on true = refl
-passed-on false = refl
+passed-on first = grind arith
 
 no-line : (first : Bool) → in_hash_line (in_part first).part ≡ false
-no-line true = refl
-no-line false = refl
+no-line first = grind arith
 
 -- ## Codes
 
@@ -137,37 +122,7 @@ abbrev IsQuote : ℕ → Code → Type 0
 IsQuote byte code = is_quote code ≡ true → (byte == 39) ≡ true
 
 quote-byte : (byte : ℕ) → IsQuote byte (code_of byte)
-quote-byte byte =
-    if-both (IsQuote byte) (byte == 64) _ _ (λ h e. absurd cc) (λ n.
-    if-both (IsQuote byte) (byte == newline || is_blank byte) _ _ (λ h e. absurd cc) (λ n.
-    if-both (IsQuote byte) (byte == 42) _ _ (λ h e. absurd cc) (λ n.
-    if-both (IsQuote byte) (is_letter_of 100 byte) _ _ (λ h e. absurd cc) (λ n.
-    if-both (IsQuote byte) (is_letter_of 102 byte) _ _ (λ h e. absurd cc) (λ n.
-    if-both (IsQuote byte) (is_letter_of 115 byte) _ _ (λ h e. absurd cc) (λ n.
-    if-both (IsQuote byte) (is_letter_of 99 byte || is_letter_of 112 byte) _ _ (λ h e. absurd cc) (λ n.
-    if-both (IsQuote byte) (byte == 60) _ _ (λ h e. absurd cc) (λ n.
-    if-both (IsQuote byte) (byte == 40) _ _ (λ h e. absurd cc) (λ n.
-    if-both (IsQuote byte) (byte == 94) _ _ (λ h e. absurd cc) (λ n.
-    if-both (IsQuote byte) (byte == 46) _ _ (λ h e. absurd cc) (λ n.
-    if-both (IsQuote byte) (byte == 58) _ _ (λ h e. absurd cc) (λ n.
-    if-both (IsQuote byte) (byte == 33) _ _ (λ h e. absurd cc) (λ n.
-    if-both (IsQuote byte) (is_letter_of 113 byte) _ _ (λ h e. absurd cc) (λ n.
-    if-both (IsQuote byte) (is_letter_of 116 byte) _ _ (λ h e. absurd cc) (λ n.
-    if-both (IsQuote byte) (byte == 61) _ _ (λ h e. absurd cc) (λ n.
-    if-both (IsQuote byte) (byte == 44) _ _ (λ h e. absurd cc) (λ n.
-    if-both (IsQuote byte) (byte == 47) _ _ (λ h e. absurd cc) (λ n.
-    if-both (IsQuote byte) (byte == 124) _ _ (λ h e. absurd cc) (λ n.
-    if-both (IsQuote byte) (byte == 35) _ _ (λ h e. absurd cc) (λ n.
-    if-both (IsQuote byte) (byte == 43) _ _ (λ h e. absurd cc) (λ n.
-    if-both (IsQuote byte) (byte == 59) _ _ (λ h e. absurd cc) (λ n.
-    if-both (IsQuote byte) (byte == 91) _ _ (λ h e. absurd cc) (λ n.
-    if-both (IsQuote byte) (byte == 93) _ _ (λ h e. absurd cc) (λ n.
-    if-both (IsQuote byte) (is_letter_of 104 byte) _ _ (λ h e. absurd cc) (λ n.
-    if-both (IsQuote byte) (byte == 38) _ _ (λ h e. absurd cc) (λ n.
-    if-both (IsQuote byte) (byte == 39) _ _ (λ h e. h) (λ n.
-    if-both (IsQuote byte) (is_between 48 50 byte) _ _ (λ h e. absurd cc) (λ n.
-    if-both (IsQuote byte) (is_letter_of 108 byte) _ _ (λ h e. absurd cc) (λ n.
-    (λ e. absurd cc))))))))))))))))))))))))))))))
+quote-byte byte = grind (arith, nat_tests, if-both)
 
 quote-bytes : (b : ℕ) (bytes : List ℕ) (place : ℕ) → (b == at_sign) ≡ true → codes.Quote ≡ code_at bytes
     → (code_token codes.Quote place (b ∷ bytes)).notes ≡ []
@@ -192,11 +147,10 @@ tells-code true codes.Program place b bytes at e =
 tells-code true codes.Quote place b bytes at e =
     tells-one true false (in_part false) place (b ∷ bytes) (code_token codes.Quote place (b ∷ bytes)) refl refl
     (λ simple quiet. quote-bytes b bytes place at e quiet)
-tells-code true _ place b bytes at e = other (refl, refl)
 tells-code false codes.Quote place b bytes at e =
     tells-one false false (in_part false) place (b ∷ bytes) (code_token codes.Quote place (b ∷ bytes)) refl refl
     (λ simple quiet. quote-bytes b bytes place at e quiet)
-tells-code false _ place b bytes at e = other (refl, refl)
+tells-code _ _ _ _ _ _ _ = other (refl, refl)
 
 -- ## Tokens
 
@@ -210,40 +164,17 @@ record Opens (mark : ℕ) (bytes : List ℕ) : Type 0 where
 -- the size of a prefix
 prefix-is : (p : Prefix) (mark : ℕ) (rest : List ℕ) → is_mark mark ≡ true
     → prefix_size (prefix_bytes p ++ mark ∷ rest) ≡ length (prefix_bytes p)
-prefix-is Bare mark rest is = at-mark (λ m. prefix_size (m ∷ rest) ≡ 0) mark is refl refl
-prefix-is Wide mark rest is = at-mark (λ m. prefix_size (76 ∷ m ∷ rest) ≡ 1) mark is refl refl
-prefix-is Utf16 mark rest is = at-mark (λ m. prefix_size (117 ∷ m ∷ rest) ≡ 1) mark is refl refl
-prefix-is Utf32 mark rest is = at-mark (λ m. prefix_size (85 ∷ m ∷ rest) ≡ 1) mark is refl refl
-prefix-is Utf8 mark rest is = at-mark (λ m. prefix_size (117 ∷ 56 ∷ m ∷ rest) ≡ 2) mark is refl refl
+prefix-is p mark rest is = grind (arith, at-mark)
 
 letter-opens : (b mark : ℕ) (rest : List ℕ) → is_prefix_letter b ≡ true → is_mark mark ≡ true
     → Opens mark (b ∷ mark ∷ rest)
-letter-opens b mark rest letter is = elim (or-case (b == 76 || b == 117) (b == 85) letter) [
-  | inr e ↦ record { prefix = Utf32; rest = rest; mark_is = is; same = ap (λ c. c ∷ mark ∷ rest) (eqb-true b 85 e) }
-  | inl two ↦ elim (or-case (b == 76) (b == 117) two) [
-    | inl e ↦ record { prefix = Wide; rest = rest; mark_is = is; same = ap (λ c. c ∷ mark ∷ rest) (eqb-true b 76 e) }
-    | inr e ↦ record { prefix = Utf16; rest = rest; mark_is = is; same = ap (λ c. c ∷ mark ∷ rest) (eqb-true b 117 e) }
-  ]
-]
+letter-opens b mark rest letter is = grind (arith, or-case, eqb-true)
 
 -- `u8` and a mark, at the first bytes
 eight-opens : (b : ℕ) (bytes : List ℕ)
     → (begins_with (codes "u8") (b ∷ bytes) && begins_by is_mark (drop 1 bytes)) ≡ true
     → Opens (slice_index (b ∷ bytes) 2) (b ∷ bytes)
-eight-opens b [] h = absurd (let e : (begins_with (codes "u8") (b ∷ []) && false) ≡ true = h in
-    let k : true ≡ false = sym e ∙ and-none (begins_with (codes "u8") (b ∷ [])) in cc)
-eight-opens b (c ∷ []) h = absurd (let e : (begins_with (codes "u8") (b ∷ c ∷ []) && false) ≡ true = h in
-    let k : true ≡ false = sym e ∙ and-none (begins_with (codes "u8") (b ∷ c ∷ [])) in cc)
-eight-opens b (c ∷ mark ∷ rest) h =
-    let both = both-left (b == 117 && (c == 56 && true)) (is_mark mark) h in
-    let first = eqb-true b 117 (both-left (b == 117) (c == 56 && true) both) in
-    let second = eqb-true c 56 (both-left (c == 56) true (both-right (b == 117) (c == 56 && true) both)) in
-    record {
-      prefix = Utf8;
-      rest = rest;
-      mark_is = both-right (b == 117 && (c == 56 && true)) (is_mark mark) h;
-      same = λ i. first i ∷ second i ∷ mark ∷ rest;
-    }
+eight-opens b bytes h = grind (arith, and-none, both-left, eqb-true, both-right)
 
 one-opens : (b : ℕ) (bytes : List ℕ) → (is_prefix_letter b && begins_by is_mark bytes) ≡ true
     → Opens (slice_index (b ∷ bytes) 1) (b ∷ bytes)
@@ -280,24 +211,16 @@ a-string p mark body is closed = record {
 
 string-text : (p : Prefix) (mark : ℕ) (body : List ℕ) → IsString (prefix_bytes p ++ mark ∷ body)
     → IsAloneText kinds.Quoted (prefix_bytes p ++ mark ∷ body)
-string-text Bare mark body is = is
-string-text Wide mark body is = is
-string-text Utf16 mark body is = is
-string-text Utf32 mark body is = is
-string-text Utf8 mark body is = is
+string-text p mark body is = grind arith
 
 -- what stands behind the opening bytes, and as many of it as are taken
 behind-opening : (xs : List ℕ) (y : ℕ) (ys : List ℕ) → drop (length xs + 1) (xs ++ y ∷ ys) ≡ ys
 behind-opening [] y ys = refl
-behind-opening (x ∷ xs) y ys =
-    let one : length (x ∷ xs) + 1 ≡ suc (length xs + 1) = omega arith in
-    ap (λ n. drop n ((x ∷ xs) ++ y ∷ ys)) one ∙ behind-opening xs y ys
+behind-opening (x ∷ xs) y ys = grind (arith, behind-opening xs y ys)
 
 with-opening : (xs : List ℕ) (y : ℕ) (ys : List ℕ) (n : ℕ)
     → take ((length xs + 1) + n) (xs ++ y ∷ ys) ≡ xs ++ y ∷ take n ys
-with-opening [] y ys n =
-    let one : (0 + 1) + n ≡ suc n = omega arith in
-    ap (λ k. take k (y ∷ ys)) one
+with-opening [] y ys n = grind arith
 with-opening (x ∷ xs) y ys n =
     let one : (length (x ∷ xs) + 1) + n ≡ suc ((length xs + 1) + n) = omega arith in
     ap (λ k. take k ((x ∷ xs) ++ y ∷ ys)) one ∙ ap (λ l. x ∷ l) (with-opening xs y ys n)
@@ -305,24 +228,11 @@ with-opening (x ∷ xs) y ys n =
 opened-cut : (p : Prefix) (mark : ℕ) (rest : List ℕ) (place : ℕ) → is_mark mark ≡ true
     → IsCutString (length (prefix_bytes p) + 1) mark place (prefix_bytes p ++ mark ∷ rest)
 opened-cut p mark rest place is quiet =
-    let xs = prefix_bytes p in
-    let opening = length (prefix_bytes p) + 1 in
-    let start = at_start (bodies.Quoted mark) (place + opening) in
-    let behind = behind-opening xs mark rest in
-    let n = (extent start rest).size in
-    let closed = string-closed mark (place + opening) rest
-    (ap (all_notes notes.StringUnended start) (sym behind) ∙ quiet) in
-    subst (IsAloneText kinds.Quoted)
-    (sym (ap (λ l. take (opening + (extent start l).size) (xs ++ mark ∷ rest)) behind ∙ with-opening xs mark rest n))
-    (string-text p mark (take n rest) (a-string p mark (take n rest) is closed))
+    grind (arith, prefix_bytes, behind-opening, string-closed, with-opening, string-text, a-string)
 
 string-alone : (mark : ℕ) (bytes : List ℕ) (place : ℕ) → Opens mark bytes
     → IsCutString (prefix_size bytes + 1) mark place bytes
-string-alone mark bytes place opens =
-    subst (λ l. IsCutString (prefix_size l + 1) mark place l) (sym opens.same)
-    (subst (λ n. IsCutString (n + 1) mark place (prefix_bytes opens.prefix ++ mark ∷ opens.rest))
-    (sym (prefix-is opens.prefix mark opens.rest opens.mark_is))
-    (opened-cut opens.prefix mark opens.rest place opens.mark_is))
+string-alone mark bytes place opens = grind (arith, prefix_bytes, prefix-is, opened-cut)
 
 -- what is known where C text begins so
 abbrev Says : ℕ → List ℕ → Start → Type 0
@@ -335,8 +245,7 @@ Says b bytes s = Unit {0}
 
 sign-says : (b : ℕ) (bytes : List ℕ) (o : Option Sign) → longest all_signs (b ∷ bytes) ≡ o
     → Says b bytes (sign_or_other o)
-sign-says b bytes None e = tt
-sign-says b bytes (Some sign) e = e
+sign-says b bytes o e = grind arith
 
 start-says : (b : ℕ) (bytes : List ℕ) → Says b bytes (start_of false b bytes)
 start-says b bytes =
@@ -355,8 +264,7 @@ start-says b bytes =
     not-bar = not (begins 124 bytes)
 
 hash-none : (h : Bool) → (not h) ≡ true → h ≡ false
-hash-none true e = absurd cc
-hash-none false e = refl
+hash-none h e = grind arith
 
 tells-start : (first : Bool) (s : Start) (place b : ℕ) (bytes : List ℕ) → Says b bytes s
     → Tells first (in_code s (in_part first) place (b ∷ bytes))
@@ -376,27 +284,23 @@ tells-start first (start.Quoted mark) place b bytes says =
     (b ∷ bytes)
     (string kinds.Quoted (prefix_size (b ∷ bytes) + 1) mark place (b ∷ bytes)) (passed-on first)
     (no-line first) (λ simple quiet. string-alone mark (b ∷ bytes) place says quiet)
-tells-start first start.LongComment place b bytes says = other tt
-tells-start first start.ShortComment place b bytes says = other tt
 tells-start first (start.Code code) place b bytes says = tells-code first code place b bytes says.0 says.1
-tells-start first start.EndOfInner place b bytes says = other tt
 tells-start first (start.Sign sign) place b bytes says =
     tells-one first (in_hash_line (in_part first).part) (moved (in_part first) (passed (in_part first).part)) place
     (b ∷ bytes)
     (plain (kinds.Sign sign) (length (spelling sign))) (passed-on first)
     (no-line first) (λ simple quiet. sign-alone all_signs (b ∷ bytes) sign says (hash-none (is_hash sign) simple))
 tells-start first start.OtherByte place b bytes says = other (refl, refl)
+tells-start _ _ _ _ _ _ = other tt
 
 -- ## Any place
 
 section-other : (bytes : List ℕ)
     → (is_simple (section_code bytes).kind ≡ false) × (is_program (section_code bytes).kind ≡ false)
-section-other bytes = if-both (λ (c : Cut). (is_simple c.kind ≡ false) × (is_program c.kind ≡ false))
-    (begins star (drop 1 bytes)) _ _ (λ h. (refl, refl)) (λ h. (refl, refl))
+section-other bytes = grind (arith, if-both, is_simple, is_program)
 
 tells-section : (first : Bool) (place : ℕ) (bytes : List ℕ) → Tells first (section (in_part first) place bytes)
-tells-section true place bytes = other (section-other (at_sign ∷ bytes))
-tells-section false place bytes = other (section-other (at_sign ∷ bytes))
+tells-section first place bytes = grind (arith, section-other)
 
 tells-text : (first fresh : Bool) (last place b : ℕ) (bytes : List ℕ)
     → Tells first (code_text_apart (in_part first) fresh last place b bytes)
@@ -437,18 +341,10 @@ no-notes (Finish t ∷ xs) ys notes are = absurd notes
 no-notes (Note kind place ∷ xs) ys notes are = absurd are
 
 other-none : (xs ys : List Answer) → IsOther xs → AreSimpleTokens (xs ++ ys) → ⊥
-other-none [] ys is are = is
-other-none (Token t ∷ xs) ys is are = let e : true ≡ false = sym are.0 ∙ is.0 in cc
-other-none (Begin t ∷ xs) ys is are = are
-other-none (Finish t ∷ xs) ys is are = are
-other-none (Note kind place ∷ xs) ys is are = are
+other-none xs ys is are = grind arith
 
 other-first : (xs ys rest : List Answer) → IsOther xs → BeginsBefore rest (xs ++ ys) → ⊥
-other-first [] ys rest is begun = is
-other-first (Token t ∷ xs) ys rest is begun = let e : true ≡ false = sym begun.0 ∙ is.1 in cc
-other-first (Begin t ∷ xs) ys rest is begun = begun
-other-first (Finish t ∷ xs) ys rest is begun = begun
-other-first (Note kind place ∷ xs) ys rest is begun = begun
+other-first xs ys rest is begun = grind arith
 
 alone-on : (bytes : List ℕ) (fresh : Bool) (last place taken : ℕ)
     → AreSimpleTokens (answers bytes (in_part false) fresh last place taken)
@@ -504,6 +400,4 @@ alone-behind (b ∷ bytes) fresh last place rest begun are =
 -- The tokens of a part behind its code, where they are simple, are tokens by themselves.
 pub part-alone : (text : List ℕ) (from end : ℕ) (rest : List Answer)
     → BeginsBefore rest (tokens_of text from end CPart) → AreSimpleTokens rest → AreAlone rest
-part-alone text from end rest begun are =
-    alone-behind (drop from (take end text)) (fresh_at (take end text) from) (last_at (take end text) from) from rest
-    begun are
+part-alone text from end rest begun are = grind (arith, alone-behind)

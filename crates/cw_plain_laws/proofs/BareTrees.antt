@@ -1,12 +1,10 @@
 -- Trees without comments and inner texts: what stands in them, and the translation of simple tokens as one.
-use Rattle.std.proofs.Common.{◌≡◌, ℕ, zero, suc, Bool, true, false, ◌&&◌, List, [], ◌∷◌, ◌++◌, refl, sym, if◌then◌else◌}
-use Rattle.std.proofs.Common.{ap, subst, ◌∙◌}
+use Rattle.std.proofs.Common.{◌≡◌, ℕ, Bool, true, ◌&&◌, List, [], ◌∷◌, ◌++◌, refl, sym, if◌then◌else◌, ap, subst, ◌∙◌}
+use Rattle.std.proofs.Common.{arith}
 use Rattle.std.specs.List.{All}
 use Rattle.std.proofs.lemmas.List.Elements.{All-append, All-cons, All-nil}
 use Rattle.cw_base.specs.declared.category.Cat.{Cat}
-use Rattle.cw_base.specs.declared.category.Cat.TheVariants.{Exp}
 use Rattle.cw_base.specs.declared.flags.Flags.{Flags}
-use Rattle.cw_base.specs.declared.mode.MathMode.TheVariants.{Maybe}
 use Rattle.cw_lex.specs.Heads.{headed, headed_by, headless}
 use Rattle.cw_lex.specs.Nest.{Nest, End, Leaf, Group, first_nest, leaf, nest, nests}
 use Rattle.cw_names.specs.Names.{Entry}
@@ -16,26 +14,18 @@ use Rattle.cw_plain_laws.proofs.KeptTrees.{OfScrap, end-kept}
 use Rattle.cw_plain_laws.proofs.OwnInks.{IsUnbarred, number-unbarred}
 use Rattle.cw_plain_laws.proofs.Walks.{IsFree}
 use Rattle.cw_plain_laws.specs.PlainLaws.{AreSimpleTokens, BeginsBefore, is_program, is_simple}
-use Rattle.cw_reduce.specs.Visible.{shown, shown_headed, shown_in, shown_token}
-use Rattle.cw_rules.specs.Answers.{Answer, Token, Begin, Finish, Note, Seen}
-use Rattle.cw_rules.specs.declared.codes.Code.TheVariants as code
+use Rattle.cw_reduce.specs.Visible.{shown, shown_in, shown_token}
+use Rattle.cw_rules.specs.Answers.{Answer, Token, Seen}
 use Rattle.cw_rules.specs.declared.tokens.TokKind.{TokKind}
-use Rattle.cw_rules.specs.declared.tokens.TokKind.TheVariants as kind
-use Rattle.cw_scraps.specs.Leaves.{LeafForm, sign_cat, sign_mode, source, word_form}
+use Rattle.cw_scraps.specs.Leaves.{LeafForm, word_form}
 use Rattle.cw_tokens.specs.Shapes.{tree_in}
 use Rattle.cw_translator.specs.Translating.{Known, Made, NameTexts, begin, end_of, headed_made, leaf_of_name}
-use Rattle.cw_translator.specs.Translating.{leaf_scrap}
-use Rattle.cw_translator.specs.Translating.{made, state_in, token_made, translated}
-use Rattle.cw_trees.specs.Flat.{Item, SourceItem, IdentItem, ReservedItem, SignItem, Open, Close, begins_after}
-use Rattle.cw_trees.specs.Flat.{ends_text}
-use Rattle.cw_trees.specs.Flat.{flat, is_break, is_inserted, leaf_item, trim_back, trim_front, trimmed_items}
-use Rattle.cw_trees.specs.Flat.{without_inserted}
-use Rattle.cw_trees.specs.Tree.{Leaf as TreeLeaf, Source as SourceLeaf, Ident, Reserved, Sign, Tree, Empty, Then, Sub}
-use Rattle.cw_trees.specs.Tree.{Inner}
-use Rattle.cw_trees.specs.Tree.{Search, Found, Stopped, Nothing as no_ident, first_ident, reserve_first, reserved_leaf}
-use Rattle.cw_trees.specs.Tree.{search_leaf}
+use Rattle.cw_translator.specs.Translating.{leaf_scrap, made, state_in, token_made, translated}
+use Rattle.cw_trees.specs.Flat.{Item, SignItem, Open, Close, begins_after, flat, is_break, leaf_item, trim_back}
+use Rattle.cw_trees.specs.Flat.{trim_front, trimmed_items, without_inserted}
+use Rattle.cw_trees.specs.Tree.{Leaf as TreeLeaf, Sign, Tree, Empty, Then, Sub, Inner, Search, Found, Stopped}
+use Rattle.cw_trees.specs.Tree.{Nothing as no_ident, first_ident, reserve_first, reserved_leaf, search_leaf}
 use Rattle.cw_trees.specs.declared.Control.{Control}
-use Rattle.cw_trees.specs.declared.Control.TheVariants.{CommentEnd}
 
 -- ## Trees
 
@@ -50,10 +40,7 @@ IsBare (Sub tree rest) = IsBare tree × IsBare rest
 IsBare (Inner tree rest) = ⊥
 
 reserved-bare : (leaf : TreeLeaf) → BareLeaf leaf → BareLeaf (reserved_leaf leaf)
-reserved-bare (SourceLeaf number mode) h = h
-reserved-bare (Ident name number) h = tt
-reserved-bare (Reserved name number cat) h = h
-reserved-bare (Sign c) h = h
+reserved-bare leaf h = grind arith
 
 then-bare : (s : Search) (leaf : TreeLeaf) (rest : Tree) → search_leaf leaf ≡ s → IsBare (Then leaf rest)
     → IsBare (reserve_first rest) → IsBare (reserve_first (Then leaf rest))
@@ -70,8 +57,7 @@ sub-bare no_ident tree rest e h t r = rw (e, reserve_first) (h.0, r)
 reserve-bare : (t : Tree) → IsBare t → IsBare (reserve_first t)
 reserve-bare Empty h = h
 reserve-bare (Then leaf rest) h = then-bare (search_leaf leaf) leaf rest refl h (reserve-bare rest h.1)
-reserve-bare (Sub tree rest) h = sub-bare (first_ident tree) tree rest refl h (reserve-bare tree h.0)
-    (reserve-bare rest h.1)
+reserve-bare (Sub tree rest) h = grind (arith, reserve-bare tree h.0, reserve-bare rest h.1, sub-bare)
 reserve-bare (Inner tree rest) h = absurd h
 
 -- ## Their pieces
@@ -91,10 +77,7 @@ items-append [] ys a b = b
 items-append (x ∷ xs) ys a b = (a.0, items-append xs ys a.1 b)
 
 leaf-bare : (leaf : TreeLeaf) → BareLeaf leaf → BareItem (leaf_item leaf)
-leaf-bare (SourceLeaf number mode) h = tt
-leaf-bare (Ident name number) h = tt
-leaf-bare (Reserved name number cat) h = tt
-leaf-bare (Sign c) h = h
+leaf-bare leaf h = grind arith
 
 flat-bare : (t : Tree) → IsBare t → BareItems (flat t)
 flat-bare Empty h = tt
@@ -104,14 +87,11 @@ flat-bare (Inner tree rest) h = absurd h
 
 either-bare : (taken : Bool) (item : Item) (gone kept : List Item) → BareItem item → BareItems gone → BareItems kept
     → BareItems (if taken then gone else item ∷ kept)
-either-bare true item gone kept is a b = a
-either-bare false item gone kept is a b = (is, b)
+either-bare taken item gone kept is a b = grind arith
 
 without-bare : (items : List Item) → BareItems items → BareItems (without_inserted items)
 without-bare [] bare = tt
-without-bare (item ∷ items) bare =
-    let rest = without-bare items bare.1 in
-    either-bare (is_inserted item) item (without_inserted items) (without_inserted items) bare.0 rest rest
+without-bare (item ∷ items) bare = grind (arith, without-bare items bare.1, either-bare)
 
 front-bare : (begins : Bool) (items : List Item) → BareItems items → BareItems (trim_front begins items)
 front-bare begins [] bare = tt
@@ -121,36 +101,25 @@ front-bare begins (item ∷ items) bare =
 
 back-bare : (items : List Item) → BareItems items → BareItems (trim_back items)
 back-bare [] bare = tt
-back-bare (item ∷ items) bare =
-    let rest = back-bare items bare.1 in
-    either-bare (is_break item && ends_text items) item (trim_back items) (trim_back items) bare.0 rest rest
+back-bare (item ∷ items) bare = grind (arith, back-bare items bare.1, either-bare)
 
 trimmed-bare : (items : List Item) → BareItems items → BareItems (trimmed_items items)
-trimmed-bare items bare = back-bare (trim_front true (without_inserted items))
-    (front-bare true (without_inserted items) (without-bare items bare))
+trimmed-bare items bare = grind (arith, back-bare, front-bare, without-bare)
 
 abbrev pub AreUnbarred : List Piece → Type 0
 AreUnbarred [] = Unit {0}
 AreUnbarred (p ∷ ps) = IsUnbarred p × AreUnbarred ps
 
 control-unbarred : (c : Control) (stand : Stand) → IsFree c → IsUnbarred (control_placed c stand).piece
-control-unbarred CommentEnd stand free = absurd free
-control-unbarred _ stand free = tt
+control-unbarred c stand free = grind arith
 
 item-unbarred : (s : Source) (item : Item) (stand : Stand) → BareItem item
     → IsUnbarred (item_placed s item stand).piece
-item-unbarred s (SourceItem number) stand bare = number-unbarred s number stand
-item-unbarred s (IdentItem name number) stand bare = number-unbarred s number stand
-item-unbarred s (ReservedItem name number) stand bare = number-unbarred s number stand
-item-unbarred s (SignItem c) stand bare = control-unbarred c stand bare
-item-unbarred s Open stand bare = absurd bare
-item-unbarred s Close stand bare = absurd bare
+item-unbarred s item stand bare = grind (arith, number-unbarred, control-unbarred)
 
 next-unbarred : (s : Source) (depth : ℕ) (item : Item) (stand : Stand) (rest : Stand → List Piece) → BareItem item
     → ((st : Stand) → AreUnbarred (rest st)) → AreUnbarred (pieces_in s depth item stand rest)
-next-unbarred s zero item stand rest bare more =
-    (item-unbarred s item stand bare, more (item_placed s item stand).stand)
-next-unbarred s (suc depth) item stand rest bare more = more _
+next-unbarred s depth item stand rest bare more = grind (arith, item-unbarred)
 
 pieces-unbarred : (s : Source) (items : List Item) (stand : Stand) → BareItems items
     → AreUnbarred (pieces_from s items stand)
@@ -174,36 +143,25 @@ AreSimpleNests [] = ⊥
 AreSimpleNests (n ∷ ns) = IsSimpleNest n
 
 leaf-simple : (t : Seen) (ns : List Nest) → is_simple t.kind ≡ true → AreSimpleNests ns → AreSimpleNests (leaf t ns)
-leaf-simple t [] is all = absurd all
-leaf-simple t (n ∷ ns) is all = (is, all)
+leaf-simple t ns is all = grind arith
 
 nests-simple : (answers : List Answer) → AreSimpleTokens answers → AreSimpleNests (nests answers)
 nests-simple [] are = tt
 nests-simple (Token t ∷ answers) are = leaf-simple t (nests answers) are.0 (nests-simple answers are.1)
-nests-simple (Begin t ∷ answers) are = absurd are
-nests-simple (Finish t ∷ answers) are = absurd are
-nests-simple (Note kind place ∷ answers) are = absurd are
+nests-simple _ are = absurd are
 
 first-simple : (ns : List Nest) → AreSimpleNests ns → IsSimpleNest (first_nest ns)
-first-simple [] all = absurd all
-first-simple (n ∷ ns) all = all
+first-simple ns all = grind arith
 
 word-bare : (c : Cat) (name : NameId) (n : ℕ) → IsBare (tree_in [] (word_form c name n).tokens)
-word-bare Exp name n = (tt, tt)
-word-bare _ name n = (tt, tt)
+word-bare c name n = grind arith
 
 one-bare : (form : LeafForm) → IsBare (leaf_scrap form).tree → All (OfScrap IsBare) (leaf_scrap form ∷ [])
 one-bare form bare = All-cons (OfScrap IsBare) (leaf_scrap form) [] bare (All-nil (OfScrap IsBare))
 
 token-bare : (name : ℕ → Known → Made) (k : TokKind) (t : Seen) (known : Known) → is_simple k ≡ true
     → All (OfScrap IsBare) (token_made name k t known).scraps
-token-bare name kind.Identifier t known is = one-bare _ (word-bare _ _ t.span.start)
-token-bare name kind.Constant t known is = one-bare (source Exp Maybe t.span.start) (tt, tt)
-token-bare name kind.Quoted t known is = one-bare (source Exp Maybe t.span.start) (tt, tt)
-token-bare name (kind.Code code.Quote) t known is = one-bare (source Exp Maybe t.span.start) (tt, tt)
-token-bare name (kind.Sign sign) t known is =
-    one-bare (source (sign_cat sign) (sign_mode sign) t.span.start) (tt, tt)
-token-bare name _ t known is = absurd cc
+token-bare name k t known is = grind (arith, one-bare, word-bare)
 
 made-bare : (flags : Flags) (name : ℕ → Known → Made) (n : Nest) (known : Known) → IsSimpleNest n
     → All (OfScrap IsBare) (made flags name n known).scraps
@@ -217,35 +175,21 @@ made-bare flags name (Group t inner rest) known simple = absurd simple
 -- the code with which a part begins makes nothing
 program-bare : (name : ℕ → Known → Made) (k : TokKind) (t : Seen) (known : Known) → is_program k ≡ true
     → All (OfScrap IsBare) (token_made name k t known).scraps
-program-bare name (kind.Code code.Program) t known is = All-nil (OfScrap IsBare)
-program-bare name _ t known is = absurd cc
+program-bare name k t known is = grind arith
 
 program-headless : (k : TokKind) (t : Seen) (rest : Nest) → is_program k ≡ true
     → headed_by k t rest ≡ headless (Leaf t rest)
-program-headless (kind.Code code.Program) t rest is = refl
-program-headless _ t rest is = absurd cc
+program-headless k t rest is = grind arith
 
 -- the nest of a part
 abbrev PartNest : List Answer → List Answer → Type 0
 PartNest answers rest = (t : Seen) × ((is_program t.kind ≡ true) × (nest answers ≡ Leaf t (nest rest)))
 
 leaf-first : (t : Seen) (ns : List Nest) → AreSimpleNests ns → first_nest (leaf t ns) ≡ Leaf t (first_nest ns)
-leaf-first t [] all = absurd all
-leaf-first t (n ∷ ns) all = refl
+leaf-first t ns all = grind arith
 
 part-nest : (answers rest : List Answer) → BeginsBefore rest answers → AreSimpleTokens rest → PartNest answers rest
-part-nest [] rest begun are = absurd begun
-part-nest (Token t ∷ answers) rest begun are = (
-  t,
-  (
-    begun.0,
-    leaf-first t (nests answers) (subst (λ l. AreSimpleNests (nests l)) (sym begun.1) (nests-simple rest are))
-        ∙ ap (λ l. Leaf t (nest l)) begun.1,
-  ),
-)
-part-nest (Begin t ∷ answers) rest begun are = absurd begun
-part-nest (Finish t ∷ answers) rest begun are = absurd begun
-part-nest (Note kind place ∷ answers) rest begun are = absurd begun
+part-nest answers rest begun are = grind (arith, leaf-first, nests-simple)
 
 part-headed : (answers rest : List Answer) (p : PartNest answers rest)
     → headed (nest answers) ≡ headless (Leaf p.0 (nest rest))
@@ -277,17 +221,11 @@ starts_of (answer ∷ answers) = starts_of answers
 
 simple-shown : (is_named : ℕ → Bool) (k : TokKind) (number : ℕ) → is_simple k ≡ true
     → shown_token is_named k number ≡ number ∷ []
-simple-shown is_named kind.Identifier number is = refl
-simple-shown is_named kind.Constant number is = refl
-simple-shown is_named kind.Quoted number is = refl
-simple-shown is_named (kind.Code code.Quote) number is = refl
-simple-shown is_named (kind.Sign sign) number is = refl
-simple-shown is_named _ number is = absurd cc
+simple-shown is_named k number is = grind arith
 
 program-shown : (is_named : ℕ → Bool) (k : TokKind) (number : ℕ) → is_program k ≡ true
     → shown_token is_named k number ≡ []
-program-shown is_named (kind.Code code.Program) number is = refl
-program-shown is_named _ number is = absurd cc
+program-shown is_named k number is = grind arith
 
 nest-shown : (is_named : ℕ → Bool) (answers : List Answer) → AreSimpleTokens answers
     → shown_in is_named (nest answers) ≡ starts_of answers
@@ -296,16 +234,8 @@ nest-shown is_named (Token t ∷ answers) are =
     ap (shown_in is_named) (leaf-first t (nests answers) (nests-simple answers are.1))
     ∙ ap (λ l. l ++ shown_in is_named (nest answers)) (simple-shown is_named t.kind t.span.start are.0)
     ∙ ap (λ l. t.span.start ∷ l) (nest-shown is_named answers are.1)
-nest-shown is_named (Begin t ∷ answers) are = absurd are
-nest-shown is_named (Finish t ∷ answers) are = absurd are
-nest-shown is_named (Note kind place ∷ answers) are = absurd are
+nest-shown _ _ are = absurd are
 
 pub part-shown : (is_named : ℕ → Bool) (answers rest : List Answer) → BeginsBefore rest answers → AreSimpleTokens rest
     → shown is_named answers ≡ starts_of rest
-part-shown is_named answers rest begun are =
-    let p = part-nest answers rest begun are in
-    let all : shown is_named answers ≡ shown_token is_named p.0.kind p.0.span.start ++ shown_in is_named (nest rest) =
-    ap (λ h. shown_headed is_named h) (part-headed answers rest p) in
-    all
-    ∙ ap (λ l. l ++ shown_in is_named (nest rest)) (program-shown is_named p.0.kind p.0.span.start p.1.0)
-    ∙ nest-shown is_named rest are
+part-shown is_named answers rest begun are = grind (arith, part-nest, part-headed, program-shown, nest-shown)

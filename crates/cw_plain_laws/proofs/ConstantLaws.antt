@@ -1,13 +1,13 @@
 -- A constant is the same whatever stands behind it that is no letter, digit, dot or mark.
-use Rattle.std.proofs.Common.{◌≡◌, ℕ, suc, ◌+◌, ◌-◌, ◌≤◌, Bool, true, false, ◌&&◌, ◌||◌, not, ◌==◌, nat_lt, List, []}
-use Rattle.std.proofs.Common.{◌∷◌, ◌++◌, length, drop, refl, sym, ap, ◌∙◌, arith, length-drop}
+use Rattle.std.proofs.Common.{◌≡◌, ℕ, ◌+◌, ◌≤◌, Bool, true, false, ◌&&◌, ◌==◌, nat_lt, List, [], ◌∷◌, ◌++◌, length}
+use Rattle.std.proofs.Common.{drop, refl, sym, ap, ◌∙◌, arith, length-drop}
 use Rattle.std.specs.Prelude.{if◌then◌else◌}
 use Rattle.std.proofs.lemmas.Bool.Decides.{nat_tests}
 use Rattle.std.proofs.lemmas.List.{drop-drop}
 use Rattle.cw_rules.specs.declared.classes.Class.{Class}
 use Rattle.cw_rules.specs.declared.classes.Class.TheVariants as classes
 use Rattle.cw_rules.specs.Bytes.{is_in, is_letter, is_letter_of, is_suffix, run, apostrophe, dot, digit_0, begins}
-use Rattle.cw_rules.specs.Bytes.{begins_by, plus, minus}
+use Rattle.cw_rules.specs.Bytes.{begins_by}
 use Rattle.cw_rules.specs.Constants.{binary, constant, decimal, digits, exponent, exponent_sign, fraction, digits_go_on}
 use Rattle.cw_rules.specs.Constants.{hexadecimal, is_prefixed, mantissa, more_digits, number, scaled}
 use Rattle.cw_rules.proofs.Ahead.{drop-same}
@@ -75,73 +75,36 @@ module _ (z : ℕ) (more : List ℕ) (beyond : IsBeyond z) where
 
   begins-same : (class : Class) (bs : List ℕ) → is_in class z ≡ false
       → begins_by (is_in class) (bs ++ z ∷ more) ≡ begins_by (is_in class) bs
-  begins-same class [] h = h
-  begins-same class (b ∷ bs) h = refl
+  begins-same class bs h = grind arith
 
   dot-same : (bs : List ℕ) → begins dot (bs ++ z ∷ more) ≡ begins dot bs
-  dot-same [] = beyond.dotless
-  dot-same (b ∷ bs) = refl
+  dot-same bs = grind arith
 
   stops : (class : Class) → is_in class z ≡ false → digits_go_on class z more ≡ false
-  stops class h = or-false (is_in class z) (z == apostrophe && begins_by (is_in class) more) h
-      (ap (λ t. t && begins_by (is_in class) more) beyond.markless)
+  stops class h = grind (arith, or-false)
 
   more_digits-same : (class : Class) (bs : List ℕ) → is_in class z ≡ false
       → more_digits class (bs ++ z ∷ more) ≡ more_digits class bs
   more_digits-same class [] h = ap (λ t. if t then 1 + more_digits class more else 0) (stops class h)
-  more_digits-same class (b ∷ bs) h =
-      let test = begins-same class bs h in
-      let rest = more_digits-same class bs h in
-      λ i. if is_in class b || (b == apostrophe && test i) then 1 + rest i else 0
+  more_digits-same class (b ∷ bs) h = grind (arith, more_digits-same class bs h, begins-same)
 
   digits-same : (class : Class) (bs : List ℕ) → is_in class z ≡ false → digits class (bs ++ z ∷ more) ≡ digits class bs
-  digits-same class [] h = ap (λ t. if t then more_digits class (z ∷ more) else 0) h
-  digits-same class (b ∷ bs) h = ap (λ n. if is_in class b then n else 0) (more_digits-same class (b ∷ bs) h)
+  digits-same class bs h = grind (arith, more_digits-same)
 
   fraction-same : (class : Class) (behind : Bool) (bs : List ℕ) → is_in class z ≡ false
       → fraction class behind (bs ++ z ∷ more) ≡ fraction class behind bs
-  fraction-same class behind [] h = ap (λ t. if t && (not (begins dot more) && (behind || nat_lt 0 (digits class more)))
-      then 1 + digits class more else 0) beyond.dotless
-  fraction-same class behind (b ∷ bs) h =
-      let follows = dot-same bs in
-      let size = digits-same class bs h in
-      λ i. if b == dot && (not (follows i) && (behind || nat_lt 0 (size i))) then 1 + size i else 0
+  fraction-same class behind bs h = grind (arith, dot-same, digits-same)
 
   sign-le : (bs : List ℕ) → exponent_sign bs ≤ length bs
-  sign-le [] = omega arith
-  sign-le (b ∷ bs) = by (begins plus (b ∷ bs) || begins minus (b ∷ bs))
-    where
-      by : (t : Bool) → (if t then 1 else 0) ≤ suc (length bs)
-      by true = omega arith
-      by false = omega arith
+  sign-le bs = grind arith
 
   exponent-same : (letter : ℕ) (bs : List ℕ) → is_letter_of letter z ≡ false → EndsWell letter bs
       → exponent letter (bs ++ z ∷ more) ≡ exponent letter bs
-  exponent-same letter [] none well =
-      let s = exponent_sign more in
-      ap (λ t. if t && nat_lt 0 (digits classes.Digit (drop (1 + s) (z ∷ more))) then (1 + s)
-      + digits classes.Digit (drop (1 + s) (z ∷ more)) else 0) none
-  exponent-same letter (b ∷ []) none well =
-      let s = exponent_sign (z ∷ more) in
-      ap (λ t. if t && nat_lt 0 (digits classes.Digit (drop (1 + s) (b ∷ z ∷ more))) then (1 + s)
-      + digits classes.Digit (drop (1 + s) (b ∷ z ∷ more)) else 0) well
-      ∙ sym (ap (λ t. if t && nat_lt 0 (digits classes.Digit (drop (1 + 0) (b ∷ []))) then (1 + 0)
-      + digits classes.Digit (drop (1 + 0) (b ∷ [])) else 0) well)
-  exponent-same letter (b ∷ c ∷ bs) none well =
-      let s = exponent_sign (c ∷ bs) in
-      let size : 1 + s ≤ suc (length (c ∷ bs)) = omega (arith, sign-le (c ∷ bs)) in
-      let all = ap (digits classes.Digit) (drop-same (1 + s) (b ∷ c ∷ bs) (z ∷ more) size)
-      ∙ digits-same classes.Digit (drop (1 + s) (b ∷ c ∷ bs)) digit-none in
-      ap (λ n. if is_letter_of letter b && nat_lt 0 n then (1 + s) + n else 0) all
+  exponent-same letter bs none well = grind (arith, sign-le, drop-same, digits-same, digit-none)
 
   mantissa-same : (class : Class) (bs : List ℕ) → is_in class z ≡ false
       → mantissa class (bs ++ z ∷ more) ≡ mantissa class bs
-  mantissa-same class bs h =
-      let n = digits class bs in
-      let d = digits-same class bs h in
-      let rest = ap (fraction class (nat_lt 0 n)) (drop-same n bs (z ∷ more) (digits-le class bs))
-      ∙ fraction-same class (nat_lt 0 n) (drop n bs) h in
-      (λ i. d i + fraction class (nat_lt 0 (d i)) (drop (d i) (bs ++ z ∷ more))) ∙ ap (λ k. n + k) rest
+  mantissa-same class bs h = grind (arith, digits-same, drop-same, digits-le, fraction-same)
 
   scaled-same : (class : Class) (letter : ℕ) (bs : List ℕ) → is_in class z ≡ false → is_letter_of letter z ≡ false
       → EndsWell letter (behind_mantissa class bs) → scaled class letter (bs ++ z ∷ more) ≡ scaled class letter bs
@@ -159,13 +122,8 @@ module _ (z : ℕ) (more : List ℕ) (beyond : IsBeyond z) where
       → (is_prefixed letter class bs ≡ true → f (drop 2 bs ++ z ∷ more) ≡ f (drop 2 bs))
       → (if is_prefixed letter class (bs ++ z ∷ more) then 2 + f (drop 2 (bs ++ z ∷ more)) else 0)
       ≡ (if is_prefixed letter class bs then 2 + f (drop 2 bs) else 0)
-  prefixed-same letter class f [] none h same =
-      ap (λ t. if t && (begins_by (is_letter_of letter) more && begins_by (is_in class) (drop 1 more))
-      then 2 + f (drop 1 more) else 0) (differs (is_in classes.Digit) z digit_0 digit-none refl)
-  prefixed-same letter class f (b ∷ []) none h same =
-      ap (λ t. if b == digit_0 && (t && begins_by (is_in class) more) then 2 + f more else 0) none
-      ∙ ap (λ t. if t then 2 + f more else 0) (and-none (b == digit_0))
-      ∙ sym (ap (λ t. if t then 2 + f [] else 0) (and-none (b == digit_0)))
+  prefixed-same letter class f [] none h same = grind (arith, differs, digit-none)
+  prefixed-same letter class f (b ∷ []) none h same = grind (arith, and-none)
   prefixed-same letter class f (b ∷ c ∷ bs) none h same =
       let first = begins-same class bs h in
       if-same (is_prefixed letter class (b ∷ c ∷ (bs ++ z ∷ more))) (is_prefixed letter class (b ∷ c ∷ bs)) _ _ _ _
@@ -212,11 +170,7 @@ lone-suffix b e = ap (λ t. if t then 1 + 0 else 0) e
 
 -- no exponent is there
 none-more : (m : ℕ) → (if nat_lt 0 m then m + 0 else 0) ≡ m
-none-more m = by (nat_lt 0 m) refl
-  where
-    by : (t : Bool) → nat_lt 0 m ≡ t → (if t then m + 0 else 0) ≡ m
-    by true there = omega arith
-    by false there = sym (none-there m there)
+none-more m = grind (arith, none-there)
 
 lone-scaled : (class : Class) (letter : ℕ) (bs : List ℕ) (b : ℕ) → behind_mantissa class bs ≡ b ∷ []
     → is_letter_of letter b ≡ true → scaled class letter bs ≡ mantissa class bs
@@ -228,24 +182,11 @@ lone-scaled class letter bs b behind e =
 -- a byte behind the number that is no suffix letter
 lone-byte : (bs : List ℕ) (n b : ℕ) → number bs ≡ n → drop n bs ≡ b ∷ [] → is_suffix b ≡ false
     → constant bs ≡ length bs → ⊥
-lone-byte bs n b size behind none whole =
-    let low : constant bs ≡ n =
-    (λ i. if nat_lt 0 (size i) then size i + run classes.Suffix (drop (size i) bs) else 0)
-    ∙ ap (λ k. if nat_lt 0 n then n + k else 0) (ap (run classes.Suffix) behind ∙ lone-suffix b none)
-    ∙ none-more n in
-    let one : length bs - n ≡ 1 = sym (length-drop n bs) ∙ ap length behind in
-    let all : constant bs ≡ length bs = whole in
-    omega arith
+lone-byte bs n b size behind none whole = grind (arith, lone-suffix b none, none-more n, length-drop n bs)
 
 ends-unless : (letter : ℕ) (r : List ℕ) → ((b : ℕ) → r ≡ b ∷ [] → is_letter_of letter b ≡ true → ⊥)
     → EndsWell letter r
-ends-unless letter [] not-lone = tt
-ends-unless letter (b ∷ c ∷ r) not-lone = tt
-ends-unless letter (b ∷ []) not-lone = by (is_letter_of letter b) refl
-  where
-    by : (t : Bool) → is_letter_of letter b ≡ t → is_letter_of letter b ≡ false
-    by false f = f
-    by true f = absurd (not-lone b refl f)
+ends-unless letter r not-lone = grind arith
 
 pub whole-ends : (bs : List ℕ) → constant bs ≡ length bs → NumberEndsWell bs
 whole-ends bs whole = record {

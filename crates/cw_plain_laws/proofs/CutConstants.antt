@@ -399,31 +399,7 @@ abbrev first_or : (List ℕ → ℕ) → (List ℕ → ℕ) → List ℕ → ℕ
 first_or f g bytes = if nat_lt 0 (f bytes) then f bytes else g bytes
 
 first-cut : (f g : List ℕ → ℕ) → CutsOrLoses f → CutsOrLoses g → CutsOrLoses (first_or f g)
-first-cut f g cut other t r h = by (nat_lt 0 (f (t ++ r))) refl
-  where
-    by : (x : Bool) → nat_lt 0 (f (t ++ r)) ≡ x
-        → (first_or f g t ≡ first_or f g (t ++ r)) ⊎ IsLost (first_or f g (t ++ r)) t r
-    by true e =
-        let all : first_or f g (t ++ r) ≡ f (t ++ r) = ap (λ x. if x then f (t ++ r) else g (t ++ r)) e in
-        let most : f (t ++ r) ≤ length t = subst (λ n. n ≤ length t) all h in
-        elim (cut t r most) [
-          | inl same ↦ inl (ap (λ n. if nat_lt 0 n then n else g t) same
-              ∙ ap (λ x. if x then f (t ++ r) else g t) e ∙ sym all)
-          | inr lost ↦ inr (subst (λ n. IsLost n t r) (sym all) lost)
-        ]
-    by false e =
-        let none : f (t ++ r) ≡ 0 = none-there (f (t ++ r)) e in
-        let all : first_or f g (t ++ r) ≡ g (t ++ r) = ap (λ x. if x then f (t ++ r) else g (t ++ r)) e in
-        let most : g (t ++ r) ≤ length t = subst (λ n. n ≤ length t) all h in
-        elim (cut t r (omega arith)) [
-          | inr lost ↦ absurd (let some : 0 < f (t ++ r) = lost.some in omega arith)
-          | inl same ↦
-              let left : first_or f g t ≡ g t = ap (λ n. if nat_lt 0 n then n else g t) (same ∙ none) in
-              elim (other t r most) [
-                | inl rest ↦ inl (left ∙ rest ∙ sym all)
-                | inr lost ↦ inr (subst (λ n. IsLost n t r) (sym all) lost)
-              ]
-        ]
+first-cut f g cut other t r h = grind (arith, none-there)
 
 number-cut : CutsOrLoses number
 number-cut = first-cut hexadecimal (first_or binary decimal) hexadecimal-cut
@@ -457,8 +433,7 @@ constant-cut t r whole = by (number-cut t r (behind-first n more (length t) most
 -- ## Its last byte
 
 drop-none : (n : ℕ) → drop {A = ℕ} n [] ≡ []
-drop-none zero = refl
-drop-none (suc n) = refl
+drop-none n = grind arith
 
 last-drop : (n b : ℕ) (bs : List ℕ) (c : ℕ) (cs : List ℕ) → drop n (b ∷ bs) ≡ c ∷ cs → last_of b bs ≡ last_of c cs
 last-drop zero b bs c cs e = let first : b ≡ c = cc in let rest : bs ≡ cs = cc in λ i. last_of (first i) (rest i)
@@ -562,21 +537,10 @@ scaled-last class letter wordy b bs e =
 prefixed-last : (letter : ℕ) (class : Class) (f : List ℕ → ℕ) → HasSome class f → EndsWordy f
     → EndsWordy (prefixed letter class f)
 prefixed-last letter class f some ends b bs e =
-    let a = tested-some (is_prefixed letter class (b ∷ bs)) (2 + f (drop 2 (b ∷ bs))) (length bs) e in
-    let digit = both-right (is_letter_of_next bs) (begins_by (is_in class) (drop 2 (b ∷ bs)))
-    (both-right (b == digit_0) (is_letter_of_next bs && begins_by (is_in class) (drop 2 (b ∷ bs))) a.0) in
-    let least = some (drop 2 (b ∷ bs)) digit in
-    tail-last f ends 2 b bs (omega (arith, a.1)) a.1 (λ all. absurd (omega (arith, a.1, least)))
-  where
-    is_letter_of_next : List ℕ → Bool
-    is_letter_of_next bs = begins_by (is_letter_of letter) bs
+    grind (arith, tested-some (is_prefixed letter class (b ∷ bs)) (2 + f (drop 2 (b ∷ bs))) (length bs) e)
 
 first-last : (f g : List ℕ → ℕ) → EndsWordy f → EndsWordy g → EndsWordy (first_or f g)
-first-last f g ends other b bs e = by (nat_lt 0 (f (b ∷ bs))) e
-  where
-    by : (t : Bool) → (if t then f (b ∷ bs) else g (b ∷ bs)) ≡ suc (length bs) → is_wordy (last_of b bs) ≡ true
-    by true e = ends b bs e
-    by false e = other b bs e
+first-last f g ends other b bs e = grind (arith, last_of)
 
 number-last : EndsWordy number
 number-last = first-last hexadecimal (first_or binary decimal)

@@ -14,8 +14,7 @@ use Rattle.cw_rules.proofs.BodiesAhead.{ended-here, ended-on, noted-on}
 use Rattle.cw_rules.proofs.Choices.{if-both}
 use Rattle.cw_rules.proofs.Inside.{ended-le}
 use Rattle.cw_rules.specs.Bodies.{all_notes, and_last, at_start, ended, extent, goes_on, is_single, note_here}
-use Rattle.cw_rules.specs.Bodies.{note_unless}
-use Rattle.cw_rules.specs.Bodies.{noted, stepped, takes_next, with_note}
+use Rattle.cw_rules.specs.Bodies.{note_unless, noted, stepped, takes_next, with_note}
 use Rattle.cw_rules.specs.Bytes.{begins_with}
 use Rattle.cw_rules.specs.Signs.{longer, longest, spelling}
 use Rattle.cw_rules.specs.declared.bodies.Body.TheVariants as bodies
@@ -55,8 +54,7 @@ no-single q braces place last false b c bytes e more = by (is_single b (c ∷ by
     by false h e = h
 
 stays-here : (along s : Bool) → (along || not s) ≡ false → along ≡ false
-stays-here true s h = absurd cc
-stays-here false s h = refl
+stays-here along s h = grind arith
 
 pub taken-closed : (q braces place last : ℕ) (along : Bool) (bytes : List ℕ) (k : ℕ)
     → (ended (inside q braces place last along) bytes).place ≡ place + k
@@ -169,7 +167,4 @@ spelling-alone _ h = (refl, h)
 
 pub sign-alone : (all : List Sign) (bytes : List ℕ) (s : Sign) → longest all bytes ≡ Some s → is_hash s ≡ false
     → IsAloneText (kinds.Sign s) (take (length (spelling s)) bytes)
-sign-alone all bytes s e no-hash =
-    subst (IsAloneText (kinds.Sign s))
-    (sym (begins-take (spelling s) bytes (subst (BeginsBy bytes) e (longest-begins all bytes))))
-    (spelling-alone s no-hash)
+sign-alone all bytes s e no-hash = grind (arith, begins-take, longest-begins, spelling-alone)

@@ -1,7 +1,6 @@
 -- Each token of a text is found by its number.
-use Rattle.std.proofs.Common.{◌≡◌, ℕ, zero, suc, ◌+◌, ◌<◌, ◌≤◌, Bool, true, false, ◌==◌, List, [], ◌∷◌, ◌++◌}
-use Rattle.std.proofs.Common.{Some, append-nil, append_assoc, ap, arith, drop, refl, subst, sym, take, ◌∙◌}
-use Rattle.std.proofs.Common.{if◌then◌else◌}
+use Rattle.std.proofs.Common.{◌≡◌, ℕ, zero, suc, ◌+◌, ◌<◌, ◌≤◌, Bool, true, false, ◌==◌, List, [], ◌∷◌, ◌++◌, Some}
+use Rattle.std.proofs.Common.{append-nil, append_assoc, ap, arith, drop, refl, subst, sym, take, ◌∙◌, if◌then◌else◌}
 use Rattle.std.proofs.lemmas.Bool.Decides.{nat_tests}
 use Rattle.cw_lex.specs.Lexing.{answers, beginning, fresh_at, last_at, still_fresh, tokens_of}
 use Rattle.cw_lex.specs.Nest.{Nest, End, Leaf, Group, first_nest, group, leaf, nest, nests}
@@ -22,34 +21,18 @@ RisesFrom from (Note kind place ∷ answers) = RisesFrom from answers
 
 bare-rises : (place from : ℕ) (xs ys : List Answer) → AreBare place xs → RisesFrom from ys → RisesFrom from (xs ++ ys)
 bare-rises place from [] ys bare rises = rises
-bare-rises place from (Token t ∷ xs) ys bare rises = absurd bare
-bare-rises place from (Begin t ∷ xs) ys bare rises = absurd bare
 bare-rises place from (Finish t ∷ xs) ys bare rises = bare-rises place from xs ys bare.3 rises
 bare-rises place from (Note kind about ∷ xs) ys bare rises = bare-rises place from xs ys bare rises
+bare-rises _ _ _ _ bare _ = absurd bare
 
 notes-rise : (from : ℕ) (xs ys : List Answer) → AreNotes xs → RisesFrom from ys → RisesFrom from (xs ++ ys)
 notes-rise from [] ys notes rises = rises
-notes-rise from (Token t ∷ xs) ys notes rises = absurd notes
-notes-rise from (Begin t ∷ xs) ys notes rises = absurd notes
-notes-rise from (Finish t ∷ xs) ys notes rises = absurd notes
 notes-rise from (Note kind about ∷ xs) ys notes rises = notes-rise from xs ys notes rises
+notes-rise _ _ _ notes _ = absurd notes
 
 whole-rises : (place more from : ℕ) (bytes : List ℕ) (xs ys : List Answer) → TakesAll place bytes more xs
     → from ≤ place → ((low : ℕ) → low ≤ (place + 1) + more → RisesFrom low ys) → RisesFrom from (xs ++ ys)
-whole-rises place more from bytes [] ys takes low rest = rest from (omega arith)
-whole-rises place more from bytes (Token t ∷ xs) ys takes low rest = (
-  omega (arith, takes.0.from),
-  omega (arith, takes.0.from, takes.0.to),
-  notes-rise t.span.end xs ys takes.1 (rest t.span.end (omega (arith, takes.0.to))),
-)
-whole-rises place more from bytes (Begin t ∷ xs) ys takes low rest = (
-  omega (arith, takes.0.from),
-  omega (arith, takes.0.from, takes.0.to),
-  notes-rise t.span.end xs ys takes.1 (rest t.span.end (omega (arith, takes.0.to))),
-)
-whole-rises place more from bytes (Finish t ∷ xs) ys takes low rest =
-    notes-rise from xs ys takes.1 (rest from (omega arith))
-whole-rises place more from bytes (Note kind about ∷ xs) ys takes low rest = absurd takes
+whole-rises place more from bytes xs ys takes low rest = grind (arith, notes-rise)
 
 answers-rise : (bytes : List ℕ) (w : Where) (fresh : Bool) (last place taken from : ℕ) → from ≤ place + taken
     → RisesFrom from (answers bytes w fresh last place taken)
@@ -138,13 +121,10 @@ AllNests P [] = Unit {0}
 AllNests P (n ∷ ns) = AllOf P n × AllNests P ns
 
 leaf-all : (P : Seen → Type 0) (t : Seen) (ns : List Nest) → P t → AllNests P ns → AllNests P (leaf t ns)
-leaf-all P t [] is all = tt
-leaf-all P t (n ∷ ns) is all = ((is, all.0), all.1)
+leaf-all P t ns is all = grind arith
 
 group-all : (P : Seen → Type 0) (t : Seen) (ns : List Nest) → P t → AllNests P ns → AllNests P (group t ns)
-group-all P t [] is all = tt
-group-all P t (n ∷ []) is all = ((is, all.0, tt), tt)
-group-all P t (n ∷ m ∷ ns) is all = ((is, all.0, all.1.0), all.1.1)
+group-all P t ns is all = grind arith
 
 nests-all : (P : Seen → Type 0) (answers : List Answer) → AllTokens P answers → AllNests P (nests answers)
 nests-all P [] all = (tt, tt)
@@ -154,8 +134,7 @@ nests-all P (Finish t ∷ answers) all = (tt, nests-all P answers all)
 nests-all P (Note kind place ∷ answers) all = nests-all P answers all
 
 first-all : (P : Seen → Type 0) (ns : List Nest) → AllNests P ns → AllOf P (first_nest ns)
-first-all P [] all = tt
-first-all P (n ∷ ns) all = all.0
+first-all P ns all = grind arith
 
 pub nest-all : (P : Seen → Type 0) (answers : List Answer) → AllTokens P answers → AllOf P (nest answers)
 nest-all P answers all = first-all P (nests answers) (nests-all P answers all)

@@ -1,25 +1,21 @@
 -- What holds of the trees of scraps holds of the tree that these are reduced to, where joining and reserving keep it.
-use Rattle.std.proofs.Common.{◌≡◌, ℕ, zero, suc, List, [], ◌∷◌, ◌++◌, get_or, length, map, take, drop, inl, inr, refl}
-use Rattle.std.proofs.Common.{sym}
-use Rattle.std.proofs.Common.{subst}
+use Rattle.std.proofs.Common.{◌≡◌, ℕ, zero, suc, List, [], ◌∷◌, ◌++◌, get_or, map, take, drop, refl, sym, subst, arith}
 use Rattle.std.specs.List.{All}
 use Rattle.std.proofs.lemmas.Bool.{cases_lt}
 use Rattle.std.proofs.lemmas.List.{get_or_past}
 use Rattle.std.proofs.lemmas.List.Elements.{All-head, All-map, All-tail}
 use Rattle.cw_base.specs.declared.flags.Flags.{Flags}
 use Rattle.cw_base.specs.declared.mode.MathMode.{MathMode}
-use Rattle.cw_base.specs.declared.mode.MathMode.TheVariants.{Text, Math, Maybe}
+use Rattle.cw_base.specs.declared.mode.MathMode.TheVariants.{Maybe}
 use Rattle.cw_scraps.proofs.Keeping.{keeps-all}
 use Rattle.cw_table.proofs.Normals.{steps-none, steps-turn}
 use Rattle.cw_table.specs.Normal.{Place, Nowhere, At, next_place, normal, steps, weight}
 use Rattle.cw_table.specs.Productions.{productions}
 use Rattle.cw_table.specs.Rewriting.{State, joined_of, math_piece, rewrite, rewrite_from}
 use Rattle.cw_table.specs.declared.types.Piece.{Piece}
-use Rattle.cw_table.specs.declared.types.Piece.TheVariants as piece
 use Rattle.cw_table.specs.declared.types.Row.{Row}
 use Rattle.cw_trees.specs.Joining.{Scrap, no_scrap, Joined, Whole, Mark, after, blank_and_whole, dollar_before}
-use Rattle.cw_trees.specs.Joining.{scrap_in_text}
-use Rattle.cw_trees.specs.Joining.{joined_tree, needs, toggled, whole}
+use Rattle.cw_trees.specs.Joining.{scrap_in_text, joined_tree, needs, toggled, whole}
 use Rattle.cw_trees.specs.Tree.{Tree, Empty, Then, Sub, Sign, reserve_first}
 use Rattle.cw_trees.specs.declared.Control.{Control}
 use Rattle.cw_trees.specs.declared.Control.TheVariants as control
@@ -38,13 +34,7 @@ module _ (T : Tree → Type 0) (empty : T Empty) (subs : (a b : Tree) → T a �
   -- ## Joining
 
   toggled-kept : (m l : MathMode) (t : Tree) → T t → T (toggled m l t)
-  toggled-kept Math Text t h = signs control.ToText t tt h
-  toggled-kept Text Math t h = signs control.ToMath t tt h
-  toggled-kept Math Math t h = h
-  toggled-kept Math Maybe t h = h
-  toggled-kept Text Text t h = h
-  toggled-kept Text Maybe t h = h
-  toggled-kept Maybe l t h = h
+  toggled-kept m l t h = grind arith
 
   joined-kept : (m : MathMode) (js : List Joined) → All (OfPiece T) js → T (joined_tree m js)
   joined-kept m [] all = empty
@@ -60,23 +50,13 @@ module _ (T : Tree → Type 0) (empty : T Empty) (subs : (a b : Tree) → T a �
       (signs c (joined_tree (after m (needs c) (needs c)) js) (All-head (OfPiece T) (Mark c) js all) rest)
 
   math-kept : (tree : Tree) (l r : MathMode) → T tree → OfPiece T (math_piece tree l r)
-  math-kept tree Maybe Maybe h = h
-  math-kept tree Maybe Text h = h
-  math-kept tree Maybe Math h = h
-  math-kept tree Text r h = h
-  math-kept tree Math r h = h
+  math-kept tree l r h = grind arith
 
   at-kept : (scraps : List Scrap) (k : ℕ) → All (OfScrap T) scraps → OfScrap T (get_or scraps k no_scrap)
-  at-kept scraps k all = elim (cases_lt k (length scraps)) [
-    | inl h ↦ all k no_scrap h
-    | inr h ↦ subst (OfScrap T) (sym (get_or_past scraps k no_scrap h)) empty
-  ]
+  at-kept scraps k all = grind (arith, cases_lt, get_or_past)
 
   piece-kept : (scraps : List Scrap) (p : Piece) → All (OfScrap T) scraps → OfPiece T (joined_of scraps p)
-  piece-kept scraps (piece.Scrap k) all = at-kept scraps k all
-  piece-kept scraps (piece.MathScrap k) all = math-kept (get_or scraps k no_scrap).tree
-      (get_or scraps k no_scrap).left (get_or scraps k no_scrap).right (at-kept scraps k all)
-  piece-kept scraps _ all = tt
+  piece-kept scraps p all = grind (arith, at-kept, math-kept)
 
   -- ## Productions
 
@@ -107,13 +87,10 @@ module _ (T : Tree → Type 0) (empty : T Empty) (subs : (a b : Tree) → T a �
   -- ## What no production joins
 
   dollar-kept : (m : MathMode) (t : Tree) → T t → T (dollar_before m t)
-  dollar-kept Math t h = signs control.Dollar t tt h
-  dollar-kept Text t h = h
-  dollar-kept Maybe t h = h
+  dollar-kept m t h = grind arith
 
   in_text-kept : (s : Scrap) (rest : Tree) → T s.tree → T rest → T (scrap_in_text s rest)
-  in_text-kept s rest h r = dollar-kept s.left (Sub s.tree (dollar_before s.right rest))
-      (subs s.tree (dollar_before s.right rest) h (dollar-kept s.right rest r))
+  in_text-kept s rest h r = grind (arith, dollar-kept)
 
   blank-kept : (scraps : List Scrap) → All (OfScrap T) scraps → T (blank_and_whole scraps)
   blank-kept [] all = empty
@@ -128,5 +105,4 @@ module _ (T : Tree → Type 0) (empty : T Empty) (subs : (a b : Tree) → T a �
 
   pub end-kept : (flags : Flags) (state : State) → All (OfScrap T) state.scraps
       → T (whole (normal productions flags state).scraps)
-  end-kept flags state all = whole-kept (normal productions flags state).scraps
-      (normal-kept productions flags state all)
+  end-kept flags state all = grind (arith, whole-kept, normal-kept)

@@ -1,5 +1,5 @@
 -- The leaves of tokens, of comments and of section names have the bytes of their tokens.
-use Rattle.std.proofs.Common.{◌≡◌, ℕ, Bool, true, false, List, [], ◌∷◌, ◌++◌, Option, Some, None, refl, sym, ap, subst}
+use Rattle.std.proofs.Common.{arith, ◌≡◌, ℕ, Bool, true, false, List, [], ◌∷◌, ◌++◌, Option, Some, None, refl, sym, ap}
 use Rattle.std.proofs.Common.{◌∙◌, if◌then◌else◌}
 use Rattle.std.specs.List.{All}
 use Rattle.std.specs.Prelude.{codes}
@@ -13,9 +13,8 @@ use Rattle.cw_base.specs.declared.mode.MathMode.TheVariants.{Text, Maybe}
 use Rattle.cw_lex.specs.Nest.{IsGroupOf}
 use Rattle.cw_names.specs.declared.NameId.{NameId}
 use Rattle.cw_names.specs.Names.{Entry}
-use Rattle.cw_plain.specs.Pieces.{Piece, Word, Part, Ending, Opening, Closing, Move, Nothing, Placed, Source, Stand}
-use Rattle.cw_plain.specs.Pieces.{before, found_placed, in_name, number_placed, outside, pieces_from, placed}
-use Rattle.cw_plain.specs.Pieces.{token_placed}
+use Rattle.cw_plain.specs.Pieces.{Piece, Word, Placed, Source, Stand, before, in_name, number_placed, outside}
+use Rattle.cw_plain.specs.Pieces.{pieces_from, placed, token_placed}
 use Rattle.cw_plain_laws.proofs.FoundTokens.{IsFound}
 use Rattle.cw_plain_laws.proofs.WalkLaws.{inner-passed, sign-walks}
 use Rattle.cw_plain_laws.proofs.Walks.{Walks, among, owners}
@@ -29,8 +28,7 @@ use Rattle.cw_scraps.specs.Leaves.{LeafForm, code_form, sign_mode, token_form, w
 use Rattle.cw_tokens.specs.Shapes.{tree_in}
 use Rattle.cw_tokens.specs.declared.token.Token.{Token}
 use Rattle.cw_translator.specs.Translating.{CommentItem, Piece as TextPiece, InnerText, Known, comment_rest}
-use Rattle.cw_translator.specs.Translating.{comment_tree}
-use Rattle.cw_translator.specs.Translating.{plain_text, texts_made}
+use Rattle.cw_translator.specs.Translating.{comment_tree, plain_text, texts_made}
 use Rattle.cw_trees.specs.Flat.{Item, SignItem, Close, continues_name, flat, struck}
 use Rattle.cw_trees.specs.Tree.{Source as SourceLeaf, Ident, Reserved, Sign, Tree, Then}
 use Rattle.cw_trees.specs.declared.Control.TheVariants as control
@@ -55,42 +53,21 @@ stays k = true
 
 token-owns : (number : ℕ) (title : Option (List ℕ)) (k : TokKind) (text : List ℕ) → stays k ≡ true
     → OwnsBy (token_placed number title k text) number
-token-owns number title kind.LongComment text e = absurd cc
-token-owns number title kind.ShortComment text e = absurd cc
-token-owns number title kind.Text text e = (refl, λ stand. refl)
-token-owns number title kind.HeadSign text e = (refl, λ stand. refl)
-token-owns number title (kind.Code code.SectionName) text e = absurd cc
-token-owns number title (kind.Code code.FileName) text e = absurd cc
-token-owns number title (kind.Code c) text e = (refl, λ stand. refl)
-token-owns number title _ text e = (refl, λ stand. refl)
+token-owns number title k text e = grind arith
 
 pub found-owns : (s : Source) (t : Seen) → IsFound s.answers t → stays t.kind ≡ true → Owns s t.span.start
-found-owns s t found e =
-    let n = t.span.start in
-    subst (λ (o : Option Seen). OwnsBy (found_placed n (s.titles n) o) n) (sym found)
-    (token-owns n (s.titles n) t.kind t.text e)
+found-owns s t found e = grind (arith, token-owns)
 
 owners-first : (p : Piece) (ps : List Piece) → owners (p ∷ ps) ≡ owners (p ∷ []) ++ owners ps
-owners-first (Word number bytes) ps = refl
-owners-first (Part number bytes) ps = refl
-owners-first (Ending bytes) ps = refl
-owners-first Opening ps = refl
-owners-first Closing ps = refl
-owners-first (Move c) ps = refl
-owners-first Nothing ps = refl
+owners-first p ps = grind arith
 
 owns-first : (s : Source) (number : ℕ) → Owns s number → (stand : Stand) (rest : Stand → List Piece)
     → owners (before (number_placed s number stand) rest) ≡ number ∷ owners (rest stand)
-owns-first s number owns stand rest =
-    ap (λ p. owners (before p rest)) (owns.1 stand)
-    ∙ owners-first (number_placed s number outside).piece (rest stand)
-    ∙ ap (λ l. l ++ owners (rest stand)) owns.0
+owns-first s number owns stand rest = grind (arith, owners, owners-first)
 
 pub source-walks : (s : Source) (number : ℕ) (mode : MathMode) (t : Tree) → Owns s number → Walks s t
     → Walks s (Then (SourceLeaf number mode) t)
-source-walks s number mode t owns walks comments rest =
-    owns-first s number owns (among comments) (pieces_from s (flat t ++ rest))
-    ∙ ap (λ l. number ∷ l) (walks comments rest)
+source-walks s number mode t owns walks comments rest = grind (arith, owns-first, among)
 
 ident-walks : (s : Source) (name number : ℕ) (t : Tree) → Owns s number → Walks s t
     → Walks s (Then (Ident name number) t)
@@ -100,9 +77,7 @@ ident-walks s name number t owns walks comments rest =
 
 reserved-walks : (s : Source) (name number : ℕ) (c : Cat) (t : Tree) → Owns s number → Walks s t
     → Walks s (Then (Reserved name number c) t)
-reserved-walks s name number c t owns walks comments rest =
-    owns-first s number owns (among comments) (pieces_from s (flat t ++ rest))
-    ∙ ap (λ l. number ∷ l) (walks comments rest)
+reserved-walks s name number c t owns walks comments rest = grind (arith, owns-first, among)
 
 -- ## Tokens
 
@@ -119,30 +94,7 @@ word-walks s Exp name n owns rest walks = ident-walks s name.index n (tree_in []
 word-walks s c name n owns rest walks = reserved-walks s name.index n c (tree_in [] rest) owns walks
 
 code-walks : (s : Source) (c : Code) (n : ℕ) → (stays (kind.Code c) ≡ true → Owns s n) → FormWalks s (code_form c n)
-code-walks s code.TexBox n owns = λ rest walks. source-walks s n Maybe (tree_in [] rest) (owns refl) walks
-code-walks s code.Verbatim n owns = λ rest walks. source-walks s n Maybe (tree_in [] rest) (owns refl) walks
-code-walks s code.Quote n owns = λ rest walks. source-walks s n Maybe (tree_in [] rest) (owns refl) walks
-code-walks s code.Join n owns = λ rest walks. source-walks s n Maybe (tree_in [] rest) (owns refl) walks
-code-walks s code.ThinSpace n owns = λ rest walks. sign-walks s control.ThinSpace (tree_in [] rest) tt walks
-code-walks s code.LineBreak n owns = λ rest walks. sign-walks s control.Break (tree_in [] rest) tt walks
-code-walks s code.BigBreak n owns = λ rest walks. sign-walks s control.BigBreak (tree_in [] rest) tt walks
-code-walks s code.OptionalBreak n owns = λ rest walks.
-    sign-walks s control.OptionalLineBreak0 (tree_in [] rest) tt walks
-code-walks s code.NoBreak n owns = λ rest walks.
-    let last = sign-walks s control.Cancel (tree_in [] rest) tt walks in
-    let wall = sign-walks s control.Wall (Then (Sign control.Cancel) (tree_in [] rest)) tt last in
-    let behind : Tree = Then (Sign control.Wall) (Then (Sign control.Cancel) (tree_in [] rest)) in
-    let break = sign-walks s control.OptionalBreak behind tt wall in
-    sign-walks s control.Cancel (Then (Sign control.Wall) (Then (Sign control.OptionalBreak) behind)) tt
-    (sign-walks s control.Wall (Then (Sign control.OptionalBreak) behind) tt break)
-code-walks s code.HeaderFile n owns = λ rest walks.
-    let behind : Tree = Then (Sign control.Break) (tree_in [] rest) in
-    sign-walks s control.Break (Then (SourceLeaf n Text) behind) tt
-    (source-walks s n Text behind (owns refl) (sign-walks s control.Break (tree_in [] rest) tt walks))
-code-walks s code.InvisibleSemicolon n owns = λ rest walks. walks
-code-walks s code.BeginArgument n owns = λ rest walks. walks
-code-walks s code.EndArgument n owns = λ rest walks. walks
-code-walks s _ n owns = tt
+code-walks s c n owns = grind (arith, source-walks, sign-walks)
 
 pub form-walks : (s : Source) (k : TokKind) (text : List ℕ) (hash_line : Bool) (n : ℕ) (names : List Entry)
     → (stays k ≡ true → Owns s n) → FormWalks s (token_form k text hash_line n names)
@@ -211,19 +163,11 @@ BeginsComment k f number = (comments : List Bool) → f (among comments)
 
 token-begins : (number : ℕ) (title : Option (List ℕ)) (k : TokKind) (text : List ℕ) → IsGroupOf false k
     → BeginsComment k (token_placed number title k text) number
-token-begins number title kind.LongComment text is comments = refl
-token-begins number title kind.ShortComment text is comments = refl
-token-begins number title _ text is comments = absurd is
+token-begins number title k text is comments = grind arith
 
 pub comment-walks : (s : Source) (t : Seen) (items : List CommentItem) → IsFound s.answers t → IsGroupOf false t.kind
     → All (ItemWalks s) items → Walks s (comment_tree t.span.start items)
-comment-walks s t items found is all comments rest =
-    let n = t.span.start in
-    let begins : BeginsComment t.kind (number_placed s n) n =
-    subst (λ (o : Option Seen). BeginsComment t.kind (found_placed n (s.titles n) o) n) (sym found)
-    (token-begins n (s.titles n) t.kind t.text is) in
-    ap (λ p. owners (before p (pieces_from s (flat (comment_rest items) ++ rest)))) (begins comments)
-    ∙ ap (λ l. n ∷ l) (rest-walks s items all (is_long t.kind) comments rest)
+comment-walks s t items found is all comments rest = grind (arith, token-begins, owners, rest-walks)
 
 -- ## Section names
 
@@ -238,17 +182,11 @@ TitledBy f number title = (comments : List Bool) → f (among comments)
 
 token-titled : (number : ℕ) (title : List ℕ) (k : TokKind) (text : List ℕ) → is_name k ≡ true
     → TitledBy (token_placed number (Some title) k text) number title
-token-titled number title (kind.Code code.SectionName) text is comments = refl
-token-titled number title (kind.Code code.FileName) text is comments = refl
-token-titled number title _ text is comments = absurd cc
+token-titled number title k text is comments = grind arith
 
 name-titled : (s : Source) (t : Seen) (title : List ℕ) → IsFound s.answers t → is_name t.kind ≡ true
     → s.titles t.span.start ≡ Some title → TitledBy (number_placed s t.span.start) t.span.start title
-name-titled s t title found is e =
-    let n = t.span.start in
-    subst (λ (o : Option Seen). TitledBy (found_placed n (s.titles n) o) n title) (sym found)
-    (subst (λ (o : Option (List ℕ)). TitledBy (token_placed n o t.kind t.text) n title) (sym e)
-    (token-titled n title t.kind t.text is))
+name-titled s t title found is e = grind (arith, token-titled)
 
 name-passed : (s : Source) (flags : Flags) (parts : List (List Answer)) (behind : Tree) (known : Known)
     (comments : List Bool) (rest : List Item)
@@ -269,11 +207,4 @@ pub name-walks : (s : Source) (flags : Flags) (t : Seen) (title : List ℕ) (par
     → Walks s (Then (SourceLeaf t.span.start Maybe)
     (texts_made flags parts (Then (Sign control.NameEnd) behind) known).tree)
 name-walks s flags t title parts behind known found is titled walks comments rest =
-    let n = t.span.start in
-    let whole = texts_made flags parts (Then (Sign control.NameEnd) behind) known in
-    ap (λ p. owners (before p (pieces_from s (flat whole.tree ++ rest))))
-    (name-titled s t title found is titled comments)
-    ∙ ap (λ l. n ∷ owners l) (name-passed s flags parts behind known comments rest)
-    ∙ ap (λ l. n ∷ l) (walks comments rest)
-    ∙ ap (λ l. n ∷ (l ++ owners (pieces_from s rest (among comments))))
-    (sym (struck-parts flags parts (Then (Sign control.NameEnd) behind) known))
+    grind (arith, owners, name-titled, name-passed, among, struck-parts)

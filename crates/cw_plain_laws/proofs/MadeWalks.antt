@@ -1,10 +1,10 @@
 -- What is made of the tokens of a text has the bytes of its tokens, and so has its whole translation.
-use Rattle.std.proofs.Common.{◌≡◌, ℕ, Bool, true, false, not, is_some, Option, Some, None, List, [], ◌∷◌, ◌++◌, refl}
-use Rattle.std.proofs.Common.{sym, if◌then◌else◌}
-use Rattle.std.proofs.Common.{ap, subst, ◌∙◌}
+use Rattle.std.proofs.Common.{arith, ◌≡◌, ℕ, Bool, true, false, not, is_some, Option, Some, None, List, [], ◌∷◌, ◌++◌}
+use Rattle.std.proofs.Common.{refl, if◌then◌else◌, ap, subst, ◌∙◌}
 use Rattle.std.specs.List.{All, list_all}
 use Rattle.std.proofs.lemmas.List.{append-nil, append_assoc}
-use Rattle.std.proofs.lemmas.List.Elements.{All-append, All-cons, All-nil}
+use Rattle.std.proofs.lemmas.List.Elements.{All-append, All-nil}
+use Rattle.std.proofs.lemmas.Grind.{common_steps}
 use Rattle.cw_base.proofs.TestLaws.{both-left, both-right}
 use Rattle.cw_base.specs.declared.category.Cat.{Cat}
 use Rattle.cw_base.specs.declared.category.Cat.TheVariants.{Exp}
@@ -15,15 +15,13 @@ use Rattle.cw_lex.specs.Heads.{Head, Headless, Macro, Format, Silent, Named, Hea
 use Rattle.cw_lex.specs.Heads.{head_behind, head_words, named_headed, no_word, word_before}
 use Rattle.cw_lex.specs.Nest.{Nest, End, Leaf, Group, IsGroupOf, IsWell}
 use Rattle.cw_lex.specs.declared.heads.Wanted.{Wanted}
-use Rattle.cw_lex.specs.declared.heads.Wanted.TheVariants as wants
 use Rattle.cw_names.specs.declared.NameId.{NameId}
 use Rattle.cw_names.specs.Names.{Entry}
 use Rattle.cw_plain.specs.Pieces.{Source}
 use Rattle.cw_plain_laws.proofs.FoundTokens.{AllOf, IsFound}
 use Rattle.cw_plain_laws.proofs.KeptTrees.{OfScrap, end-kept}
 use Rattle.cw_plain_laws.proofs.LeafWalks.{FormWalks, ItemWalks, Owns, TokensWalk, comment-walks, form-walks}
-use Rattle.cw_plain_laws.proofs.LeafWalks.{found-owns}
-use Rattle.cw_plain_laws.proofs.LeafWalks.{is_name, name-walks, source-walks, stays, word-walks}
+use Rattle.cw_plain_laws.proofs.LeafWalks.{found-owns, is_name, name-walks, source-walks, stays, word-walks}
 use Rattle.cw_plain_laws.proofs.WalkLaws.{empty-walks, reserve-walks, sign-walks, sub-walks}
 use Rattle.cw_plain_laws.proofs.Walks.{Walks}
 use Rattle.cw_reduce.proofs.HeadAnswers.{first-all, head-words-fit, later-all, word_kind}
@@ -37,12 +35,11 @@ use Rattle.cw_scraps.specs.Words.{is_word}
 use Rattle.cw_tokens.specs.Shapes.{tree_in}
 use Rattle.cw_tokens.specs.declared.token.Token.{Token}
 use Rattle.cw_tokens.specs.declared.token.Token.TheVariants as token
-use Rattle.cw_translator.specs.Translating.{CommentItem, Piece, InnerText, Known, Made, NameTexts, beside}
-use Rattle.cw_translator.specs.Translating.{dead, dollared, end_of, first_word, form_made, form_tokens}
-use Rattle.cw_translator.specs.Translating.{group_made, head_made, headed_made, later_words, leaf_of_name, leaf_scrap}
-use Rattle.cw_translator.specs.Translating.{is_macro, made, name_in_text, names_in_text}
-use Rattle.cw_translator.specs.Translating.{one_item, one_scrap, sign_behind, spelled, state_in, texts_named}
-use Rattle.cw_translator.specs.Translating.{token_made, with_names, word_tokens}
+use Rattle.cw_translator.specs.Translating.{CommentItem, Piece, Known, Made, NameTexts, beside, dead, dollared, end_of}
+use Rattle.cw_translator.specs.Translating.{first_word, form_made, form_tokens, group_made, head_made, headed_made}
+use Rattle.cw_translator.specs.Translating.{later_words, leaf_of_name, leaf_scrap, is_macro, made, name_in_text}
+use Rattle.cw_translator.specs.Translating.{names_in_text, one_item, one_scrap, sign_behind, spelled, state_in}
+use Rattle.cw_translator.specs.Translating.{texts_named, token_made, with_names, word_tokens}
 use Rattle.cw_trees.specs.Joining.{Scrap}
 use Rattle.cw_trees.specs.Tree.{Tree, Empty, Then, Sign, Source as SourceLeaf}
 use Rattle.cw_trees.specs.declared.Control.TheVariants as control
@@ -57,16 +54,10 @@ made-none : (s : Source) (known : Known) → MadeWalks s (record { scraps = []; 
 made-none s known = record { scraps = All-nil (OfScrap (Walks s)); items = All-nil (ItemWalks s) }
 
 made-scrap : (s : Source) (scrap : Scrap) (known : Known) → Walks s scrap.tree → MadeWalks s (one_scrap scrap known)
-made-scrap s scrap known walks = record {
-  scraps = All-cons (OfScrap (Walks s)) scrap [] walks (All-nil (OfScrap (Walks s)));
-  items = All-nil (ItemWalks s);
-}
+made-scrap s scrap known walks = grind arith
 
 made-item : (s : Source) (item : CommentItem) (known : Known) → ItemWalks s item → MadeWalks s (one_item item known)
-made-item s item known walks = record {
-  scraps = All-nil (OfScrap (Walks s));
-  items = All-cons (ItemWalks s) item [] walks (All-nil (ItemWalks s));
-}
+made-item s item known walks = grind arith
 
 made-beside : (s : Source) (a b : Made) → MadeWalks s a → MadeWalks s b → MadeWalks s (beside a b)
 made-beside s a b f g = record {
@@ -89,8 +80,7 @@ whole-tokens : (s : Source) (tokens : List Token) → TokensWalk s tokens → Wa
 whole-tokens s tokens walks = subst (λ ts. Walks s (tree_in [] ts)) (append-nil tokens) (walks [] (empty-walks s))
 
 form-made : (s : Source) (o : Option LeafForm) (known : Known) → FormWalks s o → MadeWalks s (form_made o known)
-form-made s None known walks = made-none s known
-form-made s (Some form) known walks = made-scrap s (leaf_scrap form) known (whole-tokens s form.tokens walks)
+form-made s o known walks = grind (arith, made-none, made-scrap, whole-tokens)
 
 token-made : (s : Source) (name : ℕ → Known → Made) → NamesWalk s name → (k : TokKind) (t : Seen) (known : Known)
     → t.kind ≡ k → IsFound s.answers t → MadeWalks s (token_made name k t known)
@@ -105,13 +95,7 @@ token-made s name names k t known e found =
 
 group-made : (s : Source) (flags : Flags) (comment : Bool) (k : TokKind) (t : Seen) (m : Made) → t.kind ≡ k
     → IsFound s.answers t → IsGroupOf comment k → MadeWalks s m → MadeWalks s (group_made flags k t m)
-group-made s flags true kind.InnerText t m e found is walks =
-    made-item s (InnerText (end_of flags m).tree) (end_of flags m).known (made-end s flags m walks)
-group-made s flags false kind.LongComment t m e found is walks =
-    made-scrap s _ m.known (comment-walks s t m.items found (subst (IsGroupOf false) (sym e) tt) walks.items)
-group-made s flags false kind.ShortComment t m e found is walks =
-    made-scrap s _ m.known (comment-walks s t m.items found (subst (IsGroupOf false) (sym e) tt) walks.items)
-group-made s flags comment k t m e found is walks = absurd is
+group-made s flags comment k t m e found is walks = grind (arith, made-item, made-end, made-scrap, comment-walks)
 
 nest-made : (s : Source) (flags : Flags) (name : ℕ → Known → Made) → NamesWalk s name → (n : Nest) (comment : Bool)
     (known : Known) → IsWell comment n → AllOf (IsFound s.answers) n → MadeWalks s (made flags name n known)
@@ -134,11 +118,8 @@ named-made : (s : Source) (flags : Flags) (o : Option (List (List Answer))) (tit
     (mode : MathMode) (behind : Tree) (t : Seen) (known : Known) → IsFound s.answers t → is_name t.kind ≡ true
     → s.titles t.span.start ≡ title → is_some title ≡ is_some o → Walks s behind
     → MadeWalks s (texts_named flags o c mode behind t.span.start known)
-named-made s flags None title c mode behind t known found is at titled walks = made-none s known
-named-made s flags (Some parts) None c mode behind t known found is at titled walks =
-    absurd (let e : false ≡ true = titled in cc)
-named-made s flags (Some parts) (Some text) c mode behind t known found is at titled walks =
-    made-scrap s _ _ (name-walks s flags t text parts behind known found is at walks)
+named-made s flags o title c mode behind t known found is at titled walks =
+    grind (arith, made-none, made-scrap, name-walks)
 
 -- each section name that stands for something has a title, and another has none
 abbrev pub AreTitled : Source → NameTexts → Type 0
@@ -198,53 +179,25 @@ headless-found : (s : Source) (n : Nest) → AllOf (IsFound s.answers) n → Hea
 headless-found s n all = record { head = tt; rest = all }
 
 sign-stays : (k : TokKind) → is_head_sign k ≡ true → stays k ≡ true
-sign-stays kind.HeadSign e = refl
-sign-stays _ e = absurd cc
+sign-stays k e = grind arith
 
 named-found-if : (s : Source) (b : Bool) (t u : Seen) (rest : Nest) → is_name t.kind ≡ true
     → is_head_sign u.kind ≡ b → AllOf (IsFound s.answers) (Leaf t (Leaf u rest))
     → HeadedFound s (if b then record { head = Named t.span.start u.span.start; rest = rest }
     else headless (Leaf t (Leaf u rest)))
-named-found-if s true t u rest is sign all = record {
-  head = ((t, (refl, (all.0, is))), (u, (refl, (all.1.0, sign-stays u.kind sign))));
-  rest = all.1.1;
-}
-named-found-if s false t u rest is sign all = headless-found s (Leaf t (Leaf u rest)) all
+named-found-if s b t u rest is sign all = grind (arith, sign-stays, headless-found)
 
 named-found : (s : Source) (t : Seen) (rest : Nest) → is_name t.kind ≡ true → AllOf (IsFound s.answers) (Leaf t rest)
     → HeadedFound s (named_headed t rest)
-named-found s t End is all = headless-found s (Leaf t End) all
-named-found s t (Group u inner more) is all = headless-found s (Leaf t (Group u inner more)) all
-named-found s t (Leaf u rest) is all = named-found-if s (is_head_sign u.kind) t u rest is refl all
+named-found s t rest is all = grind (arith, headless-found, named-found-if)
 
 head-found-by : (s : Source) (k : TokKind) (t : Seen) (rest : Nest) → t.kind ≡ k
     → AllOf (IsFound s.answers) (Leaf t rest) → HeadedFound s (headed_by k t rest)
-head-found-by s (kind.Code code.Define) t rest e all =
-    let w = head-words-are (IsFound s.answers) wants.Macro rest all.1 in
-    record {
-      head = ((t, (refl, (all.0, ap stays e))), record { fit = head-words-fit wants.Macro rest; each = w.words });
-      rest = w.rest;
-    }
-head-found-by s (kind.Code code.Format) t rest e all =
-    let w = head-words-are (IsFound s.answers) (wants.First false) rest all.1 in
-    record {
-      head = (
-        (t, (refl, (all.0, ap stays e))),
-        record { fit = head-words-fit (wants.First false) rest; each = w.words },
-      );
-      rest = w.rest;
-    }
-head-found-by s (kind.Code code.SilentFormat) t rest e all =
-    let w = head-words-are (IsFound s.answers) (wants.First true) rest all.1 in
-    record { head = tt; rest = w.rest }
-head-found-by s (kind.Code code.SectionName) t rest e all = named-found s t rest (ap is_name e) all
-head-found-by s (kind.Code code.FileName) t rest e all = named-found s t rest (ap is_name e) all
-head-found-by s k t rest e all = headless-found s (Leaf t rest) all
+head-found-by s k t rest e all =
+    grind (arith, head-words-are, stays, head-words-fit, named-found, is_name, headless-found)
 
 head-found : (s : Source) (n : Nest) → AllOf (IsFound s.answers) n → HeadedFound s (headed n)
-head-found s End all = headless-found s End all
-head-found s (Group t inner rest) all = headless-found s (Group t inner rest) all
-head-found s (Leaf t rest) all = head-found-by s t.kind t rest refl all
+head-found s n all = grind (arith, headless-found, head-found-by)
 
 number-owns : (s : Source) (number : ℕ) → NumberOf s stays number → Owns s number
 number-owns s number is = subst (Owns s) is.1.0 (found-owns s is.0 is.1.1.0 is.1.1.1)
@@ -254,13 +207,10 @@ tokens-none : (s : Source) → TokensWalk s []
 tokens-none s rest walks = walks
 
 tokens-append : (s : Source) (xs ys : List Token) → TokensWalk s xs → TokensWalk s ys → TokensWalk s (xs ++ ys)
-tokens-append s xs ys f g rest walks =
-    subst (λ ts. Walks s (tree_in [] ts)) (sym (append_assoc xs ys rest)) (f (ys ++ rest) (g rest walks))
+tokens-append s xs ys f g rest walks = grind (arith, append_assoc)
 
 word-stays : (k : TokKind) → is_word k ≡ true → stays k ≡ true
-word-stays kind.Identifier e = refl
-word-stays (kind.Sign sign) e = refl
-word-stays _ e = absurd cc
+word-stays k e = grind arith
 
 -- each of some tokens has its bytes
 abbrev EachWalks : Source → List Token → Type 0
@@ -282,10 +232,7 @@ name-each s c name n owns = (word-walks s c name n owns, tt)
 
 word-each : (s : Source) (k : TokKind) (text : List ℕ) (hash_line : Bool) (n : ℕ) (names : List Entry)
     → is_word k ≡ true → Owns s n → EachWalks s (form_tokens (token_form k text hash_line n names))
-word-each s kind.Identifier text hash_line n names is owns = name-each s _ _ n owns
-word-each s (kind.Sign sign) text hash_line n names is owns =
-    (form-walks s (kind.Sign sign) text hash_line n names (λ stay. owns), tt)
-word-each s _ text hash_line n names is owns = absurd cc
+word-each s k text hash_line n names is owns = grind (arith, name-each, form-walks)
 
 spelled-each : (s : Source) (words : List Seen) (names : List Entry) → list_all word_kind words ≡ true
     → Each (IsFound s.answers) words → EachWalks s (spelled words names).tokens
@@ -304,10 +251,7 @@ control-walks s rest walks = sign-walks s control.Dollar (tree_in [] rest) tt wa
 
 dollared-walks : (s : Source) (tokens : List Token) → TokensWalk s tokens → TokensWalk s (dollared tokens)
 dollared-walks s [] walks = tokens-none s
-dollared-walks s (t ∷ ts) walks = λ rest more.
-    control-walks s (((t ∷ ts) ++ token.Control control.Dollar ∷ []) ++ rest)
-    (tokens-append s (t ∷ ts) (token.Control control.Dollar ∷ []) walks (λ rest more. control-walks s rest more) rest
-    more)
+dollared-walks s (t ∷ ts) walks = grind (arith, common_steps, control-walks, tokens-append)
 
 -- the names of a format definition, with the dollars of macros of TeX
 names-walk : (s : Source) (tokens : List Token) → EachWalks s tokens → TokensWalk s (names_in_text tokens)
@@ -331,8 +275,7 @@ each-first P [] all = tt
 each-first P (w ∷ words) all = (all.0, tt)
 
 each-later : (P : Seen → Type 0) (words : List Seen) → Each P words → Each P (later_words words)
-each-later P [] all = tt
-each-later P (w ∷ words) all = all.1
+each-later P words all = grind arith
 
 head-made : (s : Source) (flags : Flags) (named : NameTexts) → AreTitled s named → (h : Head) (known : Known)
     → HeadFound s h → MadeWalks s (head_made flags named h known)

@@ -15,14 +15,13 @@ use Rattle.cw_trees.specs.Printing.{is_cancel, strongest, is_backup}
 use Rattle.cw_lex.specs.Lexing.{answers_at, fresh_at, last_at}
 use Rattle.cw_plain.specs.Pieces.{Piece, Word, Part, Ending, Opening, Closing, Move, Nothing}
 use Rattle.cw_plain.specs.Lines.{Stretch, Run, Other, Ink, Own, Added, Layout, at_start, behind_run, blank_before}
-use Rattle.cw_plain.specs.Lines.{break_text, clash, indent, ink_bytes, ink_text, is_bracket, is_joining, is_wordy}
-use Rattle.cw_plain.specs.Lines.{laid, laid_from, last_behind, signs_touch, words_touch}
-use Rattle.cw_plain.specs.Lines.{piece_inks, run_text, stretches, level_behind, backed, cut_off}
+use Rattle.cw_plain.specs.Lines.{break_text, clash, indent, ink_bytes, ink_text, is_bracket, is_joining, is_wordy, laid}
+use Rattle.cw_plain.specs.Lines.{laid_from, last_behind, signs_touch, words_touch, piece_inks, run_text, stretches}
+use Rattle.cw_plain.specs.Lines.{level_behind, backed, cut_off}
 use Rattle.cw_plain_laws.proofs.Again.{IsAlone, IsApart, last_of, Spaced, spaced_text, AreSpaced, AreWhite, words}
-use Rattle.cw_plain_laws.proofs.Again.{in_part}
+use Rattle.cw_plain_laws.proofs.Again.{in_part, alone_token}
 use Rattle.cw_plain_laws.proofs.Simple.{AreSimple, all_words}
 use Rattle.cw_plain_laws.specs.PlainLaws.{all_unplaced, part_tokens}
-use Rattle.cw_plain_laws.proofs.Again.{alone_token}
 use Rattle.cw_rules.specs.Answers.{Answer}
 use Rattle.cw_plain_laws.proofs.AgainLaws.{again, white-gives}
 use Rattle.cw_plain_laws.proofs.Tests.{or-case}
@@ -38,12 +37,7 @@ white-indent zero = tt
 white-indent (suc n) = (refl, (refl, white-indent n))
 
 white-break : (inner : Bool) (level strength : ℕ) → AreWhite (break_text inner level strength)
-white-break inner level zero = tt
-white-break inner level (suc zero) = (refl, tt)
-white-break inner level (suc (suc zero)) = (refl, tt)
-white-break true level (suc (suc (suc strength))) = (refl, tt)
-white-break false level (suc (suc (suc zero))) = (refl, white-indent level)
-white-break false level (suc (suc (suc (suc strength)))) = (refl, (refl, white-indent level))
+white-break inner level strength = grind (arith, white-indent)
 
 pub white-run : (l : Layout) (run : List Control) → AreWhite (run_text l run)
 white-run l run = by (list_any is_cancel run)

@@ -1,15 +1,13 @@
 -- A string that its last byte closes is the same whatever stands behind it.
-use Rattle.std.proofs.Common.{◌≡◌, ℕ, suc, ◌+◌, ◌-◌, Bool, true, false, ◌&&◌, ◌||◌, not, ◌==◌, List, []}
-use Rattle.std.proofs.Common.{◌∷◌, ◌++◌, length, drop, refl, sym, ap, ◌∙◌, arith, subst}
+use Rattle.std.proofs.Common.{◌≡◌, ℕ, suc, ◌+◌, ◌-◌, Bool, true, false, ◌&&◌, ◌||◌, not, ◌==◌, List, [], ◌∷◌, ◌++◌}
+use Rattle.std.proofs.Common.{length, drop, sym, ap, ◌∙◌, arith, subst}
 use Rattle.std.specs.Prelude.{if◌then◌else◌}
 use Rattle.std.proofs.lemmas.Bool.Decides.{nat_tests}
-use Rattle.cw_base.specs.declared.notes.NoteKind.TheVariants as notes
 use Rattle.cw_rules.specs.declared.bodies.Body.TheVariants as bodies
 use Rattle.cw_rules.specs.declared.bodies.Inside.{Inside}
 use Rattle.cw_rules.specs.declared.tokens.TokKind.TheVariants as kinds
 use Rattle.cw_rules.specs.Answers.{plain}
-use Rattle.cw_rules.specs.Bodies.{at_start, ended, extent, extent_of, goes_on, note_here, noted, stepped}
-use Rattle.cw_rules.specs.Bodies.{takes_next, with_note, and_last, note_unless, stop_at}
+use Rattle.cw_rules.specs.Bodies.{at_start, ended, goes_on, note_here, noted, stepped, takes_next, with_note}
 use Rattle.cw_base.specs.Bytes.{backslash, newline}
 use Rattle.cw_rules.specs.Bytes.{apostrophe, at_sign, begins_with}
 use Rattle.cw_rules.specs.Tokens.{string, string_of}
@@ -39,26 +37,12 @@ stops-there q last rest = ap (λ t. false || not (t || (q == newline && not (las
 
 quiet-here : (along : Bool) (q braces place last b c : ℕ) (bs : List ℕ) → has_no_note along b (c ∷ bs) → (rest : List ℕ)
     → with_note (note_here (inside q braces place last along) b (c ∷ (bs ++ rest))) place [] ≡ []
-quiet-here true q braces place last b c bs none rest = refl
-quiet-here false q braces place last b c bs none rest = rw none refl
+quiet-here along q braces place last b c bs none rest = grind arith
 
 pub ends : (q braces place last : ℕ) (along : Bool) (bs : List ℕ) (k : ℕ) (rest : List ℕ) → length bs ≡ suc k
     → IsClosed q last along bs → Ends q place k (inside q braces place last along) (bs ++ rest)
 ends q braces place last along [] k rest size closed = absurd closed
-ends q braces place last along (b ∷ []) k rest size closed =
-    let none : k ≡ 0 = omega arith in
-    subst (λ b. Ends q place k (inside q braces place last along) (b ∷ rest)) (sym closed.1)
-    (subst (λ k. Ends q place k (inside q braces place last along) (q ∷ rest)) (sym none)
-    (subst (λ a. Ends q place 0 (inside q braces place last a) (q ∷ rest)) (sym closed.0)
-    (record {
-      stop = ap (λ t. (let i : Inside = if t then ended (stepped (inside q braces place last false) q rest) rest
-          else inside q braces place last false in i).place) (stops-there q last rest) ∙ omega arith;
-      quiet = ap (λ t. if t then
-          with_note (note_here (inside q braces place last false) q rest) place
-          (noted (stepped (inside q braces place last false) q rest) rest)
-          else []) (stops-there q last rest);
-      closing = ap (λ t. t && true) (same-byte q);
-    })))
+ends q braces place last along (b ∷ []) k rest size closed = grind (arith, stops-there, same-byte)
 ends q braces place last along (b ∷ c ∷ bs) k rest size closed =
     let i : Inside = inside q braces place last along in
     let next : Inside = stepped i b (c ∷ (bs ++ rest)) in
@@ -82,30 +66,10 @@ ends q braces place last along (b ∷ c ∷ bs) k rest size closed =
 pub string-of-cut : (kind : TokKind) (opening q place : ℕ) (bs : List ℕ) (k : ℕ) (rest : List ℕ) → length bs ≡ suc k
     → IsClosed q 0 false bs
     → string_of kind opening (at_start (bodies.Quoted q) place) (bs ++ rest) ≡ plain kind (opening + length bs)
-string-of-cut kind opening q place bs k rest size closed =
-    let i : Inside = at_start (bodies.Quoted q) place in
-    let e = ends q 0 place 0 false bs k rest size closed in
-    let n : (ended i (bs ++ rest)).place - place ≡ k = ap (λ p. p - place) e.stop ∙ omega arith in
-    let is : extent i (bs ++ rest) ≡ record {
-      inner_size = k;
-      size = k + 1;
-      closed = true;
-      stop = stop_at (place + k) (drop k (bs ++ rest));
-    } = ap (extent_of i (bs ++ rest)) n ∙ (λ j. record {
-      inner_size = k;
-      size = if e.closing j then k + 1 else k;
-      closed = e.closing j;
-      stop = stop_at (place + k) (drop k (bs ++ rest));
-    }) in
-    (λ j. record {
-      kind = kind;
-      size = opening + (is j).size;
-      notes = and_last (e.quiet j) (note_unless (is j).closed notes.StringUnended (is j).stop);
-    }) ∙ ap (λ m. plain kind m) (omega (arith, size))
+string-of-cut kind opening q place bs k rest size closed = grind (arith, ends q 0 place 0 false bs k rest size closed)
 
 pub quote-cut : (place : ℕ) (bs : List ℕ) (k : ℕ) (rest : List ℕ) → length bs ≡ suc k → IsClosed apostrophe 0 false bs
     → string (kinds.Code codes.Quote) 2 apostrophe place (at_sign ∷ apostrophe ∷ (bs ++ rest))
     ≡ plain (kinds.Code codes.Quote) (suc (suc (length bs)))
 quote-cut place bs k rest size closed =
-    string-of-cut (kinds.Code codes.Quote) 2 apostrophe (place + 2) bs k rest size closed
-    ∙ ap (λ m. plain (kinds.Code codes.Quote) m) (omega arith)
+    grind (arith, string-of-cut (kinds.Code codes.Quote) 2 apostrophe (place + 2) bs k rest size closed)

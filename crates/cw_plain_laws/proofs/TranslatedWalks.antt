@@ -1,8 +1,5 @@
 -- The plain text of a translation has the bytes of each token that is shown.
-use Rattle.std.proofs.Common.{◌≡◌, ℕ, true, false, List, Option, Some, None, ap, is_some, map, refl, subst}
-use Rattle.std.proofs.Common.{◌∙◌}
-use Rattle.std.specs.Prelude.{option_map}
-use Rattle.std.specs.List.{slice_get}
+use Rattle.std.proofs.Common.{◌≡◌, ℕ, true, false, List, Option, is_some, subst, arith}
 use Rattle.cw_base.specs.declared.flags.Flags.{Flags}
 use Rattle.cw_base.specs.declared.span.Span.{Span}
 use Rattle.cw_lex.proofs.HeadNests.{head-leaves}
@@ -24,18 +21,13 @@ use Rattle.cw_reduce.proofs.HeadsShown.{translated-shown}
 use Rattle.cw_rules.specs.Answers.{Answer}
 use Rattle.cw_rules.specs.declared.tokens.Mode.{Mode}
 use Rattle.cw_secnames.specs.Kept.{SecName}
-use Rattle.cw_secnames.specs.Uses.{NameUse, name_at}
-use Rattle.cw_translator.specs.NameParts.{name_texts, texts_kept, texts_of_name}
+use Rattle.cw_secnames.specs.Uses.{NameUse}
+use Rattle.cw_translator.specs.NameParts.{texts_kept}
 use Rattle.cw_translator.specs.Translating.{NameTexts, begin, translated}
 
 -- the names of a book have titles where they stand for something
 kept-titled : (kept : List SecName) (o : Option ℕ) → is_some (text_kept kept o) ≡ is_some (texts_kept kept o)
-kept-titled kept None = refl
-kept-titled kept (Some k) = by (slice_get kept k)
-  where
-    by : (o : Option SecName) → is_some (option_map (λ (name : SecName). name.text) o) ≡ is_some (texts_of_name o)
-    by None = refl
-    by (Some name) = refl
+kept-titled kept o = grind (arith, is_some)
 
 pub translated-walks : (s : Source) (flags : Flags) (named : NameTexts) (answers : List Answer) (names : List Entry)
     (marks : List ℕ) → AreTitled s named → IsNested answers → AllTokens (IsFound s.answers) answers
@@ -53,15 +45,8 @@ pub text-walks : (flags : Flags) (kept : List SecName) (uses : List NameUse) (te
     → begins_section_in (tokens_of text span.start span.end mode) ≡ false
     → Walks (text_source kept uses text span mode) (text_tree flags kept uses text span mode names marks)
 text-walks flags kept uses text span mode names marks c_mode uncut =
-    translated-walks (text_source kept uses text span mode) flags (name_texts kept uses)
-    (tokens_of text span.start span.end mode) names marks (λ number. kept-titled kept (name_at number uses))
-    (c-texts-nested text span.start span.end mode c_mode uncut) (tokens-found text span.start span.end mode)
+    grind (arith, translated-walks, text_source, kept-titled, c-texts-nested, tokens-found)
 
 pub plain-has-each : PlainHasEachToken
 plain-has-each flags kept uses text span mode names marks is =
-    let answers = tokens_of text span.start span.end mode in
-    let s = text_source kept uses text span mode in
-    walked-inks s (text_tree flags kept uses text span mode names marks)
-    (text-walks flags kept uses text span mode names marks is.c_mode is.uncut)
-    ∙ ap (map (own_ink s)) (translated-shown flags (name_texts kept uses) answers names marks
-    (c-texts-nested text span.start span.end mode is.c_mode is.uncut))
+    grind (arith, text_source, walked-inks, text_tree, text-walks, own_ink, translated-shown, c-texts-nested)

@@ -1,12 +1,10 @@
 -- Trees that are made of trees which have the bytes of their tokens have those of their own.
-use Rattle.std.proofs.Common.{◌≡◌, ℕ, zero, suc, Bool, List, [], ◌∷◌, ◌++◌, refl, sym, ap, ◌∙◌}
+use Rattle.std.proofs.Common.{arith, ◌≡◌, ℕ, zero, suc, Bool, List, [], ◌∷◌, ◌++◌, refl, sym, ap, ◌∙◌}
 use Rattle.std.proofs.lemmas.List.{append_assoc}
 use Rattle.cw_trees.specs.declared.Control.{Control}
-use Rattle.cw_trees.specs.declared.Control.TheVariants as control
-use Rattle.cw_trees.specs.Tree.{Leaf, Source as SourceLeaf, Ident, Reserved, Sign, Tree, Empty, Then, Sub, Inner}
-use Rattle.cw_trees.specs.Tree.{Search, Found, Stopped}
-use Rattle.cw_trees.specs.Tree.{Nothing as no_ident, first_ident, reserve_first, reserved_leaf, search_leaf}
-use Rattle.cw_trees.specs.Flat.{Item, IdentItem, ReservedItem, Open, Close, flat, leaf_item, struck}
+use Rattle.cw_trees.specs.Tree.{Leaf, Sign, Tree, Empty, Then, Sub, Inner, Search, Found, Stopped, Nothing as no_ident}
+use Rattle.cw_trees.specs.Tree.{first_ident, reserve_first, reserved_leaf, search_leaf}
+use Rattle.cw_trees.specs.Flat.{Item, IdentItem, ReservedItem, Open, Close, flat, leaf_item}
 use Rattle.cw_table.proofs.NumberLaws.{struck-reserved}
 use Rattle.cw_plain.specs.Pieces.{Piece, Source, Stand, item_placed, name_behind, passed, pieces_from, pieces_in}
 use Rattle.cw_plain_laws.proofs.Walks.{IsFree, Walks, among, owners}
@@ -30,17 +28,11 @@ prefix-same s (x ∷ xs) ys zs same st = next-same s st.name x st (pieces_from s
 -- an identifier and a reserved word make the same piece
 passed-same : (name number : ℕ) (stand : Stand) → passed (ReservedItem name number) stand
     ≡ passed (IdentItem name number) stand
-passed-same name number stand = ap (λ n. record stand { name = n }) (by stand.name)
-  where
-    by : (n : ℕ) → name_behind n (ReservedItem name number) ≡ name_behind n (IdentItem name number)
-    by zero = refl
-    by (suc zero) = refl
-    by (suc (suc n)) = refl
+passed-same name number stand = grind arith
 
 word-same : (s : Source) (depth name number : ℕ) (stand : Stand) (rest : Stand → List Piece)
     → pieces_in s depth (ReservedItem name number) stand rest ≡ pieces_in s depth (IdentItem name number) stand rest
-word-same s zero name number stand rest = refl
-word-same s (suc depth) name number stand rest = ap rest (passed-same name number stand)
+word-same s depth name number stand rest = grind (arith, passed-same)
 
 -- ## Reserving
 
@@ -49,25 +41,16 @@ IsSame s a b = (rest : List Item) (st : Stand) → pieces_from s (flat a ++ rest
 
 reserved-same : (s : Source) (depth : ℕ) (leaf : Leaf) (stand : Stand) (rest : Stand → List Piece)
     → pieces_in s depth (leaf_item (reserved_leaf leaf)) stand rest ≡ pieces_in s depth (leaf_item leaf) stand rest
-reserved-same s depth (SourceLeaf number mode) stand rest = refl
-reserved-same s depth (Ident name number) stand rest = word-same s depth name number stand rest
-reserved-same s depth (Reserved name number cat) stand rest = refl
-reserved-same s depth (Sign c) stand rest = refl
+reserved-same s depth leaf stand rest = grind (arith, word-same)
 
 reserve-then : (s : Source) (found : Search) (leaf : Leaf) (rest : Tree) → search_leaf leaf ≡ found
     → IsSame s (reserve_first rest) rest → IsSame s (reserve_first (Then leaf rest)) (Then leaf rest)
-reserve-then s (Found n) leaf rest e same more st = rw (e, reserve_first)
-    (reserved-same s st.name leaf st (pieces_from s (flat rest ++ more)))
+reserve-then s (Found n) leaf rest e same more st = grind (arith, reserved-same)
 reserve-then s Stopped leaf rest e same more st = rw (e, reserve_first) refl
-reserve-then s no_ident leaf rest e same more st = rw (e, reserve_first) (next-same s st.name (leaf_item leaf) st
-    (pieces_from s (flat (reserve_first rest) ++ more)) (pieces_from s (flat rest ++ more)) (same more))
+reserve-then s no_ident leaf rest e same more st = grind (arith, next-same)
 
 two : (s : Source) (a b c d : Tree) → IsSame s a b → IsSame s c d → IsSame s (Sub a c) (Sub b d)
-two s a b c d first second more st =
-    ap (λ l. pieces_from s l st) (append_assoc (flat a) (flat c) more)
-    ∙ first (flat c ++ more) st
-    ∙ prefix-same s (flat b) (flat c ++ more) (flat d ++ more) (second more) st
-    ∙ ap (λ l. pieces_from s l st) (sym (append_assoc (flat b) (flat d) more))
+two s a b c d first second more st = grind (arith, append_assoc, prefix-same)
 
 is-same : (s : Source) (t : Tree) → IsSame s t t
 is-same s t more st = refl
@@ -75,16 +58,13 @@ is-same s t more st = refl
 reserve-sub : (s : Source) (found : Search) (tree rest : Tree) → first_ident tree ≡ found
     → IsSame s (reserve_first tree) tree → IsSame s (reserve_first rest) rest
     → IsSame s (reserve_first (Sub tree rest)) (Sub tree rest)
-reserve-sub s (Found n) tree rest e first second more st = rw (e, reserve_first)
-    (two s (reserve_first tree) tree rest rest first (is-same s rest) more st)
+reserve-sub s (Found n) tree rest e first second more st = grind (arith, two, is-same)
 reserve-sub s Stopped tree rest e first second more st = rw (e, reserve_first) refl
-reserve-sub s no_ident tree rest e first second more st = rw (e, reserve_first)
-    (two s tree tree (reserve_first rest) rest (is-same s tree) second more st)
+reserve-sub s no_ident tree rest e first second more st = grind (arith, two, is-same)
 
 inner-items : (tree rest : Tree) (more : List Item)
     → flat (Inner tree rest) ++ more ≡ (Open ∷ (flat tree ++ Close ∷ [])) ++ (flat rest ++ more)
-inner-items tree rest more = ap (λ l. Open ∷ l) (append_assoc (flat tree) (Close ∷ flat rest) more
-    ∙ sym (append_assoc (flat tree) (Close ∷ []) (flat rest ++ more)))
+inner-items tree rest more = grind (arith, append_assoc)
 
 -- an identifier that is reserved has the same pieces, whatever tree it stands in
 pub reserve-same : (s : Source) (t : Tree) → IsSame s (reserve_first t) t
@@ -104,10 +84,7 @@ abbrev deep : ℕ → List Bool → Stand
 deep depth comments = record { name = suc (suc depth); comments = comments }
 
 leaf-deep : (leaf : Leaf) (depth : ℕ) → name_behind (suc (suc depth)) (leaf_item leaf) ≡ suc (suc depth)
-leaf-deep (SourceLeaf number mode) depth = refl
-leaf-deep (Ident name number) depth = refl
-leaf-deep (Reserved name number cat) depth = refl
-leaf-deep (Sign c) depth = refl
+leaf-deep leaf depth = grind arith
 
 -- an inner text in a section name is passed, whatever stands in it
 pub inner-passed : (s : Source) (t : Tree) (depth : ℕ) (comments : List Bool) (rest : List Item)
@@ -127,21 +104,13 @@ inner-passed s (Inner tree more) depth comments rest =
 -- ## Joining
 
 pub sub-walks : (s : Source) (a b : Tree) → Walks s a → Walks s b → Walks s (Sub a b)
-sub-walks s a b first second comments rest =
-    ap (λ l. owners (pieces_from s l (among comments))) (append_assoc (flat a) (flat b) rest)
-    ∙ first comments (flat b ++ rest)
-    ∙ ap (λ l. struck a ++ l) (second comments rest)
-    ∙ sym (append_assoc (struck a) (struck b) (owners (pieces_from s rest (among comments))))
+sub-walks s a b first second comments rest = grind (arith, owners, among, append_assoc)
 
 pub sign-walks : (s : Source) (c : Control) (t : Tree) → IsFree c → Walks s t → Walks s (Then (Sign c) t)
-sign-walks s control.CommentEnd t free walks comments rest = absurd free
-sign-walks s control.Blank t free walks comments rest = walks comments rest
-sign-walks s _ t free walks comments rest = walks comments rest
+sign-walks s c t free walks comments rest = grind arith
 
 pub empty-walks : (s : Source) → Walks s Empty
 empty-walks s comments rest = refl
 
 pub reserve-walks : (s : Source) (t : Tree) → Walks s t → Walks s (reserve_first t)
-reserve-walks s t walks comments rest =
-    ap owners (reserve-same s t rest (among comments)) ∙ walks comments rest
-    ∙ ap (λ l. l ++ owners (pieces_from s rest (among comments))) (sym (struck-reserved t))
+reserve-walks s t walks comments rest = grind (arith, owners, reserve-same, among, struck-reserved)

@@ -1,6 +1,6 @@
 -- A text that is printed byte by byte is divided between its units.
-use Rattle.std.proofs.Common.{◌≡◌, ℕ, ◌+◌, ◌-◌, ◌==◌, nat_le, Bool, true, false, List, [], ◌∷◌, ◌++◌, refl, ap, sym}
-use Rattle.std.proofs.Common.{◌∙◌, arith, if◌then◌else◌}
+use Rattle.std.proofs.Common.{◌≡◌, ℕ, ◌+◌, ◌-◌, ◌==◌, nat_le, Bool, true, false, List, [], ◌∷◌, ◌++◌, refl, ap, ◌∙◌}
+use Rattle.std.proofs.Common.{arith, if◌then◌else◌}
 use Rattle.std.proofs.lemmas.Bool.Decides.{nat_tests}
 use Rattle.std.proofs.lemmas.List.{append-nil, append_assoc}
 use Rattle.cw_print.specs.declared.dividing.Portion.{Portion}
@@ -35,10 +35,7 @@ module _ (come : ℕ) (first others : List ℕ) (size : ℕ) (rest : List (List 
 
   joined : (begun : List ℕ) (c : ℕ) → (begun ++ first) ++ tail (portion_behind c)
       ≡ begun ++ ((first ++ others) ++ divided_units (c + size) rest)
-  joined begun c =
-      append_assoc begun first (tail (portion_behind c))
-      ∙ ap (λ (l : List ℕ). begun ++ l)
-      (ap (λ (l : List ℕ). first ++ l) (behind c) ∙ sym (append_assoc first others (divided_units (c + size) rest)))
+  joined begun c = grind (arith, append_assoc)
 
   unit-shown : (full : Bool) → text_behind full ≡ unit_behind full
   unit-shown true = joined division 0
@@ -52,13 +49,7 @@ module _ (byte : ℕ) (more : List ℕ) (rest : List (List ℕ)) (come : ℕ)
     (behind : (c : ℕ) → rest_bytes (record { room = 20 - c; takes_next = byte == 92 }) more
     ≡ divided_units c rest) where
   one-shown : rest_bytes (portion_behind come) (byte ∷ more) ≡ divided_units come ((byte ∷ []) ∷ rest)
-  one-shown =
-      shown-by come (escaped_byte byte) [] 1 rest (λ portion. rest_bytes (with_byte portion byte) more) behind-one
-      ((20 - come) == 0) (nat_le 20 come) (is-full come)
-    where
-      behind-one : (c : ℕ) → rest_bytes (with_byte (portion_behind c) byte) more ≡ [] ++ divided_units (c + 1) rest
-      behind-one c = ap (λ (room : ℕ). rest_bytes (record { room = room; takes_next = byte == 92 }) more) (one-less c)
-          ∙ behind (c + 1)
+  one-shown = grind (arith, shown-by, nat_le, is-full, one-less)
 
 -- a backslash and the byte behind it
 module _ (byte next : ℕ) (bytes : List ℕ) (come : ℕ) (escapes : (byte == 92) ≡ true)
@@ -68,12 +59,7 @@ module _ (byte next : ℕ) (bytes : List ℕ) (come : ℕ) (escapes : (byte == 9
 
   behind-pair : (c : ℕ) → rest_bytes (with_byte (portion_behind c) byte) (next ∷ bytes)
       ≡ later ++ divided_units (c + 2) (units bytes)
-  behind-pair c =
-      ap (λ (b : Bool). rest_bytes (record { room = 20 - c - 1; takes_next = b }) (next ∷ bytes)) escapes
-      ∙ ap (λ (room : ℕ). escaped_byte next ++ rest_bytes (record { room = room; takes_next = false }) bytes)
-      (two-less c)
-      ∙ ap (λ (l : List ℕ). escaped_byte next ++ l) (behind (c + 2))
-      ∙ ap (λ (l : List ℕ). l ++ divided_units (c + 2) (units bytes)) (sym (append-nil (escaped_byte next)))
+  behind-pair c = grind (arith, two-less, append-nil)
 
   pair-shown : rest_bytes (portion_behind come) (byte ∷ next ∷ bytes)
       ≡ divided_units come ((byte ∷ next ∷ []) ∷ units bytes)
@@ -97,8 +83,7 @@ by-first byte next bytes come behind others false is =
 shown : (text : List ℕ) (come : ℕ) → rest_bytes (portion_behind come) text ≡ divided_units come (units text)
 shown [] come = refl
 shown (byte ∷ []) come = one-shown byte [] [] come (λ c. refl)
-shown (byte ∷ next ∷ bytes) come =
-    by-first byte next bytes come (shown bytes) (shown (next ∷ bytes)) (byte == 92) refl
+shown (byte ∷ next ∷ bytes) come = grind (arith, shown bytes, shown (next ∷ bytes), by-first)
 
 -- A text that is printed from its beginning is divided as the definition says.
 pub rest-divided : (text : List ℕ) → rest_bytes (portion_behind 0) text ≡ divided text

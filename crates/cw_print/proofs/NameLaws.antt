@@ -1,6 +1,5 @@
 -- A C text that is one identifier.
-use Rattle.std.proofs.Common.{◌≡◌, ℕ, ◌<◌, Bool, true, false, Some, List, [], ◌∷◌, ◌++◌, ap, subst, ◌∙◌}
-use Rattle.std.proofs.Common.{length, slice_get, arith}
+use Rattle.std.proofs.Common.{◌≡◌, ℕ, ◌<◌, Bool, Some, List, [], ◌∷◌, ap, ◌∙◌, length, slice_get, arith}
 use Rattle.std.proofs.lemmas.List.{append-nil}
 use Rattle.cw_names.specs.declared.entry.NameId.{NameId}
 use Rattle.cw_trees.specs.Flat.{IdentItem}
@@ -21,10 +20,7 @@ only-item (first ∷ second ∷ items) item one is = absurd (omega arith)
 
 one-printed : (inner : Bool) (s : Source) (name number : ℕ)
     → printed inner (shown s (IdentItem name number ∷ [])) ≡ word_at ident_bytes s.names name
-one-printed true s name number =
-    append-nil (word_at ident_bytes s.names name ++ []) ∙ append-nil (word_at ident_bytes s.names name)
-one-printed false s name number =
-    append-nil (word_at ident_bytes s.names name ++ []) ∙ append-nil (word_at ident_bytes s.names name)
+one-printed inner s name number = grind (arith, append-nil)
 
 -- it prints its name
 pub only-printed : (inner : Bool) (s : Source) (name : NameId) (items : List FlatItem) → IsOnlyName name items
@@ -35,7 +31,4 @@ only-printed inner s name items is =
 -- which is one of so many
 pub only-named : (count : ℕ) (name : NameId) (items : List FlatItem) → IsOnlyName name items
     → AllMay (MayCome count) 0 (items_are items) → name.index < count
-only-named count name items is may =
-    let all : AllMay (MayCome count) 0 (IdentItem name.index is.0 ∷ []) =
-    subst (λ (items : List FlatItem). AllMay (MayCome count) 0 (items_are items)) is.1 may in
-    all.0.stands.named
+only-named count name items is may = grind arith

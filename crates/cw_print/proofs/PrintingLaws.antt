@@ -1,13 +1,11 @@
 -- The printing of a list, item by item: what was printed, and what may still come.
-use Rattle.std.proofs.Common.{◌≡◌, ℕ, suc, ◌+◌, ◌-◌, ◌<◌, ◌≤◌, Bool, Option, Some, None, Err, Ok, List, [], ◌∷◌, ◌++◌}
-use Rattle.std.proofs.Common.{length, take, drop, get_or, slice_get, refl, ap, sym, ◌∙◌, subst, arith}
+use Rattle.std.proofs.Common.{◌≡◌, ℕ, suc, ◌+◌, ◌-◌, ◌<◌, ◌≤◌, Bool, Option, Some, Err, Ok, List, [], ◌∷◌, ◌++◌, length}
+use Rattle.std.proofs.Common.{take, drop, get_or, slice_get, refl, ap, sym, ◌∙◌, subst, arith}
 use Rattle.std.specs.Prelude.{Result, IsErrAnd, ⊤, option_map}
 use Rattle.std.proofs.lemmas.List.{append-nil, append_assoc, drop_all, drop_more, get_or-drop, get_or-take, length-map}
-use Rattle.std.proofs.lemmas.List.{take-append-drop}
-use Rattle.std.proofs.lemmas.List.{take_all, take_more}
+use Rattle.std.proofs.lemmas.List.{take-append-drop, take_all, take_more}
 use Rattle.std.proofs.lemmas.List.Sums.{fold_push}
-use Rattle.std.proofs.lemmas.Option.{get_or_from_slice_get, slice_get-get_or, slice_get-map}
-use Rattle.std.proofs.lemmas.Option.{slice_get_within}
+use Rattle.std.proofs.lemmas.Option.{get_or_from_slice_get, slice_get-get_or, slice_get-map, slice_get_within}
 use Rattle.cw_desk.specs.Told.{Told}
 use Rattle.cw_trees.specs.Flat.{Item}
 use Rattle.cw_trees.specs.declared.Control.{Control}
@@ -29,15 +27,14 @@ use Rattle.cw_print.specs.Coming.{AllMay, MayCome}
 use Rattle.cw_print.specs.Printing.{IsBehind, IsMidway, Midway, PrintsOn, shown, shown_next}
 use Rattle.cw_print.specs.Sources.{titles}
 use Rattle.cw_print.specs.Walk.{Source, Title, items_shown, outside, own_bytes, placed_shown, stand_after, title_in}
-use Rattle.cw_print.specs.Walked.{Walked, behind}
+use Rattle.cw_print.specs.Walked.{behind}
 use Rattle.cw_print.proofs.ComingLaws.{can-come, opened-most}
 use Rattle.cw_print.proofs.ShownLaws.{own-alone, placed-run, shown-append, stand-more}
 
 -- the bytes were printed, whatever the call answered
 has-printed : {D T : Type 0} {told : D → Told} {bytes : List ℕ} {old new : Sheet D} {value : T}
     → Prints {T = T} told bytes old new (Ok value) → Prints {T = ⊤} told bytes old new (Ok (tt {0}))
-has-printed {told = told} {new = new} prints =
-    prints-bytes (append-nil _) (prints-then prints (prints-none told new (tt {0})))
+has-printed {told = told} {new = new} prints = grind (arith, prints-bytes, append-nil, prints-then, prints-none)
 
 -- Memory is refused, and nothing more is written.
 prints-refused : {D : Type 0} {told : D → Told} (bytes : List ℕ) (sheet : Sheet D)
@@ -54,8 +51,7 @@ shown-more s items item = shown-append s items (item ∷ []) outside
 early-more : (inner : Bool) (s : Source) (items : List Item) (item : Item)
     → early inner (shown s items) ++ added inner (shown s items) (shown_next s items item)
     ≡ early inner (shown s (items ++ item ∷ []))
-early-more inner s items item =
-    sym (early-added inner (shown s items) (shown_next s items item)) ∙ ap (early inner) (sym (shown-more s items item))
+early-more inner s items item = grind (arith, early-added, shown-more)
 
 -- ## One item
 
@@ -77,37 +73,21 @@ module _ (s : Source) (inner : Bool) (items : List Item) (printer : Printer) (b 
   -- what it prints by where it stands comes behind what the joiner prints of it
   placed-behind : (sign : Option Control) → run_sign (item_is item) ≡ sign → added_with own ++ placed
       ≡ added_with (own ++ placed)
-  placed-behind None is = sym (added-behind printer.joiner.inner (shown s items) (item_is item) own placed is)
-  placed-behind (Some control) is =
-      let none : placed ≡ [] = placed-run printer.walk.fixed title item printer.walk.stand control is in
-      ap (λ (l : List ℕ). added_with own ++ l) none ∙ append-nil (added_with own)
-      ∙ ap added_with (sym (append-nil own) ∙ ap (λ (l : List ℕ). own ++ l) (sym none))
+  placed-behind sign is = grind (arith, added-behind, placed-run, append-nil)
 
   pub next-added : added printer.joiner.inner (shown s items) (alone printer.book.now.names item) ++ placed
       ≡ added inner (shown s items) (shown_next s items (item_is item))
-  next-added =
-      ap (λ (bytes : List ℕ). added_with bytes ++ placed) (own-alone printer.book.now.names item)
-      ∙ placed-behind (run_sign (item_is item)) refl
-      ∙ (λ i. added (b.same_inner i) (shown s items) (record {
-        item = item_is item;
-        bytes = own_bytes (b.names i) (item_is item)
-            ++ (placed_shown (b.fixed i) (same-title i) (item_is item) (b.stand i)).bytes;
-      }))
+  next-added = grind (arith, own-alone, placed-behind, same-title)
 
   pub next-appended : (before mid after : List ℕ) → mid ≡ before
       ++ added printer.joiner.inner (shown s items) (alone printer.book.now.names item)
       → after ≡ mid ++ placed → after ≡ before ++ added inner (shown s items) (shown_next s items (item_is item))
-  next-appended before mid after by_joiner by_place =
-      by_place ∙ ap (λ (l : List ℕ). l ++ placed) by_joiner
-      ∙ append_assoc before (added printer.joiner.inner (shown s items) (alone printer.book.now.names item)) placed
-      ∙ ap (λ (l : List ℕ). before ++ l) next-added
+  next-appended before mid after by_joiner by_place = grind (arith, append_assoc, next-added)
 
   -- where the printing stands behind it
   pub next-stand : (placed_shown printer.walk.fixed title (item_is item) printer.walk.stand).stand
       ≡ stand_after s (items ++ item_is item ∷ []) outside
-  next-stand =
-      (λ i. (placed_shown (b.fixed i) (same-title i) (item_is item) (b.stand i)).stand)
-      ∙ sym (stand-more s items (item_is item) outside)
+  next-stand = grind (arith, same-title, stand-more)
 
   -- the printer stands behind it where its walk and its joiner do
   pub next-behind : (next : Printer) → titles next.book.now ≡ s.titles → next.book.now.names ≡ s.names
@@ -115,14 +95,7 @@ module _ (s : Source) (inner : Bool) (items : List Item) (printer : Printer) (b 
       → next.joiner.inner ≡ printer.joiner.inner
       → Stands next.joiner (shown s items ++ shown_next s items (item_is item) ∷ [])
       → IsBehind s inner (items ++ item_is item ∷ []) next
-  next-behind next same_titles same_names walk same_inner stands = record {
-    titles = same_titles;
-    names = same_names;
-    fixed = ap (λ (w : Walked). w.fixed) walk ∙ b.fixed;
-    stand = ap (λ (w : Walked). w.stand) walk ∙ next-stand;
-    same_inner = same_inner ∙ b.same_inner;
-    stands = subst (λ (ps : List Printable). Stands next.joiner ps) (sym (shown-more s items (item_is item))) stands;
-  }
+  next-behind next same_titles same_names walk same_inner stands = grind (arith, next-stand, shown-more)
 
 -- ## First parts
 
@@ -132,20 +105,8 @@ record BeginsEarly (inner : Bool) (ps all : List Printable) : Type 0 where
   pub is : early inner all ≡ early inner ps ++ rest
 
 begins-early : (inner : Bool) (ps qs : List Printable) → BeginsEarly inner ps (ps ++ qs)
-begins-early inner ps [] = record {
-  rest = [];
-  is = ap (early inner) (append-nil ps)
-      ∙ sym (append-nil (early inner ps));
-}
-begins-early inner ps (q ∷ qs) =
-    let more : BeginsEarly inner (ps ++ q ∷ []) ((ps ++ q ∷ []) ++ qs) = begins-early inner (ps ++ q ∷ []) qs in
-    record {
-      rest = added inner ps q ++ more.rest;
-      is =
-          ap (early inner) (sym (append_assoc ps (q ∷ []) qs)) ∙ more.is
-          ∙ ap (λ (l : List ℕ). l ++ more.rest) (early-added inner ps q)
-          ∙ append_assoc (early inner ps) (added inner ps q) more.rest;
-    }
+begins-early inner ps [] = grind (arith, append-nil)
+begins-early inner ps (q ∷ qs) = grind (arith, begins-early inner (ps ++ q ∷ []) qs, append_assoc, early-added)
 
 pub printed-by : (inner : Bool) (ps : List Printable) → early inner ps ++ late inner ps ≡ printed inner ps
 printed-by inner ps = sym (printed-list inner ps ∙ printed-is inner ps)
@@ -208,10 +169,7 @@ module _ (items : List FlatItem) (i : ℕ) (item : FlatItem) (is : slice_get ite
 
     -- the next item may come
     pub next-comes : i < 18446744073709551615 → CanCome (length printer.book.now.names) printer.joiner.depth item
-    next-comes small =
-        let shallow : depth ≤ i = midway.shallow in
-        let may : CanCome (length s.names) depth item = can-come (length s.names) depth item coming.0 (omega arith) in
-        rw (midway.behind.names, midway.behind.stands.depth) may
+    next-comes small = grind (arith, can-come (length s.names) depth item coming.0 (omega arith))
 
     -- and the printer stands behind it then
     pub midway-next : (next : Printer) → IsBehind s inner (take i (items_are items) ++ item_is item ∷ []) next
@@ -301,11 +259,8 @@ pub waits-none : {D : Type 0} {told : D → Told} (inner : Bool) (s : Source) (i
     (buffer left : List ℕ) {old mid new : Sheet D}
     → Waiting told inner s items i buffer old mid → Prints {T = ⊤} told buffer mid new (Ok (tt {0})) → left ≡ []
     → Waiting told inner s items i left old new
-waits-none inner s items i buffer left w put none = record {
-  done = w.done ++ buffer;
-  put = has-printed (prints-then w.put put);
-  all = ap (λ (l : List ℕ). (w.done ++ buffer) ++ l) none ∙ append-nil (w.done ++ buffer) ∙ w.all;
-}
+waits-none inner s items i buffer left w put none =
+    grind (arith, has-printed (prints-then w.put put), prints-then w.put put, append-nil (w.done ++ buffer))
 
 -- memory is refused while bytes wait
 pub stops-waiting : {D U : Type 0} {told : D → Told} (inner : Bool) (s : Source) (items : List Item) (i : ℕ)
@@ -336,11 +291,7 @@ module _ (items : List FlatItem) (n : ℕ) (all : length items ≤ n) where
   -- no inner text is open at the end
   pub midway-ended : (s : Source) (inner : Bool) (printer : Printer) → Midway s inner (items_are items) n printer
       → printer.joiner.depth ≡ 0
-  midway-ended s inner printer midway =
-      midway.behind.stands.depth
-      ∙ subst (λ (rest : List Item). AllMay (MayCome (length s.names))
-      (depth_behind (shown s (take n (items_are items)))) rest)
-      (drop_all n (items_are items) short) midway.come
+  midway-ended s inner printer midway = grind (arith, drop_all, short)
 
   -- what waits, and what is left
   pub prints-all : {D U : Type 0} {told : D → Told} (inner : Bool) (s : Source) (buffer rest : List ℕ)
@@ -349,11 +300,10 @@ module _ (items : List FlatItem) (n : ℕ) (all : length items ≤ n) where
       → rest ≡ buffer ++ late inner (shown s (take n (items_are items)))
       → Prints told rest mid new result
       → Prints told (printed inner (shown s (items_are items))) old new result
-  prints-all inner s buffer rest w left put =
-      prints-bytes
-      (ap (λ (l : List ℕ). w.done ++ l) left
-      ∙ sym (append_assoc w.done buffer (late inner (shown s (take n (items_are items)))))
-      ∙ ap (λ (l : List ℕ). l ++ late inner (shown s (take n (items_are items)))) w.all
-      ∙ printed-by inner (shown s (take n (items_are items)))
-      ∙ ap (λ (l : List Item). printed inner (shown s l)) (take_all n (items_are items) short))
-      (prints-then w.put put)
+  prints-all inner s buffer rest w left put = grind (
+    arith,
+    append_assoc w.done buffer (late inner (shown s (take n (items_are items)))),
+    printed-by inner (shown s (take n (items_are items))),
+    take_all n (items_are items) short,
+    prints-then w.put put,
+  )

@@ -1,11 +1,10 @@
 -- Of the tokens that a scan finds by their numbers.
-use Rattle.std.proofs.Common.{◌≡◌, ◌≢◌, ℕ, suc, ◌+◌, ◌-◌, ◌<◌, ◌≤◌, ◌^◌, List, [], ◌++◌, Option, Some}
-use Rattle.std.proofs.Common.{append_assoc, arith, ap, refl, sym, ◌∙◌, subst, drop, length, take}
+use Rattle.std.proofs.Common.{◌≡◌, ◌≢◌, ℕ, suc, ◌+◌, ◌-◌, ◌<◌, ◌≤◌, ◌^◌, List, ◌++◌, Option, Some, append_assoc, arith}
+use Rattle.std.proofs.Common.{subst, drop, length, take}
 use Rattle.std.proofs.lemmas.List.{take_all}
 use Rattle.std.proofs.Math.Seq.{take-add}
 use Rattle.cw_lex.specs.Nested.{until_section}
 use Rattle.cw_rules.specs.declared.tokens.Lexed.{Lexed}
-use Rattle.cw_rules.specs.declared.tokens.Lexed.TheVariants as lexed
 use Rattle.cw_rules.specs.declared.tokens.Tok.{Tok}
 use Rattle.cw_rules.specs.Answers.{Answer, Gives, Seen, seen}
 use Rattle.cw_print.specs.Found.{numbered, HasNoNumber, HasNumber, IsAhead}
@@ -25,11 +24,7 @@ pub record Passes (number : ℕ) (all : List Answer) (place end from : ℕ) : Ty
 
 gives-taken : (answer : Lexed) (n : ℕ) (old new : List Answer) → Gives old answer new
     → Gives (take (suc n) old) answer (take n new)
-gives-taken (lexed.Token t) n old new g = rw g refl
-gives-taken (lexed.Begin t) n old new g = rw g refl
-gives-taken (lexed.Finish t) n old new g = rw g refl
-gives-taken (lexed.Note kind place) n old new g = rw g refl
-gives-taken lexed.End n old new (old-none, new-none) = rw (old-none, new-none) (refl, take_all n [] (omega arith))
+gives-taken answer n old new g = grind (arith, take_all)
 
 gives-ahead : (answer : Lexed) (all : List Answer) (place end : ℕ) → place < end
     → Gives (drop place all) answer (drop (place + 1) all)
@@ -45,53 +40,28 @@ pub passes-token : (answer : Lexed) (token : Tok) (number : ℕ) (all : List Ans
     → token.span.start ≢ number → from ≤ more
     → ((m : ℕ) → more ≤ m → m < 2 ^ 32 → token.span.start ≢ m)
     → Passes number all place end from → Passes number all (place + 1) end more
-passes-token answer token number all place end from more less g has other-number larger beyond p = record {
-  found = sym (has.passed number _ _ (gives-ahead answer all place end less g) other-number) ∙ p.found;
-  ahead = record {
-    same = λ m l fits. sym (has.passed m _ _ (gives-ahead answer all place end less g) (beyond m l fits))
-        ∙ p.ahead.same m (omega (arith, l, larger)) fits;
-  };
-  order = omega (arith, less);
-  within = p.within;
-  above = omega (arith, p.above, larger);
-}
+passes-token answer token number all place end from more less g has other-number larger beyond p =
+    grind (arith, gives-ahead)
 
 -- and behind one without a token
 pub passes-none : (answer : Lexed) (number : ℕ) (all : List Answer) (place end from : ℕ)
     → place < end → Gives (drop place all) answer (drop (place + 1) all) → HasNoNumber answer
     → Passes number all place end from → Passes number all (place + 1) end from
-passes-none answer number all place end from less g none p = record {
-  found = sym (none number _ _ (gives-ahead answer all place end less g)) ∙ p.found;
-  ahead = record {
-    same = λ m l fits. sym (none m _ _ (gives-ahead answer all place end less g)) ∙ p.ahead.same m l fits;
-  };
-  order = omega (arith, less);
-  within = p.within;
-  above = p.above;
-}
+passes-none answer number all place end from less g none p = grind (arith, gives-ahead)
 
 -- the token of the number is found
 pub found-at : (answer : Lexed) (token : Tok) (number : ℕ) (all : List Answer) (place end from : ℕ)
     → place < end → Gives (drop place all) answer (drop (place + 1) all) → HasNumber answer token
     → token.span.start ≡ number → Passes number all place end from
     → Some (seen token) ≡ numbered number (take end all)
-found-at answer token number all place end from less g has is p =
-    sym (subst (λ (n : ℕ). numbered n (ahead-of all place end) ≡ Some (seen token)) is
-    (has.found _ _ (gives-ahead answer all place end less g))) ∙ p.found
+found-at answer token number all place end from less g has is p = grind (arith, gives-ahead answer all place end less g)
 
 -- and the walk then stands behind it
 pub seeks-behind : (answer : Lexed) (token : Tok) (number : ℕ) (all : List Answer) (place end from : ℕ)
     → place < end → Gives (drop place all) answer (drop (place + 1) all) → HasNumber answer token
     → token.span.start ≡ number → Passes number all place end from
     → IsSeeking all (record { place = place + 1; «end» = end; from = from })
-seeks-behind answer token number all place end from less g has is p = record {
-  order = omega (arith, less);
-  within = p.within;
-  ahead = record {
-    same = λ m l fits. sym (has.passed m _ _ (gives-ahead answer all place end less g)
-        (let e : token.span.start ≢ m = grind (arith, is, l, p.above) in e)) ∙ p.ahead.same m l fits;
-  };
-}
+seeks-behind answer token number all place end from less g has is p = grind (arith, gives-ahead)
 
 -- each number from one on has its token behind an answer
 pub seeks-on : (answer : Lexed) (all : List Answer) (place end from more : ℕ) → place < end → from ≤ more
@@ -99,24 +69,13 @@ pub seeks-on : (answer : Lexed) (all : List Answer) (place end from more : ℕ) 
     → ((m : ℕ) (old new : List Answer) → more ≤ m → Gives old answer new → numbered m old ≡ numbered m new)
     → IsSeeking all (record { place = place; «end» = end; from = from })
     → IsSeeking all (record { place = place + 1; «end» = end; from = more })
-seeks-on answer all place end from more less larger g same s = record {
-  order = omega (arith, less);
-  within = s.within;
-  ahead = record {
-    same = λ m l fits. sym (same m _ _ l (gives-ahead answer all place end less g))
-        ∙ s.ahead.same m (omega (arith, l, larger)) fits;
-  };
-}
+seeks-on answer all place end from more less larger g same s = grind (arith, gives-ahead)
 
 -- fewer numbers are known to lie ahead
 pub seeks-less : (all : List Answer) (place end from more : ℕ) → from ≤ more
     → IsSeeking all (record { place = place; «end» = end; from = from })
     → IsSeeking all (record { place = place; «end» = end; from = more })
-seeks-less all place end from more larger s = record {
-  order = s.order;
-  within = s.within;
-  ahead = record { same = λ m l fits. s.ahead.same m (omega (arith, l, larger)) fits };
-}
+seeks-less all place end from more larger s = grind arith
 
 -- what is said of the token of a number holds as it stands ahead
 pub of-ahead : (P : Option Seen → Type 0) (answer : Lexed) (number : ℕ) (all : List Answer) (place end : ℕ)
@@ -131,6 +90,4 @@ of-ahead P answer number all place end less fits g says s =
 pub until-on : (all new : List Answer) (place : ℕ) → take 1 (drop place all) ++ until_section new
     ≡ until_section (drop place all) → take place all ++ until_section (drop place all) ≡ until_section all
     → take (place + 1) all ++ until_section new ≡ until_section all
-until-on all new place one e = ap (λ (l : List Answer). l ++ until_section new) (take-add place 1 all)
-    ∙ append_assoc (take place all) (take 1 (drop place all)) (until_section new)
-    ∙ ap (λ (l : List Answer). take place all ++ l) one ∙ e
+until-on all new place one e = grind (arith, take-add, append_assoc)

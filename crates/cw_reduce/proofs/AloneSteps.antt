@@ -14,12 +14,9 @@ use Rattle.cw_scraps.specs.declared.leaves.Leaf.{Leaf}
 use Rattle.cw_translator.specs.Recording.{HasRecorded, begun_over, ended_now}
 use Rattle.cw_translator.proofs.Retypings.{retypes, retyped-names}
 use Rattle.cw_rewrite.proofs.WalkSteps.{WalkEnds, Walks, goes-on, walk-ends, walk-reaches, walk-starts}
-use Rattle.cw_rules.specs.declared.codes.Code.TheVariants as code
-use Rattle.cw_rules.specs.declared.tokens.Lexed.TheVariants as lexed
-use Rattle.cw_rules.specs.declared.tokens.TokKind.TheVariants as kind
 use Rattle.cw_reduce.specs.declared.heads.HeadRead.TheVariants as read
 use Rattle.cw_translator.specs.Reading.{after_token}
-use Rattle.cw_translator.specs.Translating.{translated, NameTexts, begin, end_of, head_made, headed_made}
+use Rattle.cw_translator.specs.Translating.{translated, NameTexts, begin, head_made}
 use Rattle.cw_reduce.proofs.HeadMakes.{none-token}
 use Rattle.cw_reduce.proofs.NameSteps.{headed-translated, headed-whole, no-name-token}
 use Rattle.cw_reduce.proofs.Joined.{AllNested}
@@ -74,8 +71,7 @@ module _ (flags : Flags) (store : StoredLists) (names : List Entry) (marks : Mar
   pub alone-recorded : {T : Type 0} (result : Result T Memory) {before begun ended : Option Told}
       → begun ≡ begun_over (scraps_of store.lists (entry_of leaf ∷ [])) before → ended ≡ ended_now begun
       → HasRecorded flags (all_ended flags here_now).known.ended before ended result
-  alone-recorded result {begun = begun} b e = recorded-one flags state result b
-      (sym (ap (λ l. grown_by l begun) alone-log ∙ grown-none begun)) e
+  alone-recorded result {begun = begun} b e = grind (arith, recorded-one, grown_by, alone-log, grown-none)
 
   pub alone-fails : NamesOnTheWay flags [] here_now names
   alone-fails = at_end here_now names
@@ -87,12 +83,10 @@ module _ (flags : Flags) (store : StoredLists) (names : List Entry) (marks : Mar
 
 -- Such a token is no section name and no code of a definition.
 no-definition : (k : TokKind) → MakesLeaf k → is_definition k ≡ false
-no-definition (kind.Code code.Define) makes = cc
-no-definition k makes = cc
+no-definition k makes = grind arith
 
 no-name : (k : TokKind) → MakesLeaf k → is_name_kind k ≡ false
-no-name (kind.Code code.SectionName) makes = cc
-no-name k makes = cc
+no-name k makes = grind arith
 
 module _ (flags : Flags) (named : NameTexts) (nested : AllNested named) (lists : List (List StoredToken))
     (names : List Entry) (marks : List ℕ) (token : Tok) (makes : MakesLeaf token.kind) (rest : List Answer)
@@ -115,8 +109,7 @@ module _ (flags : Flags) (named : NameTexts) (nested : AllNested named) (lists :
   made f n known = ap (λ x. head_made f n x.head (with_names names known)) none
 
   answers-are : with_texts named all ≡ Token (seen token) ∷ with_texts named rest
-  answers-are = ap (λ xs. xs ++ with_texts named rest)
-      (no-name-token named token.kind (seen token) (no-name token.kind makes))
+  answers-are = grind (arith, with_texts, no-name-token, seen, no-name)
 
   module _ (q : Progress) (is : q ≡ after_token token.kind (seen token) first_progress) where
     comes-to : after_answers flags (with_texts named rest) q ≡ after_answers flags (with_texts named all) first_progress
@@ -139,15 +132,13 @@ module _ (flags : Flags) (named : NameTexts) (nested : AllNested named) (lists :
     first-ends r = ends-as first-text first-way r
 
   pub first-start : NamesOfText flags named all names marks names
-  first-start = behind_head lists read.None all names rest-is (made flags named (begin names marks))
-      (behind (here (with_texts named all) first_progress))
+  first-start = grind (arith, rest-is, made, here, with_texts)
 
 -- What a text comes to depends on its nest alone.
 pub same-text : (flags : Flags) (named : NameTexts) (old new : List Answer) (names : List Entry) (marks : List ℕ)
     → nest new ≡ nest old → translated flags named new names marks ≡ translated flags named old names marks
 unfolding translated
-same-text flags named old new names marks same =
-    ap (λ n. end_of flags (headed_made flags named (headed n) (begin names marks))) same
+same-text flags named old new names marks same = grind (arith, headed)
 
 pub same-way : (flags : Flags) (named : NameTexts) (old new : List Answer) (names : List Entry) (marks : List ℕ)
     (entries : List Entry) → nest new ≡ nest old → NamesOfText flags named new names marks entries
@@ -164,9 +155,7 @@ no-note _ note place rest e = cc
 
 pub gives-again : (answers rest : List Answer) (first : Lexed) → Gives (without_notes answers) first rest
     → Gives (without_notes (answers_in first ++ rest)) first rest
-gives-again answers rest (lexed.Note note place) g = absurd (no-note answers note place rest g)
-gives-again answers rest lexed.End g = (ap without_notes g.1, g.1)
-gives-again answers rest _ g = refl
+gives-again answers rest first g = grind (arith, no-note, without_notes)
 
 -- ## A text that goes on
 

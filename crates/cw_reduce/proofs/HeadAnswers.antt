@@ -1,13 +1,12 @@
 -- The words of a head are read from answers one after another.
 use Rattle.cw_reduce.proofs.Terms.{◌≡◌, ℕ, ◌<◌, ◌≤◌, ◌^◌, length, arith, Bool, true, Option, Some, None, List, [], ◌∷◌}
 use Rattle.cw_reduce.proofs.Terms.{◌++◌, option_map, refl, sym, ap, ◌∙◌, subst, list_all, append-nil, both, both-left}
-use Rattle.cw_reduce.proofs.Terms.{both-right, Span, Answer, Token, Begin, Finish, Note, Seen, seen, Gives, Wanted}
-use Rattle.cw_reduce.proofs.Terms.{Lexed, Tok, TokKind, Nest, End, Leaf, Group, group, nests, first_nest, nest}
-use Rattle.cw_reduce.proofs.Terms.{IsNested, nested-behind, nest-token, Entry, StoredToken, LeafForm, token_form}
-use Rattle.cw_reduce.proofs.Terms.{names_with, is_word, NamesWithin, without_notes, answer_words, StartsBelow}
-use Rattle.cw_reduce.proofs.Terms.{answers_in, append_assoc, first_word, form_tokens, later_words, spelled, word_tokens}
+use Rattle.cw_reduce.proofs.Terms.{both-right, Span, Answer, Token, Begin, Note, Seen, seen, Gives, Wanted, Lexed, Tok}
+use Rattle.cw_reduce.proofs.Terms.{TokKind, Nest, End, Leaf, Group, group, nests, first_nest, nest, IsNested}
+use Rattle.cw_reduce.proofs.Terms.{nested-behind, nest-token, Entry, StoredToken, LeafForm, token_form, names_with}
+use Rattle.cw_reduce.proofs.Terms.{is_word, NamesWithin, without_notes, answer_words, StartsBelow, answers_in}
+use Rattle.cw_reduce.proofs.Terms.{append_assoc, first_word, form_tokens, later_words, spelled, word_tokens}
 use Rattle.cw_rules.specs.declared.tokens.Lexed.TheVariants as lexed
-use Rattle.cw_rules.specs.declared.tokens.TokKind.TheVariants as kind
 use Rattle.cw_reduce.proofs.ReadSteps.{gives-is}
 use Rattle.cw_lex.specs.Heads.{Words, no_word, word_before, head_behind, head_words, without_words}
 
@@ -23,24 +22,8 @@ pub record Bare (answers bare : List Answer) : Type 0 where
   pub short : length bare ≤ length answers
 
 pub bare : (answers : List Answer) → Bare answers (without_notes answers)
-bare (Note note place ∷ answers) =
-    let b = bare answers in
-    record {
-      words = b.words;
-      left = b.left;
-      starts = b.starts;
-      same = b.same;
-      nested = b.nested;
-      short = omega (arith, b.short);
-    }
-bare answers = record {
-  words = λ wanted. refl;
-  left = λ wanted. refl;
-  starts = λ limit h. h;
-  same = refl;
-  nested = λ h. h;
-  short = omega arith;
-}
+bare (Note note place ∷ answers) = grind (arith, bare answers)
+bare answers = grind arith
 
 pub token-shorter : (answers new : List Answer) (t : Tok) → Gives (without_notes answers) (lexed.Token t) new
     → length new < length answers
@@ -50,16 +33,13 @@ token-shorter answers new t g =
 -- answers that begin with a token give no other
 pub only-token : (t : Seen) (rest new : List Answer) (answer : Lexed) → Gives (Token t ∷ rest) answer new
     → ((u : Tok) → answer ≡ lexed.Token u → ⊥) → ⊥
-only-token t rest new (lexed.Token u) g n = n u refl
-only-token t rest new lexed.End g n = let h = g.0 in cc
-only-token t rest new _ g n = cc
+only-token t rest new answer g n = grind arith
 
 -- ## Words
 
 pub takes-word : (wanted : Wanted) (k : TokKind) (span : Span) (next : Wanted) → head_behind wanted k span ≡ Some next
     → is_word k ≡ true
-takes-word wanted kind.Identifier span next h = refl
-takes-word wanted k span next h = cc
+takes-word wanted k span next h = grind arith
 
 pub spelled-behind : (first : List Seen) (word : Seen) (names : List Entry) → spelled (first ++ word ∷ []) names
     ≡ record {
@@ -77,9 +57,7 @@ spelled-behind (w ∷ first) word names =
 
 form-is : (o : Option LeafForm) (token : StoredToken) → option_map (λ form. form.tokens) o ≡ Some (token ∷ [])
     → form_tokens o ≡ token ∷ []
-form-is None token h = let k : ◌≡◌ {A = Option (List StoredToken)} None (Some (token ∷ [])) = h in cc
-form-is (Some form) token h =
-    let k : ◌≡◌ {A = Option (List StoredToken)} (Some form.tokens) (Some (token ∷ [])) = h in cc
+form-is o token h = grind arith
 
 -- how far the words have been read
 pub record ReadsWords (wanted₀ : Wanted) (all : List Answer) (names₀ : List Entry) (tokens₀ : List StoredToken)
@@ -101,16 +79,12 @@ pub ends-other : (wanted : Wanted) (rest new : List Answer) (answer : Lexed) →
 ends-other wanted [] new answer g n = record { none = refl; is = sym (gives-is [] new answer g) }
 ends-other wanted (Note note place ∷ rest) new answer g n = let e = ends-other wanted rest new answer g n in
     record { none = e.none; is = e.is }
-ends-other wanted (Begin t ∷ rest) new answer g n = record { none = refl; is = sym (gives-is _ new answer g) }
-ends-other wanted (Finish t ∷ rest) new answer g n = record { none = refl; is = sym (gives-is _ new answer g) }
 ends-other wanted (Token t ∷ rest) new answer g n = absurd (only-token t rest new answer g n)
+ends-other _ _ new answer g _ = record { none = refl; is = sym (gives-is _ new answer g) }
 
 pub ends-token : (wanted : Wanted) (rest new : List Answer) (t : Tok) → Gives (without_notes rest) (lexed.Token t) new
     → head_behind wanted t.kind t.span ≡ None → EndsBefore wanted rest (answers_in (lexed.Token t) ++ new)
-ends-token wanted rest new t g e = record {
-  none = rw ((bare rest).words wanted, g, e, answer_words);
-  is = rw ((bare rest).left wanted, g, e, without_words);
-}
+ends-token wanted rest new t g e = grind (arith, bare rest)
 
 module _ {wanted₀ : Wanted} {all : List Answer} {names₀ : List Entry} {tokens₀ : List StoredToken} {wanted : Wanted}
     {rest : List Answer} {names : List Entry} {tokens : List StoredToken}
@@ -142,10 +116,7 @@ module _ {wanted₀ : Wanted} {all : List Answer} {names₀ : List Entry} {token
       tokens = (spelled r.first names₀).tokens ++ word_tokens (seen t) names;
       names = names_with t.kind t.text.now names;
     }
-    behind = spelled-behind r.first (seen t) names₀ ∙ ap (λ ns. record {
-      tokens = (spelled r.first names₀).tokens ++ word_tokens (seen t) ns;
-      names = names_with t.kind t.text.now ns;
-    }) (sym r.names_are)
+    behind = grind (arith, spelled-behind, seen, spelled, word_tokens, names_with)
 
     here : answer_words wanted rest ≡ seen t ∷ answer_words next new
     here = rw ((bare rest).words wanted, g, e, answer_words)
@@ -154,16 +125,10 @@ module _ {wanted₀ : Wanted} {all : List Answer} {names₀ : List Entry} {token
     there = rw ((bare rest).left wanted, g, e, without_words)
 
     all-words : (r.first ++ seen t ∷ []) ++ answer_words next new ≡ answer_words wanted₀ all
-    all-words = append_assoc r.first (seen t ∷ []) (answer_words next new)
-        ∙ (ap (λ ws. r.first ++ ws) (sym here) ∙ r.words)
+    all-words = grind (arith, append_assoc, seen, answer_words, here)
 
     pub word-within : NamesWithin (answer_words wanted₀ all) names₀ names'
-    word-within = record {
-      first = r.first ++ seen t ∷ [];
-      later = answer_words next new;
-      are = all-words;
-      is = named ∙ ap (λ s. s.names) (sym behind);
-    }
+    word-within = grind (arith, seen, answer_words, all-words, behind)
 
     pub reads-word : (token : StoredToken) (tokens' : List StoredToken)
         → option_map (λ form. form.tokens) (token_form t.kind t.text.now t.hash_line t.span.start names)
@@ -187,14 +152,11 @@ module _ {wanted₀ : Wanted} {all : List Answer} {names₀ : List Entry} {token
 -- ## Words of answers and of their nest
 
 group-words : (wanted : Wanted) (t : Seen) (ns : List Nest) → (head_words wanted (first_nest (group t ns))).words ≡ []
-group-words wanted t (n ∷ m ∷ ns) = refl
-group-words wanted t ns = refl
+group-words wanted t ns = grind arith
 
 pub words-same : (wanted : Wanted) (answers : List Answer) → IsNested answers → (head_words wanted (nest answers)).words
     ≡ answer_words wanted answers
-words-same wanted [] h = refl
 words-same wanted (Begin t ∷ answers) h = group-words wanted t (nests answers)
-words-same wanted (Finish t ∷ answers) h = refl
 words-same wanted (Note note place ∷ answers) h = words-same wanted answers h
 words-same wanted (Token t ∷ answers) h = ap (λ n. (head_words wanted n).words) (nest-token t answers h)
     ∙ by (head_behind wanted t.kind t.span) (λ next. words-same next answers (nested-behind t answers h))
@@ -207,6 +169,7 @@ words-same wanted (Token t ∷ answers) h = ap (λ n. (head_words wanted n).word
         ≡ (elim o as (λ o. List Seen) [ Some next ↦ t ∷ answer_words next answers | None ↦ [] ])
     by None more = refl
     by (Some next) more = ap (λ ws. t ∷ ws) (more next)
+words-same _ _ _ = refl
 
 abbrev pub word_kind : Seen → Bool
 word_kind word = is_word word.kind
@@ -237,12 +200,10 @@ head-words-fit = head-words-by (λ wanted n ws. list_all word_kind ws.words ≡ 
 
 -- the first of two words, and the second
 pub first-all : (p : Seen → Bool) (words : List Seen) → list_all p words ≡ true → list_all p (first_word words) ≡ true
-first-all p [] h = refl
-first-all p (word ∷ words) h = both (p word) true (both-left (p word) (list_all p words) h) refl
+first-all p words h = grind (arith, both, both-left, list_all)
 
 pub later-all : (p : Seen → Bool) (words : List Seen) → list_all p words ≡ true → list_all p (later_words words) ≡ true
-later-all p [] h = refl
-later-all p (word ∷ words) h = both-right (p word) (list_all p words) h
+later-all p words h = grind (arith, both-right, list_all)
 
 pub words-fit : (wanted : Wanted) (answers : List Answer) → IsNested answers
     → list_all word_kind (answer_words wanted answers) ≡ true

@@ -1,6 +1,6 @@
 -- What the head of a definition makes: the tokens of its list, and its scrap. They refer to no list, and their names
 -- are names. Behind that, what stands behind heads, as they are read.
-use Rattle.cw_reduce.proofs.Terms.{if◌then◌else◌, list_all, ltb-true, both-left, both-right, Cat, Exp, NameId, is_entry}
+use Rattle.cw_reduce.proofs.Terms.{list_all, ltb-true, both-left, both-right, Cat, NameId, is_entry}
 use Rattle.cw_reduce.proofs.Terms.{with_entry, Ident as ident_kind, word_form, is_word, names-grow, Wanted, nest}
 use Rattle.cw_reduce.proofs.Terms.{IsNested, ListId, HeadRead, empty-line, keeps-itself, err-if, err-ok, on-err, Token}
 use Rattle.cw_reduce.proofs.Terms.{seen, Gives, is_head_sign, Lexed, Tok, is_name_kind, Nest, Leaf, End, Group, group}
@@ -21,7 +21,7 @@ use Rattle.cw_translator.proofs.OpenLaws.{plain-keeps}
 use Rattle.cw_rules.specs.declared.tokens.Lexed.TheVariants as lexed
 use Rattle.cw_reduce.proofs.ReadSteps.{gives-is}
 use Rattle.cw_translator.specs.Translating.{spelled, form_tokens, word_tokens, first_word, later_words, dollared, dead}
-use Rattle.cw_translator.specs.Translating.{is_macro, NameTexts, head_made}
+use Rattle.cw_translator.specs.Translating.{NameTexts, head_made}
 use Rattle.std.proofs.lemmas.List.Sums.{prefix_len-le-length}
 use Rattle.cw_translator.proofs.Terms.{◌≡◌, ℕ, ◌<◌, Option, Some, None, List, [], ◌∷◌, ◌++◌, length, get_or, refl, sym}
 use Rattle.cw_translator.proofs.Terms.{◌∙◌, arith, Token as StoredToken, shape, ref_of, StoredLists, MayBePushed}
@@ -31,7 +31,7 @@ use Rattle.cw_translator.proofs.Terms.{tree_in-same, token_form, names_with, IsN
 use Rattle.cw_translator.proofs.Terms.{name_in_text, names_in_text, Flags, Answer, IsTied, trees_from, unfolded-new}
 use Rattle.cw_translator.proofs.Terms.{Keeps, scraps_of, roots_of, AreRoots, IsSoundLine, Known, with_names, IsErrAnd}
 use Rattle.cw_translator.proofs.Terms.{Memory, subst, Begin, Note, answers_in}
-use Rattle.std.proofs.Common.{Bool, false, not, nat_lt, Ok, Result, ◌^◌}
+use Rattle.std.proofs.Common.{Bool, false, Ok, Result, ◌^◌}
 use Rattle.cw_reduce.specs.HeadReading.{macro_tokens, format_tokens, with_break, IsLast, HasTokens, answer_words}
 use Rattle.cw_reduce.specs.HeadReading.{head_line, is_definition, read_made, words_in, words_tokens, NamesWithin}
 use Rattle.cw_reduce.specs.HeadReading.{answers_ahead, head_named, without_notes}
@@ -96,29 +96,15 @@ named-tree count trees (_ ∷ ts) h = (h.0, named-tree count trees ts h.1)
 
 form-named : (c : Cat) (name : NameId) (number count : ℕ) → name.index < count
     → AreNamed count (word_form c name number).tokens
-form-named Exp name number count h = (h, tt)
-form-named c name number count h = (h, tt)
+form-named c name number count h = grind arith
 
 place-there : (text : List ℕ) (names : List Entry)
     → place_of ident_kind text names < length (with_entry ident_kind text names)
-place-there text names = by (nat_lt (place_of ident_kind text names) (length names)) refl
-  where
-    new : Entry
-    new = record { kind = ident_kind; text = text; category = Exp }
-
-    by : (b : Bool) → nat_lt (place_of ident_kind text names) (length names) ≡ b
-        → place_of ident_kind text names < length (if b then names else names ++ new ∷ [])
-    by true e = ltb-true (place_of ident_kind text names) (length names) e
-    by false e =
-        let most = prefix_len-le-length (λ entry. not (is_entry ident_kind text entry)) names in
-        omega (arith, length-append names (new ∷ []), most)
+place-there text names = grind (arith, place_of, ident_kind, ltb-true, prefix_len-le-length, is_entry, length-append)
 
 kind-named : (k : TokKind) (text : List ℕ) (hash_line : Bool) (n : ℕ) (names : List Entry) → is_word k ≡ true
     → AreNamed (length (names_with k text names)) (form_tokens (token_form k text hash_line n names))
-kind-named kind.Identifier text hash_line n names h = form-named _ (record { index = place_of ident_kind text names }) n
-    _ (place-there text names)
-kind-named (kind.Sign s) text hash_line n names h = (tt, tt)
-kind-named k text hash_line n names h = absurd cc
+kind-named k text hash_line n names h = grind (arith, form-named, place_of, ident_kind, place-there)
 
 pub spelled-grow : (words : List Seen) (names : List Entry) → length names ≤ length (spelled words names).names
 spelled-grow [] names = omega arith
@@ -143,14 +129,11 @@ record IsOne (ts : List StoredToken) : Type 0 where
   pub is : ts ≡ token ∷ []
 
 form-one : (c : Cat) (name : NameId) (number : ℕ) → IsOne (word_form c name number).tokens
-form-one Exp name number = record { token = token.Ident name number; is = refl }
-form-one c name number = record { token = token.Reserved name number c; is = refl }
+form-one c name number = grind arith
 
 kind-one : (k : TokKind) (text : List ℕ) (hash_line : Bool) (n : ℕ) (names : List Entry) → is_word k ≡ true
     → IsOne (form_tokens (token_form k text hash_line n names))
-kind-one kind.Identifier text hash_line n names h = form-one _ _ n
-kind-one (kind.Sign s) text hash_line n names h = record { token = _; is = refl }
-kind-one k text hash_line n names h = absurd cc
+kind-one k text hash_line n names h = grind (arith, form-one)
 
 -- the first of them, the break, and the others
 pub break-behind : (words : List Seen) (names : List Entry) → list_all word_kind words ≡ true
@@ -169,21 +152,15 @@ break-behind (word ∷ words) names h =
 
 pub later-names : (words : List Seen) (names : List Entry)
     → (spelled (later_words words) (spelled (first_word words) names).names).names ≡ (spelled words names).names
-later-names [] names = refl
-later-names (word ∷ words) names = refl
+later-names words names = grind arith
 
 -- ## The tokens of heads
 
 dollared-named : (count : ℕ) (ts : List StoredToken) → AreNamed count ts → AreNamed count (dollared ts)
-dollared-named count [] h = tt
-dollared-named count (t ∷ ts) h = (tt, named-append count (t ∷ ts) (token.Control control.Dollar ∷ []) h (tt, tt))
+dollared-named count ts h = grind (arith, named-append)
 
 name-named : (count : ℕ) (t : StoredToken) → IsNamed count t → AreNamed count (name_in_text t)
-name-named count t h = by (is_macro t)
-  where
-    by : (b : Bool) → AreNamed count (if b then dollared (t ∷ []) else t ∷ [])
-    by true = (tt, (h, (tt, tt)))
-    by false = (h, tt)
+name-named count t h = grind arith
 
 names-named : (count : ℕ) (ts : List StoredToken) → AreNamed count ts → AreNamed count (names_in_text ts)
 names-named count [] h = tt
@@ -191,17 +168,11 @@ names-named count (t ∷ ts) h =
     named-append count (name_in_text t) (names_in_text ts) (name-named count t h.0) (names-named count ts h.1)
 
 break-named : (count : ℕ) (ts : List StoredToken) → AreNamed count ts → AreNamed count (with_break ts)
-break-named count [] h = (tt, tt)
-break-named count (t ∷ ts) h =
-    named-append count (name_in_text t) (token.Control control.OptionalBreak ∷ names_in_text ts)
-    (name-named count t h.0) (tt, names-named count ts h.1)
+break-named count ts h = grind (arith, named-append, name_in_text, names_in_text, name-named, names-named)
 
 pub macro-named : (count number : ℕ) (ts : List StoredToken) → AreNamed count ts
     → AreNamed count (macro_tokens number ts)
-macro-named count number ts h =
-    let named = named-append count (dollared ts) (token.Control control.OptionalBreak ∷ []) (dollared-named count ts h)
-    (tt, tt) in
-    (tt, (tt, named))
+macro-named count number ts h = grind (arith, named-append, dollared-named)
 
 pub format-named : (count number : ℕ) (ts : List StoredToken) → AreNamed count ts
     → AreNamed count (format_tokens number ts)
@@ -213,28 +184,18 @@ module _ (count number : ℕ) (ts : List StoredToken) (named : AreNamed count (d
     (agrees : scrap_agrees (leaf_scrap (dead number ts))) where
   pub head-plain : (p x : ℕ) → token_ref (slice_get (dead number ts).tokens p) ≡ Some x → ⊥
   head-plain p x e =
-      let a = ref-place (dead number ts).tokens p x e in
-      omega (arith, a.below, ap length (plain-refs count (dead number ts).tokens named))
+      grind (arith, ref-place (dead number ts).tokens p x e, plain-refs count (dead number ts).tokens named)
 
   pub head-tree : (trees : List Tree) → tree_in trees (dead number ts).tokens ≡ tree_in [] (dead number ts).tokens
   head-tree trees = tree_in-same trees [] (dead number ts).tokens (λ q x e. absurd (head-plain q x e))
 
   pub head-good : IsGood count (dead number ts)
-  head-good = record {
-    plain = head-plain;
-    named = λ trees. named-tree count trees (dead number ts).tokens named;
-    agrees = λ trees. ap (λ t. reads t Text) (head-tree trees) ∙ agrees;
-    fine = λ trees. refl;
-  }
+  head-good = grind (arith, head-plain, named-tree, reads, head-tree)
 
 -- ## A list that is new
 
 no-roots : (lists : List (List StoredToken)) → AreRoots lists []
-no-roots lists = record {
-  there = λ i h. absurd (omega arith);
-  free = λ i h l p q. omega arith;
-  apart = λ i j h k q. absurd (omega arith);
-}
+no-roots lists = grind arith
 
 -- what a head makes, over the store
 pub record Makes (old new : StoredLists) (names names' : List Entry) (head : HeadRead) : Type 0 where
@@ -245,9 +206,8 @@ module _ (number : ℕ) (ts : List StoredToken) (list : ListId) (old new : Store
     (named : AreNamed (length names') (dead number ts).tokens) (agrees : scrap_agrees (leaf_scrap (dead number ts)))
     (last : IsLast (dead number ts).tokens list.index old.lists new.lists) where
   pub dead-seen : scraps_of new.lists (head_line (read.Dead list)) ≡ leaf_scrap (dead number ts) ∷ []
-  dead-seen = rw (
-    last.list_is,
-    last.lists,
+  dead-seen = grind (
+    arith,
     unfolded-new old.lists (dead number ts).tokens,
     head-tree (length names') number ts named agrees (trees_from [] old.lists),
   )
@@ -314,11 +274,7 @@ module _ (number : ℕ) (words : List Seen) (old new : StoredLists) (names names
 
   silent-by : (head : HeadRead) → HasTokens None head old.lists new.lists
       → Defines old new names names' head (Silent words)
-  silent-by read.None same = record {
-    made = λ flags named known. rw are;
-    makes = record { sound = empty-line new names' idle; keeps = rw same (keeps-itself old.lists []) };
-  }
-  silent-by _ last = absurd last
+  silent-by head same = grind (arith, empty-line, keeps-itself)
 
 -- Behind the code of a definition: its head, by the answers.
 pub record Behind (k : TokKind) (t : Seen) (answers : List Answer) : Type 0 where
@@ -327,11 +283,7 @@ pub record Behind (k : TokKind) (t : Seen) (answers : List Answer) : Type 0 wher
 
 pub behind : (k : TokKind) (t : Seen) (answers : List Answer) → is_definition k ≡ true → IsNested answers
     → Behind k t answers
-behind (kind.Code code.Define) t answers d h = record { words = words-same wants.Macro answers h; rest = refl }
-behind (kind.Code code.Format) t answers d h = record { words = words-same (wants.First false) answers h; rest = refl }
-behind (kind.Code code.SilentFormat) t answers d h =
-    record { words = words-same (wants.First true) answers h; rest = refl }
-behind k t answers d h = absurd cc
+behind k t answers d h = grind (arith, words-same)
 
 pub definition-defines : (k : TokKind) (t : Seen) (answers : List Answer) (old new : StoredLists)
     (names names' : List Entry) (head : HeadRead) → is_definition k ≡ true → IsNested answers
@@ -348,8 +300,7 @@ definition-defines (kind.Code code.Format) t answers old new names names' head d
     rw same (format-by t.span.start (answer_words (wants.First false) answers) old new names names'
     (words-fit (wants.First false) answers h) are tied was idle head (rw same at fits) has)
 definition-defines (kind.Code code.SilentFormat) t answers old new names names' head d h are tied was idle has =
-    rw (words-same (wants.First true) answers h) (silent-by t.span.start (answer_words (wants.First true) answers) old
-    new names names' (words-fit (wants.First true) answers h) are tied was idle head has)
+    grind (arith, words-same, silent-by, words-fit)
 definition-defines k t answers old new names names' head d h are tied was idle has = absurd cc
 
 -- ## Words that were read into a vector
@@ -357,10 +308,7 @@ definition-defines k t answers old new names names' head d h are tied was idle h
 pub words-plain : (wanted : Wanted) (answers : List Answer) (names : List Entry) (items slice before : List StoredToken)
     → IsNested answers → items ≡ before ++ (spelled (answer_words wanted answers) names).tokens → before ≡ []
     → slice ≡ items → refs_in slice ≡ []
-words-plain wanted answers names items slice before h e none is =
-    let all = spelled (answer_words wanted answers) names in
-    rw (is, e, none) (plain-refs (length all.names) all.tokens
-    (spelled-named (answer_words wanted answers) names (words-fit wanted answers h)))
+words-plain wanted answers names items slice before h e none is = grind (arith, plain-refs, spelled-named, words-fit)
 
 -- ## Definitions
 
@@ -401,12 +349,7 @@ nest-other : (P : Nest → Type 0) → P End → ((t : Seen) (inner rest : Nest)
     → (rest new : List Answer) (answer : Lexed) → Gives (without_notes rest) answer new
     → ((t : Tok) → answer ≡ lexed.Token t → ⊥) → P (nest rest)
 nest-other P none grouped (Note note place ∷ rest) new answer g n = nest-other P none grouped rest new answer g n
-nest-other P none grouped (Begin t ∷ rest) new answer g n = by (nests rest)
-  where
-    by : (ns : List Nest) → P (first_nest (group t ns))
-    by [] = none
-    by (inner ∷ []) = grouped t inner End
-    by (inner ∷ rest ∷ outer) = grouped t inner rest
+nest-other P none grouped (Begin t ∷ rest) new answer g n = grind (arith, nests, first_nest, group)
 nest-other P none grouped (Token t ∷ rest) new answer g n = absurd (only-token t rest new answer g n)
 nest-other P none grouped _ new answer g n = none
 
@@ -434,8 +377,7 @@ module _ (rest new : List Answer) (t : Tok) (g : Gives (without_notes rest) (lex
 
     pub unsigned-token : (name : Seen) → is_head_sign t.kind ≡ false → named_headed name (nest rest)
         ≡ headless (Leaf name (nest rest))
-    unsigned-token name e = ap (named_headed name) token-nest
-        ∙ (ap (sign_headed name (seen t) (nest new)) e ∙ ap (λ n. headless (Leaf name n)) (sym token-nest))
+    unsigned-token name e = grind (arith, token-nest, sign_headed, seen, nest)
 
 -- a name of another kind than text stands in C text
 abbrev NestedOf : TokKind → Seen → List Answer → Type 0
@@ -444,17 +386,14 @@ NestedOf k name list =
 
 nested-by : (k : TokKind) (name : Seen) (rest ahead : List Answer) → NestedOf k name rest → IsNested ahead
     → NestedOf k name ahead
-nested-by kind.Text name rest ahead h i = absurd cc
-nested-by _ name rest ahead h i = i
+nested-by k name rest ahead h i = grind arith
 
 pub name-headed : (k : TokKind) (t : Seen) (n : Nest) → is_name_kind k ≡ true → headed_by k t n ≡ named_headed t n
-name-headed (kind.Code code.SectionName) t n e = refl
-name-headed k t n e = cc
+name-headed k t n e = grind arith
 
 pub none-headed : (k : TokKind) (t : Seen) (n : Nest) → is_definition k ≡ false → is_name_kind k ≡ false
     → headed_by k t n ≡ headless (Leaf t n)
-none-headed (kind.Code code.Define) t n d e = cc
-none-headed k t n d e = cc
+none-headed k t n d e = grind arith
 
 pub token-headed : (rest new : List Answer) (t : Tok) → Gives (without_notes rest) (lexed.Token t) new → IsNested rest
     → headed (nest rest) ≡ headed_by t.kind (seen t) (nest new)
@@ -476,22 +415,11 @@ pub unsigned-signs : {name : Tok} {answer : Lexed} (rest new : List Answer) (b :
     → named_headed (seen name) (nest rest) ≡ headless (Leaf (seen name) (nest rest))
     → Signs (seen name) rest b (answers_ahead b ++ new)
 unsigned-signs {name = name} {answer = answer} rest new b head named next g h s u =
-    let a = ahead-of rest new answer g (nested-behind (seen name) rest h) s.1 in
-    let n : IsNested (Token (seen name) ∷ (answers_in answer ++ new)) =
-    nested-by name.kind (seen name) rest (answers_in answer ++ new) h a.nested in
-    record {
-      head = ap (λ x. x.head) u ∙ ap head_named (sym head);
-      line = ap head_line head;
-      rest_is = rw (named, next) (nest-token (seen name) (answers_in answer ++ new) n ∙ (ap (Leaf (seen name)) a.same
-          ∙ ap (λ x. x.rest) (sym u)));
-      nested = rw (named, next) n;
-      starts = rw (named, next) (s.0, a.starts);
-    }
+    grind (arith, ahead-of, nested-behind, seen, answers_in, nested-by, nest-token)
 
 pub none-token : (rest new : List Answer) (t : Tok) → Gives (without_notes rest) (lexed.Token t) new → IsNested rest
     → is_definition t.kind ≡ false → is_name_kind t.kind ≡ false → headed (nest rest) ≡ headless (nest rest)
-none-token rest new t g h d n = token-headed rest new t g h
-    ∙ (none-headed t.kind (seen t) (nest new) d n ∙ ap headless (sym (token-nest rest new t g h)))
+none-token rest new t g h d n = grind (arith, token-headed, none-headed, seen, nest, token-nest)
 
 -- the head of a named C part, or none
 pub name-token : (rest new : List Answer) (t : Tok) → Gives (without_notes rest) (lexed.Token t) new → IsNested rest
@@ -500,47 +428,21 @@ name-token rest new t g h n = token-headed rest new t g h ∙ name-headed t.kind
 
 pub sign-by : (flags : Flags) (named : NameTexts) (lists : List (List StoredToken)) (known : Known) (head : HeadRead)
     → head_line head ≡ [] → head_made flags named (head_named head) known ≡ read_made flags named lists head known
-sign-by flags named lists known read.None line = refl
-sign-by flags named lists known head line = cc
+sign-by flags named lists known head line = grind arith
 
 pub sign-words : (head : HeadRead) (names : List Entry) → names ≡ (spelled (words_in (head_named head)) names).names
-sign-words read.None names = refl
-sign-words _ names = refl
+sign-words head names = grind arith
 
 -- A call that reads a head is refused.
 pub head-refused : {h : Headed} {old new : StoredLists} {names names' : List Entry} {coming : List Answer}
     {error : Memory} {result : Result Beginning Memory}
     → IsErrAnd result (λ found. found ≡ error) → NamesWithin (words_in h.head) names names' → new.lists ≡ old.lists
     → new.building ≡ None → HeadIsRead h old names new names' coming result
-head-refused {error = error} {result = result} is within same idle = record {
-  made = err-if result error _ is;
-  spelt = err-ok result error _ is;
-  rest = err-if result error _ is;
-  nested = err-if result error _ is;
-  start = err-if result error _ is;
-  sound = err-if result error _ is;
-  keeps = err-if result error _ is;
-  idle = idle;
-  no_names = on-err result _ within;
-  no_lists = on-err result _ same;
-}
+head-refused {error = error} {result = result} is within same idle = grind (arith, err-if, err-ok, on-err)
 
 pub no-head : {names : List Entry} {store : StoredLists} {answer : Lexed} (rest new : List Answer) (b : Beginning)
     → b.head ≡ read.None → b.name ≡ None → b.next ≡ answer → Gives (without_notes rest) answer new → IsNested rest
     → StartsBelow (2 ^ 32) rest → headed (nest rest) ≡ headless (nest rest) → store.building ≡ None
     → HeadIsRead (headed (nest rest)) store names store names new (Ok b)
 no-head {names = names} {store = store} {answer = answer} rest new b none named next g h s u idle =
-    let a = ahead-of rest new answer g h s in
-    record {
-      made = λ flags texts known. ap (λ x. head_made flags texts x.head (with_names names known)) u
-          ∙ ap (λ x. read_made flags texts store.lists x (with_names names known)) (sym none);
-      spelt = ap (λ x. (spelled (words_in x.head) names).names) (sym u);
-      rest = rw (named, next) (a.same ∙ ap (λ x. x.rest) (sym u));
-      nested = rw (named, next) a.nested;
-      start = rw (named, next) a.starts;
-      sound = rw none (empty-line store names idle);
-      keeps = rw none (keeps-itself store.lists []);
-      idle = idle;
-      no_names = tt;
-      no_lists = tt;
-    }
+    grind (arith, ahead-of, with_names, empty-line, keeps-itself)

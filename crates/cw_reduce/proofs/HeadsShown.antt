@@ -1,20 +1,20 @@
 -- The words of heads stand in the tree of a translation as well, and read from text, they end in text. So do whole
 -- texts; their steps are at most the limit.
 use Rattle.std.proofs.Common.{if◌then◌else◌}
-use Rattle.cw_reduce.proofs.Terms.{◌≡◌, ℕ, Bool, true, false, Option, Some, List, [], ◌∷◌, ◌++◌, refl, sym, ap, ◌∙◌}
-use Rattle.cw_reduce.proofs.Terms.{list_all, append-nil, Cat, Exp, TexLike, Flags, MathMode, Text, Math, Span, Answer}
-use Rattle.cw_reduce.proofs.Terms.{Seen, is_head_sign, Wanted, TokKind, Head, Headless, Macro, Format, Silent, Named}
-use Rattle.cw_reduce.proofs.Terms.{Headed, headed, headed_by, headless, named_headed, head_behind, head_words, Nest}
-use Rattle.cw_reduce.proofs.Terms.{Leaf, nest, NameId, Entry, reads, StoredToken as Token, tree_in, sign_mode}
-use Rattle.cw_reduce.proofs.Terms.{token_form, word_form, names_with, is_word, InnersRead, ReadsInText, Known}
-use Rattle.cw_reduce.proofs.Terms.{leaf_scrap, sign_behind, names_in_text, names-append, struck, starts, scrap_agrees}
-use Rattle.cw_reduce.proofs.Terms.{append_assoc, IsWell, ◌≤◌, arith, State, productions-sound, ticks_in, limit_in}
-use Rattle.cw_reduce.proofs.Terms.{is_some, None, Dead, IsNested, list_if, nest-well, shown_in, shown_head, shown}
-use Rattle.cw_reduce.proofs.Terms.{ticks-most, limit-one, limits-more, ticks-more, ticks-one}
-use Rattle.cw_rules.specs.declared.codes.Code.TheVariants as code
+use Rattle.std.proofs.lemmas.Bool.Decides.{nat_tests}
+use Rattle.std.proofs.lemmas.Grind.{common_steps}
+use Rattle.cw_reduce.proofs.Terms.{◌≡◌, ℕ, Bool, true, false, Option, Some, List, [], ◌∷◌, ◌++◌, refl, ap, ◌∙◌}
+use Rattle.cw_reduce.proofs.Terms.{list_all, append-nil, Cat, Flags, MathMode, Text, Math, Span, Answer, Seen}
+use Rattle.cw_reduce.proofs.Terms.{is_head_sign, Wanted, TokKind, Head, Headless, Macro, Format, Silent, Named, Headed}
+use Rattle.cw_reduce.proofs.Terms.{headed, headed_by, headless, named_headed, head_behind, head_words, Nest, Leaf, nest}
+use Rattle.cw_reduce.proofs.Terms.{NameId, Entry, reads, StoredToken as Token, tree_in, sign_mode, token_form}
+use Rattle.cw_reduce.proofs.Terms.{word_form, names_with, is_word, InnersRead, ReadsInText, Known, leaf_scrap}
+use Rattle.cw_reduce.proofs.Terms.{sign_behind, names_in_text, names-append, struck, starts, scrap_agrees, append_assoc}
+use Rattle.cw_reduce.proofs.Terms.{IsWell, ◌≤◌, arith, State, productions-sound, ticks_in, limit_in, is_some, Dead}
+use Rattle.cw_reduce.proofs.Terms.{IsNested, list_if, nest-well, shown_in, shown_head, shown, ticks-most, limit-one}
+use Rattle.cw_reduce.proofs.Terms.{limits-more, ticks-more, ticks-one}
 use Rattle.cw_lex.specs.declared.heads.Wanted.TheVariants as wants
 use Rattle.cw_rules.specs.declared.signs.Sign.{Sign}
-use Rattle.cw_rules.specs.declared.signs.Sign.TheVariants as sign
 use Rattle.cw_rules.specs.declared.tokens.TokKind.TheVariants as kind
 use Rattle.cw_trees.specs.declared.Control.TheVariants as control
 use Rattle.cw_tokens.specs.declared.token.Token.TheVariants as token
@@ -27,7 +27,7 @@ use Rattle.cw_reduce.proofs.ShownLaws.{reads-made, reads-leaf, reads-headed-name
 use Rattle.cw_reduce.proofs.ShownLaws.{shows-beside, shows-made, shows-name, struck-end, struck-parts}
 use Rattle.cw_table.specs.Productions.{productions}
 use Rattle.cw_base.proofs.TestLaws.{both, both-left, both-right}
-use Rattle.cw_trees.specs.Joining.{leads_on, stays}
+use Rattle.cw_trees.specs.Joining.{stays}
 
 -- Tokens that lead from one mode to another, hold no inner text, and show these numbers.
 pub record Spells (from to : MathMode) (tokens : List Token) (numbers : List ℕ) : Type 0 where
@@ -40,12 +40,7 @@ spells-none mode = record { leads = λ rest. refl; inners = λ rest h. h; shows 
 
 spells-append : {l m n : MathMode} {a b : List Token} {p q : List ℕ} → Spells l m a p → Spells m n b q
     → Spells l n (a ++ b) (p ++ q)
-spells-append {a = a} {b = b} {p = p} {q = q} s t = record {
-  leads = λ rest. rw (append_assoc a b rest) (s.leads (b ++ rest) ∙ t.leads rest);
-  inners = λ rest h. rw (append_assoc a b rest) (s.inners (b ++ rest) (t.inners rest h));
-  shows = λ rest. rw (append_assoc a b rest, append_assoc p q (struck (tree_in [] rest)))
-      (s.shows (b ++ rest) ∙ ap (λ ns. p ++ ns) (t.shows rest));
-}
+spells-append {a = a} {b = b} {p = p} {q = q} s t = grind (arith, append_assoc, struck, tree_in)
 
 pub spells-numbers : {from to : MathMode} {tokens : List Token} {numbers : List ℕ} → Spells from to tokens numbers
     → struck (tree_in [] tokens) ≡ numbers
@@ -53,26 +48,18 @@ spells-numbers s = simp append-nil at (s.shows [])
 
 word-spells : (mode : MathMode) (c : Cat) (name : NameId) (n : ℕ)
     → Spells mode mode (word_form c name n).tokens (n ∷ [])
-word-spells mode Exp name n = record { leads = λ rest. refl; inners = λ rest h. h; shows = λ rest. refl }
-word-spells mode _ name n = record { leads = λ rest. refl; inners = λ rest h. h; shows = λ rest. refl }
+word-spells mode c name n = grind arith
 
 sign-math : (s : Sign) → stays (sign_mode s) Math ≡ Some Math
-sign-math sign.LeftParen = refl
-sign-math _ = refl
+sign-math s = grind arith
 
 sign-spells : (s : Sign) (n : ℕ) → Spells Math Math (token.Source n (sign_mode s) ∷ []) (n ∷ [])
-sign-spells s n = record {
-  leads = λ rest. ap (λ o. leads_on o (reads (tree_in [] rest))) (sign-math s);
-  inners = λ rest h. h;
-  shows = λ rest. refl;
-}
+sign-spells s n = grind (arith, reads, tree_in, sign-math)
 
 -- identifiers and signs in math
 kind-spells : (k : TokKind) (text : List ℕ) (hash_line : Bool) (n : ℕ) (names : List Entry) → is_word k ≡ true
     → Spells Math Math (form_tokens (token_form k text hash_line n names)) (n ∷ [])
-kind-spells kind.Identifier text hash_line n names h = word-spells Math _ _ n
-kind-spells (kind.Sign s) text hash_line n names h = sign-spells s n
-kind-spells k text hash_line n names h = absurd cc
+kind-spells k text hash_line n names h = grind (arith, word-spells, sign-spells)
 
 spelled-spells : (words : List Seen) (names : List Entry) → list_all word_kind words ≡ true
     → Spells Math Math (spelled words names).tokens (starts words)
@@ -85,13 +72,8 @@ spelled-spells (word ∷ words) names h = spells-append
 dollared-spells : (tokens : List Token) (numbers : List ℕ) → Spells Math Math tokens numbers
     → Spells Text Text (dollared tokens) numbers
 dollared-spells [] numbers s = record { leads = λ rest. refl; inners = λ rest h. h; shows = s.shows }
-dollared-spells (t ∷ ts) numbers s = rw (← append-nil numbers) (spells-append in_math (spells-append s out_of_math))
-  where
-    in_math : Spells Text Math (token.Control control.Dollar ∷ []) []
-    in_math = record { leads = λ rest. refl; inners = λ rest h. h; shows = λ rest. refl }
-
-    out_of_math : Spells Math Text (token.Control control.Dollar ∷ []) []
-    out_of_math = record { leads = λ rest. refl; inners = λ rest h. h; shows = λ rest. refl }
+dollared-spells (t ∷ ts) numbers s =
+    grind (arith, nat_tests, common_steps, append-nil numbers, append-nil, spells-append)
 
 break-spells : Spells Text Text (token.Control control.OptionalBreak ∷ []) []
 break-spells = record { leads = λ rest. refl; inners = λ rest h. h; shows = λ rest. refl }
@@ -106,13 +88,11 @@ name_kind word = is_name word.kind
 
 word-in-text : (c : Cat) (name : NameId) (n : ℕ)
     → Spells Text Text (names_in_text (word_form c name n).tokens) (n ∷ [])
-word-in-text TexLike name n = record { leads = λ rest. refl; inners = λ rest h. h; shows = λ rest. refl }
-word-in-text _ name n = record { leads = λ rest. refl; inners = λ rest h. h; shows = λ rest. refl }
+word-in-text c name n = grind arith
 
 name-in-text : (k : TokKind) (text : List ℕ) (hash_line : Bool) (n : ℕ) (names : List Entry) → is_name k ≡ true
     → Spells Text Text (names_in_text (form_tokens (token_form k text hash_line n names))) (n ∷ [])
-name-in-text kind.Identifier text hash_line n names h = word-in-text _ _ n
-name-in-text k text hash_line n names h = absurd cc
+name-in-text k text hash_line n names h = grind (arith, word-in-text)
 
 names-spell : (words : List Seen) (names : List Entry) → list_all name_kind words ≡ true
     → Spells Text Text (names_in_text (spelled words names).tokens) (starts words)
@@ -160,14 +140,7 @@ some-wanted a b e = cc
 
 takes-text : (wanted : Wanted) (k : TokKind) (span : Span) (next : Wanted) → is_names wanted ≡ true
     → head_behind wanted k span ≡ Some next → (is_name k ≡ true) × (is_names next ≡ true)
-takes-text (wants.First silent) kind.Identifier span next n h =
-    (refl, ap is_names (sym (some-wanted (wants.Second silent) next h)))
-takes-text (wants.First silent) (kind.Sign sign.LeftParen) span next n h = absurd cc
-takes-text (wants.Second silent) kind.Identifier span next n h =
-    (refl, ap is_names (sym (some-wanted wants.Nothing next h)))
-takes-text (wants.Second silent) (kind.Sign sign.LeftParen) span next n h = absurd cc
-takes-text wants.Nothing (kind.Sign sign.LeftParen) span next n h = absurd cc
-takes-text _ k span next n h = absurd cc
+takes-text wanted k span next n h = grind (arith, some-wanted)
 
 words-text : (wanted : Wanted) (n : Nest) → is_names wanted ≡ true
     → list_all name_kind (head_words wanted n).words ≡ true
@@ -195,27 +168,16 @@ words-rest = head-words-by (λ wanted n ws. IsWell false n → IsWell false ws.r
     (λ wanted next t rest e more w. more w.1)
 
 sign-fits : (b : Bool) (t s : Seen) (rest : Nest) → IsFit (Leaf t (Leaf s rest)) (sign_headed t s rest b)
-sign-fits true t s rest = record { head = tt; rest = λ w. w.1.1 }
-sign-fits false t s rest = record { head = tt; rest = λ w. w }
+sign-fits b t s rest = grind arith
 
 named-fits : (t : Seen) (rest : Nest) → IsFit (Leaf t rest) (named_headed t rest)
-named-fits t (Leaf s rest) = sign-fits (is_head_sign s.kind) t s rest
-named-fits t rest = record { head = tt; rest = λ w. w }
+named-fits t rest = grind (arith, sign-fits, is_head_sign)
 
 pub fits-by : (k : TokKind) (t : Seen) (rest : Nest) → IsFit (Leaf t rest) (headed_by k t rest)
-fits-by (kind.Code code.Define) t rest =
-    record { head = head-words-fit wants.Macro rest; rest = λ w. words-rest wants.Macro rest w.1 }
-fits-by (kind.Code code.Format) t rest =
-    record { head = words-text (wants.First false) rest refl; rest = λ w. words-rest (wants.First false) rest w.1 }
-fits-by (kind.Code code.SilentFormat) t rest =
-    record { head = tt; rest = λ w. words-rest (wants.First true) rest w.1 }
-fits-by (kind.Code code.SectionName) t rest = named-fits t rest
-fits-by (kind.Code code.FileName) t rest = named-fits t rest
-fits-by k t rest = record { head = tt; rest = λ w. w }
+fits-by k t rest = grind (arith, head-words-fit, words-rest, words-text, named-fits)
 
 pub head-fits : (n : Nest) → IsFit n (headed n)
-head-fits (Leaf t rest) = fits-by t.kind t rest
-head-fits n = record { head = tt; rest = λ w. w }
+head-fits n = grind (arith, fits-by)
 
 pub reads-head : (flags : Flags) (named : ℕ → Option (List (List Answer))) (h : Head) (known : Known) → HeadFits h
     → IsFineKnown known → IsSoundMade (head_made flags named h known)
@@ -268,24 +230,20 @@ ticks-within flags named answers names marks =
 shows-named-head : (flags : Flags) (o : Option (List (List Answer))) (number sign : ℕ) (known : Known)
     → Shows false (texts_named flags o Dead Text (sign_behind sign) number known) (list_if (is_some o) (number ∷ [])
     ++ list_if (is_some o) (sign ∷ []))
-shows-named-head flags None number sign known = refl
-shows-named-head flags (Some parts) number sign known =
-    ap (λ ns. number ∷ (ns ++ [])) (struck-parts flags parts _ known)
+shows-named-head flags o number sign known = grind (arith, struck-parts)
 
 -- the two names of a format definition
 starts-split : (words : List Seen) → starts (first_word words) ++ starts (later_words words) ≡ starts words
-starts-split [] = refl
-starts-split (word ∷ words) = refl
+starts-split words = grind arith
 
 shows-head : (flags : Flags) (named : ℕ → Option (List (List Answer))) (h : Head) (known : Known) → HeadFits h
     → Shows false (head_made flags named h known) (shown_head (λ n. is_some (named n)) h)
-shows-head flags named Headless known w = refl
-shows-head flags named (Silent words) known w = refl
 shows-head flags named (Macro number words) known w = append-nil _ ∙ ap (λ ns. number ∷ ns)
     (spells-numbers (macro-spells words known.names w) ∙ append-nil (starts words))
 shows-head flags named (Format number words) known w = append-nil _ ∙ ap (λ ns. number ∷ ns)
     (spells-numbers (format-spells words known.names w) ∙ starts-split words)
 shows-head flags named (Named number sign) known w = shows-named-head flags (named number) number sign known
+shows-head _ _ _ _ _ = refl
 
 pub translated-shown : (flags : Flags) (named : ℕ → Option (List (List Answer))) (answers : List Answer)
     (names : List Entry) (marks : List ℕ) → IsNested answers → struck (translated flags named answers names marks).tree

@@ -1,29 +1,30 @@
 -- A translation on its way comes to the translation that is defined over the nest, also with section names.
+use Rattle.std.proofs.lemmas.Bool.Decides.{nat_tests}
+use Rattle.std.proofs.lemmas.Grind.{common_steps}
 use Rattle.cw_reduce.proofs.Terms.{◌≡◌, ℕ, Option, Some, None, List, [], ◌∷◌, refl, sym, ◌∙◌, ap, append-nil, Flags}
 use Rattle.cw_reduce.proofs.Terms.{Answer, Token, Begin, Finish, Note, Seen, TokKind, Nest, End, leaf, group, nests}
-use Rattle.cw_reduce.proofs.Terms.{Level, InCode, InComment, after_token as level_token, after_begin as level_begin}
+use Rattle.cw_reduce.proofs.Terms.{Level, InCode, after_token as level_token, after_begin as level_begin}
 use Rattle.cw_reduce.proofs.Terms.{after_finish as level_finish, levels_after, all_levels_after, Scrap, LeafForm}
 use Rattle.cw_reduce.proofs.Terms.{token_form, names_with, Frame, CText, Comment, with_scrap, with_item, with_form}
 use Rattle.cw_reduce.proofs.Terms.{Progress, after_answers, CommentItem, Piece, InnerText, comment_scrap, leaf_scrap}
 use Rattle.cw_reduce.proofs.Terms.{Known, with_names, get_or, All-map, append_assoc, ◌++◌, map, arith, All, slice_get}
 use Rattle.cw_reduce.proofs.Terms.{IfSome, All-head, All-tail, SectionScrap, Maybe, Span, tokens_of, inner_mode, nest}
 use Rattle.cw_reduce.proofs.Terms.{IsNested, until_section, inner_parts, NameUse, name_at, SecKind, Tree, Empty, Then}
-use Rattle.cw_reduce.proofs.Terms.{Source, Sign, Holder, name_texts, parts_by_kind, texts_kept, texts_of_name}
-use Rattle.cw_reduce.proofs.Terms.{held_answers, name_answers, text_answers, text_token, texts_answers, token_answers}
-use Rattle.cw_reduce.proofs.Terms.{with_texts, all_ended, after-append}
+use Rattle.cw_reduce.proofs.Terms.{Sign, Holder, name_texts, parts_by_kind, texts_kept, texts_of_name, held_answers}
+use Rattle.cw_reduce.proofs.Terms.{name_answers, text_answers, text_token, texts_answers, token_answers, with_texts}
+use Rattle.cw_reduce.proofs.Terms.{all_ended, after-append}
 use Rattle.cw_lex.proofs.Nests.{SameSize, some-levels, first-levels, nests-size, nests-nested}
 use Rattle.cw_rules.specs.declared.codes.Code.TheVariants as code
 use Rattle.cw_rules.specs.declared.tokens.TokKind.TheVariants as kind
 use Rattle.cw_translator.specs.declared.holders.Holder.TheVariants as holder
 use Rattle.cw_translator.specs.Reading.{extended, with_made, ended_in, with_held, after_token, after_begin}
 use Rattle.cw_translator.specs.Reading.{after_finish}
-use Rattle.cw_secnames.specs.declared.kinds.SecKind.TheVariants.{Named, File}
 use Rattle.cw_trees.specs.declared.Control.TheVariants as control
 use Rattle.cw_translator.specs.Holders.{held_cat, held_mode, held_tree, name_rest, name_tree}
 use Rattle.cw_secnames.specs.Kept.{SecName}
-use Rattle.cw_translator.specs.Translating.{Made, nothing, one_item, beside, made_before, end_of, as_item, form_made}
-use Rattle.cw_translator.specs.Translating.{token_made, group_made, made, no_name, plain_text, NameTexts, texts_made}
-use Rattle.cw_translator.specs.Translating.{texts_named, leaf_of_name}
+use Rattle.cw_translator.specs.Translating.{Made, nothing, one_item, beside, made_before, end_of, form_made, token_made}
+use Rattle.cw_translator.specs.Translating.{group_made, made, no_name, plain_text, NameTexts, texts_made, texts_named}
+use Rattle.cw_translator.specs.Translating.{leaf_of_name}
 use Rattle.cw_lex.proofs.Nesting.{parts-nested as c-parts-nested}
 
 abbrev pub level : Flags → (ℕ → Known → Made) → Nest → Progress → Progress
@@ -41,37 +42,25 @@ run flags name [] a = a
 run flags name (n ∷ ns) a = outer flags name ns (level flags name n a)
 
 pub extended-nothing : (frames : List Frame) (known : Known) → extended (nothing known) frames ≡ frames
-extended-nothing [] known = refl
-extended-nothing (CText scraps ∷ frames) known = ap (λ ss. CText ss ∷ frames) (append-nil scraps)
-extended-nothing (Comment held_by items ∷ frames) known = ap (λ is. Comment held_by is ∷ frames) (append-nil items)
+extended-nothing frames known = grind (arith, append-nil)
 
 extended-beside : (a b : Made) (frames : List Frame) → extended (beside a b) frames ≡ extended b (extended a frames)
-extended-beside a b [] = refl
-extended-beside a b (CText scraps ∷ frames) = ap (λ ss. CText ss ∷ frames) (sym (append_assoc scraps a.scraps b.scraps))
-extended-beside a b (Comment held_by items ∷ frames) =
-    ap (λ is. Comment held_by is ∷ frames) (sym (append_assoc items a.items b.items))
+extended-beside a b frames = grind (arith, append_assoc)
 
 extended-item : (item : CommentItem) (known : Known) (frames : List Frame) → with_item item frames
     ≡ extended (one_item item known) frames
-extended-item item known [] = refl
-extended-item item known (CText scraps ∷ frames) = ap (λ ss. CText ss ∷ frames) (sym (append-nil scraps))
-extended-item item known (Comment held_by items ∷ frames) = refl
+extended-item item known frames = grind (arith, append-nil)
 
 pub extended-scrap : (scrap : Scrap) (known : Known) (frames : List Frame) → with_scrap scrap frames
     ≡ extended (record { scraps = scrap ∷ []; items = []; known = known }) frames
-extended-scrap scrap known [] = refl
-extended-scrap scrap known (CText scraps ∷ frames) = refl
-extended-scrap scrap known (Comment held_by items ∷ frames) =
-    ap (λ is. Comment held_by is ∷ frames) (sym (append-nil items))
+extended-scrap scrap known frames = grind (arith, append-nil)
 
 extended-form : (form : Option LeafForm) (known : Known) (frames : List Frame) → with_form form frames
     ≡ extended (form_made form known) frames
-extended-form None known frames = sym (extended-nothing frames known)
-extended-form (Some form) known frames = extended-scrap (leaf_scrap form) known frames
+extended-form form known frames = grind (arith, extended-nothing, extended-scrap, leaf_scrap)
 
 form-known : (form : Option LeafForm) (known : Known) → (form_made form known).known ≡ known
-form-known None known = refl
-form-known (Some form) known = refl
+form-known form known = grind arith
 
 pub level-before : (flags : Flags) (name : ℕ → Known → Made) (m : Made) (n : Nest) (frames : List Frame)
     → with_made frames (made_before m (made flags name n)) ≡ level flags name n (with_made frames m)
@@ -98,10 +87,7 @@ level-comment : (flags : Flags) (name : ℕ → Known → Made) (token : Seen) (
     ≡ with_made a.frames (made_before (group_made flags kind.LongComment token (made flags name inner a.known))
     (made flags name rest))
 level-comment flags name token inner rest a =
-    let m = made flags name inner a.known in
-    ap (λ fs. level flags name rest (record { frames = fs; known = m.known }))
-    (extended-scrap (comment_scrap token.span.start m.items) m.known a.frames)
-    ∙ sym (level-before flags name (group_made flags kind.LongComment token m) rest a.frames)
+    grind (arith, nat_tests, common_steps, extended-scrap, comment_scrap, level-before)
 
 abbrev pub pushed : TokKind → ℕ → List Frame → List Frame
 pushed kind.InnerText number frames = CText [] ∷ frames
@@ -109,21 +95,13 @@ pushed k number frames = Comment (holder.Comment number) [] ∷ frames
 
 pub step-begin : (k : TokKind) (number : ℕ) (levels next : List Level) (a : Progress) → level_begin k levels ≡ Some next
     → after_begin k number a ≡ record { frames = pushed k number a.frames; known = a.known }
-step-begin kind.InnerText number levels next a h = refl
-step-begin k number levels next a h = cc
+step-begin k number levels next a h = grind arith
 
 level-begin : (flags : Flags) (name : ℕ → Known → Made) (k : TokKind) (token : Seen) (inner rest : Nest)
     (levels next : List Level) (a : Progress) → level_begin k levels ≡ Some next → level flags name rest
     (closed flags (level flags name inner (record { frames = pushed k token.span.start a.frames; known = a.known })))
     ≡ with_made a.frames (made_before (group_made flags k token (made flags name inner a.known)) (made flags name rest))
-level-begin flags name kind.InnerText token inner rest levels next a h =
-    let text = end_of flags (made flags name inner a.known) in
-    ap (λ fs. level flags name rest (record { frames = fs; known = text.known }))
-    (extended-item (InnerText text.tree) text.known a.frames)
-    ∙ sym (level-before flags name (as_item text) rest a.frames)
-level-begin flags name kind.LongComment token inner rest levels next a h = level-comment flags name token inner rest a
-level-begin flags name kind.ShortComment token inner rest levels next a h = level-comment flags name token inner rest a
-level-begin flags name k token inner rest levels next a h = absurd cc
+level-begin flags name k token inner rest levels next a h = grind (arith, extended-item, level-before, level-comment)
 
 -- All answers.
 abbrev pub IsTwo : List Level → Type 0
@@ -131,20 +109,13 @@ IsTwo (l ∷ m ∷ ls) = Unit {0}
 IsTwo ls = ⊥
 
 token-some : (k : TokKind) (levels : List Level) → level_token k levels ≡ Some [] → ⊥
-token-some kind.Text (InComment ∷ levels) h = cc
-token-some k (InCode ∷ levels) h = cc
-token-some k levels h = cc
+token-some k levels h = grind arith
 
 pub begin-two : (k : TokKind) (levels next : List Level) → level_begin k levels ≡ Some next → IsTwo next
-begin-two kind.InnerText (InComment ∷ levels) next h = rw (sym (some-levels (InCode ∷ InComment ∷ levels) next h)) tt
-begin-two kind.LongComment (InCode ∷ levels) next h = rw (sym (some-levels (InComment ∷ InCode ∷ levels) next h)) tt
-begin-two kind.ShortComment (InCode ∷ levels) next h = rw (sym (some-levels (InComment ∷ InCode ∷ levels) next h)) tt
-begin-two k levels next h = absurd cc
+begin-two k levels next h = grind (arith, some-levels)
 
 finish-some : (levels : List Level) → level_finish levels ≡ Some [] → ⊥
-finish-some (InCode ∷ InComment ∷ levels) h = cc
-finish-some (InComment ∷ InCode ∷ levels) h = cc
-finish-some levels h = cc
+finish-some levels h = grind arith
 
 -- what an answer steps to
 abbrev stepped : Flags → (ℕ → Known → Made) → Answer → Progress → Progress
@@ -157,35 +128,23 @@ module _ (flags : Flags) (name : ℕ → Known → Made) where
   run-leaf : (token : Seen) (ns : List Nest) (levels next : List Level) (a : Progress)
       → level_token token.kind levels ≡ Some next → SameSize ns next
       → run flags name ns (stepped flags name (Token token) a) ≡ run flags name (leaf token ns) a
-  run-leaf token ns levels [] a h s = absurd (token-some token.kind levels h)
-  run-leaf token [] levels (l ∷ ls) a h s = absurd s
-  run-leaf token (n ∷ ns) levels (l ∷ ls) a h s =
-      ap (outer flags name ns) (sym (level-before flags name (token_made name token.kind token a.known) n a.frames))
+  run-leaf token ns levels next a h s = grind (arith, token-some, level-before)
 
   run-end : (ns : List Nest) (levels next : List Level) (a : Progress) → level_finish levels ≡ Some next
       → SameSize ns next → run flags name ns (closed flags a) ≡ run flags name (End ∷ ns) a
-  run-end ns levels [] a h s = absurd (finish-some levels h)
-  run-end [] levels (l ∷ ls) a h s = absurd s
-  run-end (n ∷ ns) levels (l ∷ ls) a h s = rw (extended-nothing a.frames a.known)
+  run-end ns levels next a h s = grind (arith, finish-some, extended-nothing)
 
   run-group : (token : Seen) (ns : List Nest) (levels next : List Level) (a : Progress)
       → level_begin token.kind levels ≡ Some next → IsTwo next → SameSize ns next
       → run flags name ns (record { frames = pushed token.kind token.span.start a.frames; known = a.known })
       ≡ run flags name (group token ns) a
-  run-group token (inner ∷ rest ∷ ns) levels (l ∷ m ∷ ls) a h two s =
-      ap (outer flags name ns) (level-begin flags name token.kind token inner rest levels (l ∷ m ∷ ls) a h)
-  run-group token ns levels (l ∷ m ∷ ls) a h two s = absurd s
-  run-group token ns levels next a h two s = absurd two
+  run-group token ns levels next a h two s = grind (arith, level-begin)
 
   run-one : (answer : Answer) (answers : List Answer) (levels next : List Level) (a : Progress)
       → levels_after answer levels ≡ Some next → SameSize (nests answers) next
       → run flags name (nests answers) (stepped flags name answer a) ≡ run flags name (nests (answer ∷ answers)) a
-  run-one (Token token) answers levels next a h s = run-leaf token (nests answers) levels next a h s
-  run-one (Begin token) answers levels next a h s =
-      ap (run flags name (nests answers)) (step-begin token.kind token.span.start levels next a h)
-      ∙ run-group token (nests answers) levels next a h (begin-two token.kind levels next h) s
-  run-one (Finish token) answers levels next a h s = run-end (nests answers) levels next a h s
-  run-one (Note note place) answers levels next a h s = refl
+  run-one answer answers levels next a h s =
+      grind (arith, nat_tests, common_steps, run-leaf, nests, step-begin, run-group, begin-two, run-end)
 
   -- answers of which each steps so, with texts or without
   module _ (texts : List Answer → List Answer) (none : texts [] ≡ []) (one : (answer : Answer) (answers : List Answer)
@@ -201,14 +160,12 @@ module _ (flags : Flags) (name : ℕ → Known → Made) where
 
     run-nested : (answers : List Answer) (a : Progress) → IsNested answers
         → after_answers flags (texts answers) a ≡ level flags name (nest answers) a
-    run-nested answers a h = run-all answers (InCode ∷ []) a h
-        ∙ ap (λ ns. run flags name ns a) (nests-nested answers h)
+    run-nested answers a h = grind (arith, run-all, nests-nested)
 
 -- An inner text of a name.
 plain-one : (flags : Flags) (answer : Answer) (answers : List Answer) (a : Progress)
     → after_answers flags (answer ∷ answers) a ≡ after_answers flags answers (stepped flags no_name answer a)
-plain-one flags (Token token) answers a = ap (after_answers flags answers) (step-token token.kind token a)
-plain-one flags _ answers a = refl
+plain-one flags answer answers a = grind (arith, after_answers, step-token)
 
 text-law : (flags : Flags) (text : List Answer) (p : Progress) → IsNested text
     → after_answers flags (text_answers text) p ≡ ended_in p.frames (plain_text flags text p.known)
@@ -236,8 +193,7 @@ texts-law : (flags : Flags) (texts : List (List Answer)) (held_by : Holder) (ite
       frames = Comment held_by (items ++ text_items flags texts known) ∷ frames;
       known = (texts_made flags texts behind known).known;
     }
-texts-law flags [] held_by items frames behind known nested =
-    ap (λ xs. record { frames = Comment held_by xs ∷ frames; known = known }) (sym (append-nil items))
+texts-law flags [] held_by items frames behind known nested = grind (arith, append-nil)
 texts-law flags (text ∷ texts) held_by items frames behind known nested =
     let p : Progress = record { frames = Comment held_by items ∷ frames; known = known } in
     let t = plain_text flags text known in
@@ -254,20 +210,7 @@ pub name-law : (flags : Flags) (texts : List (List Answer)) (held_by : Holder) (
     → All IsNested texts → after_answers flags (held_answers texts) (with_held held_by p)
     ≡ with_made p.frames (texts_named flags (Some texts) (held_cat held_by) (held_mode held_by) behind number p.known)
 name-law flags texts held_by number behind p is nested =
-    let text = texts_made flags texts (Then (Sign control.NameEnd) behind) p.known in
-    let items = text_items flags texts p.known in
-    rw (
-      after-append flags (texts_answers texts) (Finish text_token ∷ []) (with_held held_by p),
-      texts-law flags texts held_by [] p.frames (Then (Sign control.NameEnd) behind) p.known nested,
-      is items,
-      items-tree flags texts behind p.known,
-      extended-scrap (record {
-        cat = held_cat held_by;
-        tree = Then (Source number Maybe) text.tree;
-        left = held_mode held_by;
-        right = held_mode held_by;
-      }) text.known p.frames,
-    )
+    grind (arith, after-append, texts_answers, text_token, texts-law, items-tree, extended-scrap)
 
 -- A token.
 abbrev pub AllNested : NameTexts → Type 0
@@ -293,23 +236,12 @@ module _ (flags : Flags) (named : NameTexts) (nested : AllNested named) where
 
   pub step-named : (k : TokKind) (token : Seen) (a : Progress) → token.kind ≡ k
       → after_answers flags (token_answers named k token) a ≡ with_made a.frames (token_made name k token a.known)
-  step-named (kind.Code code.SectionName) token a e =
-      step-name (named token.span.start) token a (ap (λ j. after_token j token a) e
-      ∙ step-token (kind.Code code.SectionName) token a) (ap (λ j. after_begin j token.span.start a) e)
-      (nested token.span.start)
-  step-named (kind.Code code.FileName) token a e =
-      step-name (named token.span.start) token a (ap (λ j. after_token j token a) e
-      ∙ step-token (kind.Code code.FileName) token a) (ap (λ j. after_begin j token.span.start a) e)
-      (nested token.span.start)
-  step-named k token a e = ap (λ j. after_token j token a) e ∙ step-token k token a
+  step-named k token a e = grind (arith, step-name, step-token)
 
   named-one : (answer : Answer) (answers : List Answer) (a : Progress)
       → after_answers flags (with_texts named (answer ∷ answers)) a
       ≡ after_answers flags (with_texts named answers) (stepped flags name answer a)
-  named-one (Token token) answers a =
-      after-append flags (token_answers named token.kind token) (with_texts named answers) a
-      ∙ ap (after_answers flags (with_texts named answers)) (step-named token.kind token a refl)
-  named-one _ answers a = refl
+  named-one answer answers a = grind (arith, after-append, token_answers, with_texts, after_answers, step-named)
 
   -- what is made of a head, and then the answers behind it
   pub named-translation : (head : Made) (answers : List Answer) → IsNested answers
@@ -327,16 +259,13 @@ parts-nested text spans = All-map IsNested (λ s. until_section (tokens_of text 
     (λ k d h. c-parts-nested text (get_or spans k d).start (get_or spans k d).end inner_mode refl)
 
 kind-nested : (k : SecKind) (text : List ℕ) → All IsNested (parts_by_kind k text)
-kind-nested Named text = parts-nested text (inner_parts text)
-kind-nested File text = λ i d h. absurd (omega arith)
+kind-nested k text = grind (arith, parts-nested, inner_parts)
 
 name-nested : (o : Option SecName) → IfSome (texts_of_name o) (All IsNested)
-name-nested None = tt
-name-nested (Some name) = kind-nested name.kind name.text
+name-nested o = grind (arith, kind-nested)
 
 kept-nested : (kept : List SecName) (o : Option ℕ) → IfSome (texts_kept kept o) (All IsNested)
-kept-nested kept None = tt
-kept-nested kept (Some k) = name-nested (slice_get kept k)
+kept-nested kept o = grind (arith, name-nested, slice_get)
 
 pub texts-nested : (kept : List SecName) (uses : List NameUse) → AllNested (name_texts kept uses)
 texts-nested kept uses = λ number. kept-nested kept (name_at number uses)

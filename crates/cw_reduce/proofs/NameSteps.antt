@@ -8,9 +8,6 @@ use Rattle.cw_reduce.proofs.Terms.{unchanged, recorded-none, Advancing, advancin
 use Rattle.cw_reduce.proofs.Terms.{advances-done, advances-none, keeps-itself, ListId, Dead, headed, nest, IsNested}
 use Rattle.cw_reduce.proofs.Terms.{HeadRead, Translated, read_made, StartsBelow, ends-as, same-names, LineEntry}
 use Rattle.std.proofs.lemmas.Option.{get_or_from_slice_get, slice_get_within}
-use Rattle.cw_rules.specs.declared.codes.Code.TheVariants as code
-use Rattle.cw_rules.specs.declared.tokens.Lexed.TheVariants as lexed
-use Rattle.cw_rules.specs.declared.tokens.TokKind.TheVariants as kind
 use Rattle.cw_secnames.specs.Kept.{shown, SecName, id as id_of}
 use Rattle.cw_translator.specs.declared.holders.Holder.TheVariants as holder
 use Rattle.cw_translator.specs.declared.nesting.Open.TheVariants.{Comment, CText as OpenCText}
@@ -22,13 +19,12 @@ use Rattle.cw_reduce.proofs.Joined.{AllNested, name-law, named-translation}
 use Rattle.cw_reduce.specs.Heading.{NamesOfHead, NamesOfHeaded, in_name, behind, after_head, after_held, head_begun}
 use Rattle.cw_reduce.specs.Heading.{headed_text, of_head, over_head, over_headed, to_headed}
 use Rattle.cw_translator.proofs.Terms.{◌≡◌, ℕ, ◌+◌, ◌<◌, ◌≤◌, true, Option, Some, None, List, [], ◌∷◌, ◌++◌, length}
-use Rattle.cw_translator.proofs.Terms.{map, option_map, refl, sym, ap, ◌∙◌, add-zero, arith, All, slice_get, append-nil}
-use Rattle.cw_translator.proofs.Terms.{All-cons, All-head, All-tail, Flags, Memory, Answer, Seen, Begin, Finish}
-use Rattle.cw_translator.proofs.Terms.{TokKind, Entry, all_roots, answers_in, frames_of, IsSoundFrame, IsTranslating}
-use Rattle.cw_translator.proofs.Terms.{Progress, after_answers, Comment as CommentFrame, NamesAmong, later, Told}
-use Rattle.cw_translator.proofs.Terms.{Advances, over, progress_over, append_assoc, ◌⊎◌, inl, inr, IfSome}
-use Rattle.cw_translator.proofs.Terms.{Token as StoredToken, StoredLists, Text, IsSoundLine, scraps_of, marked_names}
-use Rattle.cw_translator.proofs.Terms.{CText, all_ended, here, Known, sign_behind, with_names, EndsIn}
+use Rattle.cw_translator.proofs.Terms.{map, option_map, refl, ap, ◌∙◌, add-zero, arith, All, slice_get, append-nil}
+use Rattle.cw_translator.proofs.Terms.{All-head, All-tail, Flags, Memory, Answer, Seen, Begin, Finish, TokKind, Entry}
+use Rattle.cw_translator.proofs.Terms.{all_roots, answers_in, frames_of, IsTranslating, Progress, after_answers}
+use Rattle.cw_translator.proofs.Terms.{NamesAmong, later, Told, Advances, over, progress_over, append_assoc, ◌⊎◌, inl}
+use Rattle.cw_translator.proofs.Terms.{inr, IfSome, Token as StoredToken, StoredLists, Text, IsSoundLine, scraps_of}
+use Rattle.cw_translator.proofs.Terms.{marked_names, CText, all_ended, here, Known, sign_behind, with_names, EndsIn}
 use Rattle.cw_secnames.specs.declared.kinds.SecId.{SecId}
 use Rattle.cw_translator.specs.NameParts.{AreNamesOf, name_texts, parts_by_kind, texts_kept, texts_of_name}
 
@@ -58,60 +54,30 @@ pub held-begun : {L R : Type 0} {told : R → Option Told} (flags : Flags) (held
     {work : Work L R} → IsTranslating work.store.now work.names.now t
     → t1 ≡ record t { nesting = Comment held_by [] ∷ t.nesting } → (all : List Answer)
     → Advancing told flags all all (with_held held_by (progress_over work t)) t work t1 work
-held-begun flags held_by {t = t} {work = work} is e all = rw e (record {
-  done = [];
-  reads = record {
-    translating = record {
-      idle = is.idle;
-      roots = rw (append-nil (all_roots t.nesting)) is.roots;
-      sound = All-cons (IsSoundFrame (length work.names.now)) (CommentFrame held_by [])
-          (frames_of work.store.now.lists t.nesting) (λ i d b. absurd (omega arith)) is.sound;
-      light = is.light;
-    };
-    come = record {
-      is = refl;
-      scraps = sym (add-zero t.scraps);
-      productions_are = sym (add-zero t.productions);
-      steps_are = sym (add-zero work.steps.now);
-    };
-    keeps = rw (append-nil (all_roots t.nesting)) (keeps-itself work.store.now.lists (all_roots t.nesting));
-    names = tt;
-    recorded = recorded-none flags [] refl (omega arith);
-    bound = omega arith;
-    same = unchanged;
-    idle = is.idle;
-  };
-  goes = refl;
-})
+held-begun flags held_by {t = t} {work = work} is e all =
+    grind (arith, append-nil, all_roots, frames_of, add-zero, keeps-itself, recorded-none, unchanged)
 
 -- A section name by the pair of its place.
 pub name-token : (named : NameTexts) (k : TokKind) (token : Seen) → is_name_kind k ≡ true → token_answers named k token
     ≡ name_answers (named token.span.start) token
-name-token named (kind.Code code.SectionName) token h = refl
-name-token named k token h = cc
+name-token named k token h = grind arith
 
 name-passes : (k : TokKind) (token : Seen) (p : Progress) → is_name_kind k ≡ true → after_token k token p ≡ p
-name-passes (kind.Code code.SectionName) token p h = refl
-name-passes (kind.Code code.FileName) token p h = refl
-name-passes k token p h = absurd cc
+name-passes k token p h = grind arith
 
 name-begins : (k : TokKind) (number : ℕ) (p : Progress) → is_name_kind k ≡ true → after_begin k number p
     ≡ with_held (holder.Name number) p
-name-begins (kind.Code c) number p h = refl
-name-begins k number p h = absurd cc
+name-begins k number p h = grind arith
 
 none-at : (o : Option ℕ) → option_map id_of o ≡ None → o ≡ None
-none-at None h = refl
-none-at (Some k) h = cc
+none-at o h = grind arith
 
 some-at : (o : Option ℕ) (id : SecId) → option_map id_of o ≡ Some id → o ≡ Some id.index
-some-at None id h = cc
-some-at (Some k) id h = cc
+some-at o id h = grind arith
 
 texts-shown : (o : Option SecName) (k : SecKind) (text : List ℕ) → option_map (λ (n : SecName). n.kind) o ≡ Some k
     → option_map (λ (n : SecName). n.text) o ≡ Some text → texts_of_name o ≡ Some (parts_by_kind k text)
-texts-shown None k text a b = cc
-texts-shown (Some name) k text a b = cc
+texts-shown o k text a b = grind arith
 
 pub among-at : (count : ℕ) (uses : List NameUse) (place k : ℕ) → All (λ (u : NameUse). u.name < count) uses
     → name_at place uses ≡ Some k → k < count
@@ -161,8 +127,7 @@ pub unpaired-advances : {L R T : Type 0} {told : R → Option Told} (flags : Fla
     → Advances told (over flags (token_answers (name_texts kept uses) token.kind token) (progress_over work t)) t work t
     work (Ok value)
 unpaired-advances flags kept uses token {t = t} {work = work} named found is =
-    rw (name-token (name_texts kept uses) token.kind token named, texts-unpaired kept uses token.span.start found)
-    (advances-done (sym (name-passes token.kind token (progress_over work t) named)) (advances-none flags is))
+    grind (arith, name-token, texts-unpaired, advances-done, name-passes, progress_over, advances-none)
 
 -- With one it is what is kept of the name.
 module _ {kept : List SecName} {uses : List NameUse} {id : SecId} (names : AreNamesOf kept uses) (token : Seen)
@@ -171,8 +136,7 @@ module _ {kept : List SecName} {uses : List NameUse} {id : SecId} (names : AreNa
       (texts : shown (λ (n : SecName). n.text) id.index kept ≡ Some text) where
     answers-are : token_answers (name_texts kept uses) token.kind token
         ≡ Begin token ∷ held_answers (parts_by_kind k text)
-    answers-are = name-token (name_texts kept uses) token.kind token named
-        ∙ ap (λ o. name_answers o token) (texts-paired names token.span.start found texts kinds)
+    answers-are = grind (arith, name-token, name_answers, texts-paired)
 
     abbrev held_texts : List Answer
     held_texts = held_answers (parts_by_kind k text)
@@ -180,14 +144,12 @@ module _ {kept : List SecName} {uses : List NameUse} {id : SecId} (names : AreNa
     then-held : (flags : Flags) (p : Progress) → after_answers flags held_texts
         (with_held (holder.Name token.span.start) p)
         ≡ after_answers flags (token_answers (name_texts kept uses) token.kind token) p
-    then-held flags p = rw answers-are (ap (after_answers flags held_texts)
-        (sym (name-begins token.kind token.span.start p named)))
+    then-held flags p = grind (arith, answers-are, after_answers, name-begins)
 
     paired-fails : (flags : Flags) (p : Progress) (entries : List Entry)
         → NamesAmong flags held_texts (with_held (holder.Name token.span.start) p) entries
         → NamesAmong flags (token_answers (name_texts kept uses) token.kind token) p entries
-    paired-fails flags p entries h = rw answers-are (λ coming. later (Begin token) (held_texts ++ coming) p entries
-        (rw (name-begins token.kind token.span.start p named) (h coming)))
+    paired-fails flags p entries h = grind (arith, answers-are, later, name-begins)
 
     pub paired-advances : {L R T : Type 0} {told : R → Option Told} (flags : Flags) (p : Progress) {t t' : Translator}
         {old new : Work L R} {result : Result T Memory} → Advances told
@@ -198,28 +160,22 @@ module _ {kept : List SecName} {uses : List NameUse} {id : SecId} (names : AreNa
 pub with-texts-append : (named : NameTexts) (xs ys : List Answer) → with_texts named (xs ++ ys)
     ≡ with_texts named xs ++ with_texts named ys
 with-texts-append named [] ys = refl
-with-texts-append named (Token token ∷ xs) ys = rw (
-  with-texts-append named xs ys,
-  append_assoc (token_answers named token.kind token) (with_texts named xs) (with_texts named ys),
-)
+with-texts-append named (Token token ∷ xs) ys =
+    grind (arith, with-texts-append named xs ys, append_assoc, token_answers, with_texts)
 with-texts-append named (x ∷ xs) ys = ap (λ zs. x ∷ zs) (with-texts-append named xs ys)
 
 pub with-texts-next : (named : NameTexts) (old new : List Answer) (answer : Lexed) → Gives old answer new
     → with_texts named old ≡ with_texts named (answers_in answer) ++ with_texts named new
-with-texts-next named old new answer g = ap (with_texts named) (gives-is old new answer g)
-    ∙ with-texts-append named (answers_in answer) new
+with-texts-next named old new answer g = grind (arith, with_texts, gives-is, with-texts-append, answers_in)
 
 -- An answer that is no section name stands for itself.
 pub no-name-token : (named : NameTexts) (k : TokKind) (token : Seen) → is_name_kind k ≡ false
     → token_answers named k token ≡ Token token ∷ []
-no-name-token named (kind.Code code.SectionName) token h = cc
-no-name-token named k token h = cc
+no-name-token named k token h = grind arith
 
 pub no-name-answer : (named : NameTexts) (answer : Lexed) → is_name_answer answer ≡ false
     → answers_in answer ≡ with_texts named (answers_in answer)
-no-name-answer named (lexed.Token t) h = sym (append-nil (token_answers named t.kind (seen t))
-    ∙ no-name-token named t.kind (seen t) h)
-no-name-answer named _ h = refl
+no-name-answer named answer h = grind (arith, append-nil, token_answers, seen, no-name-token)
 
 -- The whole text.
 module _ (flags : Flags) (named : NameTexts) (nested : AllNested named) (lists : List (List StoredToken)) where
@@ -232,15 +188,12 @@ module _ (flags : Flags) (named : NameTexts) (nested : AllNested named) (lists :
 
   head-made : (head : HeadRead) (known : Known) → after_head flags named head (head_begun lists head known)
       ≡ with_made (CText [] ∷ []) (read_made flags named lists head known)
-  head-made read.None known = refl
-  head-made (read.Dead list) known = refl
-  head-made (read.Named number sign) known = held-made (named number) number sign known (nested number)
+  head-made head known = grind (arith, held-made)
 
   pub headed-whole : (head : HeadRead) (rest : List Answer) (known : Known) → IsNested rest
       → all_ended flags (after_answers flags (with_texts named rest)
       (after_head flags named head (head_begun lists head known))) ≡ headed_text flags named lists head rest known
-  headed-whole head rest known h =
-      rw (head-made head known) (named-translation flags named nested (read_made flags named lists head known) rest h)
+  headed-whole head rest known h = grind (arith, head-made, named-translation, read_made)
 
   pub headed-translated : (head : HeadRead) (rest answers : List Answer) (old new : List Entry) (marks : List ℕ)
       → ((f : Flags) (n : NameTexts) (known : Known) → head_made f n (headed (nest answers)).head (with_names old known)
@@ -269,8 +222,7 @@ pub ahead-advancing : {L R T : Type 0} {told : R → Option Told} (flags : Flags
     → Advances told (over flags (with_texts named a) (progress_over old t)) t old t' new (Ok value)
     → Advancing told flags (with_texts named ((a ++ b) ++ c)) (with_texts named (b ++ c))
     (progress_over old t) t old t' new
-ahead-advancing flags named a b c is r = advancing-next (with_texts named a) (with_texts named (b ++ c))
-    (advancing-begun flags (with_texts named ((a ++ b) ++ c)) is) (cut-first named a b c) r
+ahead-advancing flags named a b c is r = grind (arith, advancing-next, with_texts, advancing-begun, cut-first)
 
 pub headed-among : (flags : Flags) (named : NameTexts) (head : HeadRead) (rest : List Answer) (p : Progress)
     (new : List Entry)
@@ -284,20 +236,13 @@ pub headless-advances : {L R T : Type 0} {told : R → Option Told} (flags : Fla
     {t : Translator} {work : Work L R} {value : T} → ((list : ListId) × (head ≡ read.Dead list)) ⊎ (head ≡ read.None)
     → IsTranslating work.store.now work.names.now t
     → Advances told (over_head flags named head (progress_over work t)) t work t work (Ok value)
-headless-advances flags named head (inl h) is = rw h.1 (advances-done refl (advances-none flags is))
-headless-advances flags named head (inr e) is = rw e (advances-done refl (advances-none flags is))
+headless-advances flags named head h is = grind (arith, advances-done, advances-none)
 
 -- A translation that begins with a head.
 pub head-translating : (store : StoredLists) (names : List Entry) (t : Translator) (line : List LineEntry)
     → t ≡ record { nesting = OpenCText line ∷ []; scraps = 0; productions = 0 } → IsSoundLine store names line
     → IsTranslating store names t
-head-translating store names t line e s = rw e (record {
-  idle = s.idle;
-  roots = s.roots;
-  sound = All-cons (IsSoundFrame (length names)) (CText (scraps_of store.lists line)) []
-      (record { named = s.named; modes = s.modes; fine = s.fine }) (λ i d h. absurd (omega arith));
-  light = omega arith;
-})
+head-translating store names t line e s = grind (arith, scraps_of)
 
 -- What it comes to is the text with its head.
 pub headed-as : {L R : Type 0} {told : R → Option Told} (flags : Flags) (named : NameTexts) → AllNested named
@@ -310,9 +255,7 @@ pub headed-as : {L R : Type 0} {told : R → Option Told} (flags : Flags) (named
     }) t work new result
     → EndsIn told (to_headed flags named work.store.now.lists head rest
     (begin work.names.now (marked_names work.marks.now))) (of_head head) work new result
-headed-as flags named nested head rest well {work = work} e r =
-    ends-as (headed-whole flags named nested work.store.now.lists head rest
-    (begin work.names.now (marked_names work.marks.now)) well) (λ names h. h) (rw e at r)
+headed-as flags named nested head rest well {work = work} e r = grind (arith, ends-as, headed-whole, marked_names)
 
 -- The names where it begins.
 held-start : (flags : Flags) (named : NameTexts) (number sign : ℕ) (rest : List Answer) (p : Progress)
@@ -324,6 +267,4 @@ held-start flags named number sign rest p (Some texts) e =
 
 pub whole-start : (flags : Flags) (named : NameTexts) (head : HeadRead) (rest : List Answer) (p : Progress)
     → NamesOfHeaded flags named head rest p p.known.names
-whole-start flags named read.None rest p = behind (here (with_texts named rest) p)
-whole-start flags named (read.Dead list) rest p = behind (here (with_texts named rest) p)
-whole-start flags named (read.Named number sign) rest p = held-start flags named number sign rest p (named number) refl
+whole-start flags named head rest p = grind (arith, here, with_texts, held-start)

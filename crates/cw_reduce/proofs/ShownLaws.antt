@@ -1,19 +1,14 @@
 -- What the trees of translations show, each token once and in order, and how they are read: from text they end in text,
 -- and so does each inner text in them. The texts that end began with fine scraps.
-use Rattle.std.proofs.Common.{if◌then◌else◌}
-use Rattle.cw_reduce.proofs.Terms.{Bool, false, not, is_some, list_all, both, Cat, Exp, SectionScrap, MathMode, Math}
-use Rattle.cw_reduce.proofs.Terms.{Code, NameId, continues_name, struck, productions-sound, code_form, word_form}
-use Rattle.cw_reduce.proofs.Terms.{list_if, InnersRead, zero, get_or_past, All-map, cases_lt, Dead, Ident as ident_kind}
-use Rattle.cw_reduce.proofs.Terms.{ReadsInText, Row}
-use Rattle.cw_rules.specs.declared.codes.Code.TheVariants as code
+use Rattle.cw_reduce.proofs.Terms.{Bool, false, not, is_some, list_all, both, Cat, SectionScrap, MathMode, Code, NameId}
+use Rattle.cw_reduce.proofs.Terms.{continues_name, struck, productions-sound, code_form, word_form, list_if, InnersRead}
+use Rattle.cw_reduce.proofs.Terms.{zero, get_or_past, All-map, cases_lt, Dead, ReadsInText, Row}
 use Rattle.cw_rules.specs.declared.tokens.TokKind.TheVariants as kind
 use Rattle.cw_table.specs.Normal.{normal, Place, Nowhere, At, next_place, steps, weight}
 use Rattle.cw_table.specs.Productions.{productions}
 use Rattle.cw_table.specs.SourceNumbers.{numbers_of}
 use Rattle.cw_table.proofs.NumberLaws.{numbers-append, normal-numbers}
-use Rattle.cw_trees.specs.declared.Control.TheVariants as control
-use Rattle.cw_trees.specs.Tree.{Sub, Search, Found, Stopped, Nothing, search_leaf, first_ident, reserve_first}
-use Rattle.cw_trees.specs.Tree.{Leaf as TreeLeaf}
+use Rattle.cw_trees.specs.Tree.{Sub, Search, search_leaf, first_ident, reserve_first, Leaf as TreeLeaf}
 use Rattle.cw_table.specs.declared.types.Piece.{Piece as RowPiece}
 use Rattle.cw_table.specs.declared.types.Piece.TheVariants as piece
 use Rattle.cw_table.proofs.Normals.{steps-none, steps-turn}
@@ -27,36 +22,31 @@ use Rattle.cw_translator.proofs.Terms.{Flags, Maybe, Answer, Seen, TokKind, Entr
 use Rattle.cw_translator.proofs.Terms.{LeafForm, token_form, Then, Sign, Empty, leaf_scrap, CommentItem, Piece}
 use Rattle.cw_translator.proofs.Terms.{InnerText, comment_rest, comment_tree, Known, state_in, end_from, append_assoc}
 use Rattle.cw_translator.proofs.Terms.{suc, get_or, map, take, drop, All, All-head, All-tail, inl, inr, length, Text}
-use Rattle.cw_translator.proofs.Terms.{Inner, scrap_agrees, State, ◌+◌, IfSome, arith, All-append, All-cons, place_of}
-use Rattle.cw_translator.proofs.Terms.{reads, names_with, IsGood, token-good, comment_scrap, with_names}
+use Rattle.cw_translator.proofs.Terms.{Inner, scrap_agrees, State, arith, All-append, reads, names_with}
+use Rattle.cw_translator.proofs.Terms.{comment_scrap, with_names}
 use Rattle.cw_trees.specs.Joining.{dollar_before, scrap_in_text, blank_and_whole, no_scrap, Joined, Whole, Mark, needs}
-use Rattle.cw_trees.specs.Joining.{after, toggled, joined_tree, Agrees, leads_on}
+use Rattle.cw_trees.specs.Joining.{after, toggled, joined_tree, Agrees}
 use Rattle.cw_table.proofs.ScrapFacts.{all-append}
 use Rattle.cw_reduce.specs.Visible.{is_shown, is_shown_code, is_comment, shown_token, shown_in}
 use Rattle.cw_lex.specs.Nest.{Nest, End, Leaf, Group, is_text_kind, IsGroupOf, IsWell, nest}
 
 -- what no production joins
 struck-dollar : (mode : MathMode) (tree : Tree) → struck (dollar_before mode tree) ≡ struck tree
-struck-dollar Math tree = refl
-struck-dollar _ tree = refl
+struck-dollar mode tree = grind arith
 
 struck-in-text : (scrap : Scrap) (rest : Tree) → struck (scrap_in_text scrap rest) ≡ struck scrap.tree ++ struck rest
-struck-in-text scrap rest = struck-dollar scrap.left (Sub scrap.tree (dollar_before scrap.right rest))
-    ∙ ap (λ ns. struck scrap.tree ++ ns) (struck-dollar scrap.right rest)
+struck-in-text scrap rest = grind (arith, struck-dollar, struck)
 
 struck-blank : (scraps : List Scrap) → struck (blank_and_whole scraps) ≡ numbers_of scraps
 struck-blank [] = refl
-struck-blank (scrap ∷ scraps) = struck-in-text scrap (blank_and_whole scraps)
-    ∙ ap (λ ns. struck scrap.tree ++ ns) (struck-blank scraps)
+struck-blank (scrap ∷ scraps) = grind (arith, struck-blank scraps, struck-in-text, struck)
 
 struck-whole : (scraps : List Scrap) → struck (whole scraps) ≡ numbers_of scraps
-struck-whole [] = refl
-struck-whole (scrap ∷ scraps) = struck-blank (scrap ∷ scraps)
+struck-whole scraps = grind (arith, struck-blank)
 
 pub struck-end : (flags : Flags) (scraps : List Scrap) (known : Known) → list_all is_fine scraps ≡ true
     → struck (end_from flags (state_in scraps known) known).tree ≡ numbers_of scraps
-struck-end flags scraps known fine = struck-whole (normal productions flags (state_in scraps known)).scraps
-    ∙ normal-numbers productions flags (state_in scraps known) productions-sound fine
+struck-end flags scraps known fine = grind (arith, struck-whole, state_in, normal-numbers, productions-sound)
 
 -- the scrap of a token
 abbrev pub form_numbers : Option LeafForm → List ℕ
@@ -77,19 +67,14 @@ pub record IsShownForm (is_shown_here : Bool) (n : ℕ) (o : Option LeafForm) : 
   pub inners : FormReads o
 
 word-shown : (c : Cat) (name : NameId) (n : ℕ) → IsShownForm true n (Some (word_form c name n))
-word-shown Exp name n = record { numbers = refl; fine = refl; inners = tt }
-word-shown _ name n = record { numbers = refl; fine = refl; inners = tt }
+word-shown c name n = grind arith
 
 code-shown : (c : Code) (n : ℕ) → IsShownForm (is_shown_code c) n (code_form c n)
-code-shown code.TexBox n = record { numbers = refl; fine = refl; inners = tt }
-code-shown _ n = record { numbers = refl; fine = refl; inners = tt }
+code-shown c n = grind arith
 
 pub token-shown : (k : TokKind) (text : List ℕ) (hash_line : Bool) (n : ℕ) (names : List Entry)
     → is_text_kind k ≡ false → IsShownForm (is_shown k) n (token_form k text hash_line n names)
-token-shown kind.Text text hash_line n names h = absurd cc
-token-shown kind.Identifier text hash_line n names h = word-shown _ _ n
-token-shown (kind.Code c) text hash_line n names h = code-shown c n
-token-shown _ text hash_line n names h = record { numbers = refl; fine = refl; inners = tt }
+token-shown k text hash_line n names h = grind (arith, word-shown, code-shown)
 
 abbrev pub item_numbers : List CommentItem → List ℕ
 item_numbers [] = []
@@ -103,44 +88,32 @@ continues-comment _ = refl
 struck-rest : (items : List CommentItem) → struck (comment_rest items) ≡ item_numbers items
 struck-rest [] = refl
 struck-rest (Piece n ∷ items) = ap (λ ns. n ∷ ns) (struck-rest items)
-struck-rest (InnerText tree ∷ items) = ap (λ (b : Bool). if b then struck (comment_rest items)
-    else struck tree ++ struck (comment_rest items)) (continues-comment items)
-    ∙ ap (λ ns. struck tree ++ ns) (struck-rest items)
+struck-rest (InnerText tree ∷ items) = grind (arith, struck-rest items, struck, comment_rest, continues-comment)
 
 items-append : (items more : List CommentItem) → item_numbers (items ++ more) ≡ item_numbers items ++ item_numbers more
 items-append [] more = refl
 items-append (Piece n ∷ items) more = ap (λ ns. n ∷ ns) (items-append items more)
-items-append (InnerText tree ∷ items) more = rw (
-  items-append items more,
-  append_assoc (struck tree) (item_numbers items) (item_numbers more),
-)
+items-append (InnerText tree ∷ items) more = grind (arith, items-append items more, append_assoc, struck)
 
 abbrev pub inners_of : Scrap → Type 0
 inners_of scrap = InnersRead scrap.tree
 
 then-inners : (s : Search) (leaf : TreeLeaf) (rest : Tree) → search_leaf leaf ≡ s → InnersRead rest
     → InnersRead (reserve_first rest) → InnersRead (reserve_first (Then leaf rest))
-then-inners (Found name) leaf rest e h r = rw (e, reserve_first) h
-then-inners Stopped leaf rest e h r = rw (e, reserve_first) h
-then-inners Nothing leaf rest e h r = rw (e, reserve_first) r
+then-inners s leaf rest e h r = grind arith
 
 sub-inners : (s : Search) (tree rest : Tree) → first_ident tree ≡ s → InnersRead (Sub tree rest)
     → InnersRead (reserve_first tree) → InnersRead (reserve_first rest) → InnersRead (reserve_first (Sub tree rest))
-sub-inners (Found name) tree rest e h t r = rw (e, reserve_first) (t, h.1)
-sub-inners Stopped tree rest e h t r = rw (e, reserve_first) h
-sub-inners Nothing tree rest e h t r = rw (e, reserve_first) (h.0, r)
+sub-inners s tree rest e h t r = grind arith
 
 reserve-inners : (t : Tree) → InnersRead t → InnersRead (reserve_first t)
 reserve-inners Empty h = h
 reserve-inners (Then leaf rest) h = then-inners (search_leaf leaf) leaf rest refl h (reserve-inners rest h)
-reserve-inners (Sub tree rest) h = sub-inners (first_ident tree) tree rest refl h (reserve-inners tree h.0)
-    (reserve-inners rest h.1)
+reserve-inners (Sub tree rest) h = grind (arith, reserve-inners tree h.0, reserve-inners rest h.1, sub-inners)
 reserve-inners (Inner tree rest) h = (h.0, h.1, reserve-inners rest h.2)
 
 toggled-inners : (m l : MathMode) (tree : Tree) → InnersRead tree → InnersRead (toggled m l tree)
-toggled-inners Math Text tree h = h
-toggled-inners Text Math tree h = h
-toggled-inners _ _ tree h = h
+toggled-inners m l tree h = grind arith
 
 abbrev piece_inners : Joined → Type 0
 piece_inners (Whole tree left right) = InnersRead tree
@@ -205,11 +178,7 @@ normal-read rows flags st are = steps-read rows flags (weight st.scraps) st are
 -- what no production joins
 toggles : (tree rest : Tree) (left right : MathMode) → Agrees tree left right
     → reads (dollar_before left (Sub tree (dollar_before right rest))) Text ≡ reads rest Text
-toggles tree rest Maybe Maybe h = ap (λ o. leads_on o (reads rest)) (h Text)
-toggles tree rest Maybe right h = absurd h
-toggles tree rest left Maybe h = absurd h
-toggles tree rest left Text h = ap (λ o. leads_on o (reads rest)) h
-toggles tree rest left Math h = ap (λ o. leads_on o (reads (Then (Sign control.Dollar) rest))) h
+toggles tree rest left right h = grind (arith, reads)
 
 blank-reads : (scraps : List Scrap) → All scrap_agrees scraps → reads (blank_and_whole scraps) Text ≡ Some Text
 blank-reads [] all = refl
@@ -221,8 +190,7 @@ whole-reads [] all = refl
 whole-reads (s ∷ scraps) all = blank-reads (s ∷ scraps) all
 
 dollar-inners : (mode : MathMode) (tree : Tree) → InnersRead tree → InnersRead (dollar_before mode tree)
-dollar-inners Math tree h = h
-dollar-inners _ tree h = h
+dollar-inners mode tree h = grind arith
 
 blank-inners : (scraps : List Scrap) → All inners_of scraps → InnersRead (blank_and_whole scraps)
 blank-inners [] all = tt
@@ -266,15 +234,7 @@ reads-nothing known f = record { scraps = none-read; items = none-all ItemReads;
 
 pub reads-scrap : (s : Scrap) (known : Known) → scrap_agrees s → InnersRead s.tree → is_fine s ≡ true
     → IsFineKnown known → IsSoundMade (record { scraps = s ∷ []; items = []; known = known })
-reads-scrap s known a i fine f = record {
-  scraps = record {
-    modes = All-cons scrap_agrees s [] a (none-all scrap_agrees);
-    inners = All-cons inners_of s [] i (none-all inners_of);
-  };
-  items = none-all ItemReads;
-  fine = both (is_fine s) true fine refl;
-  known = f;
-}
+reads-scrap s known a i fine f = grind (arith, scrap_agrees, none-all, both, is_fine)
 
 pub reads-beside : (a b : Made) → IsSoundMade a → IsSoundMade b → IsSoundMade (beside a b)
 reads-beside a b f g = record {
@@ -296,35 +256,14 @@ reads-end flags m f =
     }
 
 pub fine-end : (flags : Flags) (m : Made) → IsSoundMade m → IsFineKnown (end_of flags m).known
-fine-end flags m f = all-append fine_state m.known.ended (state_in m.scraps m.known ∷ []) f.known
-    (both (fine_state (state_in m.scraps m.known)) true f.fine refl)
-
-reads-form : (count : ℕ) (o : Option LeafForm) (known : Known) → IfSome o (IsGood count) → FormReads o
-    → fine_form o ≡ true → IsFineKnown known → IsSoundMade (form_made o known)
-reads-form count None known good inners fine f = reads-nothing known f
-reads-form count (Some form) known good inners fine f =
-    reads-scrap (leaf_scrap form) known (good.agrees []) inners fine f
+fine-end flags m f = grind (arith, all-append, state_in, both)
 
 abbrev NamesRead : (ℕ → Known → Made) → Type 0
 NamesRead name = (number : ℕ) (known : Known) → IsFineKnown known → IsSoundMade (name number known)
 
 reads-token : (name : ℕ → Known → Made) → NamesRead name → (k : TokKind) (token : Seen) (known : Known)
     → IsFineKnown known → IsSoundMade (token_made name k token known)
-reads-token name names kind.Text token known f = record {
-  scraps = none-read;
-  items = All-cons ItemReads (Piece token.span.start) [] tt (none-all ItemReads);
-  fine = refl;
-  known = f;
-}
-reads-token name names (kind.Code code.SectionName) token known f = names token.span.start known f
-reads-token name names (kind.Code code.FileName) token known f = names token.span.start known f
-reads-token name names k token known f =
-    let s = token-shown k token.text token.hash_line token.span.start known.names refl in
-    reads-form (place_of ident_kind token.text known.names + 1)
-    (token_form k token.text token.hash_line token.span.start known.names)
-    (with_names (names_with k token.text known.names) known)
-    (token-good (place_of ident_kind token.text known.names + 1) k token.text token.hash_line token.span.start
-    known.names (λ e. omega arith)) s.inners s.fine f
+reads-token name names k token known f = grind arith
 
 -- a comment and an inner text
 rest-inners : (items : List CommentItem) → All ItemReads items → InnersRead (comment_rest items)
@@ -336,12 +275,7 @@ rest-inners (InnerText tree ∷ items) all =
 
 reads-group : (flags : Flags) (k : TokKind) (token : Seen) (m : Made) → IsSoundMade m
     → IsSoundMade (group_made flags k token m)
-reads-group flags kind.InnerText token m f = record {
-  scraps = none-read;
-  items = All-cons ItemReads (InnerText (end_of flags m).tree) [] (reads-end flags m f) (none-all ItemReads);
-  fine = refl;
-  known = fine-end flags m f;
-}
+reads-group flags kind.InnerText token m f = grind (arith, reads-end flags m f, none-all ItemReads, fine-end flags m f)
 reads-group flags k token m f = reads-scrap (comment_scrap token.span.start m.items) m.known
     (comment-agrees token.span.start m.items) (rest-inners m.items f.items) refl f.known
 
@@ -380,20 +314,12 @@ texts-sound flags (text ∷ texts) behind known h f =
 pub reads-headed-name : (flags : Flags) (o : Option (List (List Answer))) (behind : Tree) (number : ℕ) (known : Known)
     → reads behind Text ≡ Some Text → InnersRead behind → IsFineKnown known
     → IsSoundMade (texts_named flags o Dead Text behind number known)
-reads-headed-name flags None behind number known r i f = reads-nothing known f
-reads-headed-name flags (Some texts) behind number known r i f =
-    let whole : Tree = Then (Sign control.NameEnd) behind in
-    let t = texts-sound flags texts whole known i f in
-    reads-scrap _ (texts_made flags texts whole known).known (texts-read flags texts whole known Text ∙ r) t.0 refl t.1
+reads-headed-name flags o behind number known r i f =
+    grind (arith, reads-nothing, whole, texts-sound, reads-scrap, texts-read)
 
 reads-name : (flags : Flags) (o : Option (List (List Answer))) (number : ℕ) (known : Known) → IsFineKnown known
     → IsSoundMade (texts_named flags o SectionScrap Maybe Empty number known)
-reads-name flags None number known f = reads-nothing known f
-reads-name flags (Some texts) number known f =
-    let behind : Tree = Then (Sign control.NameEnd) Empty in
-    let t = texts-sound flags texts behind known tt f in
-    reads-scrap _ (texts_made flags texts behind known).known (λ mode. texts-read flags texts behind known mode) t.0
-    refl t.1
+reads-name flags o number known f = grind (arith, reads-nothing, texts-sound, reads-scrap, texts-read)
 
 pub reads-leaf : (flags : Flags) (named : ℕ → Option (List (List Answer))) → NamesRead (leaf_of_name flags named)
 reads-leaf flags named number known f = reads-name flags (named number) number known f
@@ -411,36 +337,25 @@ ShowsNames is_named name = (number : ℕ) (known : Known)
 
 pub shows-beside : (comment : Bool) (a b : Made) (ns ms : List ℕ) → Shows comment a ns → Shows comment b ms
     → Shows comment (beside a b) (ns ++ ms)
-shows-beside true a b ns ms s t = rw (items-append a.items b.items, s, t)
-shows-beside false a b ns ms s t = rw (numbers-append a.scraps b.scraps, s, t)
+shows-beside comment a b ns ms s t = grind (arith, items-append, numbers-append)
 
 shows-form : (o : Option LeafForm) (known : Known) → Shows false (form_made o known) (form_numbers o)
-shows-form None known = refl
-shows-form (Some form) known = append-nil (struck (tree_in [] form.tokens))
+shows-form o known = grind (arith, append-nil, struck, tree_in)
 
 shows-token : (is_named : ℕ → Bool) (name : ℕ → Known → Made) (comment : Bool) (k : TokKind) (token : Seen)
     (known : Known) → ShowsNames is_named name → is_text_kind k ≡ comment
     → Shows comment (token_made name k token known) (shown_token is_named k token.span.start)
-shows-token is_named name true kind.Text token known s e = refl
-shows-token is_named name false kind.Text token known s e = absurd cc
-shows-token is_named name false (kind.Code code.SectionName) token known s e = s token.span.start known
-shows-token is_named name false (kind.Code code.FileName) token known s e = s token.span.start known
-shows-token is_named name true k token known s e = absurd cc
-shows-token is_named name false k token known s e =
-    shows-form (token_form k token.text token.hash_line token.span.start known.names)
-    (with_names (names_with k token.text known.names) known)
-    ∙ (token-shown k token.text token.hash_line token.span.start known.names refl).numbers
+shows-token is_named name comment k token known s e =
+    grind (arith, shows-form, token_form, with_names, names_with, token-shown)
 
 shows-comment : (flags : Flags) (token : Seen) (m : Made) (ns : List ℕ) → Shows true m ns
     → Shows false (group_made flags kind.LongComment token m) (token.span.start ∷ ns)
-shows-comment flags token m ns s = append-nil (struck (comment_tree token.span.start m.items))
-    ∙ ap (λ xs. token.span.start ∷ xs) (struck-rest m.items ∙ s)
+shows-comment flags token m ns s = grind (arith, append-nil, struck, comment_tree, struck-rest)
 
 shows-group : (flags : Flags) (comment : Bool) (k : TokKind) (token : Seen) (m : Made) (ns : List ℕ)
     → IsGroupOf comment k → list_all is_fine m.scraps ≡ true → Shows (not comment) m ns
     → Shows comment (group_made flags k token m) (list_if (is_comment k) (token.span.start ∷ []) ++ ns)
-shows-group flags true kind.InnerText token m ns w fine s = append-nil (struck (end_of flags m).tree)
-    ∙ struck-end flags m.scraps m.known fine ∙ s
+shows-group flags true kind.InnerText token m ns w fine s = grind (arith, append-nil, struck, struck-end)
 shows-group flags false kind.LongComment token m ns w fine s = shows-comment flags token m ns s
 shows-group flags false kind.ShortComment token m ns w fine s = shows-comment flags token m ns s
 shows-group flags comment k token m ns w fine s = absurd w
@@ -476,6 +391,4 @@ struck-parts flags (part ∷ parts) rest known = struck-parts flags parts rest (
 
 pub shows-name : (flags : Flags) (o : Option (List (List Answer))) (number : ℕ) (known : Known)
     → Shows false (texts_named flags o SectionScrap Maybe Empty number known) (list_if (is_some o) (number ∷ []))
-shows-name flags None number known = refl
-shows-name flags (Some parts) number known =
-    ap (λ ns. number ∷ (ns ++ [])) (struck-parts flags parts (Then (Sign control.NameEnd) Empty) known)
+shows-name flags o number known = grind (arith, struck-parts)

@@ -1,6 +1,6 @@
 -- Worked rows of translation: the counts, the productions, the visible tokens and the bytes of some C texts.
 use Rattle.std.proofs.Common.{if◌then◌else◌}
-use Rattle.cw_reduce.proofs.Terms.{Option, MathMode, ◌≡◌, ℕ, false, true, List, [], ◌∷◌, map, codes, get_or, length}
+use Rattle.cw_reduce.proofs.Terms.{Option, MathMode, ◌≡◌, ℕ, false, List, [], ◌∷◌, map, codes, get_or, length}
 use Rattle.cw_reduce.proofs.Terms.{eqb, refl, Some, None, is_some, Text, CPart, Definition, inner_mode as InnerMode}
 use Rattle.cw_reduce.proofs.Terms.{Answer, tokens_of, Entry, Item, SourceItem, IdentItem, ReservedItem, SignItem, Open}
 use Rattle.cw_reduce.proofs.Terms.{Close, flat, trimmed_items, struck, reads, scraps_in, productions_in, logs_in}

@@ -1,7 +1,7 @@
 -- The log of the productions, one production after another.
-use Rattle.std.proofs.Common.{◌≡◌, ℕ, zero, suc, ◌+◌, ◌<◌, Bool, true, false, eqb, Option, Some, None, List, [], ◌∷◌}
-use Rattle.std.proofs.Common.{◌++◌, take, slice_get, refl, sym, ◌∙◌, ap, arith, if◌then◌else◌}
-use Rattle.std.specs.Prelude.{Result, Ok, Err, OnErr}
+use Rattle.std.proofs.Common.{◌≡◌, ℕ, zero, suc, ◌+◌, ◌<◌, Bool, true, false, eqb, Option, Some, List, [], ◌∷◌, ◌++◌}
+use Rattle.std.proofs.Common.{take, slice_get, refl, sym, ◌∙◌, ap, arith, if◌then◌else◌}
+use Rattle.std.specs.Prelude.{Result, OnErr}
 use Rattle.std.proofs.Math.Seq.{take-length}
 use Rattle.std.proofs.lemmas.Bool.{eqb-true}
 use Rattle.cw_base.specs.declared.flags.Flags.{Flags}
@@ -68,12 +68,7 @@ module _ (f : Flags) (start : State) (row : Row) (place done number : ℕ) (befo
   pub heard-more : take (done + 1) (log productions f start)
       ≡ take done (log productions f start) ++ record { number = number; place = place } ∷ []
   unfolding log
-  heard-more =
-      let more : done + 1 ≡ suc done = omega arith in
-      ap (λ n. take n (log_of productions f (weight start.scraps) start)) more
-      ∙ (more-of productions f done (weight start.scraps) place row start before at
-      ∙ ap (λ n. take done (log_of productions f (weight start.scraps) start)
-      ++ record { number = n; place = place } ∷ []) own)
+  heard-more = grind (arith, more-of)
 
   pub heard-next : slice_get (log productions f start) done ≡ Some (record { number = number; place = place })
   unfolding log
@@ -91,28 +86,21 @@ whole-log f start = take-length (log productions f start)
 pub told-whole : (f : Flags) (start : State) (done : ℕ) (old : Option Told)
     {now : Option Told} → now ≡ grown_by (take done (log productions f start)) old
     → done ≡ count productions f start → now ≡ grown_by (log productions f start) old
-told-whole f start done old told all =
-    told ∙ ap (λ l. grown_by l old) (ap (λ n. take n (log productions f start)) all ∙ whole-log f start)
+told-whole f start done old told all = grind (arith, whole-log)
 
 -- what is told of some, and then of one more
 told-more : (xs ys : List Production) (o : Option Told)
     → grown_by ys (grown_by xs o) ≡ grown_by (xs ++ ys) o
-told-more xs ys None = refl
-told-more xs ys (Some t) = ap (λ l. Some (record t { items = l })) (append_assoc t.items xs ys)
+told-more xs ys o = grind (arith, append_assoc)
 
 pub told-next : (xs : List Production) (done : ℕ) (p : Production) (old : Option Told)
     {now new : Option Told} → take (done + 1) xs ≡ take done xs ++ p ∷ []
     → now ≡ grown_by (take done xs) old → new ≡ grown_by (p ∷ []) now → new ≡ grown_by (take (done + 1) xs) old
-told-next xs done p old more before one =
-    one
-    ∙ (ap (grown_by (p ∷ [])) before
-    ∙ (told-more (take done xs) (p ∷ []) old
-    ∙ ap (λ l. grown_by l old) (sym more)))
+told-next xs done p old more before one = grind (arith, told-more)
 
 -- what holds after each answer holds after want of memory
 pub on-err : {T E : Type 0} (r : Result T E) (P : Type 0) → P → OnErr r P
-on-err (Ok x) P holds = tt
-on-err (Err e) P holds = holds
+on-err r P holds = grind arith
 
 -- The state before a production that isn't done: it is refused, or memory is wanting before it was told or behind that.
 module _ (f : Flags) (start was now : State) (before told : Option Told) (done : ℕ)
@@ -122,36 +110,12 @@ module _ (f : Flags) (start was now : State) (before told : Option Told) (done :
       → slice_get (log productions f start) done ≡ Some next → refuses next ≡ true → {old : Option Told}
       → told ≡ old → old ≡ grown_by (take done (log productions f start)) before
       → StopsAt f start now before told refuses
-  stops-before refuses next there refused kept heard = record {
-    done = done;
-    inside = inside;
-    is = same ∙ reached;
-    heard = kept ∙ heard;
-    next = next;
-    there = there;
-    refused = refused;
-  }
+  stops-before refuses next there refused kept heard = grind arith
 
   pub ends-before : {T E : Type 0} (r : Result T E) {old : Option Told} → told ≡ old
       → old ≡ grown_by (take done (log productions f start)) before → OnErr r (EndsWithin f start now before told)
-  ends-before r kept heard = on-err r (EndsWithin f start now before told) (record {
-    done = done;
-    is = same ∙ reached;
-    number = done;
-    inside = omega (arith, inside);
-    heard = kept ∙ heard;
-    all = omega arith;
-    but_one = omega arith;
-  })
+  ends-before r kept heard = grind (arith, on-err)
 
   pub ends-behind : {T E : Type 0} (r : Result T E) → told ≡ grown_by (take (done + 1) (log productions f start)) before
       → OnErr r (EndsWithin f start now before told)
-  ends-behind r heard = on-err r (EndsWithin f start now before told) (record {
-    done = done;
-    is = same ∙ reached;
-    number = done + 1;
-    inside = omega (arith, inside);
-    heard = heard;
-    all = omega arith;
-    but_one = omega arith;
-  })
+  ends-behind r heard = grind (arith, on-err)

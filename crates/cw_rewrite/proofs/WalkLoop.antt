@@ -30,8 +30,7 @@ use Rattle.cw_scraps.proofs.Productions.{cats-same}
 use Rattle.cw_scraps.proofs.Reservings.{length-scraps}
 use Rattle.cw_names.specs.Words.{words_of}
 use Rattle.cw_rewrite.specs.Reduction.{GrowsByProductions, HasNoMore, IsFirst, IsNext, PassesOver}
-use Rattle.cw_rewrite.proofs.WalkSteps.{Walks, Rewrites, rewrites, GoesOn, goes-on, WalkEnds, walk-ends}
-use Rattle.cw_rewrite.proofs.WalkSteps.{walk-reaches}
+use Rattle.cw_rewrite.proofs.WalkSteps.{Walks, Rewrites, rewrites, GoesOn, goes-on, WalkEnds, walk-ends, walk-reaches}
 
 -- what holds at each turn; the first values are those with which the reducer was called
 pub record InLoop (f : Flags) (line0 : List LineEntry) (store0 : StoredLists) (names0 : List Entry) (marks0 : MarkList)
@@ -93,8 +92,7 @@ module _ (f : Flags) (line0 : List LineEntry) (store0 : StoredLists) (names0 : L
     (h : InLoop f line0 store0 names0 marks0 steps0 line store names marks steps place done) where
   bound-line : ticks productions f (state_of store0.lists line0 marks0 names0) ≤ 132 * length line0 + length line0
       * reservings productions f (state_of store0.lists line0 marks0 names0)
-  bound-line = rw (← length-scraps store0.lists line0)
-      (ticks-most productions f (state_of store0.lists line0 marks0 names0) productions-sound h.walks.start_fine)
+  bound-line = grind (arith, length-scraps, ticks-most, productions-sound)
 
   numbers-stay : numbers_of (scraps_of store.lists line) ≡ numbers_of (scraps_of store0.lists line0)
   numbers-stay = ap (λ (x : State). numbers_of x.scraps) h.walks.reached
@@ -193,12 +191,7 @@ module _ (f : Flags) (line0 : List LineEntry) (store0 : StoredLists) (names0 : L
   light past = omega (arith, (ends past).number, count-weight productions f (state_of store0.lists line0 marks0 names0))
 
   pub few : length line ≤ place → done ≤ 8 * length line0
-  few past = omega (
-    arith,
-    (ends past).number,
-    count-most productions f (state_of store0.lists line0 marks0 names0),
-    length-scraps store0.lists line0,
-  )
+  few past = grind (arith, ends, count-most, length-scraps)
 
 -- over as many places at which no row fits
 pub passes-by : (n : ℕ) (f : Flags) (line0 : List LineEntry) (store0 : StoredLists) (names0 : List Entry)
@@ -207,10 +200,7 @@ pub passes-by : (n : ℕ) (f : Flags) (line0 : List LineEntry) (store0 : StoredL
     → InLoop f line0 store0 names0 marks0 steps0 line store names marks steps place done
     → ((k : ℕ) → place ≤ k → k < place + n → (k < length line) × (first_of productions (drop k (entry_cats line))
     ≡ None)) → InLoop f line0 store0 names0 marks0 steps0 line store names marks (steps + 4 * n) (place + n) done
-passes-by zero f line0 store0 names0 marks0 steps0 line store names marks steps place done h none =
-    let no_steps : steps + 4 * 0 ≡ steps = omega arith in
-    let no_place : place + 0 ≡ place = omega arith in
-    rw (no_steps, no_place) h
+passes-by zero f line0 store0 names0 marks0 steps0 line store names marks steps place done h none = grind arith
 passes-by (suc n) f line0 store0 names0 marks0 steps0 line store names marks steps place done h none =
     let before : InLoop f line0 store0 names0 marks0 steps0 line store names marks (steps + 4 * n) (place + n) done =
     passes-by n f line0 store0 names0 marks0 steps0 line store names marks steps place done h

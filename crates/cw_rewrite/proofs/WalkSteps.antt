@@ -1,19 +1,18 @@
 -- The walk of the reducer.
 use Rattle.std.proofs.Common.{◌≡◌, ℕ, zero, suc, ◌+◌, ◌-◌, ◌<◌, ◌≤◌, true, Option, Some, None, List, [], ◌∷◌, length}
-use Rattle.std.proofs.Common.{◌++◌, drop, take, get_or, slice_get, unwrap_or, IfSome, MatchOption, refl, sym, ◌∙◌}
-use Rattle.std.proofs.Common.{ap, arith}
+use Rattle.std.proofs.Common.{◌++◌, drop, take, get_or, slice_get, unwrap_or, IfSome, MatchOption, refl, sym, ◌∙◌, ap}
+use Rattle.std.proofs.Common.{arith}
 use Rattle.std.specs.List.{list_all}
 use Rattle.std.specs.Option.{option_map}
 use Rattle.cw_base.specs.declared.category.Cat.{Cat}
-use Rattle.cw_base.specs.declared.category.Cat.TheVariants.{RawInt}
 use Rattle.cw_base.specs.declared.flags.Flags.{Flags}
 use Rattle.cw_names.specs.Names.{Entry, with_category}
-use Rattle.cw_trees.specs.Tree.{Search, Found, Stopped, Nothing}
+use Rattle.cw_trees.specs.Tree.{Search}
 use Rattle.cw_table.specs.declared.productions.TheConstants.{ROW_COUNT}
 use Rattle.cw_table.specs.declared.types.Row.{Row}
 use Rattle.cw_table.specs.declared.types.RowNo.{RowNo}
 use Rattle.cw_table.specs.Fitting.{row_fits, first_of, window_of}
-use Rattle.cw_table.specs.Normal.{Nowhere, At, next_place, normal, count, log, steps, weight, is_fine}
+use Rattle.cw_table.specs.Normal.{At, next_place, normal, count, log, steps, weight, is_fine}
 use Rattle.cw_table.specs.NormalWalk.{walk_left}
 use Rattle.cw_table.specs.Productions.{productions}
 use Rattle.cw_table.specs.Reaching.{IsAfter}
@@ -80,13 +79,7 @@ pub none-line : (line : List LineEntry) (place : ℕ) (first second : Cat) → f
     → ((third fourth : Cat) → first_of productions (first ∷ second ∷ third ∷ fourth ∷ []) ≡ None)
     → first_of productions (drop place (entry_cats line)) ≡ None
 none-line line place first second a b none =
-    sym (first-window productions (drop place (entry_cats line)) productions-sound)
-    ∙ (ap (first_of productions) (sym (window-line line place))
-    ∙ (ap (λ x. first_of productions (x ∷ (get_or line (place + 1) no_entry).cat
-    ∷ (get_or line (place + 2) no_entry).cat ∷ (get_or line (place + 3) no_entry).cat ∷ [])) (sym a)
-    ∙ (ap (λ x. first_of productions (first ∷ x ∷ (get_or line (place + 2) no_entry).cat
-    ∷ (get_or line (place + 3) no_entry).cat ∷ [])) (sym b)
-    ∙ none (get_or line (place + 2) no_entry).cat (get_or line (place + 3) no_entry).cat)))
+    grind (arith, first-window productions (drop place (entry_cats line)) productions-sound, window-line line place)
 
 -- the least safe distance of a number is that of its row
 pub least-row : (n distance : ℕ) → 1 ≤ n → n ≤ ROW_COUNT
@@ -108,9 +101,7 @@ words-with zero cat (e ∷ names) = refl
 words-with (suc n) cat (e ∷ names) = ap (λ ws. (e.kind, e.text) ∷ ws) (words-with n cat names)
 
 pub words-retyped : (s : Search) (names : List Entry) → words_of (retyped s names) ≡ words_of names
-words-retyped (Found name) names = words-with name RawInt names
-words-retyped Stopped names = refl
-words-retyped Nothing names = refl
+words-retyped s names = grind (arith, words-with)
 
 -- What the walk has done so far: the productions, and the steps counted.
 pub record Walks (f : Flags) (start now : State) (place done first spent : ℕ) : Type 0 where
@@ -124,15 +115,7 @@ pub record Walks (f : Flags) (start now : State) (place done first spent : ℕ) 
 
 pub walk-starts : (f : Flags) (start : State) (first : ℕ) → list_all is_fine start.scraps ≡ true
     → Walks f start start 0 0 first first
-walk-starts f start first fine = record {
-  start_fine = fine;
-  fine = fine;
-  below = λ k less. absurd (omega arith);
-  reached = refl;
-  number = omega arith;
-  same = refl;
-  ticked = refl;
-}
+walk-starts f start first fine = grind arith
 
 -- a turn that rewrites
 pub record Rewrites (f : Flags) (start now : State) (place done first spent number : ℕ) : Type 0 where
@@ -227,17 +210,9 @@ pub record WalkEnds (f : Flags) (start now : State) (done first spent : ℕ) : T
 pub walk-ends : (f : Flags) (start now : State) (place done first spent : ℕ) → Walks f start now place done first spent
     → length now.scraps ≤ place → WalkEnds f start now done first spent
 walk-ends f start now place done first spent w past =
-    let long = cats-length now.scraps in
-    let none : next_place productions now ≡ Nowhere =
-    next-nowhere productions 0 (cats_of now.scraps) (λ k less. w.below k (omega arith)) in
-    record {
-      normal = sym (normal-none productions f now none) ∙ w.same;
-      number = omega (arith, count-none productions f now none, w.number);
-      ticked = omega (arith, ticks-end productions f place now w.below past, w.ticked);
-    }
+    grind (arith, cats-length, next-nowhere, normal-none, count-none, ticks-end)
 
 -- wherever it stops, the state is one that the productions reach
 pub walk-reaches : (f : Flags) (start now : State) (place done first spent : ℕ)
     → Walks f start now place done first spent → IsAfter productions f start now
-walk-reaches f start now place done first spent w =
-    rw w.reached (is-after productions f done start productions-sound w.start_fine (omega (arith, w.number)))
+walk-reaches f start now place done first spent w = grind (arith, is-after, productions-sound)

@@ -6,23 +6,22 @@ use Rattle.std.specs.List.{list_any}
 use Rattle.cw_rules.specs.declared.classes.Class.{Class}
 use Rattle.cw_rules.specs.declared.classes.Class.TheVariants as classes
 use Rattle.cw_rules.specs.declared.signs.Sign.{Sign}
-use Rattle.cw_rules.specs.declared.signs.Sign.TheVariants as signs
 use Rattle.cw_rules.specs.declared.parts.Start.TheVariants as start
-use Rattle.cw_rules.specs.Bytes.{apostrophe, is_mark, star, plus, minus, slash, dot, digit_0, equals, at_sign}
+use Rattle.cw_rules.specs.Bytes.{apostrophe, is_mark, star, plus, minus, slash, at_sign, left_paren, right_paren, comma}
+use Rattle.cw_rules.specs.Bytes.{run, is_in, is_letter, is_letter_of, begins, begins_by, begins_with}
 use Rattle.cw_base.specs.Text.{bar}
-use Rattle.cw_rules.specs.Bytes.{left_paren, right_paren, comma, run, is_in, is_letter, is_letter_of, begins, begins_by}
-use Rattle.cw_rules.specs.Bytes.{begins_with}
 use Rattle.cw_rules.specs.Signs.{all_signs, spelling, longer, longest}
 use Rattle.cw_rules.specs.Constants.{more_digits, digits, fraction, exponent_sign, exponent, mantissa, scaled}
 use Rattle.cw_rules.specs.Constants.{is_prefixed, hexadecimal, binary, decimal, number, constant}
-use Rattle.cw_rules.specs.Prefixes.{is_prefix_letter, prefix_size}
+use Rattle.cw_rules.specs.Prefixes.{prefix_size}
 use Rattle.cw_rules.specs.Codes.{code_at, begins_section}
-use Rattle.cw_rules.specs.Tokens.{start_of, sign_or_other, head_sign_size, is_signed, behind_white, name_follows}
-use Rattle.cw_rules.specs.Tokens.{is_parameter, parameter_follows, depth_size, is_include}
+use Rattle.cw_rules.specs.Tokens.{start_of, sign_or_other, is_signed, behind_white, name_follows, is_parameter}
+use Rattle.cw_rules.specs.Tokens.{parameter_follows, depth_size, is_include}
 use Rattle.cw_rules.proofs.Sizes.{run-le, digits-le, mantissa-le, number-le}
 use Rattle.cw_rules.proofs.Choices.{if-same, and-none, or-first, or-second}
 use Rattle.cw_rules.proofs.StringPrefixes.{prefix-below}
 use Rattle.std.proofs.lemmas.List.{get_or_append_left}
+use Rattle.std.proofs.lemmas.Bool.Decides.{nat_tests}
 
 pub drop-same : (n : ℕ) (bs more : List ℕ) → n ≤ length bs → drop n (bs ++ more) ≡ drop n bs ++ more
 drop-same zero bs more h = refl
@@ -67,8 +66,7 @@ module _ (stop : ℕ) (more : List ℕ) where
 
   begins_by-before : (test : ℕ → Bool) (bs : List ℕ) → test stop ≡ false → begins_by test (bs ++ stop ∷ more)
       ≡ begins_by test bs
-  begins_by-before test [] h = h
-  begins_by-before test (b ∷ bs) h = refl
+  begins_by-before test bs h = grind arith
 
   pub with-before : (wanted bs : List ℕ) → list_any (λ w. stop == w) wanted ≡ false
       → begins_with wanted (bs ++ stop ∷ more) ≡ begins_with wanted bs
@@ -92,18 +90,11 @@ section-before Bar more = refl
 -- ## Signs
 
 no-at : (sign : Sign) → list_any (λ w. 64 == w) (spelling sign) ≡ false
-no-at signs.Slash = refl
-no-at _ = refl
+no-at sign = grind arith
 
 spelling-same : (s : Stop) (more : List ℕ) (sign : Sign) (byte : ℕ) (bs : List ℕ) → IsApart s byte bs
     → begins_with (spelling sign) (byte ∷ (bs ++ byte_of s ∷ more)) ≡ begins_with (spelling sign) (byte ∷ bs)
-spelling-same At more sign byte bs h = with-before 64 more (spelling sign) (byte ∷ bs) (no-at sign)
-spelling-same Bar more signs.Bar byte bs h = refl
-spelling-same Bar more signs.OrOr byte [] h = (λ i. h i && begins_with (124 ∷ []) (124 ∷ more))
-    ∙ sym (λ i. h i && begins_with (124 ∷ []) [])
-spelling-same Bar more signs.OrOr byte (b ∷ bs) h = refl
-spelling-same Bar more signs.Slash byte bs h = with-before 124 more (spelling signs.Slash) (byte ∷ bs) refl
-spelling-same Bar more sign byte bs h = with-before 124 more (spelling sign) (byte ∷ bs) refl
+spelling-same s more sign byte bs h = grind (arith, with-before, no-at, nat_tests)
 
 longest-same : (s : Stop) (more : List ℕ) (all : List Sign) (byte : ℕ) (bs : List ℕ) → IsApart s byte bs
     → longest all (byte ∷ (bs ++ byte_of s ∷ more)) ≡ longest all (byte ∷ bs)
@@ -138,18 +129,14 @@ module _ (s : Stop) (more : List ℕ) where
   run-same class bs g h = run-before (byte_of s) more class bs (of-both (is_in class) false s g h)
 
   pub section-same : (bs : List ℕ) → begins_section (bs ++ byte_of s ∷ more) ≡ begins_section bs
-  section-same [] = section-before s more
-  section-same (b ∷ bs) = refl
+  section-same bs = grind (arith, section-before)
 
   -- ## Constants
 
   -- A run of digits goes no further where its class has neither byte.
   more_digits-same : (class : Class) (bs : List ℕ) → is_in class 64 ≡ false → is_in class 124 ≡ false
       → more_digits class (bs ++ byte_of s ∷ more) ≡ more_digits class bs
-  more_digits-same class [] g h =
-      let digit = of-both (is_in class) false s g h in
-      let mark = of-both (λ b. b == apostrophe) false s refl refl in
-      λ i. (if digit i || (mark i && begins_by (is_in class) more) then 1 + more_digits class more else 0)
+  more_digits-same class [] g h = grind (arith, nat_tests, of-both)
   more_digits-same class (b ∷ bs) g h =
       λ i. if is_in class b || (b == apostrophe && begins_by-same (is_in class) bs g h i) then
       1 + more_digits-same class bs g h i
@@ -157,63 +144,30 @@ module _ (s : Stop) (more : List ℕ) where
 
   digits-same : (class : Class) (bs : List ℕ) → is_in class 64 ≡ false → is_in class 124 ≡ false
       → digits class (bs ++ byte_of s ∷ more) ≡ digits class bs
-  digits-same class bs g h =
-      λ i. if begins_by-same (is_in class) bs g h i then more_digits-same class bs g h i else 0
+  digits-same class bs g h = grind (arith, nat_tests, begins_by-same, more_digits-same)
 
   fraction-same : (class : Class) (behind : Bool) (bs : List ℕ) → is_in class 64 ≡ false → is_in class 124 ≡ false
       → fraction class behind (bs ++ byte_of s ∷ more) ≡ fraction class behind bs
-  fraction-same class behind [] g h =
-      let size = digits class more in
-      ap (λ t. if t && (not (begins dot more) && (behind || nat_lt 0 size)) then 1 + size else 0)
-      (of-both (λ b. b == dot) false s refl refl)
-  fraction-same class behind (b ∷ bs) g h =
-      let size = digits-same class bs g h in
-      λ i. if b == dot && (not (begins-same dot bs refl refl i) && (behind || nat_lt 0 (size i))) then 1 + size i else 0
+  fraction-same class behind bs g h = grind (arith, nat_tests, of-both, digits-same, begins-same)
 
   sign-same : (bs : List ℕ) → exponent_sign (bs ++ byte_of s ∷ more) ≡ exponent_sign bs
   sign-same bs = λ i. if begins-same plus bs refl refl i || begins-same minus bs refl refl i then 1 else 0
 
   sign-le : (bs : List ℕ) → exponent_sign bs ≤ length bs
-  sign-le [] = omega arith
-  sign-le (b ∷ bs) = by (begins plus (b ∷ bs) || begins minus (b ∷ bs))
-    where
-      by : (t : Bool) → (if t then 1 else 0) ≤ suc (length bs)
-      by true = omega arith
-      by false = omega arith
+  sign-le bs = grind (arith, nat_tests)
 
   exponent-same : (letter : ℕ) (bs : List ℕ) → is_letter_of letter 64 ≡ false → is_letter_of letter 124 ≡ false
       → exponent letter (bs ++ byte_of s ∷ more) ≡ exponent letter bs
-  exponent-same letter [] g h =
-      let opening = 1 + exponent_sign more in
-      let size = digits classes.Digit (drop opening (byte_of s ∷ more)) in
-      ap (λ t. if t && nat_lt 0 size then opening + size else 0) (of-both (is_letter_of letter) false s g h)
-  exponent-same letter (b ∷ bs) g h =
-      let size : 1 + exponent_sign bs ≤ suc (length bs) = omega (arith, sign-le bs) in
-      let e = sign-same bs in
-      let rest = ap (digits classes.Digit) (drop-same (1 + exponent_sign bs) (b ∷ bs) (byte_of s ∷ more) size)
-      ∙ digits-same classes.Digit (drop (1 + exponent_sign bs) (b ∷ bs)) refl refl in
-      (λ i. if is_letter_of letter b && nat_lt 0 (digits classes.Digit (drop (1 + e i) (b ∷ (bs ++ byte_of s ∷ more))))
-      then (1 + e i) + digits classes.Digit (drop (1 + e i) (b ∷ (bs ++ byte_of s ∷ more))) else 0)
-      ∙ ap (λ n. if is_letter_of letter b && nat_lt 0 n then (1 + exponent_sign bs) + n else 0) rest
+  exponent-same letter bs g h = grind (arith, nat_tests, of-both, sign-le, sign-same, drop-same, digits-same)
 
   mantissa-same : (class : Class) (bs : List ℕ) → is_in class 64 ≡ false → is_in class 124 ≡ false
       → mantissa class (bs ++ byte_of s ∷ more) ≡ mantissa class bs
-  mantissa-same class bs g h =
-      let d = digits-same class bs g h in
-      let rest = ap (fraction class (nat_lt 0 (digits class bs))) (drop-same (digits class bs) bs (byte_of s ∷ more)
-      (digits-le class bs)) ∙ fraction-same class (nat_lt 0 (digits class bs)) (drop (digits class bs) bs) g h in
-      (λ i. d i + fraction class (nat_lt 0 (d i)) (drop (d i) (bs ++ byte_of s ∷ more)))
-      ∙ ap (λ n. digits class bs + n) rest
+  mantissa-same class bs g h = grind (arith, nat_tests, digits-same, drop-same, digits-le, fraction-same)
 
   scaled-same : (class : Class) (letter : ℕ) (bs : List ℕ) → is_in class 64 ≡ false → is_in class 124 ≡ false
       → is_letter_of letter 64 ≡ false → is_letter_of letter 124 ≡ false
       → scaled class letter (bs ++ byte_of s ∷ more) ≡ scaled class letter bs
-  scaled-same class letter bs g h k l =
-      let m = mantissa-same class bs g h in
-      let rest = ap (exponent letter) (drop-same (mantissa class bs) bs (byte_of s ∷ more) (mantissa-le class bs))
-      ∙ exponent-same letter (drop (mantissa class bs) bs) k l in
-      (λ i. if nat_lt 0 (m i) then m i + exponent letter (drop (m i) (bs ++ byte_of s ∷ more)) else 0)
-      ∙ ap (λ n. if nat_lt 0 (mantissa class bs) then mantissa class bs + n else 0) rest
+  scaled-same class letter bs g h k l = grind (arith, nat_tests, mantissa-same, drop-same, mantissa-le, exponent-same)
 
   -- a number behind `0` and a letter
   prefixed-same : (letter : ℕ) (class : Class) (size : List ℕ → ℕ) (bs : List ℕ)
@@ -222,18 +176,7 @@ module _ (s : Stop) (more : List ℕ) where
       → ((cs : List ℕ) → size (cs ++ byte_of s ∷ more) ≡ size cs)
       → (if is_prefixed letter class (bs ++ byte_of s ∷ more) then 2 + size (drop 2 (bs ++ byte_of s ∷ more)) else 0)
       ≡ (if is_prefixed letter class bs then 2 + size (drop 2 bs) else 0)
-  prefixed-same letter class size [] k l g h same =
-      let all = byte_of s ∷ more in
-      let rest = begins_by (is_letter_of letter) more && begins_by (is_in class) (drop 1 more) in
-      ap (λ t. if t && rest then 2 + size (drop 2 all) else 0) (of-both (λ b. b == digit_0) false s refl refl)
-  prefixed-same letter class size (b ∷ []) k l g h same =
-      let none = and-none (b == digit_0) in
-      ap (λ t. if b == digit_0 && (t && begins_by (is_in class) more) then 2 + size more else 0)
-      (of-both (is_letter_of letter) false s k l)
-      ∙ ap (λ t. if t then 2 + size more else 0) none
-      ∙ sym (ap (λ t. if t then 2 + size [] else 0) none)
-  prefixed-same letter class size (b ∷ c ∷ bs) k l g h same =
-      λ i. if b == digit_0 && (is_letter_of letter c && begins_by-same (is_in class) bs g h i) then 2 + same bs i else 0
+  prefixed-same letter class size bs k l g h same = grind (arith, nat_tests, of-both, and-none, begins_by-same)
 
   hexadecimal-same : (bs : List ℕ) → hexadecimal (bs ++ byte_of s ∷ more) ≡ hexadecimal bs
   hexadecimal-same bs = prefixed-same 120 classes.HexDigit (scaled classes.HexDigit 112) bs refl refl refl refl
@@ -247,42 +190,21 @@ module _ (s : Stop) (more : List ℕ) where
   decimal-same bs = scaled-same classes.Digit 101 bs refl refl refl refl
 
   number-same : (bs : List ℕ) → number (bs ++ byte_of s ∷ more) ≡ number bs
-  number-same bs =
-      λ i. if nat_lt 0 (hexadecimal-same bs i) then hexadecimal-same bs i
-      else if nat_lt 0 (binary-same bs i) then binary-same bs i else decimal-same bs i
+  number-same bs = grind (arith, nat_tests, hexadecimal-same, binary-same, decimal-same)
 
   pub constant-same : (bs : List ℕ) → constant (bs ++ byte_of s ∷ more) ≡ constant bs
-  constant-same bs =
-      let n = number-same bs in
-      let rest = ap (run classes.Suffix) (drop-same (number bs) bs (byte_of s ∷ more) (number-le bs))
-      ∙ run-same classes.Suffix (drop (number bs) bs) refl refl in
-      (λ i. if nat_lt 0 (n i) then n i + run classes.Suffix (drop (n i) (bs ++ byte_of s ∷ more)) else 0)
-      ∙ ap (λ k. if nat_lt 0 (number bs) then number bs + k else 0) rest
+  constant-same bs = grind (arith, nat_tests, number-same, drop-same, number-le, run-same)
 
   -- ## Prefixes of strings
 
   pub prefix-same : (byte : ℕ) (bs : List ℕ) → prefix_size (byte ∷ (bs ++ byte_of s ∷ more)) ≡ prefix_size (byte ∷ bs)
-  prefix-same byte [] =
-      let mark = of-both is_mark false s refl refl in
-      let eight = of-both (λ b. b == 56) false s refl refl in
-      let none = and-none (byte == 117) in
-      (λ i. if is_prefix_letter byte && mark i then 1
-      else if (byte == 117 && (eight i && true)) && begins_by is_mark more then 2 else 0)
-      ∙ (λ i. if is_prefix_letter byte && false then 1
-      else if none i && begins_by is_mark more then 2 else 0)
-      ∙ sym (λ i. if is_prefix_letter byte && false then 1 else if none i && false then 2 else 0)
-  prefix-same byte (b ∷ bs) =
-      ap (λ t. if is_prefix_letter byte && is_mark b then 1
-      else if (byte == 117 && (b == 56 && true)) && t then 2 else 0) (begins_by-same is_mark bs refl refl)
+  prefix-same byte bs = grind (arith, nat_tests, of-both, and-none, begins_by-same)
 
   -- the byte behind the prefix
   mark-same : (byte : ℕ) (bs : List ℕ)
       → slice_index (byte ∷ (bs ++ byte_of s ∷ more)) (prefix_size (byte ∷ (bs ++ byte_of s ∷ more)))
       ≡ slice_index (byte ∷ bs) (prefix_size (byte ∷ bs))
-  mark-same byte bs =
-      ap (slice_index (byte ∷ (bs ++ byte_of s ∷ more))) (prefix-same byte bs)
-      ∙ get_or_append_left (byte ∷ bs) (byte_of s ∷ more) 0 (prefix_size (byte ∷ bs))
-      (omega (arith, prefix-below byte bs))
+  mark-same byte bs = grind (arith, nat_tests, prefix-same, get_or_append_left, prefix-below)
 
   -- ## What begins at a byte
 
@@ -308,19 +230,10 @@ module _ (s : Stop) (more : List ℕ) where
   -- ## Heads and sections
 
   pub signed-same : (bs : List ℕ) → is_signed (bs ++ byte_of s ∷ more) ≡ is_signed bs
-  signed-same bs =
-      let n = run classes.Blank bs in
-      let rest = drop n bs in
-      let two = with-same (codes "==") rest refl refl in
-      let plus_two = with-same (codes "+=") rest refl refl in
-      ap (λ k. nat_lt 0 (head_sign_size (drop k (bs ++ byte_of s ∷ more)))) (run-same classes.Blank bs refl refl)
-      ∙ ap (λ l. nat_lt 0 (head_sign_size l)) (drop-same n bs (byte_of s ∷ more) (run-le classes.Blank bs))
-      ∙ (λ i. nat_lt 0 (if two i || plus_two i then 2 else if begins-same equals rest refl refl i then 1 else 0))
+  signed-same bs = grind (arith, nat_tests, with-same, run-same, drop-same, run-le, begins-same)
 
   white-same : (bs : List ℕ) → behind_white (bs ++ byte_of s ∷ more) ≡ behind_white bs ++ byte_of s ∷ more
-  white-same bs =
-      ap (λ n. drop n (bs ++ byte_of s ∷ more)) (run-same classes.White bs refl refl)
-      ∙ drop-same (run classes.White bs) bs (byte_of s ∷ more) (run-le classes.White bs)
+  white-same bs = grind (arith, nat_tests, run-same, drop-same, run-le)
 
   pub name-same : (bs : List ℕ) → name_follows (bs ++ byte_of s ∷ more) ≡ name_follows bs
   name-same bs = ap (begins_by is_letter) (white-same bs) ∙ begins_by-same is_letter (behind_white bs) refl refl
@@ -336,10 +249,7 @@ module _ (s : Stop) (more : List ℕ) where
   pub paren-same : (bs : List ℕ) → begins left_paren (drop (run classes.Word (bs ++ byte_of s ∷ more))
       (bs ++ byte_of s ∷ more))
       ≡ begins left_paren (drop (run classes.Word bs) bs)
-  paren-same bs =
-      ap (λ n. begins left_paren (drop n (bs ++ byte_of s ∷ more))) (run-same classes.Word bs refl refl)
-      ∙ ap (begins left_paren) (drop-same (run classes.Word bs) bs (byte_of s ∷ more) (run-le classes.Word bs))
-      ∙ begins-same left_paren (drop (run classes.Word bs) bs) refl refl
+  paren-same bs = grind (arith, nat_tests, run-same, drop-same, run-le, begins-same)
 
   pub include-same : (bs : List ℕ) → is_include (bs ++ byte_of s ∷ more) ≡ is_include bs
   include-same bs = λ i. with-same (codes "include") bs refl refl i && run-same classes.Word bs refl refl i == 7

@@ -1,20 +1,16 @@
 -- A body that ends before an `@` or a bar which it doesn't take is the same where the text ends there.
-use Rattle.std.proofs.Common.{◌≡◌, ℕ, suc, ◌+◌, ◌-◌, ◌<◌, ◌≤◌, Bool, true, false, ◌&&◌, ◌||◌, not, ◌==◌, List, [], ◌∷◌}
-use Rattle.std.proofs.Common.{◌++◌, Some, None, codes, length, drop, refl, sym, ap, ◌∙◌, arith, length-append}
-use Rattle.std.proofs.Common.{length-drop}
+use Rattle.std.proofs.Common.{◌++◌, None, codes, length, refl, sym, ap, ◌∙◌, arith, length-append, length-drop, ◌≡◌, ℕ}
+use Rattle.std.proofs.Common.{suc, ◌+◌, ◌<◌, ◌≤◌, Bool, true, false, ◌&&◌, ◌||◌, not, ◌==◌, List, [], ◌∷◌}
 use Rattle.std.specs.Prelude.{if◌then◌else◌}
 use Rattle.std.proofs.lemmas.Bool.{eqb-true}
+use Rattle.std.proofs.lemmas.Bool.Decides.{nat_tests}
 use Rattle.cw_base.specs.declared.notes.NoteKind.{NoteKind}
-use Rattle.cw_base.specs.declared.notes.NoteKind.TheVariants as notes
 use Rattle.cw_rules.specs.declared.bodies.Body.{Body}
 use Rattle.cw_rules.specs.declared.bodies.Body.TheVariants as bodies
 use Rattle.cw_rules.specs.declared.bodies.Inside.{Inside}
-use Rattle.cw_rules.specs.declared.bodies.Noted.{Noted}
-use Rattle.cw_base.specs.Bytes.{newline, backslash}
-use Rattle.cw_rules.specs.Bytes.{star, slash, greater, at_sign, begins, begins_with}
-use Rattle.cw_base.specs.Text.{bar}
-use Rattle.cw_rules.specs.Bodies.{stops, takes_next, note_on, braces_after, stepped, goes_on, ended, note_here}
-use Rattle.cw_rules.specs.Bodies.{with_note, noted, closing_bytes, stop_at, extent, all_notes, and_last, note_unless}
+use Rattle.cw_rules.specs.Bytes.{greater, at_sign, begins, begins_with}
+use Rattle.cw_rules.specs.Bodies.{stops, takes_next, note_on, stepped, goes_on, ended, note_here, with_note, noted}
+use Rattle.cw_rules.specs.Bodies.{closing_bytes, stop_at, extent, all_notes}
 use Rattle.cw_rules.proofs.Inside.{ended-some, ended-le}
 use Rattle.cw_rules.proofs.Sizes.{ended-most}
 use Rattle.cw_rules.proofs.Choices.{if-both}
@@ -23,85 +19,33 @@ use Rattle.cw_rules.proofs.Ahead.{section-same}
 
 -- the byte ahead is all that is looked at
 takes-near : (body : Body) (b c : ℕ) (xs ys : List ℕ) → takes_next body b (c ∷ xs) ≡ takes_next body b (c ∷ ys)
-takes-near (bodies.Quoted q) b c xs ys = refl
-takes-near bodies.IncludeName b c xs ys = refl
-takes-near bodies.ControlText b c xs ys = refl
-takes-near bodies.SectionName b c xs ys = refl
-takes-near (bodies.Piece long deep) b c xs ys = refl
+takes-near x1 b c xs ys = grind (arith, nat_tests)
 
 note-near : (body : Body) (braces b c : ℕ) (xs ys : List ℕ) → note_on body braces b (c ∷ xs)
     ≡ note_on body braces b (c ∷ ys)
-note-near (bodies.Quoted q) braces b c xs ys = refl
-note-near bodies.IncludeName braces b c xs ys = refl
-note-near bodies.ControlText braces b c xs ys = refl
-note-near bodies.SectionName braces b c xs ys = refl
-note-near (bodies.Piece long deep) braces b c xs ys = refl
+note-near x1 braces b c xs ys = grind (arith, nat_tests)
 
 -- an `@` takes the next one along
 at-takes : (body : Body) (more : List ℕ) → takes_next body 64 (64 ∷ more) ≡ true
-at-takes (bodies.Quoted q) more = refl
-at-takes bodies.IncludeName more = refl
-at-takes bodies.ControlText more = refl
-at-takes bodies.SectionName more = refl
-at-takes (bodies.Piece long deep) more = refl
+at-takes x1 more = grind (arith, nat_tests)
 
 -- any other byte has the same note, whatever is ahead
 note-other : (body : Body) (braces b : ℕ) (xs ys : List ℕ) → (b == at_sign) ≡ false → note_on body braces b xs
     ≡ note_on body braces b ys
-note-other (bodies.Quoted q) braces b xs ys h = (λ i. if h i && not (begins at_sign xs) then Some notes.AtInString else
-    None) ∙ sym (λ i. if h i && not (begins at_sign ys) then Some notes.AtInString else None)
-note-other bodies.IncludeName braces b xs ys h = (λ i. if h i && not (begins at_sign xs) then Some notes.AtInString else
-    None) ∙ sym (λ i. if h i && not (begins at_sign ys) then Some notes.AtInString else None)
-note-other bodies.ControlText braces b xs ys h = (λ i. if h i && not (begins at_sign xs) then Some
-    notes.CodeInControlText else None) ∙ sym (λ i. if h i && not (begins at_sign ys) then Some notes.CodeInControlText
-    else None)
-note-other bodies.SectionName braces b xs ys h = (λ i. if h i && not (begins at_sign xs) then Some notes.CodeInName else
-    None) ∙ sym (λ i. if h i && not (begins at_sign ys) then Some notes.CodeInName else None)
-note-other (bodies.Piece long deep) braces b xs ys h =
-    let rest = if b == 125 && braces == 0 then Some notes.ExtraBrace else
-    (if b == bar then Some notes.TooDeep else None) in
-    (λ i. if h i && not (begins at_sign xs) then Some notes.AtInComment else rest)
-    ∙ sym (λ i. if h i && not (begins at_sign ys) then Some notes.AtInComment else rest)
+note-other x1 braces b xs ys h = grind (arith, nat_tests, nat_tests)
 
 -- a bar ahead says nothing
 takes-bar : (more : List ℕ) (body : Body) (b : ℕ) (bs : List ℕ) → takes_next body b (bs ++ 124 ∷ more)
     ≡ takes_next body b bs
-takes-bar more (bodies.Quoted q) b bs = ap (λ t. b == backslash || (b == at_sign && t))
-    (begins-before 124 more at_sign bs refl)
-takes-bar more bodies.IncludeName b bs = ap (λ t. b == at_sign && t) (begins-before 124 more at_sign bs refl)
-takes-bar more bodies.ControlText b bs = ap (λ t. b == at_sign && t) (begins-before 124 more at_sign bs refl)
-takes-bar more bodies.SectionName b bs = refl
-takes-bar more (bodies.Piece long deep) b bs =
-    λ i. (b == backslash && not (begins-before 124 more at_sign bs refl i
-    || (not long && begins-before 124 more newline bs refl i)))
-    || (b == at_sign && begins-before 124 more at_sign bs refl i)
+takes-bar more x2 b bs = grind (arith, nat_tests, nat_tests, begins-before)
 
 note-bar : (more : List ℕ) (body : Body) (braces b : ℕ) (bs : List ℕ) → note_on body braces b (bs ++ 124 ∷ more)
     ≡ note_on body braces b bs
-note-bar more (bodies.Quoted q) braces b bs = ap (λ t. if b == at_sign && not t then Some notes.AtInString else None)
-    (begins-before 124 more at_sign bs refl)
-note-bar more bodies.IncludeName braces b bs = ap (λ t. if b == at_sign && not t then Some notes.AtInString else None)
-    (begins-before 124 more at_sign bs refl)
-note-bar more bodies.ControlText braces b bs = ap (λ t. if b == at_sign && not t then Some notes.CodeInControlText else
-    None) (begins-before 124 more at_sign bs refl)
-note-bar more bodies.SectionName braces b bs = ap (λ t. if b == at_sign && not t then Some notes.CodeInName else None)
-    (begins-before 124 more at_sign bs refl)
-note-bar more (bodies.Piece long deep) braces b bs =
-    ap (λ t. if b == at_sign && not t then Some notes.AtInComment else
-    (if b == 125 && braces == 0 then Some notes.ExtraBrace else if b == bar then Some notes.TooDeep else None))
-    (begins-before 124 more at_sign bs refl)
+note-bar more x2 braces b bs = grind (arith, nat_tests, nat_tests, begins-before)
 
 stops-same : (s : Stop) (more : List ℕ) (body : Body) (before b : ℕ) (bs : List ℕ)
     → stops body before b (bs ++ byte_of s ∷ more) ≡ stops body before b bs
-stops-same s more (bodies.Quoted q) before b bs = refl
-stops-same s more bodies.IncludeName before b bs = refl
-stops-same s more bodies.ControlText before b bs = ap (λ t. b == newline || (b == at_sign && t))
-    (begins-same s more greater bs refl refl)
-stops-same s more bodies.SectionName before b bs = λ i. b == at_sign
-    && (begins-same s more greater bs refl refl i || section-same s more bs i)
-stops-same s more (bodies.Piece long deep) before b bs =
-    λ i. (if long then b == star && begins-same s more slash bs refl refl i else b == newline)
-    || ((b == at_sign && section-same s more bs i) || (b == bar && not deep))
+stops-same s more x3 before b bs = grind (arith, nat_tests, nat_tests, begins-same, section-same)
 
 pub record SameBody (s : Stop) (more : List ℕ) (i : Inside) (bs : List ℕ) : Type 0 where
   pub place : (ended i (bs ++ byte_of s ∷ more)).place ≡ (ended i bs).place
@@ -110,11 +54,7 @@ pub record SameBody (s : Stop) (more : List ℕ) (i : Inside) (bs : List ℕ) : 
 
 -- a body that goes no further than it is stops there
 pub still : (i : Inside) (bs : List ℕ) → (ended i bs).place ≤ i.place → goes_on i bs ≡ false
-still i bs h = by (goes_on i bs) refl
-  where
-    by : (t : Bool) → goes_on i bs ≡ t → goes_on i bs ≡ false
-    by true e = absurd (omega (arith, ended-some i bs e))
-    by false e = e
+still i bs h = grind (arith, ended-some)
 
 pub ended-here : (i : Inside) (b : ℕ) (bs : List ℕ) → goes_on i (b ∷ bs) ≡ false → ended i (b ∷ bs) ≡ i
 ended-here i b bs h = ap (λ t. if t then ended (stepped i b bs) bs else i) h
@@ -137,26 +77,11 @@ goes-same s more i b bs = ap (λ t. i.along || not t) (stops-same s more i.body 
 -- behind the last byte nothing was taken along, so that byte isn't an `@` that does
 last-note : (more : List ℕ) (i : Inside) (b : ℕ) → (not i.along && takes_next i.body b (64 ∷ more)) ≡ false
     → note_here i b (64 ∷ more) ≡ note_here i b []
-last-note more i b h = by i.along (b == at_sign) refl refl
-  where
-    by : (along is_at : Bool) → i.along ≡ along → (b == at_sign) ≡ is_at → note_here i b (64 ∷ more) ≡ note_here i b []
-    by true is_at a e = (λ j. if a j then None else note_on i.body i.braces b (64 ∷ more))
-        ∙ sym (λ j. if a j then None else note_on i.body i.braces b [])
-    by false true a e =
-        let takes : (not i.along && takes_next i.body b (64 ∷ more)) ≡ true =
-        (λ j. not (a j) && takes_next i.body (eqb-true b at_sign e j) (64 ∷ more)) ∙ at-takes i.body more in
-        absurd (let k : true ≡ false = sym takes ∙ h in cc)
-    by false false a e = ap (λ n. if i.along then None else n) (note-other i.body i.braces b (64 ∷ more) [] e)
+last-note more i b h = grind (arith, nat_tests, eqb-true, at-takes, note-other)
 
 step-by : (i : Inside) (b : ℕ) (xs ys : List ℕ) → takes_next i.body b xs ≡ takes_next i.body b ys
     → stepped i b xs ≡ stepped i b ys
-step-by i b xs ys e = ap (λ t. record {
-  body = i.body;
-  braces = if i.along then i.braces else braces_after i.braces b;
-  place = i.place + 1;
-  before = b;
-  along = not i.along && t;
-}) e
+step-by i b xs ys e = grind (arith, nat_tests)
 
 here-by : (i : Inside) (b : ℕ) (xs ys : List ℕ) → note_on i.body i.braces b xs ≡ note_on i.body i.braces b ys
     → note_here i b xs ≡ note_here i b ys
@@ -198,13 +123,7 @@ body-on s more i b bs takes note rec h = by (goes_on i (b ∷ bs)) refl
 
 body-end : (s : Stop) (more : List ℕ) (i : Inside) → (ended i (byte_of s ∷ more)).place ≤ i.place + 0
     → SameBody s more i []
-body-end s more i h =
-    let stop = still i (byte_of s ∷ more) (omega (arith, h)) in
-    record {
-      place = ap (λ (j : Inside). j.place) (ended-here i (byte_of s) more stop);
-      braces = ap (λ (j : Inside). j.braces) (ended-here i (byte_of s) more stop);
-      notes = noted-here i (byte_of s) more stop;
-    }
+body-end s more i h = grind (arith, nat_tests, still i (byte_of s ∷ more) (omega (arith, h)), byte_of s)
 
 -- the last byte before an `@` doesn't take it along
 body-last : (more : List ℕ) (i : Inside) (b : ℕ) → (ended i (b ∷ 64 ∷ more)).place ≤ i.place + 1
@@ -258,8 +177,7 @@ bar-same more i (b ∷ bs) h = body-on Bar more i b bs (takes-bar more i.body b 
 
 pub body-same : (s : Stop) (more : List ℕ) (i : Inside) (bs : List ℕ)
     → (ended i (bs ++ byte_of s ∷ more)).place ≤ i.place + length bs → SameBody s more i bs
-body-same At more i bs h = at-same more i bs h
-body-same Bar more i bs h = bar-same more i bs h
+body-same s more i bs h = grind (arith, at-same, bar-same)
 
 -- a body that goes on over the stop ends before it only where it ends earlier
 pub body-inside : (s : Stop) (more : List ℕ) (i : Inside) (bs : List ℕ)
@@ -299,24 +217,15 @@ IsFree Bar _ = Unit {0}
 
 greater-same : (s : Stop) (more bs : List ℕ) → IsFree s more → begins_with (codes "@>") (bs ++ byte_of s ∷ more)
     ≡ begins_with (codes "@>") bs
-greater-same At [] [] g = refl
-greater-same At (m ∷ ms) [] g = ap (λ t. t && true) g
-greater-same At more (b ∷ []) g = refl
-greater-same At more (b ∷ c ∷ bs) g = refl
-greater-same Bar more bs g = with-before 124 more (codes "@>") bs refl
+greater-same x1 more bs g = grind (arith, nat_tests, with-before)
 
 name-ends : (s : Stop) (more bs : List ℕ) → begins_with (codes ">") (bs ++ byte_of s ∷ more)
     ≡ begins_with (codes ">") bs
-name-ends At more bs = with-before 64 more (codes ">") bs refl
-name-ends Bar more bs = with-before 124 more (codes ">") bs refl
+name-ends x1 more bs = grind (arith, nat_tests, with-before)
 
 closes-same : (s : Stop) (more : List ℕ) (body : Body) (bs : List ℕ) → IsFree s more → NoStop s body
     → begins_with (closing_bytes body) (bs ++ byte_of s ∷ more) ≡ begins_with (closing_bytes body) bs
-closes-same s more (bodies.Quoted q) bs g n = with-before (byte_of s) more (q ∷ []) bs (ap (λ t. t || false) n)
-closes-same s more bodies.IncludeName bs g n = name-ends s more bs
-closes-same s more bodies.ControlText bs g n = greater-same s more bs g
-closes-same s more bodies.SectionName bs g n = greater-same s more bs g
-closes-same s more (bodies.Piece long deep) bs g n = refl
+closes-same s more x3 bs g n = grind (arith, nat_tests, with-before, byte_of, name-ends, greater-same)
 
 pub record SameExtent (s : Stop) (more : List ℕ) (i : Inside) (bs : List ℕ) : Type 0 where
   pub inner : (extent i (bs ++ byte_of s ∷ more)).inner_size ≡ (extent i bs).inner_size
@@ -327,52 +236,30 @@ pub record SameExtent (s : Stop) (more : List ℕ) (i : Inside) (bs : List ℕ) 
   pub short : (extent i bs).inner_size ≤ length bs
 
 pub inner-le : (i : Inside) (bs : List ℕ) → (extent i bs).inner_size ≤ (extent i bs).size
-inner-le i bs =
-    let n = (ended i bs).place - i.place in
-    if-both (λ k. n ≤ k) (begins_with (closing_bytes i.body) (drop n bs)) (n + length (closing_bytes i.body)) n
-    (λ h. omega arith) (λ h. omega arith)
+inner-le i bs = grind (arith, nat_tests, if-both)
 
 pub extent-same : (s : Stop) (more : List ℕ) (i : Inside) (bs : List ℕ) → IsFree s more → NoStop s i.body
     → (extent i (bs ++ byte_of s ∷ more)).size ≤ length bs → SameExtent s more i bs
 extent-same s more i bs g n fits =
-    let cl = closing_bytes i.body in
-    let all = bs ++ byte_of s ∷ more in
-    let least : (ended i all).place - i.place ≤ length bs = omega (arith, inner-le i all, fits) in
-    let b = body-same s more i bs (omega (arith, least)) in
-    let e : (ended i all).place - i.place ≡ (ended i bs).place - i.place = ap (λ k. k - i.place) b.place in
-    let most : (ended i bs).place - i.place ≤ length bs = omega (arith, ended-most i bs) in
-    let closed = ap (λ k. begins_with cl (drop k all)) e
-    ∙ ap (begins_with cl) (drop-same ((ended i bs).place - i.place) bs (byte_of s ∷ more) most)
-    ∙ closes-same s more i.body (drop ((ended i bs).place - i.place) bs) g n in
-    record {
-      inner = e;
-      size = λ j. if closed j then e j + length cl else e j;
-      closed = closed;
-      braces = b.braces;
-      notes = b.notes;
-      short = most;
-    }
+    grind (arith, nat_tests, byte_of, inner-le, body-same, ended-most, drop-same, closes-same)
 
 pub stop-some : (place : ℕ) (bs : List ℕ) → 0 < length bs → stop_at place bs ≡ place
-stop-some place [] h = absurd (omega arith)
-stop-some place (b ∷ bs) h = refl
+stop-some place x2 h = grind (arith, nat_tests)
 
 -- the notes of a body that goes on over the stop
 pub all_notes-same : (s : Stop) (more : List ℕ) (lost : NoteKind) (i : Inside) (bs : List ℕ) → IsFree s more
     → NoStop s i.body → ((before : ℕ) → stops i.body before (byte_of s) more ≡ false)
     → (extent i (bs ++ byte_of s ∷ more)).size ≤ length bs
     → all_notes lost i (bs ++ byte_of s ∷ more) ≡ all_notes lost i bs
-all_notes-same s more lost i bs g n over fits =
-    let all = bs ++ byte_of s ∷ more in
-    let e = extent-same s more i bs g n fits in
-    let inside : (ended i all).place < i.place + length bs =
-    body-inside s more i bs over (omega (arith, inner-le i all, fits)) in
-    let from : i.place ≤ (ended i all).place = ended-le i all in
-    let full : 0 < length (drop (extent i all).inner_size all) =
-    omega (arith, length-drop (extent i all).inner_size all, length-append bs (byte_of s ∷ more)) in
-    let cut : 0 < length (drop (extent i bs).inner_size bs) =
-    omega (arith, length-drop (extent i bs).inner_size bs, e.inner) in
-    let stop = stop-some (i.place + (extent i all).inner_size) (drop (extent i all).inner_size all) full
-    ∙ ap (λ k. i.place + k) e.inner
-    ∙ sym (stop-some (i.place + (extent i bs).inner_size) (drop (extent i bs).inner_size bs) cut) in
-    λ j. and_last (e.notes j) (note_unless (e.closed j) lost (stop j))
+all_notes-same s more lost i bs g n over fits = grind (
+  arith,
+  nat_tests,
+  byte_of,
+  extent-same,
+  body-inside,
+  inner-le,
+  ended-le,
+  length-drop,
+  length-append,
+  stop-some,
+)

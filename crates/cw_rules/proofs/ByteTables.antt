@@ -2,6 +2,7 @@
 use Rattle.std.proofs.Common.{◌≡◌, ℕ, ◌<◌, Bool, map, get_or, refl, ap, ◌∙◌, arith}
 use Rattle.std.specs.List.{range_with_len}
 use Rattle.std.proofs.lemmas.List.FromFn.{get_or-map-range_with_len}
+use Rattle.std.proofs.lemmas.Bool.Decides.{nat_tests}
 use Rattle.cw_rules.specs.declared.bodies.TheConstants.{PLAIN_BYTES}
 use Rattle.cw_rules.specs.declared.classes.Class.TheVariants.{White, Word}
 use Rattle.cw_rules.specs.declared.classes.TheConstants.{WHITE_BYTES, WORD_BYTES}
@@ -18,8 +19,7 @@ whites-are : WHITE_BYTES ≡ map (is_in White) (range_with_len 0 256)
 whites-are = refl
 
 pub white-at : (b : ℕ) (d : Bool) → b < 256 → get_or WHITE_BYTES b d ≡ is_in White b
-white-at b d h = ap (λ bs. get_or bs b d) whites-are
-    ∙ get_or-map-range_with_len (is_in White) 0 256 b b d h (omega arith)
+white-at b d h = grind (arith, nat_tests, get_or-map-range_with_len (is_in White) 0 256 b b d h (omega arith))
 
 plains-are : PLAIN_BYTES ≡ map is_plain (range_with_len 0 256)
 plains-are = refl

@@ -1,11 +1,12 @@
 -- What begins at a place of C text or a comment is the same where the text ends before an `@` or a bar that it doesn't
 -- take.
-use Rattle.std.proofs.Common.{◌≡◌, ℕ, suc, ◌+◌, ◌-◌, ◌<◌, ◌≤◌, Bool, true, false, ◌&&◌, ◌||◌, not, ◌==◌, nat_lt, List}
+use Rattle.std.proofs.Common.{◌≡◌, ℕ, suc, ◌+◌, ◌<◌, ◌≤◌, Bool, true, false, ◌&&◌, ◌||◌, not, ◌==◌, nat_lt, List}
 use Rattle.std.proofs.Common.{[], ◌∷◌, ◌++◌, Option, Some, None, length, take, drop, refl, sym, ap, subst, ◌∙◌, arith}
 use Rattle.std.proofs.Common.{◌⊎◌, inl, inr, slice_index, length-drop}
 use Rattle.std.specs.Prelude.{if◌then◌else◌}
 use Rattle.std.proofs.lemmas.Bool.{eqb-true}
 use Rattle.std.proofs.lemmas.List.{drop_all}
+use Rattle.std.proofs.lemmas.Bool.Decides.{nat_tests}
 use Rattle.cw_base.proofs.TestLaws.{both-right}
 use Rattle.cw_base.specs.declared.notes.NoteKind.{NoteKind}
 use Rattle.cw_base.specs.declared.notes.NoteKind.TheVariants as notes
@@ -24,32 +25,28 @@ use Rattle.cw_rules.specs.declared.parts.Start.TheVariants as start
 use Rattle.cw_rules.specs.declared.signs.Sign.TheVariants as signs
 use Rattle.cw_rules.specs.declared.tokens.TokKind.{TokKind}
 use Rattle.cw_rules.specs.declared.tokens.TokKind.TheVariants as kinds
-use Rattle.cw_base.specs.Bytes.{newline, backslash}
-use Rattle.cw_rules.specs.Bytes.{quote, apostrophe, hash, star, slash, less, greater, at_sign}
+use Rattle.cw_rules.specs.Bytes.{quote, apostrophe, star, slash, less, greater, at_sign, run, is_letter, is_mark}
+use Rattle.cw_rules.specs.Bytes.{begins}
 use Rattle.cw_base.specs.Text.{bar}
-use Rattle.cw_rules.specs.Bytes.{run, is_in, is_letter, is_mark, begins}
 use Rattle.cw_rules.specs.Constants.{constant}
 use Rattle.cw_rules.specs.Prefixes.{prefix_size}
 use Rattle.cw_rules.proofs.StringPrefixes.{prefix-below, prefix-mark}
 use Rattle.cw_rules.specs.declared.signs.Sign.{Sign}
-use Rattle.cw_rules.specs.Signs.{all_signs, longest, spelling}
+use Rattle.cw_rules.specs.Signs.{all_signs, longest}
 use Rattle.cw_rules.specs.Codes.{code_at, has_control_text}
 use Rattle.cw_rules.specs.Names.{is_void}
 use Rattle.cw_rules.specs.Bodies.{at_start, stops, extent, ended, noted, one_note, note_unless}
-use Rattle.cw_rules.specs.Answers.{Answer, Token, Begin, Finish, Where, Cut, Found, before, note_answers, plain}
-use Rattle.cw_rules.specs.Answers.{dropped}
-use Rattle.cw_rules.specs.Tokens.{comment_kind, missing_brace, sign_or_other, identifier, string, string_of}
-use Rattle.cw_rules.specs.Tokens.{closes_on_line, include_name, section_name, is_name, is_quote, control_or_plain}
-use Rattle.cw_rules.specs.Tokens.{code_token, dropped_code, is_signed, is_head, in_hash_line, behind_include, passed}
-use Rattle.cw_rules.specs.Tokens.{moved, one, comment_begin, comment_closed, is_deep, piece_start, piece}
+use Rattle.cw_rules.specs.Answers.{Answer, Where, Cut, Found, before, plain, dropped}
+use Rattle.cw_rules.specs.Tokens.{sign_or_other, identifier, string, string_of, closes_on_line, include_name}
+use Rattle.cw_rules.specs.Tokens.{section_name, is_name, is_quote, control_or_plain, code_token, dropped_code}
+use Rattle.cw_rules.specs.Tokens.{is_signed, is_head, in_hash_line, passed, moved, one, comment_begin, comment_closed}
+use Rattle.cw_rules.specs.Tokens.{piece_start, piece, effect_in, may_head, code_by, in_code, start_of}
 use Rattle.cw_rules.specs.Apart.{comment_text_apart, code_text_apart, in_text_apart}
-use Rattle.cw_rules.specs.Tokens.{effect_in, may_head, code_by, in_code, start_of, is_space, takes_hash_line}
-use Rattle.cw_rules.specs.Tokens.{ends_at_bar}
 use Rattle.cw_rules.proofs.Choices.{if-both}
 use Rattle.cw_rules.proofs.Sizes.{run-le}
 use Rattle.cw_rules.proofs.Ahead.{Stop, At, Bar, byte_of, of-both, IsApart, apart-on, drop-same, take-same, begins-same}
 use Rattle.cw_rules.proofs.Ahead.{run-same, constant-same, prefix-same, start_of-same, signed-same, include-same}
-use Rattle.cw_rules.proofs.BodiesAhead.{NoStop, IsFree, body-same, extent-same, all_notes-same}
+use Rattle.cw_rules.proofs.BodiesAhead.{IsFree, body-same, extent-same, all_notes-same}
 use Rattle.cw_rules.proofs.IncludeEnds.{greater-stops}
 
 -- two cuts that are the same where the first has no more than so many bytes
@@ -132,13 +129,8 @@ effect-bar part comments = refl
 -- an `@` and the stop are a code
 at-end : (s : Stop) (more : List ℕ) (w : Where) (place byte : ℕ) (g : Found)
     → Local 0 (in_code (start.Code (code_at (byte_of s ∷ more))) w place (byte ∷ byte_of s ∷ more)) g
-at-end At more w place byte g =
-    subst (λ effect. Local 0 (code_by effect at.At w place (byte ∷ 64 ∷ more)) g) (sym (effect-at w.part w.comments))
-    (twice (code_by (effects.Drops notes.UnknownCode) at.At w place (byte ∷ 64 ∷ more)) g (omega arith))
-at-end Bar more w place byte g =
-    subst (λ effect. Local 0 (code_by effect at.OptionalBreak w place (byte ∷ 124 ∷ more)) g)
-    (sym (effect-bar w.part w.comments))
-    (twice (code_by effects.Stands at.OptionalBreak w place (byte ∷ 124 ∷ more)) g (omega arith))
+at-end At more w place byte g = grind (arith, nat_tests, effect-at, twice)
+at-end Bar more w place byte g = grind (arith, nat_tests, effect-bar, twice)
 
 -- a bar before a bar is one sign with it
 apart-or : (s : Stop) (more : List ℕ) (ends : Bool) (w : Where) (place byte : ℕ) (g : Found)
@@ -164,23 +156,7 @@ module _ (s : Stop) (more : List ℕ) (free : IsFree s more) where
       → (c.size ≤ suc (length bs) → (next ≡ other) × (c ≡ d))
       → Local (length bs) (one hash_line next place (byte ∷ (bs ++ byte_of s ∷ more)) c)
       (one hash_line other place (byte ∷ bs) d)
-  one-local hash_line next other place byte bs c d same = record {
-    same = λ h.
-        let fits : c.size ≤ suc (length bs) = omega (arith, h) in
-        let e = same fits in
-        let f : Found = one hash_line next place (byte ∷ (bs ++ byte_of s ∷ more)) c in
-        (λ i. record {
-          answers = Token (record {
-            kind = c.kind;
-            text = take-same c.size (byte ∷ bs) (byte_of s ∷ more) fits i;
-            span = record { start = place; end = place + c.size };
-            hash_line = hash_line;
-          }) ∷ note_answers c.notes;
-          more = c.size - 1;
-          next = next;
-        })
-        ∙ (λ i. one hash_line (e.0 i) place (byte ∷ bs) (e.1 i));
-  }
+  one-local hash_line next other place byte bs c d same = grind (arith, nat_tests, byte_of, take-same)
 
   pub simple-local : (hash_line : Bool) (next : Where) (place byte : ℕ) (bs : List ℕ) (c d : Cut) → c ≡ d
       → Local (length bs) (one hash_line next place (byte ∷ (bs ++ byte_of s ∷ more)) c)
@@ -192,16 +168,8 @@ module _ (s : Stop) (more : List ℕ) (free : IsFree s more) where
   string-local : (kind : TokKind) (opening q : ℕ) (i : Inside) (bs : List ℕ) (left : ℕ) → i.body ≡ bodies.Quoted q
       → (byte_of s == q) ≡ false → left ≡ opening + length bs
       → CutLocal left (string_of kind opening i (bs ++ byte_of s ∷ more)) (string_of kind opening i bs)
-  string-local kind opening q i bs left b n l = record {
-    same = λ h.
-        let fits : (extent i (bs ++ byte_of s ∷ more)).size ≤ length bs = omega (arith, h, l) in
-        let no : NoStop s i.body = subst (NoStop s) (sym b) n in
-        let over : (before : ℕ) → stops i.body before (byte_of s) more ≡ false =
-        λ before. ap (λ body. stops body before (byte_of s) more) b ∙ quote-over s more q before n in
-        let e = extent-same s more i bs free no fits in
-        let m = all_notes-same s more notes.StringUnended i bs free no over fits in
-        λ j. record { kind = kind; size = opening + e.size j; notes = m j };
-  }
+  string-local kind opening q i bs left b n l =
+      grind (arith, nat_tests, byte_of, quote-over, extent-same, all_notes-same)
 
   control-local : (c : Code) (place byte next : ℕ) (bs : List ℕ)
       → CutLocal (suc (suc (length bs))) (control_or_plain c place (byte ∷ next ∷ (bs ++ byte_of s ∷ more)))
@@ -304,33 +272,12 @@ module _ (s : Stop) (more : List ℕ) (free : IsFree s more) where
       ))
   code_by-local (effects.Drops note) c w place byte next bs = one-local (in_hash_line w.part) _ _ place byte (next ∷ bs)
       _ _ (λ h. (refl, (dropped-local note c place byte next bs).same h))
-  code_by-local effects.Defines c w place byte next bs = simple-local false (moved w (parts.MacroName place)) place byte
-      (next ∷ bs) (plain (kinds.Code c) 2) (plain (kinds.Code c) 2) refl
-  code_by-local effects.Formats c w place byte next bs = simple-local false
-      (moved w (parts.FormatName place false false)) place byte (next ∷ bs) (plain (kinds.Code c) 2)
-      (plain (kinds.Code c) 2) refl
-  code_by-local effects.BeginsC c w place byte next bs = simple-local false (moved w (parts.Plain false false)) place
-      byte (next ∷ bs) (plain (kinds.Code c) 2) (plain (kinds.Code c) 2) refl
+  code_by-local _ _ _ _ _ _ _ = grind (arith, nat_tests, simple-local)
 
   begin-local : (long : Bool) (w : Where) (place byte : ℕ) (bs : List ℕ)
       → Local (length bs) (comment_begin long w place (byte ∷ (bs ++ byte_of s ∷ more)))
       (comment_begin long w place (byte ∷ bs))
-  begin-local long w place byte bs = record {
-    same = λ h. ap (λ l. record {
-      answers = Begin (record {
-        kind = comment_kind long;
-        text = l;
-        span = record { start = place; end = place + 2 };
-        hash_line = in_hash_line w.part;
-      }) ∷ [];
-      more = 1;
-      next = record {
-        part = passed w.part;
-        comments = record { start = place; long = long; braces = 0; inner = false }
-            ∷ w.comments;
-      };
-    }) (take-same 2 (byte ∷ bs) (byte_of s ∷ more) (omega (arith, h)));
-  }
+  begin-local long w place byte bs = grind (arith, nat_tests, take-same, byte_of)
 
   -- a string, behind so many bytes that begin it
   quoted-local : (opening q place : ℕ) (bs : List ℕ) → (byte_of s == q) ≡ false → opening ≤ length bs
@@ -374,20 +321,12 @@ module _ (s : Stop) (more : List ℕ) (free : IsFree s more) where
             (quoted-local (prefix_size (byte ∷ bs) + 1) quoted place (byte ∷ bs) q
             (omega (arith, prefix-below byte bs)))).same h,
       ))
-  begun-local start.LongComment part cs place byte bs q k = begin-local true (record { part = part; comments = cs })
-      place byte bs
-  begun-local start.ShortComment part cs place byte bs q k = begin-local false (record { part = part; comments = cs })
-      place byte bs
   begun-local (start.Code c) part cs place byte [] q k = absurd (omega (arith, k refl))
-  begun-local (start.Code c) part cs place byte (next ∷ bs) q k =
-      code_by-local (effect_in part cs c) c (record { part = part; comments = cs }) place byte next bs
+  begun-local (start.Code c) part cs place byte (next ∷ bs) q k = grind (arith, nat_tests, code_by-local)
   begun-local start.EndOfInner part cs place byte bs q k = same-local (length bs) _ _ refl
-  begun-local (start.Sign sign) part cs place byte bs q k = simple-local (in_hash_line part)
-      (record { part = passed part; comments = cs }) place byte bs (plain (kinds.Sign sign) (length (spelling sign)))
-      (plain (kinds.Sign sign) (length (spelling sign))) refl
-  begun-local start.OtherByte part cs place byte bs q k = simple-local (in_hash_line part)
-      (record { part = passed part; comments = cs }) place byte bs (plain kinds.OtherByte 1) (plain kinds.OtherByte 1)
-      refl
+  begun-local (start.Sign sign) part cs place byte bs q k = grind (arith, nat_tests, simple-local)
+  begun-local start.OtherByte part cs place byte bs q k = grind (arith, nat_tests, simple-local)
+  begun-local _ _ _ _ _ _ _ _ = grind (arith, nat_tests, begin-local)
 
   -- ## What an include name ends
 
@@ -395,58 +334,11 @@ module _ (s : Stop) (more : List ℕ) (free : IsFree s more) where
       × (run classes.IncludeName bs < length bs)) ⊎ ((run classes.IncludeName bs ≡ length bs)
       × (length bs < run classes.IncludeName (bs ++ byte_of s ∷ more)))
   include-run [] = inr (refl, include-over s more)
-  include-run (b ∷ bs) = by (is_in classes.IncludeName b) refl (include-run bs)
-    where
-      by : (t : Bool) → is_in classes.IncludeName b ≡ t
-          → ((run classes.IncludeName (bs ++ byte_of s ∷ more) ≡ run classes.IncludeName bs)
-          × (run classes.IncludeName bs < length bs))
-          ⊎ ((run classes.IncludeName bs ≡ length bs) × (length bs < run classes.IncludeName (bs ++ byte_of s ∷ more)))
-          → ((run classes.IncludeName (b ∷ (bs ++ byte_of s ∷ more)) ≡ run classes.IncludeName (b ∷ bs))
-          × (run classes.IncludeName (b ∷ bs) < suc (length bs)))
-          ⊎ ((run classes.IncludeName (b ∷ bs) ≡ suc (length bs))
-          × (suc (length bs) < run classes.IncludeName (b ∷ (bs ++ byte_of s ∷ more))))
-      by false e rec =
-          let full : run classes.IncludeName (b ∷ (bs ++ byte_of s ∷ more)) ≡ 0 =
-          ap (λ t. if t then 1 + run classes.IncludeName (bs ++ byte_of s ∷ more) else 0) e in
-          let cut : run classes.IncludeName (b ∷ bs) ≡ 0 =
-          ap (λ t. if t then 1 + run classes.IncludeName bs else 0) e in
-          inl (full ∙ sym cut, omega arith)
-      by true e rec =
-          let full : run classes.IncludeName (b ∷ (bs ++ byte_of s ∷ more))
-          ≡ 1 + run classes.IncludeName (bs ++ byte_of s ∷ more) =
-          ap (λ t. if t then 1 + run classes.IncludeName (bs ++ byte_of s ∷ more) else 0) e in
-          let cut : run classes.IncludeName (b ∷ bs) ≡ 1 + run classes.IncludeName bs =
-          ap (λ t. if t then 1 + run classes.IncludeName bs else 0) e in
-          on full cut rec
-        where
-          on : run classes.IncludeName (b ∷ (bs ++ byte_of s ∷ more))
-              ≡ 1 + run classes.IncludeName (bs ++ byte_of s ∷ more)
-              → run classes.IncludeName (b ∷ bs) ≡ 1 + run classes.IncludeName bs
-              → ((run classes.IncludeName (bs ++ byte_of s ∷ more) ≡ run classes.IncludeName bs)
-              × (run classes.IncludeName bs < length bs))
-              ⊎ ((run classes.IncludeName bs ≡ length bs)
-              × (length bs < run classes.IncludeName (bs ++ byte_of s ∷ more)))
-              → ((run classes.IncludeName (b ∷ (bs ++ byte_of s ∷ more)) ≡ run classes.IncludeName (b ∷ bs))
-              × (run classes.IncludeName (b ∷ bs) < suc (length bs)))
-              ⊎ ((run classes.IncludeName (b ∷ bs) ≡ suc (length bs))
-              × (suc (length bs) < run classes.IncludeName (b ∷ (bs ++ byte_of s ∷ more))))
-          on full cut (inl r) = inl (full ∙ ap (λ n. 1 + n) r.0 ∙ sym cut, omega (arith, r.1))
-          on full cut (inr r) = inr (omega (arith, r.0), omega (arith, r.1))
+  include-run (b ∷ bs) = grind (arith, nat_tests, include-run bs, byte_of)
 
   closes-cases : (bs : List ℕ) → (closes_on_line (bs ++ byte_of s ∷ more) ≡ closes_on_line bs)
       ⊎ ((closes_on_line bs ≡ false) × (length bs < run classes.IncludeName (bs ++ byte_of s ∷ more)))
-  closes-cases bs = by (include-run bs)
-    where
-      by : ((run classes.IncludeName (bs ++ byte_of s ∷ more) ≡ run classes.IncludeName bs)
-          × (run classes.IncludeName bs < length bs))
-          ⊎ ((run classes.IncludeName bs ≡ length bs) × (length bs < run classes.IncludeName (bs ++ byte_of s ∷ more)))
-          → (closes_on_line (bs ++ byte_of s ∷ more) ≡ closes_on_line bs)
-          ⊎ ((closes_on_line bs ≡ false) × (length bs < run classes.IncludeName (bs ++ byte_of s ∷ more)))
-      by (inl r) = inl (ap (λ n. begins greater (drop n (bs ++ byte_of s ∷ more))) r.0
-          ∙ ap (begins greater) (drop-same (run classes.IncludeName bs) bs (byte_of s ∷ more)
-          (run-le classes.IncludeName bs))
-          ∙ begins-same s more greater (drop (run classes.IncludeName bs) bs) refl refl)
-      by (inr r) = inr (ap (begins greater) (drop_all (run classes.IncludeName bs) bs (omega (arith, r.0))), r.1)
+  closes-cases bs = grind (arith, nat_tests, include-run, byte_of, drop-same, run-le, begins-same, drop_all)
 
   include-local : (hash_line : Bool) (next : Where) (place byte : ℕ) (bs : List ℕ) → closes_on_line bs ≡ true
       → Local (length bs) (one hash_line next place (byte ∷ (bs ++ byte_of s ∷ more))
@@ -480,37 +372,8 @@ module _ (s : Stop) (more : List ℕ) (free : IsFree s more) where
       (byte ∷ (bs ++ byte_of s ∷ more)) (include_name place (byte ∷ (bs ++ byte_of s ∷ more))) else f)
       (if byte == less && (behind && closes_on_line bs) then one hash_line next place (byte ∷ bs)
       (include_name place (byte ∷ bs)) else g)
-  include-or hash_line behind next place byte bs f g l = by (closes-cases bs)
-    where
-      by : (closes_on_line (bs ++ byte_of s ∷ more) ≡ closes_on_line bs)
-          ⊎ ((closes_on_line bs ≡ false) × (length bs < run classes.IncludeName (bs ++ byte_of s ∷ more)))
-          → Local (length bs) (if byte == less && (behind && closes_on_line (bs ++ byte_of s ∷ more)) then one hash_line
-          next
-          place (byte ∷ (bs ++ byte_of s ∷ more)) (include_name place (byte ∷ (bs ++ byte_of s ∷ more))) else f)
-          (if byte == less && (behind && closes_on_line bs) then one hash_line next place (byte ∷ bs)
-          (include_name place (byte ∷ bs)) else g)
-      by (inl e) =
-          if-local (length bs) (byte == less && (behind && closes_on_line (bs ++ byte_of s ∷ more)))
-          (byte == less && (behind && closes_on_line bs)) _ _ _ _ (ap (λ t. byte == less && (behind && t)) e)
-          (λ h. include-local hash_line next place byte bs
-          (both-right behind (closes_on_line bs) (both-right (byte == less) (behind && closes_on_line bs) h)))
-          (λ h. l)
-      by (inr r) = far (byte == less && (behind && closes_on_line (bs ++ byte_of s ∷ more)))
-          (ap (λ t. byte == less && (behind && t)) r.0 ∙ none (byte == less) behind)
-        where
-          none : (a b : Bool) → (a && (b && false)) ≡ false
-          none true true = refl
-          none true false = refl
-          none false b = refl
-
-          far : (t : Bool) → (byte == less && (behind && closes_on_line bs)) ≡ false
-              → Local (length bs) (if t then one hash_line next place (byte ∷ (bs ++ byte_of s ∷ more))
-              (include_name place (byte ∷ (bs ++ byte_of s ∷ more))) else f)
-              (if byte == less && (behind && closes_on_line bs) then one hash_line next place (byte ∷ bs)
-              (include_name place (byte ∷ bs)) else g)
-          far true e = record { same = λ h. absurd (omega (arith, h, r.1)) }
-          far false e = subst (λ u. Local (length bs) f (if u then one hash_line next place (byte ∷ bs)
-              (include_name place (byte ∷ bs)) else g)) (sym e) l
+  include-or hash_line behind next place byte bs f g l =
+      grind (arith, nat_tests, closes-cases, byte_of, if-local, include-local, both-right)
 
   -- ## C text and comments
 
@@ -590,18 +453,7 @@ module _ (s : Stop) (more : List ℕ) (free : IsFree s more) where
       (bs ++ byte_of s ∷ more))
       (code_text_apart (record { part = part; comments = cs }) fresh last place byte bs)
   code_text-local part cs fresh last place byte bs =
-      let n = length bs in
-      let w : Where = record { part = part; comments = cs } in
-      if-local n (byte == newline) (byte == newline) _ _ _ _ refl (λ h. same-local n _ _ refl)
-      (λ h. if-local n (is_space part byte (bs ++ byte_of s ∷ more)) (is_space part byte bs) _ _ _ _
-      (ap (λ t. is_in classes.Blank byte || (in_hash_line part && (byte == backslash && t)))
-      (begins-same s more newline bs refl refl)) (λ h. same-local n _ _ refl)
-      (λ h. if-local n (byte == hash && (takes_hash_line part cs && fresh))
-      (byte == hash && (takes_hash_line part cs && fresh)) _ _ _ _ refl
-      (λ h. simple-local true (moved w (parts.Plain true false)) place byte bs (plain kinds.HashLine 1)
-      (plain kinds.HashLine 1) refl)
-      (λ h. include-or (in_hash_line part) (behind_include part) (moved w (passed part)) place byte bs _ _
-      (begun (ends_at_bar part cs) part cs place byte bs))))
+      grind (arith, nat_tests, if-local, same-local, byte_of, begins-same, simple-local, include-or, begun)
 
   piece-local : (part : Part) (cs : List Opened) (c : Opened) (place byte : ℕ) (bs : List ℕ)
       → Local (length bs) (piece part cs c place (byte ∷ (bs ++ byte_of s ∷ more))) (piece part cs c place (byte ∷ bs))
@@ -630,33 +482,13 @@ module _ (s : Stop) (more : List ℕ) (free : IsFree s more) where
   closed-local : (part : Part) (c : Opened) (cs : List Opened) (place byte : ℕ) (bs : List ℕ)
       → Local (length bs) (comment_closed part c cs place (byte ∷ (bs ++ byte_of s ∷ more)))
       (comment_closed part c cs place (byte ∷ bs))
-  closed-local part c cs place byte bs = record {
-    same = λ h. ap (λ l. record {
-      answers = Finish (record {
-        kind = comment_kind c.long;
-        text = l;
-        span = record { start = place; end = place + 2 };
-        hash_line = in_hash_line part;
-      }) ∷ missing_brace c place;
-      more = 1;
-      next = record { part = part; comments = cs };
-    }) (take-same 2 (byte ∷ bs) (byte_of s ∷ more) (omega (arith, h)));
-  }
+  closed-local part c cs place byte bs = grind (arith, nat_tests, take-same, byte_of)
 
   comment_text-local : (part : Part) (c : Opened) (cs : List Opened) (last place byte : ℕ) (bs : List ℕ)
       → Local (length bs) (comment_text_apart part c cs last place byte (bs ++ byte_of s ∷ more))
       (comment_text_apart part c cs last place byte bs)
   comment_text-local part c cs last place byte bs =
-      let n = length bs in
-      if-local n (c.long && (byte == star && begins slash (bs ++ byte_of s ∷ more)))
-      (c.long && (byte == star && begins slash bs)) _ _ _ _
-      (ap (λ t. c.long && (byte == star && t)) (begins-same s more slash bs refl refl))
-      (λ h. closed-local part c cs place byte bs)
-      (λ h. if-local n (not c.long && byte == newline) (not c.long && byte == newline) _ _ _ _ refl
-      (λ h. same-local n _ _ refl)
-      (λ h. if-local n (byte == bar && not (is_deep part (c ∷ cs))) (byte == bar && not (is_deep part (c ∷ cs))) _ _ _ _
-      refl (λ h. same-local n _ _ refl)
-      (λ h. piece-local part cs c place byte bs)))
+      grind (arith, nat_tests, if-local, byte_of, begins-same, closed-local, same-local, piece-local)
 
   pub within-local : (part : Part) (c : Opened) (cs : List Opened) (fresh : Bool) (last place byte : ℕ) (bs : List ℕ)
       → Local (length bs) (in_text_apart part (c ∷ cs) fresh last place byte (bs ++ byte_of s ∷ more))

@@ -1,8 +1,9 @@
 -- What begins at a place of a text tells the code with which a part of a section begins there.
-use Rattle.std.proofs.Common.{◌≡◌, ℕ, ◌+◌, Bool, true, false, ◌&&◌, not, ◌==◌, nat_lt, List, [], ◌∷◌, ◌++◌, length}
-use Rattle.std.proofs.Common.{drop, Option, Some, None, refl, sym, ap, ◌∙◌, append_assoc}
+use Rattle.std.proofs.Common.{arith, ◌≡◌, ℕ, Bool, true, false, ◌&&◌, not, ◌==◌, nat_lt, List, [], ◌∷◌, ◌++◌}
+use Rattle.std.proofs.Common.{Option, Some, None, refl, sym, ap, ◌∙◌, append_assoc}
 use Rattle.std.specs.Prelude.{if◌then◌else◌}
 use Rattle.std.proofs.lemmas.Bool.{eqb-true}
+use Rattle.std.proofs.lemmas.Bool.Decides.{nat_tests}
 use Rattle.cw_base.specs.declared.notes.NoteKind.TheVariants as notes
 use Rattle.cw_rules.specs.declared.bodies.Noted.{Noted}
 use Rattle.cw_rules.specs.declared.classes.Class.TheVariants as classes
@@ -16,28 +17,25 @@ use Rattle.cw_rules.specs.declared.parts.Opened.{Opened}
 use Rattle.cw_rules.specs.declared.parts.Start.{Start}
 use Rattle.cw_rules.specs.declared.parts.Start.TheVariants as start
 use Rattle.cw_rules.specs.declared.signs.Sign.{Sign}
-use Rattle.cw_rules.specs.declared.signs.Sign.TheVariants as signs
 use Rattle.cw_rules.specs.declared.tokens.TokKind.{TokKind}
 use Rattle.cw_rules.specs.declared.tokens.TokKind.TheVariants as kinds
 use Rattle.cw_rules.specs.Answers.{Answer, Token, Begin, Finish, Note, Where, Cut, Found, before, note_answers, plain}
 use Rattle.cw_rules.specs.Answers.{dropped, has_sign, is_head_sign}
 use Rattle.cw_rules.specs.Bodies.{one_note, note_unless}
 use Rattle.cw_base.specs.Bytes.{newline, backslash}
-use Rattle.cw_rules.specs.Bytes.{hash, star, slash, less, at_sign, comma}
+use Rattle.cw_rules.specs.Bytes.{hash, star, slash, less, at_sign, run, begins, is_letter, is_mark}
 use Rattle.cw_base.specs.Text.{bar}
-use Rattle.cw_rules.specs.Bytes.{right_paren, left_paren, run, begins, is_letter, is_mark, is_in}
-use Rattle.cw_rules.specs.Codes.{code_at, has_control_text, effect_in_limbo, effect_in_tex}
-use Rattle.cw_rules.specs.Tokens.{is_head_part, one, skipped_byte, dropped_code, identifier, string, include_name}
-use Rattle.cw_rules.specs.Tokens.{sign_or_other, passed, moved, in_hash_line, ends_at_bar, line_end, comment_end}
-use Rattle.cw_rules.specs.Tokens.{inner_cut, behind_inner, effect_in, code_by, code_token, in_code, start_of}
+use Rattle.cw_rules.specs.Codes.{code_at, effect_in_limbo, effect_in_tex}
+use Rattle.cw_rules.specs.Tokens.{is_head_part, one, skipped_byte, include_name, sign_or_other, passed, moved}
+use Rattle.cw_rules.specs.Tokens.{in_hash_line, ends_at_bar, line_end, comment_end, inner_cut, behind_inner, code_by}
+use Rattle.cw_rules.specs.Tokens.{code_token, in_code, start_of, comment_closed, limbo_by, limbo_text, tex_by, tex_text}
+use Rattle.cw_rules.specs.Tokens.{head_text, is_name, alone_size, behind_word, is_include, may_head, is_head, is_space}
+use Rattle.cw_rules.specs.Tokens.{takes_hash_line, behind_include, closes_on_line, is_deep, name_follows, macro_name}
+use Rattle.cw_rules.specs.Tokens.{parameter_follows, parameter, format_name, behind_format}
 use Rattle.cw_rules.specs.Apart.{code_text_apart, comment_text_apart, part_text_apart, in_text_apart, behind_head_apart}
-use Rattle.cw_rules.specs.Tokens.{comment_closed, limbo_by, limbo_text, tex_by, tex_text, head_text}
-use Rattle.cw_rules.specs.Tokens.{is_name, is_quote, alone_size, behind_word, is_include, may_head}
-use Rattle.cw_rules.specs.Tokens.{is_head, is_space, takes_hash_line, behind_include, closes_on_line, is_deep}
-use Rattle.cw_rules.specs.Tokens.{name_follows, macro_name, parameter_follows, parameter, format_name, behind_format}
 use Rattle.cw_rules.specs.Constants.{constant}
 use Rattle.cw_rules.specs.Prefixes.{prefix_size}
-use Rattle.cw_rules.specs.Signs.{all_signs, longest, spelling}
+use Rattle.cw_rules.specs.Signs.{all_signs, longest}
 use Rattle.cw_rules.proofs.Choices.{if-both}
 
 -- ## The code of answers
@@ -110,9 +108,7 @@ other-tells : (w : Where) (byte : ℕ) (bytes : List ℕ) (hash_line : Bool) (ne
     → is_opener (kind_code cut.kind) ≡ false → is_head_sign cut.kind ≡ false
     → (is_limbo w.part ≡ false → is_limbo next.part ≡ false)
     → Tells w byte bytes (one hash_line next place shown cut)
-other-tells w byte bytes hash_line next place shown cut other sign limbo =
-    one-tells w byte bytes hash_line next place shown cut (λ h. absurd (let k : true ≡ false = sym h ∙ other in cc))
-    sign limbo
+other-tells w byte bytes hash_line next place shown cut other sign limbo = grind (arith, nat_tests, one-tells)
 
 skip-tells : (w v : Where) (byte : ℕ) (bytes : List ℕ) → (is_limbo w.part ≡ false → is_limbo v.part ≡ false)
     → (is_head_where w ≡ false → is_head_where v ≡ false)
@@ -126,23 +122,13 @@ same-tells w byte bytes = skip-tells w w byte bytes (λ h. h) (λ h. h)
 note-tells : (w v : Where) (byte : ℕ) (bytes : List ℕ) (n : Noted) (f : Found)
     → (is_limbo w.part ≡ false → is_limbo v.part ≡ false) → (is_head_where w ≡ false → is_head_where v ≡ false)
     → Tells v byte bytes f → Tells w byte bytes (before (Note n.kind n.place ∷ []) f)
-note-tells w v byte bytes n f limbo head t = record {
-  code = t.code;
-  limbo = λ h. t.limbo (limbo h);
-  sign = λ h rest k. t.sign (head h) rest k;
-}
+note-tells w v byte bytes n f limbo head t = grind (arith, nat_tests)
 
 -- an end before what begins there
 end-tells : (w v : Where) (byte : ℕ) (bytes : List ℕ) (xs : List Answer) (f : Found)
     → ((ys : List Answer) → code_in (xs ++ ys) ≡ code_in ys) → ((ys : List Answer) → has_sign (xs ++ ys) ≡ false)
     → (is_limbo w.part ≡ false → is_limbo v.part ≡ false) → Tells v byte bytes f → Tells w byte bytes (before xs f)
-end-tells w v byte bytes xs f code sign limbo t = record {
-  code = λ h.
-      let told = t.code (ap is_opener (sym (code f.answers)) ∙ h) in
-      (told.0, told.1 ∙ sym (code f.answers));
-  limbo = λ h. t.limbo (limbo h);
-  sign = λ h rest k. ap has_sign (append_assoc xs f.answers rest) ∙ sign (f.answers ++ rest);
-}
+end-tells w v byte bytes xs f code sign limbo t = grind (arith, nat_tests, append_assoc)
 
 notes-code : (ns : List Noted) (ys : List Answer) → code_in (note_answers ns ++ ys) ≡ code_in ys
 notes-code [] ys = refl
@@ -151,24 +137,20 @@ notes-code (n ∷ ns) ys = notes-code ns ys
 -- ## Parts
 
 passed-limbo : (p : Part) → is_limbo p ≡ false → is_limbo (passed p) ≡ false
-passed-limbo parts.Begin h = refl
-passed-limbo (parts.Plain a b) h = refl
-passed-limbo p h = h
+passed-limbo p h = grind (arith, nat_tests)
 
 word-limbo : (p : Part) (bytes : List ℕ) → is_limbo p ≡ false → is_limbo (behind_word p bytes) ≡ false
 word-limbo p bytes h = if-both (λ (q : Part). is_limbo q ≡ false) (in_hash_line p && is_include bytes)
     (parts.Plain true true) (passed p) (λ e. refl) (λ e. passed-limbo p h)
 
 inner-limbo : (p : Part) (cs : List Opened) → is_limbo p ≡ false → is_limbo (behind_inner p cs).part ≡ false
-inner-limbo p [] h = refl
-inner-limbo p (c ∷ cs) h = passed-limbo p h
+inner-limbo p x2 h = grind (arith, nat_tests, passed-limbo)
 
 -- ## C text
 
 end-code : (hash_line : Bool) (c : Opened) (place size : ℕ) (bytes : List ℕ) (ys : List Answer)
     → code_in (comment_end hash_line c place size bytes ++ ys) ≡ code_in ys
-end-code hash_line c place size bytes ys = notes-code (one_note (note_unless (c.braces == 0) notes.MissingBrace place))
-    ys
+end-code hash_line c place size bytes ys = grind (arith, nat_tests, notes-code)
 
 line-tells : (part : Part) (cs : List Opened) (last place byte : ℕ) (bytes : List ℕ)
     → Tells (record { part = part; comments = cs }) byte bytes (line_end part cs last place)
@@ -191,19 +173,14 @@ pub record KindIs (code : Code) (cut : Cut) : Type 0 where
   pub is : cut.kind ≡ kinds.Code code
 
 pub code-kind : (c : Code) (place : ℕ) (bytes : List ℕ) → KindIs c (code_token c place bytes)
-code-kind c place bytes =
-    if-both (KindIs c) (is_name c) _ _ (λ e. record { is = refl })
-    (λ e. if-both (KindIs c) (is_quote c) _ _ (λ f. record { is = refl })
-    (λ f. if-both (KindIs c) (has_control_text c) _ _ (λ g. record { is = refl }) (λ g. record { is = refl })))
+code-kind c place bytes = grind (arith, nat_tests, if-both)
 
 -- a token that is a code
 stands-tells : (w : Where) (byte : ℕ) (bytes : List ℕ) (hash_line : Bool) (next : Where) (place : ℕ) (shown : List ℕ)
     (c : Code) (cut : Cut)
     → byte ≡ 64 → code_at bytes ≡ c → KindIs c cut → (is_limbo w.part ≡ false → is_limbo next.part ≡ false)
     → Tells w byte bytes (one hash_line next place shown cut)
-stands-tells w byte bytes hash_line next place shown c cut e h k limbo =
-    one-tells w byte bytes hash_line next place shown cut (λ o. (e, h ∙ sym (ap kind_code k.is))) (ap is_head_sign k.is)
-    limbo
+stands-tells w byte bytes hash_line next place shown c cut e h k limbo = grind (arith, nat_tests, one-tells)
 
 code-tells : (effect : Effect) (c : Code) (w : Where) (place byte : ℕ) (bytes shown : List ℕ) → byte ≡ 64
     → code_at bytes ≡ c → Tells w byte bytes (code_by effect c w place shown)
@@ -214,15 +191,10 @@ code-tells effects.Stands c w place byte bytes shown e h =
     (if-both (λ (v : Where). is_limbo w.part ≡ false → is_limbo v.part
     ≡ false) (is_name c && (may_head w.part w.comments && is_head place shown)) (moved w parts.Head)
     (moved w (passed w.part)) (λ t k. refl) (λ t k. passed-limbo w.part k))
-code-tells (effects.Drops note) c w place byte bytes shown e h = other-tells w byte bytes (in_hash_line w.part)
-    (moved w (passed w.part)) place shown (dropped_code note c place shown) refl refl (passed-limbo w.part)
-code-tells effects.Defines c w place byte bytes shown e h = stands-tells w byte bytes false
-    (moved w (parts.MacroName place)) place shown c (plain (kinds.Code c) 2) e h (record { is = refl }) (λ k. refl)
-code-tells effects.Formats c w place byte bytes shown e h = stands-tells w byte bytes false
-    (moved w (parts.FormatName place false false)) place shown c (plain (kinds.Code c) 2) e h (record { is = refl })
-    (λ k. refl)
-code-tells effects.BeginsC c w place byte bytes shown e h = stands-tells w byte bytes false
-    (moved w (parts.Plain false false)) place shown c (plain (kinds.Code c) 2) e h (record { is = refl }) (λ k. refl)
+code-tells (effects.Drops note) c w place byte bytes shown e h = grind (arith, nat_tests, other-tells, passed-limbo)
+code-tells effects.Defines c w place byte bytes shown e h = grind (arith, nat_tests, stands-tells)
+code-tells effects.Formats c w place byte bytes shown e h = grind (arith, nat_tests, stands-tells)
+code-tells effects.BeginsC c w place byte bytes shown e h = grind (arith, nat_tests, stands-tells)
 
 -- a code starts where it stands
 abbrev StartsCode : ℕ → List ℕ → Start → Type 0
@@ -251,25 +223,12 @@ starts ends byte bytes =
 
 in-code-tells : (s : Start) (w : Where) (place byte : ℕ) (bytes shown : List ℕ) → StartsCode byte bytes s
     → Tells w byte bytes (in_code s w place shown)
-in-code-tells start.Identifier w place byte bytes shown h = other-tells w byte bytes (in_hash_line w.part)
-    (moved w (behind_word w.part shown)) place shown (identifier shown) refl refl (word-limbo w.part shown)
-in-code-tells start.Constant w place byte bytes shown h = other-tells w byte bytes (in_hash_line w.part)
-    (moved w (passed w.part)) place shown (plain kinds.Constant (constant shown)) refl refl (passed-limbo w.part)
-in-code-tells (start.Quoted q) w place byte bytes shown h = other-tells w byte bytes (in_hash_line w.part)
-    (moved w (passed w.part)) place shown (string kinds.Quoted (prefix_size shown + 1) q place shown) refl refl
-    (passed-limbo w.part)
-in-code-tells start.LongComment w place byte bytes shown h =
-    record { code = λ o. absurd cc; limbo = passed-limbo w.part; sign = λ k rest r. refl }
-in-code-tells start.ShortComment w place byte bytes shown h =
-    record { code = λ o. absurd cc; limbo = passed-limbo w.part; sign = λ k rest r. refl }
-in-code-tells (start.Code c) w place byte bytes shown h = code-tells (effect_in w.part w.comments c) c w place byte
-    bytes shown h.0 h.1
-in-code-tells start.EndOfInner w place byte bytes shown h =
-    record { code = λ o. absurd cc; limbo = inner-limbo w.part w.comments; sign = λ k rest r. refl }
-in-code-tells (start.Sign s) w place byte bytes shown h = other-tells w byte bytes (in_hash_line w.part)
-    (moved w (passed w.part)) place shown (plain (kinds.Sign s) (length (spelling s))) refl refl (passed-limbo w.part)
-in-code-tells start.OtherByte w place byte bytes shown h = other-tells w byte bytes (in_hash_line w.part)
-    (moved w (passed w.part)) place shown (plain kinds.OtherByte 1) refl refl (passed-limbo w.part)
+in-code-tells start.Identifier w place byte bytes shown h = grind (arith, nat_tests, other-tells, word-limbo)
+in-code-tells start.LongComment w place byte bytes shown h = grind (arith, nat_tests, passed-limbo)
+in-code-tells start.ShortComment w place byte bytes shown h = grind (arith, nat_tests, passed-limbo)
+in-code-tells (start.Code c) w place byte bytes shown h = grind (arith, nat_tests, code-tells)
+in-code-tells start.EndOfInner w place byte bytes shown h = grind (arith, nat_tests, inner-limbo)
+in-code-tells _ _ _ _ _ _ _ = grind (arith, nat_tests, other-tells, passed-limbo)
 
 text-tells : (w : Where) (fresh : Bool) (last place byte : ℕ) (bytes : List ℕ)
     → Tells w byte bytes (code_text_apart w fresh last place byte bytes)
@@ -342,15 +301,10 @@ tex-code-tells effects.Stands c w place byte bytes shown e h =
     (code_token c place shown) e h (code-kind c place shown)
     (if-both (λ (v : Where). is_limbo w.part ≡ false → is_limbo v.part ≡ false) (is_name c && is_head place shown)
     (moved w parts.Head) w (λ t k. refl) (λ t k. k))
-tex-code-tells (effects.Drops note) c w place byte bytes shown e h =
-    other-tells w byte bytes false w place shown (dropped_code note c place shown) refl refl (λ k. k)
-tex-code-tells effects.Defines c w place byte bytes shown e h = stands-tells w byte bytes false
-    (moved w (parts.MacroName place)) place shown c (plain (kinds.Code c) 2) e h (record { is = refl }) (λ k. refl)
-tex-code-tells effects.Formats c w place byte bytes shown e h = stands-tells w byte bytes false
-    (moved w (parts.FormatName place false false)) place shown c (plain (kinds.Code c) 2) e h (record { is = refl })
-    (λ k. refl)
-tex-code-tells effects.BeginsC c w place byte bytes shown e h = stands-tells w byte bytes false
-    (moved w (parts.Plain false false)) place shown c (plain (kinds.Code c) 2) e h (record { is = refl }) (λ k. refl)
+tex-code-tells (effects.Drops note) c w place byte bytes shown e h = grind (arith, nat_tests, other-tells)
+tex-code-tells effects.Defines c w place byte bytes shown e h = grind (arith, nat_tests, stands-tells)
+tex-code-tells effects.Formats c w place byte bytes shown e h = grind (arith, nat_tests, stands-tells)
+tex-code-tells effects.BeginsC c w place byte bytes shown e h = grind (arith, nat_tests, stands-tells)
 
 tex-tells : (w : Where) (place byte : ℕ) (bytes : List ℕ) → Tells w byte bytes (tex_text w place byte bytes)
 tex-tells w place byte bytes =
@@ -364,48 +318,22 @@ tex-tells w place byte bytes =
 
 head-tells : (place byte : ℕ) (bytes : List ℕ) → Tells (record { part = parts.Head; comments = [] }) byte bytes
     (head_text (record { part = parts.Head; comments = [] }) place byte bytes)
-head-tells place byte bytes =
-    let w : Where = record { part = parts.Head; comments = [] } in
-    if-both (Tells w byte bytes) (is_in classes.Blank byte) _ _ (λ e. same-tells w byte bytes)
-    (λ e. record { code = λ h. absurd cc; limbo = λ h. refl; sign = λ h. absurd cc })
+head-tells place byte bytes = grind (arith, nat_tests, if-both, same-tells)
 
 macro-tells : (code : ℕ) (w : Where) (place byte : ℕ) (bytes : List ℕ)
     → Tells w byte bytes (macro_name code w place byte bytes)
-macro-tells code w place byte bytes =
-    if-both (Tells w byte bytes) (is_in classes.White byte) _ _ (λ e. same-tells w byte bytes)
-    (λ e. other-tells w byte bytes false (if begins left_paren (drop (run classes.Word (byte ∷ bytes)) (byte ∷ bytes))
-    then moved w (parts.MacroParen code) else moved w parts.Definition) place (byte ∷ bytes)
-    (identifier (byte ∷ bytes)) refl refl
-    (if-both (λ (v : Where). is_limbo w.part ≡ false → is_limbo v.part
-    ≡ false) (begins left_paren (drop (run classes.Word (byte ∷ bytes)) (byte ∷ bytes)))
-    (moved w (parts.MacroParen code)) (moved w parts.Definition) (λ t k. refl) (λ t k. refl)))
+macro-tells code w place byte bytes = grind (arith, if-both, same-tells, other-tells)
 
 parameter-tells : (w : Where) (place byte : ℕ) (bytes : List ℕ) → Tells w byte bytes (parameter w place byte bytes)
-parameter-tells w place byte bytes =
-    if-both (Tells w byte bytes) (is_in classes.White byte) _ _ (λ e. same-tells w byte bytes)
-    (λ e. if-both (Tells w byte bytes) (is_letter byte) _ _ (λ e. other-tells w byte bytes false w place (byte ∷ bytes)
-    (identifier (byte ∷ bytes)) refl refl (λ k. k))
-    (λ e. if-both (Tells w byte bytes) (byte == comma) _ _ (λ e. other-tells w byte bytes false w place (byte ∷ bytes)
-    (plain (kinds.Sign signs.Comma) 1) refl refl (λ k. k))
-    (λ e. if-both (Tells w byte bytes) (byte == right_paren) _ _
-    (λ e. other-tells w byte bytes false (moved w parts.Definition) place (byte ∷ bytes)
-    (plain (kinds.Sign signs.RightParen) 1) refl refl (λ k. refl))
-    (λ e. other-tells w byte bytes false w place (byte ∷ bytes) (plain (kinds.Sign signs.Ellipsis) 3) refl refl
-    (λ k. k)))))
+parameter-tells w place byte bytes = grind (arith, if-both, same-tells, other-tells)
 
 format-limbo : (code : ℕ) (second limbo : Bool) (w : Where) → is_limbo w.part ≡ limbo → is_limbo w.part ≡ false
     → is_limbo (if second then behind_format limbo w else moved w (parts.FormatName code true limbo)).part ≡ false
-format-limbo code true true w e h = absurd (let k : true ≡ false = sym e ∙ h in cc)
-format-limbo code true false w e h = refl
-format-limbo code false limbo w e h = sym e ∙ h
+format-limbo code x2 limbo w e h = grind (arith, nat_tests)
 
 format-tells : (code : ℕ) (second limbo : Bool) (w : Where) (place byte : ℕ) (bytes : List ℕ) → is_limbo w.part ≡ limbo
     → Tells w byte bytes (format_name code second limbo w place byte bytes)
-format-tells code second limbo w place byte bytes l =
-    if-both (Tells w byte bytes) (is_in classes.White byte) _ _ (λ e. same-tells w byte bytes)
-    (λ e. other-tells w byte bytes false (if second then behind_format limbo w else moved w
-    (parts.FormatName code true limbo)) place (byte ∷ bytes) (identifier (byte ∷ bytes)) refl refl
-    (format-limbo code second limbo w l))
+format-tells code second limbo w place byte bytes l = grind (arith, if-both, same-tells, other-tells, format-limbo)
 
 -- what stands behind a head that ended too early
 behind-tells : (limbo : Bool) (w : Where) (fresh : Bool) (last place byte : ℕ) (bytes : List ℕ) (n : Noted)
@@ -424,19 +352,14 @@ part-tells : (part : Part) (fresh : Bool) (last place byte : ℕ) (bytes : List 
     → Tells (record { part = part; comments = [] }) byte bytes
     (part_text_apart part (record { part = part; comments = [] })
     fresh last place byte bytes)
-part-tells parts.Limbo fresh last place byte bytes = limbo-tells (record { part = parts.Limbo; comments = [] }) place
-    byte bytes refl
-part-tells parts.Tex fresh last place byte bytes = tex-tells (record { part = parts.Tex; comments = [] }) place byte
-    bytes
+part-tells parts.Limbo fresh last place byte bytes = grind (arith, limbo-tells)
+part-tells parts.Tex fresh last place byte bytes = grind (arith, tex-tells)
 part-tells parts.Head fresh last place byte bytes = head-tells place byte bytes
 part-tells (parts.MacroName code) fresh last place byte bytes =
     let w : Where = record { part = parts.MacroName code; comments = [] } in
     if-both (Tells w byte bytes) (name_follows (byte ∷ bytes)) _ _ (λ e. macro-tells code w place byte bytes)
     (λ e. behind-tells false w fresh last place byte bytes (record { kind = notes.ImproperMacro; place = code }) refl)
-part-tells (parts.MacroParen code) fresh last place byte bytes =
-    let w : Where = record { part = parts.MacroParen code; comments = [] } in
-    other-tells w byte bytes false (moved w (parts.Parameters code)) place (byte ∷ bytes)
-    (plain (kinds.Sign signs.LeftParen) 1) refl refl (λ k. refl)
+part-tells (parts.MacroParen code) fresh last place byte bytes = grind (arith, other-tells)
 part-tells (parts.Parameters code) fresh last place byte bytes =
     let w : Where = record { part = parts.Parameters code; comments = [] } in
     if-both (Tells w byte bytes) (parameter_follows (byte ∷ bytes)) _ _ (λ e. parameter-tells w place byte bytes)
@@ -459,8 +382,4 @@ part-tells parts.Inner fresh last place byte bytes = text-tells (record { part =
 
 pub in-text-tells : (part : Part) (cs : List Opened) (fresh : Bool) (last place byte : ℕ) (bytes : List ℕ)
     → Tells (record { part = part; comments = cs }) byte bytes (in_text_apart part cs fresh last place byte bytes)
-in-text-tells part [] fresh last place byte bytes = part-tells part fresh last place byte bytes
-in-text-tells part (c ∷ cs) fresh last place byte bytes =
-    if-both (Tells (record { part = part; comments = c ∷ cs }) byte bytes) c.inner _ _
-    (λ e. text-tells (record { part = part; comments = c ∷ cs }) fresh last place byte bytes)
-    (λ e. comment-tells part c cs last place byte bytes)
+in-text-tells part cs fresh last place byte bytes = grind (arith, part-tells, if-both, text-tells, comment-tells)

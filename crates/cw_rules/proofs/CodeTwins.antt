@@ -1,7 +1,8 @@
 -- At the code of a definition, and at the code or the name of a C part, what begins is the same as where the part
 -- begins.
-use Rattle.std.proofs.Common.{◌≡◌, ℕ, Bool, true, false, ◌&&◌, not, ◌==◌, List, [], ◌∷◌, refl, sym, ap, subst, ◌∙◌}
+use Rattle.std.proofs.Common.{arith, ◌≡◌, ℕ, Bool, true, false, List, [], ◌∷◌, refl, sym, ap, subst}
 use Rattle.std.specs.Prelude.{if◌then◌else◌}
+use Rattle.std.proofs.lemmas.Bool.Decides.{nat_tests}
 use Rattle.cw_base.specs.declared.notes.NoteKind.TheVariants as notes
 use Rattle.cw_rules.specs.declared.bodies.Noted.{Noted}
 use Rattle.cw_rules.specs.declared.codes.Code.{Code}
@@ -10,13 +11,10 @@ use Rattle.cw_rules.specs.declared.parts.Part.{Part}
 use Rattle.cw_rules.specs.declared.parts.Part.TheVariants as parts
 use Rattle.cw_rules.specs.declared.parts.Opened.{Opened}
 use Rattle.cw_rules.specs.Answers.{Answer, Token, Note, Seen, Where, Cut, Found, before}
-use Rattle.cw_base.specs.Bytes.{newline}
-use Rattle.cw_rules.specs.Bytes.{star, slash, begins}
 use Rattle.cw_rules.specs.Codes.{code_at, is_section, effect_in_tex, effect_in_c, effect_in_definition, effect_at_begin}
 use Rattle.cw_rules.specs.Tokens.{one, moved, passed, in_hash_line, effect_in, is_head, is_name, is_space, code_by}
-use Rattle.cw_rules.specs.Tokens.{code_token, comment_end, comment_closed, line_end, piece}
+use Rattle.cw_rules.specs.Tokens.{code_token, tex_by, section}
 use Rattle.cw_rules.specs.Apart.{code_text_apart, comment_text_apart, part_text_apart, in_text_apart, found_apart}
-use Rattle.cw_rules.specs.Tokens.{tex_by, section}
 use Rattle.cw_rules.proofs.Choices.{if-both, and-none}
 use Rattle.cw_rules.proofs.CodeStarts.{is_definition_code, code_in, is_limbo, is_head_where}
 use Rattle.cw_rules.proofs.Taking.{AreNotes}
@@ -61,9 +59,7 @@ no-space part bytes = and-none (in_hash_line part)
 
 pub at-code : (w : Where) (fresh : Bool) (last place : ℕ) (bytes : List ℕ) → code_text_apart w fresh last place 64 bytes
     ≡ code_by (effect_in w.part w.comments (code_at bytes)) (code_at bytes) w place (64 ∷ bytes)
-at-code w fresh last place bytes =
-    ap (λ t. if t then record { answers = []; more = 0; next = w } else code_by
-    (effect_in w.part w.comments (code_at bytes)) (code_at bytes) w place (64 ∷ bytes)) (no-space w.part bytes)
+at-code w fresh last place bytes = grind (arith, nat_tests, no-space)
 
 -- what begins at a code that is no section code
 abbrev at_definition : Code → ℕ → List ℕ → Found
@@ -91,8 +87,7 @@ no-definition _ w place bytes = refl
 
 no-definition-first : (c : Code) (w : Where) (place : ℕ) (bytes : List ℕ)
     → is_definition_code (code_in (code_by (effect_at_begin c) c w place bytes).answers) ≡ false
-no-definition-first at.Define w place bytes = refl
-no-definition-first _ w place bytes = refl
+no-definition-first x1 w place bytes = grind (arith, nat_tests)
 
 wrong : {A : Type 0} (b : Bool) → b ≡ true → b ≡ false → A
 wrong true h k = absurd cc
@@ -165,15 +160,12 @@ code-program : (part : Part) (cs : List Opened) (c : Code) (place : ℕ) (bytes 
     → Programs (code_by (effect_in part cs c) c (record { part = part; comments = cs }) place bytes)
     → Twin (code_by (effect_in part cs c) c (record { part = part; comments = cs }) place bytes)
     (at_program c place bytes)
-code-program parts.Definition [] c place bytes d h =
-    program-twin c place bytes _ (program-in-definition c place bytes d) d
-code-program parts.Begin [] c place bytes d h = program-twin c place bytes _ refl d
-code-program part cs c place bytes d h = wrong _ h (no-program c (record { part = part; comments = cs }) place bytes)
+code-program part cs c place bytes d h =
+    grind (arith, nat_tests, program-twin, program-in-definition, wrong, no-program)
 
 tex-program : (c : Code) (place : ℕ) (bytes : List ℕ) → is_program_code c ≡ true
     → Twin (tex_by (effect_in_tex c) c tex place bytes) (at_program c place bytes)
-tex-program at.Program place bytes d = program-twin at.Program place bytes _ refl d
-tex-program _ place bytes d = absurd cc
+tex-program c place bytes d = grind (arith, program-twin)
 
 -- ## Names
 
@@ -196,9 +188,7 @@ headed-twin false other w place bytes cut o h = wrong _ h o
 
 not-head : (part : Part) (cs : List Opened) → is_head_where (record { part = part; comments = cs }) ≡ false
     → is_head_where (record { part = passed part; comments = cs }) ≡ false
-not-head parts.Begin cs h = refl
-not-head (parts.Plain a b) cs h = refl
-not-head part cs h = h
+not-head part cs h = grind (arith, nat_tests)
 
 -- what a name makes in C text
 abbrev name_found : Code → Where → ℕ → List ℕ → Found
@@ -268,9 +258,7 @@ code-twins : (o : Opens) (part : Part) (cs : List Opened) (c : Code) (place : �
     → is_head_where (record { part = part; comments = cs }) ≡ false → OpensAt o c
     → Twins o (opened o c place bytes) (code_by (effect_in part cs c) c (record { part = part; comments = cs }) place
     bytes)
-code-twins Definitions part cs c place bytes n d = record { twin = λ h. code-definition part cs c place bytes d h }
-code-twins Program part cs c place bytes n d = record { twin = λ h. code-program part cs c place bytes d h }
-code-twins Named part cs c place bytes n d = record { twin = λ h. code-name c part cs place bytes d n h.1 }
+code-twins o part cs c place bytes n d = grind (arith, code-definition, code-program, code-name)
 
 text-twins : (o : Opens) (w : Where) (fresh : Bool) (last place : ℕ) (bytes : List ℕ) → is_head_where w ≡ false
     → OpensAt o (code_at bytes)
@@ -281,29 +269,18 @@ text-twins o w fresh last place bytes n d =
 
 tex-twins : (o : Opens) (c : Code) (place : ℕ) (bytes : List ℕ) → OpensAt o c
     → Twins o (opened o c place bytes) (tex_by (effect_in_tex c) c tex place bytes)
-tex-twins Definitions c place bytes d = record { twin = λ h. tex-definition c place bytes d }
-tex-twins Program c place bytes d = record { twin = λ h. tex-program c place bytes d }
-tex-twins Named c place bytes d = record { twin = λ h. tex-name c place bytes d h.1 }
+tex-twins x1 c place bytes d = grind (arith, nat_tests, tex-definition, tex-program, tex-name)
 
 note-twins : (o : Opens) (n : Noted) (g f : Found) → Twins o g f → Twins o g (before (Note n.kind n.place ∷ []) f)
-note-twins Definitions n g f t = record { twin = λ h. note-twin n f g (t.twin h) }
-note-twins Program n g f t = record { twin = λ h. note-twin n f g (t.twin h) }
-note-twins Named n g f t = record { twin = λ h. note-twin n f g (t.twin h) }
+note-twins x1 n g f t = grind (arith, nat_tests, note-twin)
 
 -- what is no code opens nothing
 none-twins : (o : Opens) (g f : Found) → code_in f.answers ≡ at.Unknown → Twins o g f
-none-twins Definitions g f e = record { twin = λ h. wrong _ h (ap is_definition_code e) }
-none-twins Program g f e = record { twin = λ h. wrong _ h (ap is_program_code e) }
-none-twins Named g f e = record { twin = λ h. wrong _ h.0 (ap is_name e) }
+none-twins x1 g f e = grind (arith, nat_tests, wrong, is_definition_code)
 
 comment-twins : (o : Opens) (g : Found) (part : Part) (c : Opened) (cs : List Opened) (last place : ℕ) (bytes : List ℕ)
     → Twins o g (comment_text_apart part c cs last place 64 bytes)
-comment-twins o g part c cs last place bytes =
-    if-both (Twins o g) (c.long && (64 == star && begins slash bytes)) (comment_closed part c cs place (64 ∷ bytes)) _
-    (λ e. wrong _ e (and-none c.long))
-    (λ e. if-both (Twins o g) (not c.long && 64 == newline) (before (comment_end (in_hash_line part) c place 0 [])
-    (line_end part cs last place)) _ (λ e. wrong _ e (and-none (not c.long)))
-    (λ e. none-twins o g (piece part cs c place (64 ∷ bytes)) refl))
+comment-twins o g part c cs last place bytes = grind (arith, nat_tests, if-both, wrong, and-none, none-twins)
 
 part-twins : (o : Opens) (part : Part) (fresh : Bool) (last place : ℕ) (bytes : List ℕ) → is_limbo part ≡ false
     → OpensAt o (code_at bytes)
@@ -353,15 +330,7 @@ in-text-twins o part (c ∷ cs) fresh last place bytes l d =
 
 found-part : (o : Opens) (fresh : Bool) (last place : ℕ) (bytes : List ℕ) → is_section (code_at bytes) ≡ false
     → found_apart (beginning_of o) fresh last place 64 bytes ≡ opened o (code_at bytes) place (64 ∷ bytes)
-found-part Definitions fresh last place bytes h =
-    ap (λ t. if t then section definition place bytes else code_text_apart definition fresh last place 64 bytes) h
-    ∙ at-code definition fresh last place bytes
-found-part Program fresh last place bytes h =
-    ap (λ t. if t then section program place bytes else code_text_apart program fresh last place 64 bytes) h
-    ∙ at-code program fresh last place bytes
-found-part Named fresh last place bytes h =
-    ap (λ t. if t then section program place bytes else code_text_apart program fresh last place 64 bytes) h
-    ∙ at-code program fresh last place bytes
+found-part x1 fresh last place bytes h = grind (arith, nat_tests, nat_tests, at-code)
 
 -- Where a part begins outside of limbo, what begins is what begins there where the scan of the part begins.
 pub found-twin : (o : Opens) (w : Where) (fresh : Bool) (last place : ℕ) (bytes : List ℕ) → is_limbo w.part ≡ false

@@ -1,31 +1,19 @@
 -- The inside of an include name ends before its sign, which no byte takes along.
-use Rattle.std.proofs.Common.{◌≡◌, ℕ, zero, suc, ◌+◌, ◌≤◌, Bool, true, false, ◌&&◌, ◌||◌, not, ◌==◌, if◌then◌else◌}
-use Rattle.std.proofs.Common.{List, [], ◌∷◌, drop, refl, sym, ap, ◌∙◌}
-use Rattle.std.proofs.Common.{arith}
+use Rattle.std.proofs.Common.{◌≡◌, ℕ, zero, suc, ◌+◌, ◌≤◌, Bool, true, false, ◌&&◌, not, ◌==◌, if◌then◌else◌, List, []}
+use Rattle.std.proofs.Common.{◌∷◌, drop, refl, sym, ap, ◌∙◌, arith}
 use Rattle.std.proofs.lemmas.Bool.{eqb-true}
+use Rattle.std.proofs.lemmas.Bool.Decides.{nat_tests}
 use Rattle.cw_rules.specs.declared.bodies.Body.TheVariants as bodies
 use Rattle.cw_rules.specs.declared.bodies.Inside.{Inside}
-use Rattle.cw_rules.specs.Bytes.{greater}
-use Rattle.cw_rules.specs.Bytes.{at_sign, begins}
-use Rattle.cw_rules.specs.Bodies.{stops, takes_next, goes_on, stepped, ended}
+use Rattle.cw_rules.specs.Bytes.{greater, at_sign, begins}
+use Rattle.cw_rules.specs.Bodies.{takes_next, goes_on, stepped, ended}
 
 -- The inside of an include name ends before `>`, which no byte takes along.
 pub greater-stops : (i : Inside) (bs : List ℕ) (n : ℕ) → i.body ≡ bodies.IncludeName
     → (i.along ≡ true → begins at_sign bs ≡ true) → begins greater (drop n bs) ≡ true → (ended i bs).place ≤ i.place + n
 greater-stops i [] zero body along h = absurd cc
 greater-stops i [] (suc n) body along h = absurd cc
-greater-stops i (b ∷ bs) zero body along h = by i.along refl
-  where
-    by : (t : Bool) → i.along ≡ t → (ended i (b ∷ bs)).place ≤ i.place + 0
-    by true e =
-        let at : (b == at_sign) ≡ true = along e in
-        absurd (let k : true ≡ false = sym at ∙ ap (λ x. x == at_sign) (eqb-true b 62 h) in cc)
-    by false e =
-        let stop : goes_on i (b ∷ bs) ≡ false = (λ j. e j || not (stops (body j) i.before b bs)) ∙ ap not h in
-        omega (
-          arith,
-          ap (λ (j : Inside). j.place) (ap (λ t. if t then ended (stepped i b bs) bs else i) stop),
-        )
+greater-stops i (b ∷ bs) zero body along h = grind (arith, nat_tests, eqb-true)
 greater-stops i (b ∷ bs) (suc n) body along h = by (goes_on i (b ∷ bs)) refl
     (greater-stops (stepped i b bs) bs n body takes h)
   where

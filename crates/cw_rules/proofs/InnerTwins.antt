@@ -1,30 +1,27 @@
 -- Inner C text that is scanned by itself is scanned as in TeX text, up to its closing bar.
-use Rattle.std.proofs.Common.{◌≡◌, ℕ, ◌≤◌, Bool, true, false, ◌&&◌, ◌||◌, not, ◌==◌, nat_lt, List, [], ◌∷◌, ◌++◌}
-use Rattle.std.proofs.Common.{length, refl, sym, ap, subst, ◌∙◌, ◌⊎◌, inl, inr}
+use Rattle.std.proofs.Common.{arith, ◌≡◌, ℕ, ◌≤◌, Bool, true, false, ◌&&◌, ◌||◌, not, ◌==◌, nat_lt, List, [], ◌∷◌, ◌++◌}
+use Rattle.std.proofs.Common.{length, refl, ap, ◌⊎◌, inl, inr}
 use Rattle.std.specs.Prelude.{if◌then◌else◌}
+use Rattle.std.proofs.lemmas.Bool.Decides.{nat_tests}
 use Rattle.cw_rules.specs.declared.classes.Class.TheVariants as classes
 use Rattle.cw_rules.specs.declared.codes.Code.{Code}
 use Rattle.cw_rules.specs.declared.codes.Effect.{Effect}
-use Rattle.cw_rules.specs.declared.codes.Effect.TheVariants as effects
 use Rattle.cw_rules.specs.declared.parts.Part.TheVariants as parts
 use Rattle.cw_rules.specs.declared.parts.Opened.{Opened}
 use Rattle.cw_rules.specs.declared.parts.Start.{Start}
 use Rattle.cw_rules.specs.declared.parts.Start.TheVariants as start
 use Rattle.cw_base.specs.Bytes.{newline}
-use Rattle.cw_rules.specs.Bytes.{hash, star, slash, less, at_sign, is_in, is_letter}
+use Rattle.cw_rules.specs.Bytes.{hash, star, slash, less, at_sign, is_in, is_letter, begins, is_mark}
 use Rattle.cw_base.specs.Text.{bar}
-use Rattle.cw_rules.specs.Bytes.{begins, is_mark}
 use Rattle.cw_rules.specs.Constants.{constant}
 use Rattle.cw_rules.specs.Prefixes.{prefix_size}
 use Rattle.cw_rules.specs.Signs.{all_signs, longest}
-use Rattle.cw_rules.specs.Codes.{begins_section, effect_in_c}
 use Rattle.cw_rules.specs.Answers.{Answer, Where, Found, before}
-use Rattle.cw_rules.specs.Tokens.{sign_or_other, is_name, code_token, moved, one, section, line_end, inner_cut}
-use Rattle.cw_rules.specs.Tokens.{comment_end, is_deep, code_by, in_code, start_of}
-use Rattle.cw_rules.specs.Apart.{comment_text_apart, code_text_apart, in_text_apart, found_apart}
+use Rattle.cw_rules.specs.Tokens.{sign_or_other, line_end, inner_cut, comment_end, is_deep, code_by, in_code, start_of}
 use Rattle.cw_rules.specs.Tokens.{skipped_byte, is_tex_inner}
+use Rattle.cw_rules.specs.Apart.{comment_text_apart, code_text_apart, in_text_apart, found_apart}
 use Rattle.cw_rules.proofs.Choices.{and-none}
-use Rattle.cw_rules.proofs.Ahead.{Bar, section-same}
+use Rattle.cw_rules.proofs.Ahead.{Bar}
 use Rattle.cw_rules.proofs.CodeAhead.{inner-local}
 
 -- a place in inner C text of TeX text
@@ -45,8 +42,7 @@ pub record Twin (f g : Found) : Type 0 where
 
 if-twin : (t : Bool) (a b c d : Found) → (t ≡ true → Twin a b) → (t ≡ false → Twin c d)
     → Twin (if t then a else c) (if t then b else d)
-if-twin true a b c d f g = f refl
-if-twin false a b c d f g = g refl
+if-twin x1 a b c d f g = grind (arith, nat_tests)
 
 before-twin : (xs : List Answer) (f g : Found) → Twin f g → Twin (before xs f) (before xs g)
 before-twin xs f g t = record { same = λ h. (ap (before xs) (t.same h).0, (t.same h).1) }
@@ -62,39 +58,19 @@ line_end-twin (c ∷ cs) last place =
 
 code_by-twin : (effect : Effect) (c : Code) (cs : List Opened) (place : ℕ) (bytes : List ℕ)
     → Twin (code_by effect c (tex_inner cs) place bytes) (code_by effect c (alone cs) place bytes)
-code_by-twin effects.Stands c cs place bytes = by (is_name c && false) (and-none (is_name c))
-  where
-    by : (t : Bool) → t ≡ false → Twin (one false (if t then moved (tex_inner cs) parts.Head else tex_inner cs) place
-        bytes (code_token c place bytes)) (one false (if t then moved (alone cs) parts.Head else alone cs) place bytes
-        (code_token c place bytes))
-    by true e = absurd cc
-    by false e = record { same = λ h. (refl, refl) }
-code_by-twin (effects.Drops note) c cs place bytes = record { same = λ h. (refl, refl) }
-code_by-twin effects.Defines c cs place bytes = record { same = λ h. absurd cc }
-code_by-twin effects.Formats c cs place bytes = record { same = λ h. absurd cc }
-code_by-twin effects.BeginsC c cs place bytes = record { same = λ h. absurd cc }
+code_by-twin x1 c cs place bytes = grind (arith, nat_tests, nat_tests, and-none)
 
 -- the bar ends inner C text of a comment; else it leaves that of TeX text
 in_code-twin : (s : Start) (cs : List Opened) (place : ℕ) (bytes : List ℕ)
     → Twin (in_code s (tex_inner cs) place bytes) (in_code s (alone cs) place bytes)
-in_code-twin start.Identifier cs place bytes = record { same = λ h. (refl, refl) }
-in_code-twin start.Constant cs place bytes = record { same = λ h. (refl, refl) }
-in_code-twin (start.Quoted q) cs place bytes = record { same = λ h. (refl, refl) }
-in_code-twin start.LongComment cs place bytes = record { same = λ h. (refl, refl) }
-in_code-twin start.ShortComment cs place bytes = record { same = λ h. (refl, refl) }
-in_code-twin (start.Code c) cs place bytes = code_by-twin (effect_in_c c) c cs place bytes
-in_code-twin start.EndOfInner [] place bytes = record { same = λ h. absurd cc }
-in_code-twin start.EndOfInner (c ∷ cs) place bytes = record { same = λ h. (refl, refl) }
-in_code-twin (start.Sign sign) cs place bytes = record { same = λ h. (refl, refl) }
-in_code-twin start.OtherByte cs place bytes = record { same = λ h. (refl, refl) }
+in_code-twin x1 cs place bytes = grind (arith, nat_tests, code_by-twin)
 
 -- two starts that differ at most at a closing bar
 record Starts (s t : Start) : Type 0 where
   is : (s ≡ start.EndOfInner) ⊎ (s ≡ t)
 
 if-starts : (t : Bool) (a b c : Start) → Starts b c → Starts (if t then a else b) (if t then a else c)
-if-starts true a b c s = record { is = inr refl }
-if-starts false a b c s = s
+if-starts x1 a b c s = grind (arith, nat_tests)
 
 starts : (byte : ℕ) (bs : List ℕ) → Starts (start_of true byte bs) (start_of false byte bs)
 starts byte bs =
@@ -120,17 +96,8 @@ begun-twin : (cs : List Opened) (place byte : ℕ) (bs : List ℕ) (ends : Bool)
     (in_code (start_of ends byte bs) (alone cs) place (byte ∷ bs))
 begun-twin cs place byte bs true s e = in_code-twin (start_of true byte bs) cs place (byte ∷ bs)
 begun-twin cs place byte bs false s (inr e) = absurd cc
-begun-twin cs place byte bs false s (inl e) = by s.is
-  where
-    by : (start_of true byte bs ≡ start.EndOfInner) ⊎ (start_of true byte bs ≡ start_of false byte bs)
-        → Twin (in_code (start_of true byte bs) (tex_inner cs) place (byte ∷ bs))
-        (in_code (start_of false byte bs) (alone cs) place (byte ∷ bs))
-    by (inl end) = record {
-      same = λ h. absurd (let k : true ≡ false = sym h
-          ∙ (λ i. is_tex_inner (in_code (end i) (tex_inner (e i)) place (byte ∷ bs)).next.part) in cc);
-    }
-    by (inr same) = subst (λ s. Twin (in_code (start_of true byte bs) (tex_inner cs) place (byte ∷ bs))
-        (in_code s (alone cs) place (byte ∷ bs))) same (in_code-twin (start_of true byte bs) cs place (byte ∷ bs))
+begun-twin cs place byte bs false s (inl e) =
+    grind (arith, nat_tests, in_code-twin (start_of true byte bs) cs place (byte ∷ bs))
 
 code_text-twin : (cs : List Opened) (fresh : Bool) (last place byte : ℕ) (bs : List ℕ)
     → Twin (code_text_apart (tex_inner cs) fresh last place byte bs) (code_text_apart (alone cs) fresh last place byte
@@ -163,8 +130,7 @@ pub in_text-twin : (cs : List Opened) (fresh : Bool) (last place byte : ℕ) (bs
     byte bs)
 in_text-twin [] fresh last place byte bs = code_text-twin [] fresh last place byte bs
 in_text-twin (c ∷ cs) fresh last place byte bs =
-    if-twin c.inner _ _ _ _ (λ h. code_text-twin (c ∷ cs) fresh last place byte bs)
-    (λ h. comment_text-twin c cs last place byte bs)
+    grind (arith, code_text-twin (c ∷ cs) fresh last place byte bs, comment_text-twin c cs last place byte bs)
 
 -- What begins at a place of inner C text of TeX text, and ends before a bar, is what begins there in the text up to the
 -- bar.
@@ -173,30 +139,5 @@ pub found-twin : (more : List ℕ) (cs : List Opened) (fresh : Bool) (last place
     → f.more ≤ length bs → is_tex_inner f.next.part ≡ true
     → (f ≡ in_tex (found_apart (alone cs) fresh last place byte bs))
     × ((found_apart (alone cs) fresh last place byte bs).next.part ≡ parts.Inner)
-found-twin more cs fresh last place byte bs f is fits inner = by (byte == at_sign && begins_section bs) refl
-  where
-    by : (t : Bool) → (byte == at_sign && begins_section bs) ≡ t
-        → (f ≡ in_tex (found_apart (alone cs) fresh last place byte bs))
-        × ((found_apart (alone cs) fresh last place byte bs).next.part ≡ parts.Inner)
-    by true e =
-        let all : (byte == at_sign && begins_section (bs ++ 124 ∷ more)) ≡ true =
-        ap (λ t. byte == at_sign && t) (section-same Bar more bs) ∙ e in
-        absurd (let k : true ≡ false = sym inner ∙ ap (λ (f : Found). is_tex_inner f.next.part) (sym is
-        ∙ ap (λ t. if t then section (tex_inner cs) place (bs ++ 124 ∷ more) else in_text_apart parts.TexInner cs fresh
-        last place byte (bs ++ 124 ∷ more)) all) in cc)
-    by false e =
-        let all : (byte == at_sign && begins_section (bs ++ 124 ∷ more)) ≡ false =
-        ap (λ t. byte == at_sign && t) (section-same Bar more bs) ∙ e in
-        let full : f ≡ in_text_apart parts.TexInner cs fresh last place byte (bs ++ 124 ∷ more) = sym is
-        ∙ ap (λ t. if t then section (tex_inner cs) place (bs ++ 124 ∷ more) else in_text_apart parts.TexInner cs fresh
-        last place byte (bs ++ 124 ∷ more)) all in
-        let cut : in_text_apart parts.Inner cs fresh last place byte bs
-        ≡ found_apart (alone cs) fresh last place byte bs =
-        sym (ap (λ t. if t then section (alone cs) place bs else in_text_apart parts.Inner cs fresh last place byte bs)
-        e) in
-        let local : f ≡ in_text_apart parts.TexInner cs fresh last place byte bs = full
-        ∙ (inner-local Bar more tt cs fresh last place byte bs).same (subst (λ (f : Found). f.more ≤ length bs) full
-        fits) in
-        let twin = (in_text-twin cs fresh last place byte bs).same
-        (sym (ap (λ (f : Found). is_tex_inner f.next.part) local) ∙ inner) in
-        (local ∙ twin.0 ∙ ap in_tex cut, sym (ap (λ (f : Found). f.next.part) cut) ∙ twin.1)
+found-twin more cs fresh last place byte bs f is fits inner =
+    grind (arith, inner-local Bar more tt cs fresh last place byte bs, in_text-twin cs fresh last place byte bs)

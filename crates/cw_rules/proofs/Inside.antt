@@ -1,7 +1,7 @@
 -- One byte on, inside a body.
-use Rattle.std.proofs.Common.{◌≡◌, ℕ, ◌+◌, ◌<◌, ◌≤◌, Bool, true, false, true≢false, arith, refl, List, [], ◌∷◌, Option}
-use Rattle.std.proofs.Common.{slice_index, drop, ap, sym, ◌∙◌, if◌then◌else◌}
+use Rattle.std.proofs.Common.{◌≡◌, ℕ, ◌<◌, ◌≤◌, true, arith, List, [], ◌∷◌, Option, slice_index, drop, ap, sym, ◌∙◌}
 use Rattle.std.proofs.lemmas.List.{drop-drop}
+use Rattle.std.proofs.lemmas.Bool.Decides.{nat_tests}
 use Rattle.cw_base.specs.declared.notes.NoteKind.{NoteKind}
 use Rattle.cw_rules.specs.declared.bodies.Inside.{Inside}
 use Rattle.cw_rules.specs.Bodies.{goes_on, stepped, ended, noted, note_here, with_note}
@@ -9,8 +9,7 @@ use Rattle.cw_rules.specs.Bodies.{goes_on, stepped, ended, noted, note_here, wit
 noted-step : (i : Inside) (bytes : List ℕ) → goes_on i bytes ≡ true
     → noted i bytes ≡ with_note (note_here i (slice_index bytes 0) (drop 1 bytes)) i.place
     (noted (stepped i (slice_index bytes 0) (drop 1 bytes)) (drop 1 bytes))
-noted-step i [] h = absurd (true≢false (sym h))
-noted-step i (b ∷ bs) h = ap (λ t. if t then with_note (note_here i b bs) i.place (noted (stepped i b bs) bs) else []) h
+noted-step i x2 h = grind (arith, nat_tests)
 
 -- the same in a text
 pub noted-at : (text : List ℕ) (i next : Inside) (here : Option NoteKind) → goes_on i (drop i.place text) ≡ true
@@ -25,22 +24,7 @@ noted-at text i next here h e n =
 -- a body ends no earlier than it begins, and later where it goes on
 pub ended-le : (i : Inside) (bytes : List ℕ) → i.place ≤ (ended i bytes).place
 ended-le i [] = omega arith
-ended-le i (b ∷ bs) = by (goes_on i (b ∷ bs)) refl (ended-le (stepped i b bs) bs)
-  where
-    by : (t : Bool) → goes_on i (b ∷ bs) ≡ t → i.place + 1 ≤ (ended (stepped i b bs) bs).place
-        → i.place ≤ (ended i (b ∷ bs)).place
-    by true e h =
-        let same : ended i (b ∷ bs) ≡ ended (stepped i b bs) bs =
-        ap (λ t. if t then ended (stepped i b bs) bs else i) e in
-        omega (arith, ap (λ (j : Inside). j.place) same)
-    by false e h =
-        let same : ended i (b ∷ bs) ≡ i = ap (λ t. if t then ended (stepped i b bs) bs else i) e in
-        omega (arith, ap (λ (j : Inside). j.place) same)
+ended-le i (b ∷ bs) = grind (arith, ended-le (stepped i b bs) bs)
 
 pub ended-some : (i : Inside) (bytes : List ℕ) → goes_on i bytes ≡ true → i.place < (ended i bytes).place
-ended-some i [] h = absurd (true≢false (sym h))
-ended-some i (b ∷ bs) h =
-    let more : i.place + 1 ≤ (ended (stepped i b bs) bs).place = ended-le (stepped i b bs) bs in
-    let e : ended i (b ∷ bs) ≡ ended (stepped i b bs) bs =
-    ap (λ t. if t then ended (stepped i b bs) bs else i) h in
-    omega (arith, ap (λ (j : Inside). j.place) e)
+ended-some i x2 h = grind (arith, nat_tests, nat_tests, ended-le)

@@ -3,9 +3,10 @@ use Rattle.std.proofs.Common.{◌≡◌, ℕ, zero, suc, ◌+◌, ◌-◌, ◌�
 use Rattle.std.proofs.Common.{codes, length, take, drop, refl, sym, ap, ◌∙◌, arith}
 use Rattle.std.specs.Prelude.{if◌then◌else◌}
 use Rattle.std.proofs.Math.Seq.{take-nil}
+use Rattle.std.proofs.lemmas.Bool.Decides.{nat_tests}
 use Rattle.cw_rules.specs.declared.bodies.Body.TheVariants as bodies
 use Rattle.cw_rules.specs.declared.bodies.Inside.{Inside}
-use Rattle.cw_rules.specs.Bodies.{stops, takes_next, stepped, goes_on, ended, extent, braces_after, closing_bytes}
+use Rattle.cw_rules.specs.Bodies.{stops, stepped, goes_on, ended, extent, closing_bytes}
 use Rattle.cw_rules.specs.Bytes.{greater, at_sign, begins, begins_with}
 use Rattle.cw_rules.specs.Codes.{begins_section}
 use Rattle.cw_rules.proofs.BodiesAhead.{ended-here, ended-on}
@@ -76,21 +77,7 @@ goes-less i b n bs e h =
 
 step-same : (i : Inside) (b n : ℕ) (bs : List ℕ) → i.body ≡ bodies.SectionName → stepped i b (take n bs)
     ≡ stepped i b bs
-step-same i b n bs e =
-    (λ t. record {
-      body = i.body;
-      braces = if i.along then i.braces else braces_after i.braces b;
-      place = i.place + 1;
-      before = b;
-      along = not i.along && takes_next (e t) b (take n bs);
-    })
-    ∙ sym (λ t. record {
-      body = i.body;
-      braces = if i.along then i.braces else braces_after i.braces b;
-      place = i.place + 1;
-      before = b;
-      along = not i.along && takes_next (e t) b bs;
-    })
+step-same i b n bs e = grind (arith, nat_tests)
 
 pub name-take : (i : Inside) (bs : List ℕ) → i.body ≡ bodies.SectionName → (extent i (take (extent i bs).size bs)).size
     ≡ (extent i bs).size

@@ -1,7 +1,9 @@
 -- What begins at a place is the same where the text ends before an `@` that it doesn't take.
-use Rattle.std.proofs.Common.{◌≡◌, ℕ, suc, ◌+◌, ◌≤◌, Bool, true, false, ◌&&◌, ◌==◌, List, [], ◌∷◌, ◌++◌, length}
-use Rattle.std.proofs.Common.{drop, refl, ap, ◌∙◌, arith}
+use Rattle.std.proofs.Common.{◌≡◌, ℕ, suc, ◌+◌, ◌≤◌, Bool, true, false, ◌&&◌, ◌==◌, List, [], ◌∷◌, ◌++◌, length, drop}
+use Rattle.std.proofs.Common.{refl, ap, ◌∙◌, arith}
 use Rattle.std.specs.Prelude.{if◌then◌else◌}
+use Rattle.std.proofs.lemmas.Bool.Decides.{nat_tests}
+use Rattle.std.proofs.lemmas.Grind.{common_steps}
 use Rattle.cw_base.proofs.TestLaws.{both-right}
 use Rattle.cw_base.specs.declared.notes.NoteKind.{NoteKind}
 use Rattle.cw_base.specs.declared.notes.NoteKind.TheVariants as notes
@@ -15,7 +17,7 @@ use Rattle.cw_rules.specs.declared.parts.Part.TheVariants as parts
 use Rattle.cw_rules.specs.declared.parts.Opened.{Opened}
 use Rattle.cw_rules.specs.declared.signs.Sign.TheVariants as signs
 use Rattle.cw_rules.specs.declared.tokens.TokKind.TheVariants as kinds
-use Rattle.cw_rules.specs.Bytes.{star, greater, comma, right_paren, equals, at_sign, run, is_in, is_letter, begins}
+use Rattle.cw_rules.specs.Bytes.{star, greater, at_sign, run, is_in, begins}
 use Rattle.cw_base.specs.Text.{bar}
 use Rattle.cw_rules.specs.Codes.{code_at, begins_section, effect_in_limbo, effect_in_tex}
 use Rattle.cw_rules.specs.Answers.{Note, Where, before, plain, dropped}
@@ -91,11 +93,7 @@ module _ (more : List ℕ) (code : begins greater more ≡ false) where
 
   head_text-local : (w : Where) (place byte : ℕ) (bs : List ℕ)
       → Local (length bs) (head_text w place byte (bs ++ 64 ∷ more)) (head_text w place byte bs)
-  head_text-local w place byte bs =
-      if-local (length bs) (is_in classes.Blank byte) (is_in classes.Blank byte) _ _ _ _ refl
-      (λ h. same-local (length bs) _ _ refl)
-      (λ h. simple-local At more code false (moved w (parts.Plain false false)) place byte bs _ _
-      (ap (λ t. plain kinds.HeadSign (if t then 2 else 1)) (begins-same At more equals bs refl refl)))
+  head_text-local w place byte bs = grind (arith, nat_tests, if-local, same-local, simple-local, begins-same)
 
   word-same : (byte : ℕ) (bs : List ℕ) → identifier (byte ∷ (bs ++ 64 ∷ more)) ≡ identifier (byte ∷ bs)
   word-same byte bs = ap (plain kinds.Identifier) (run-same At more classes.Word (byte ∷ bs) refl refl)
@@ -115,21 +113,20 @@ module _ (more : List ℕ) (code : begins greater more ≡ false) where
 
   parameter-local : (w : Where) (place byte : ℕ) (bs : List ℕ)
       → Local (length bs) (parameter w place byte (bs ++ 64 ∷ more)) (parameter w place byte bs)
-  parameter-local w place byte bs =
-      let n = length bs in
-      if-local n (is_in classes.White byte) (is_in classes.White byte) _ _ _ _ refl (λ h. same-local n _ _ refl)
-      (λ h. if-local n (is_letter byte) (is_letter byte) _ _ _ _ refl
-      (λ h. simple-local At more code false w place byte bs _ _ (word-same byte bs))
-      (λ h. if-local n (byte == comma) (byte == comma) _ _ _ _ refl
-      (λ h. simple-local At more code false w place byte bs (plain (kinds.Sign signs.Comma) 1)
-      (plain (kinds.Sign signs.Comma) 1)
-      refl)
-      (λ h. if-local n (byte == right_paren) (byte == right_paren) _ _ _ _ refl
-      (λ h. simple-local At more code false (moved w parts.Definition) place byte bs
-      (plain (kinds.Sign signs.RightParen) 1)
-      (plain (kinds.Sign signs.RightParen) 1) refl)
-      (λ h. simple-local At more code false w place byte bs (plain (kinds.Sign signs.Ellipsis) 3)
-      (plain (kinds.Sign signs.Ellipsis) 3) refl))))
+  parameter-local w place byte bs = grind (
+    arith,
+    nat_tests,
+    common_steps,
+    simple-local At more code false w place byte bs _ _ (word-same byte bs),
+    simple-local At more code false w place byte bs (plain (kinds.Sign signs.Comma) 1) (plain (kinds.Sign signs.Comma) 1) refl,
+    simple-local At more code false (moved w parts.Definition) place byte bs (plain (kinds.Sign signs.RightParen) 1) (plain (kinds.Sign signs.RightParen) 1) refl,
+    simple-local At more code false w place byte bs (plain (kinds.Sign signs.Ellipsis) 3) (plain (kinds.Sign signs.Ellipsis) 3) refl,
+    word-same byte bs,
+    if-local,
+    same-local,
+    simple-local,
+    word-same,
+  )
 
   format_name-local : (at : ℕ) (second limbo : Bool) (w : Where) (place byte : ℕ) (bs : List ℕ)
       → Local (length bs) (format_name at second limbo w place byte (bs ++ 64 ∷ more))
@@ -154,20 +151,15 @@ module _ (more : List ℕ) (code : begins greater more ≡ false) where
   part_text-local : (part : Part) (fresh : Bool) (last place byte : ℕ) (bs : List ℕ)
       → Local (length bs) (part_text_apart part (record { part = part; comments = [] }) fresh last place byte
       (bs ++ 64 ∷ more)) (part_text_apart part (record { part = part; comments = [] }) fresh last place byte bs)
-  part_text-local parts.Limbo fresh last place byte bs = limbo_text-local (record { part = parts.Limbo; comments = [] })
-      place byte bs
-  part_text-local parts.Tex fresh last place byte bs = tex_text-local (record { part = parts.Tex; comments = [] }) place
-      byte bs
-  part_text-local parts.Head fresh last place byte bs = head_text-local (record { part = parts.Head; comments = [] })
-      place byte bs
+  part_text-local parts.Limbo fresh last place byte bs = grind (arith, limbo_text-local)
+  part_text-local parts.Tex fresh last place byte bs = grind (arith, tex_text-local)
+  part_text-local parts.Head fresh last place byte bs = grind (arith, head_text-local)
   part_text-local (parts.MacroName at) fresh last place byte bs =
       if-local (length bs) (name_follows (byte ∷ (bs ++ 64 ∷ more))) (name_follows (byte ∷ bs)) _ _ _ _
       (name-same At more (byte ∷ bs)) (λ h. macro_name-local at (record { part = parts.MacroName at; comments = [] })
       place byte bs)
       (λ h. improper-local notes.ImproperMacro at false (parts.MacroName at) fresh last place byte bs)
-  part_text-local (parts.MacroParen at) fresh last place byte bs = simple-local At more code false
-      (record { part = parts.Parameters at; comments = [] }) place byte bs (plain (kinds.Sign signs.LeftParen) 1)
-      (plain (kinds.Sign signs.LeftParen) 1) refl
+  part_text-local (parts.MacroParen at) fresh last place byte bs = grind (arith, simple-local)
   part_text-local (parts.Parameters at) fresh last place byte bs =
       if-local (length bs) (parameter_follows (byte ∷ (bs ++ 64 ∷ more))) (parameter_follows (byte ∷ bs)) _ _ _ _
       (parameter-same At more (byte ∷ bs)) (λ h. parameter-local (record { part = parts.Parameters at; comments = [] })

@@ -1,9 +1,10 @@
 -- Bytes of a class in a row, and texts at the beginning of others.
-use Rattle.std.proofs.Common.{◌≡◌, ℕ, zero, suc, ◌+◌, ◌-◌, ◌<◌, ◌≤◌, Bool, true, false, List, [], ◌∷◌, length}
-use Rattle.std.proofs.Common.{slice_index, drop, refl, sym, ap, ◌∙◌, arith, add-one, drop-cons, if◌then◌else◌}
+use Rattle.std.proofs.Common.{◌≡◌, ℕ, zero, suc, ◌+◌, ◌-◌, ◌<◌, ◌≤◌, false, List, [], ◌∷◌, length, slice_index, drop}
+use Rattle.std.proofs.Common.{refl, arith, add-one, drop-cons}
 use Rattle.std.proofs.lemmas.List.{drop-drop, drop_all}
+use Rattle.std.proofs.lemmas.Bool.Decides.{nat_tests}
 use Rattle.cw_rules.specs.declared.classes.Class.{Class}
-use Rattle.cw_rules.specs.Bytes.{is_in, run, begins_with}
+use Rattle.cw_rules.specs.Bytes.{run, begins_with}
 
 -- a text from a place on, and the byte there
 pub drop-here : (text : List ℕ) (place : ℕ) → place < length text → drop place text
@@ -14,29 +15,14 @@ run-drop : (class : Class) (bytes : List ℕ) (n : ℕ) → n ≤ run class byte
     ≡ run class bytes - n
 run-drop class bytes zero h = omega arith
 run-drop class [] (suc n) h = absurd (omega arith)
-run-drop class (b ∷ bs) (suc n) h = by (is_in class b) refl (run-drop class bs n)
-  where
-    by : (t : Bool) → is_in class b ≡ t → (n ≤ run class bs → run class (drop n bs) ≡ run class bs - n)
-        → run class (drop (suc n) (b ∷ bs)) ≡ run class (b ∷ bs) - suc n
-    by true e rest =
-        let more : run class (b ∷ bs) ≡ 1 + run class bs = ap (λ t. if t then 1 + run class bs else 0) e in
-        let inner : n ≤ run class bs = omega arith in
-        let same = rest inner in
-        omega arith
-    by false e rest =
-        let none : run class (b ∷ bs) ≡ 0 = ap (λ t. if t then 1 + run class bs else 0) e in
-        absurd (omega arith)
+run-drop class (b ∷ bs) (suc n) h = grind (arith, nat_tests, run-drop class bs n)
 
 -- a place inside the run
 pub run-inside : (class : Class) (text : List ℕ) (from size place : ℕ) → size ≡ run class (drop from text)
     → from ≤ place → place ≤ from + size
     → run class (drop place text) ≡ (from + size) - place
 run-inside class text from size place e low high =
-    let split : from + (place - from) ≡ place = omega arith in
-    ap (λ k. run class (drop k text)) (sym split)
-    ∙ ap (run class) (sym (drop-drop (place - from) from text))
-    ∙ run-drop class (drop from text) (place - from) (omega arith)
-    ∙ omega arith
+    grind (arith, drop-drop (place - from) from text, run-drop class (drop from text) (place - from) (omega arith))
 
 -- a text that is too short to begin with another
 pub begins_with-short : (wanted bytes : List ℕ) (k : ℕ) → k < length wanted → length bytes ≤ k

@@ -1,17 +1,16 @@
 -- What begins at a place takes the bytes there: answers without bytes come first, and then what has them all.
-use Rattle.std.proofs.Common.{◌≡◌, ℕ, suc, ◌+◌, ◌-◌, ◌<◌, Bool, true, false, ◌&&◌, ◌||◌, not, ◌==◌, nat_lt, List, []}
-use Rattle.std.proofs.Common.{◌∷◌, ◌++◌, length, take, drop, refl, sym, ap, ◌∙◌, arith, Option, Some, None}
-use Rattle.std.proofs.Common.{append_assoc}
+use Rattle.std.proofs.Common.{◌≡◌, ℕ, suc, ◌+◌, ◌-◌, ◌<◌, Bool, true, false, ◌&&◌, not, ◌==◌, nat_lt, List, [], ◌∷◌}
+use Rattle.std.proofs.Common.{◌++◌, length, take, refl, sym, ap, ◌∙◌, arith, Option, append_assoc}
 use Rattle.std.specs.Prelude.{if◌then◌else◌}
 use Rattle.std.proofs.lemmas.Bool.{ltb-true}
+use Rattle.std.proofs.lemmas.Bool.Decides.{nat_tests}
 use Rattle.cw_base.proofs.TestLaws.{one-left, one-right}
 use Rattle.cw_base.specs.declared.notes.NoteKind.{NoteKind}
-use Rattle.cw_base.specs.declared.notes.NoteKind.TheVariants.{MissingBrace, ImproperMacro, ImproperFormat}
+use Rattle.cw_base.specs.declared.notes.NoteKind.TheVariants.{ImproperMacro, ImproperFormat}
 use Rattle.cw_rules.specs.declared.bodies.Noted.{Noted}
 use Rattle.cw_rules.specs.declared.classes.Class.{Class}
 use Rattle.cw_rules.specs.declared.classes.Class.TheVariants as classes
 use Rattle.cw_rules.specs.declared.codes.Code.{Code}
-use Rattle.cw_rules.specs.declared.codes.Code.TheVariants as at
 use Rattle.cw_rules.specs.declared.codes.Effect.{Effect}
 use Rattle.cw_rules.specs.declared.codes.Effect.TheVariants as effects
 use Rattle.cw_rules.specs.declared.parts.Part.{Part}
@@ -23,27 +22,26 @@ use Rattle.cw_rules.specs.declared.signs.Sign.{Sign}
 use Rattle.cw_rules.specs.declared.signs.Sign.TheVariants as signs
 use Rattle.cw_rules.specs.declared.tokens.TokKind.TheVariants as kinds
 use Rattle.cw_base.specs.Bytes.{newline, backslash}
-use Rattle.cw_rules.specs.Bytes.{hash, star, comma, slash, less, equals, right_paren}
-use Rattle.cw_rules.specs.Bytes.{at_sign, run, is_in, is_letter, is_mark, is_digit, begins, begins_by}
+use Rattle.cw_rules.specs.Bytes.{hash, star, comma, slash, less, right_paren, at_sign, run, is_in, is_letter, is_mark}
+use Rattle.cw_rules.specs.Bytes.{is_digit, begins, begins_by}
 use Rattle.cw_base.specs.Text.{bar}
 use Rattle.cw_rules.specs.Signs.{all_signs, longest, spelling}
 use Rattle.cw_rules.specs.Constants.{constant}
 use Rattle.cw_rules.specs.Prefixes.{prefix_size}
 use Rattle.cw_rules.specs.Codes.{code_at, begins_section, has_control_text, effect_in_limbo, effect_in_tex}
-use Rattle.cw_rules.specs.Bodies.{stops, goes_on, extent, ended, noted, one_note, note_unless}
+use Rattle.cw_rules.specs.Bodies.{stops, goes_on, extent, ended, noted}
 use Rattle.cw_rules.specs.Answers.{Answer, Token, Begin, Finish, Note, Seen, Where, Cut, Found, before, note_answers}
-use Rattle.cw_rules.specs.Answers.{plain, dropped}
+use Rattle.cw_rules.specs.Answers.{plain}
 use Rattle.cw_rules.specs.Order.{begins_space}
 use Rattle.cw_rules.specs.Tokens.{in_hash_line, behind_include, takes_hash_line, is_space, is_deep, ends_at_bar}
 use Rattle.cw_rules.specs.Tokens.{closes_on_line, moved, passed, one, skipped_byte, comment_end, inner_cut, comment_cut}
 use Rattle.cw_rules.specs.Tokens.{part_cut, inner_or_none, all_cut, section, section_code, line_end, sign_or_other}
-use Rattle.cw_rules.specs.Tokens.{start_of, identifier, is_name, is_quote, alone_size, control_or_plain, effect_in}
-use Rattle.cw_rules.specs.Tokens.{code_by, in_code, string, code_token, dropped_code, include_name, comment_begin}
-use Rattle.cw_rules.specs.Tokens.{inner_begin, inner_end, piece_start, piece, comment_closed}
+use Rattle.cw_rules.specs.Tokens.{start_of, identifier, alone_size, control_or_plain, code_by, in_code, string}
+use Rattle.cw_rules.specs.Tokens.{code_token, dropped_code, include_name, comment_begin, inner_begin, inner_end}
+use Rattle.cw_rules.specs.Tokens.{piece_start, piece, comment_closed, limbo_by, limbo_text, tex_by, tex_text, head_text}
+use Rattle.cw_rules.specs.Tokens.{behind_white, name_follows, macro_name, parameter_follows, parameter, format_name}
 use Rattle.cw_rules.specs.Apart.{code_text_apart, comment_text_apart, behind_head_apart, part_text_apart, in_text_apart}
 use Rattle.cw_rules.specs.Apart.{found_apart}
-use Rattle.cw_rules.specs.Tokens.{limbo_by, limbo_text, tex_by, tex_text, head_text, behind_white, name_follows}
-use Rattle.cw_rules.specs.Tokens.{macro_name, parameter_follows, parameter, format_name}
 use Rattle.cw_rules.proofs.Inside.{ended-some}
 use Rattle.cw_rules.proofs.Choices.{if-both, or-false, at-byte}
 
@@ -94,26 +92,14 @@ bare-notes place (n ∷ notes) = bare-notes place notes
 
 bare-append : (place : ℕ) (xs ys : List Answer) → AreBare place xs → AreBare place ys → AreBare place (xs ++ ys)
 bare-append place [] ys h g = g
-bare-append place (Token t ∷ xs) ys h g = absurd h
-bare-append place (Begin t ∷ xs) ys h g = absurd h
 bare-append place (Finish t ∷ xs) ys h g = (h.0, h.1, h.2, bare-append place xs ys h.3 g)
 bare-append place (Note kind about ∷ xs) ys h g = bare-append place xs ys h g
+bare-append _ _ _ h _ = absurd h
 
 -- a token without its bytes may show others, where these are the same
 one-as : (hash_line : Bool) (next : Where) (place : ℕ) (shown bytes : List ℕ) (cut : Cut) → 0 < cut.size
     → take cut.size shown ≡ take cut.size bytes → Takes place bytes (one hash_line next place shown cut)
-one-as hash_line next place shown bytes cut some same =
-    let size : cut.size ≡ suc (cut.size - 1) = omega arith in
-    record {
-      first = [];
-      rest = (one hash_line next place shown cut).answers;
-      split = refl;
-      bare = tt;
-      whole = (
-        record { from = refl; to = omega arith; slice = same ∙ ap (λ n. take n bytes) size },
-        notes-notes cut.notes,
-      );
-    }
+one-as hash_line next place shown bytes cut some same = grind (arith, nat_tests, notes-notes)
 
 one-takes : (hash_line : Bool) (next : Where) (place : ℕ) (bytes : List ℕ) (cut : Cut) → 0 < cut.size
     → Takes place bytes (one hash_line next place bytes cut)
@@ -125,13 +111,7 @@ skipped-takes place bytes w h = record { first = []; rest = []; split = refl; ba
 
 before-takes : (place : ℕ) (bytes : List ℕ) (xs : List Answer) (f : Found) → AreBare place xs → Takes place bytes f
     → Takes place bytes (before xs f)
-before-takes place bytes xs f h g = record {
-  first = xs ++ g.first;
-  rest = g.rest;
-  split = ap (λ l. xs ++ l) g.split ∙ sym (append_assoc xs g.first g.rest);
-  bare = bare-append place xs g.first h g.bare;
-  whole = g.whole;
-}
+before-takes place bytes xs f h g = grind (arith, nat_tests, append_assoc, bare-append)
 
 -- ## Ends
 
@@ -143,66 +123,37 @@ bare-inner hash_line place about = (refl, zero-place place, refl, tt)
 
 bare-comment-cut : (hash_line : Bool) (c : Opened) (place about : ℕ)
     → AreBare place (comment_cut hash_line c place about)
-bare-comment-cut hash_line c place about = (
-  refl,
-  zero-place place,
-  refl,
-  bare-notes place (one_note (note_unless (c.braces == 0) MissingBrace about)),
-)
+bare-comment-cut hash_line c place about = grind (arith, nat_tests, zero-place, bare-notes)
 
 bare-comment-end : (hash_line : Bool) (c : Opened) (place : ℕ) → AreBare place (comment_end hash_line c place 0 [])
-bare-comment-end hash_line c place = (
-  refl,
-  zero-place place,
-  refl,
-  bare-notes place (one_note (note_unless (c.braces == 0) MissingBrace place)),
-)
+bare-comment-end hash_line c place = grind (arith, nat_tests, zero-place, bare-notes)
 
 bare-part-cut : (part : Part) (place about : ℕ) → AreBare place (part_cut part place about)
-bare-part-cut parts.TexInner place about = bare-inner false place about
-bare-part-cut (parts.MacroName code) place about = tt
-bare-part-cut (parts.MacroParen code) place about = tt
-bare-part-cut (parts.Parameters code) place about = tt
-bare-part-cut (parts.FormatName code second limbo) place about = tt
-bare-part-cut _ place about = tt
+bare-part-cut x1 place about = grind (arith, nat_tests, bare-inner)
 
 bare-none : (inner hash_line : Bool) (place about : ℕ) → AreBare place (inner_or_none inner hash_line place about)
-bare-none true hash_line place about = bare-inner hash_line place about
-bare-none false hash_line place about = tt
+bare-none x1 hash_line place about = grind (arith, nat_tests, bare-inner)
 
 pub bare-all-cut : (part : Part) (comments : List Opened) (place about : ℕ)
     → AreBare place (all_cut part comments place about)
 bare-all-cut part [] place about = bare-part-cut part place about
 bare-all-cut part (c ∷ comments) place about =
-    let hash_line = in_hash_line part in
-    bare-append place (inner_or_none c.inner hash_line place about) (comment_cut hash_line c place about
-    ++ all_cut part comments place about) (bare-none c.inner hash_line place about)
-    (bare-append place (comment_cut hash_line c place about) (all_cut part comments place about)
-    (bare-comment-cut hash_line c place about) (bare-all-cut part comments place about))
+    grind (arith, nat_tests, bare-all-cut part comments place about, bare-append, bare-none, bare-comment-cut)
 
 record HasSome (cut : Cut) : Type 0 where
   is : 0 < cut.size
 
 section-some : (bytes : List ℕ) → HasSome (section_code bytes)
-section-some bytes = if-both HasSome (begins star (drop 1 bytes)) _ _ (λ h. record { is = omega arith })
-    (λ h. record { is = omega arith })
+section-some bytes = grind (arith, nat_tests, if-both)
 
 section-takes : (w : Where) (place byte : ℕ) (bytes : List ℕ) → (byte == at_sign) ≡ true
     → Takes place (byte ∷ bytes) (section w place bytes)
 section-takes w place byte bytes h =
-    at-byte (λ b. Takes place (b ∷ bytes) (section w place bytes)) byte at_sign h
-    (before-takes place (at_sign ∷ bytes) (all_cut w.part w.comments place place) _
-    (bare-all-cut w.part w.comments place place)
-    (one-takes false (record { part = parts.Tex; comments = [] }) place (at_sign ∷ bytes)
-    (section_code (at_sign ∷ bytes)) (section-some (at_sign ∷ bytes)).is))
+    grind (arith, nat_tests, at-byte, before-takes, bare-all-cut, one-takes, section-some)
 
 line_end-takes : (part : Part) (comments : List Opened) (last place : ℕ) (bytes : List ℕ)
     → Takes place (newline ∷ bytes) (line_end part comments last place)
-line_end-takes part [] last place bytes =
-    if-both (Takes place (newline ∷ bytes)) (in_hash_line part && not (last == backslash)) _ _
-    (λ h. one-as true (record { part = parts.Plain false false; comments = [] }) place (newline ∷ []) (newline ∷ bytes)
-    (plain kinds.HashLineEnd 1) (omega arith) refl)
-    (λ h. skipped-takes place (newline ∷ bytes) (record { part = part; comments = [] }) refl)
+line_end-takes part [] last place bytes = grind (arith, nat_tests, if-both, one-as, skipped-takes)
 line_end-takes part (c ∷ comments) last place bytes =
     let hash_line = in_hash_line part in
     if-both (Takes place (newline ∷ bytes)) c.long _ _
@@ -216,17 +167,13 @@ line_end-takes part (c ∷ comments) last place bytes =
 -- ## C text
 
 run-some : (class : Class) (byte : ℕ) (bytes : List ℕ) → is_in class byte ≡ true → 0 < run class (byte ∷ bytes)
-run-some class byte bytes h =
-    let e : run class (byte ∷ bytes) ≡ 1 + run class bytes = ap (λ t. if t then 1 + run class bytes else 0)
-    h in
-    omega arith
+run-some class byte bytes h = grind (arith, nat_tests)
 
 identifier-some : (byte : ℕ) (bytes : List ℕ) → is_letter byte ≡ true → 0 < (identifier (byte ∷ bytes)).size
 identifier-some byte bytes h = run-some classes.Word byte bytes (one-left (is_letter byte) (is_digit byte) h)
 
 spelling-some : (sign : Sign) → 0 < length (spelling sign)
-spelling-some signs.Slash = omega arith
-spelling-some _ = omega arith
+spelling-some x1 = grind (arith, nat_tests)
 
 abbrev StartHas : Start → ℕ → List ℕ → Type 0
 StartHas start.Identifier byte bytes = is_letter byte ≡ true
@@ -234,8 +181,7 @@ StartHas start.Constant byte bytes = 0 < constant (byte ∷ bytes)
 StartHas _ byte bytes = Unit {0}
 
 sign-has : (o : Option Sign) (byte : ℕ) (bytes : List ℕ) → StartHas (sign_or_other o) byte bytes
-sign-has None byte bytes = tt
-sign-has (Some sign) byte bytes = tt
+sign-has x1 byte bytes = grind (arith, nat_tests)
 
 record Has (byte : ℕ) (bytes : List ℕ) (s : Start) : Type 0 where
   is : StartHas s byte bytes
@@ -254,28 +200,21 @@ start_of-has bar_ends byte bytes =
     (λ h. record { is = sign-has (longest all_signs (byte ∷ bytes)) byte bytes }))))))))
 
 alone-some : (bytes : List ℕ) → 0 < alone_size bytes
-alone-some [] = omega arith
-alone-some (b ∷ []) = omega arith
-alone-some (b ∷ c ∷ bytes) = omega arith
+alone-some x1 = grind (arith, nat_tests)
 
 control-some : (code : Code) (place : ℕ) (bytes : List ℕ) → HasSome (control_or_plain code place bytes)
 control-some code place bytes = if-both HasSome (has_control_text code) _ _ (λ h. record { is = omega arith })
     (λ h. record { is = alone-some bytes })
 
 code-some : (code : Code) (place : ℕ) (bytes : List ℕ) → HasSome (code_token code place bytes)
-code-some code place bytes =
-    if-both HasSome (is_name code) _ _ (λ h. record { is = omega arith })
-    (λ h. if-both HasSome (is_quote code) _ _ (λ h. record { is = omega arith }) (λ h. control-some code place bytes))
+code-some code place bytes = grind (arith, nat_tests, if-both, control-some)
 
 code_by-takes : (effect : Effect) (code : Code) (w : Where) (place : ℕ) (bytes : List ℕ)
     → Takes place bytes (code_by effect code w place bytes)
-code_by-takes effects.Stands code w place bytes = one-takes _ _ place bytes (code_token code place bytes)
-    (code-some code place bytes).is
+code_by-takes effects.Stands code w place bytes = grind (arith, nat_tests, one-takes, code-some)
 code_by-takes (effects.Drops note) code w place bytes = one-takes _ _ place bytes (dropped_code note code place bytes)
     (control-some code place bytes).is
-code_by-takes effects.Defines code w place bytes = one-takes _ _ place bytes (plain (kinds.Code code) 2) (omega arith)
-code_by-takes effects.Formats code w place bytes = one-takes _ _ place bytes (plain (kinds.Code code) 2) (omega arith)
-code_by-takes effects.BeginsC code w place bytes = one-takes _ _ place bytes (plain (kinds.Code code) 2) (omega arith)
+code_by-takes _ code _ place bytes = one-takes _ _ place bytes (plain (kinds.Code code) 2) (omega arith)
 
 two : (place : ℕ) → place + 2 ≡ (place + 1) + 1
 two place = omega arith
@@ -285,32 +224,14 @@ one-more place = omega arith
 
 comment-takes : (long : Bool) (w : Where) (place : ℕ) (bytes : List ℕ)
     → Takes place bytes (comment_begin long w place bytes)
-comment-takes long w place bytes = record {
-  first = [];
-  rest = (comment_begin long w place bytes).answers;
-  split = refl;
-  bare = tt;
-  whole = (record { from = refl; to = two place; slice = refl }, tt);
-}
+comment-takes long w place bytes = grind (arith, nat_tests, two)
 
 begin-takes : (hash_line : Bool) (next : Where) (place : ℕ) (bytes : List ℕ)
     → Takes place bytes (inner_begin hash_line next place bytes)
-begin-takes hash_line next place bytes = record {
-  first = [];
-  rest = (inner_begin hash_line next place bytes).answers;
-  split = refl;
-  bare = tt;
-  whole = (record { from = refl; to = one-more place; slice = refl }, tt);
-}
+begin-takes hash_line next place bytes = grind (arith, nat_tests, one-more)
 
 end-takes : (w : Where) (place : ℕ) (bytes : List ℕ) → Takes place bytes (inner_end w place bytes)
-end-takes w place bytes = record {
-  first = [];
-  rest = (inner_end w place bytes).answers;
-  split = refl;
-  bare = tt;
-  whole = (record { from = refl; to = one-more place; slice = refl }, tt);
-}
+end-takes w place bytes = grind (arith, nat_tests, one-more)
 
 in_code-takes : (begun : Start) (w : Where) (place byte : ℕ) (bytes : List ℕ) → StartHas begun byte bytes
     → Takes place (byte ∷ bytes) (in_code begun w place (byte ∷ bytes))
@@ -323,32 +244,20 @@ in_code-takes (start.Quoted q) w place byte bytes h =
     (omega arith)
 in_code-takes start.LongComment w place byte bytes h = comment-takes true w place (byte ∷ bytes)
 in_code-takes start.ShortComment w place byte bytes h = comment-takes false w place (byte ∷ bytes)
-in_code-takes (start.Code code) w place byte bytes h = code_by-takes (effect_in w.part w.comments code) code w place
-    (byte ∷ bytes)
+in_code-takes (start.Code code) w place byte bytes h = grind (arith, nat_tests, code_by-takes)
 in_code-takes start.EndOfInner w place byte bytes h = end-takes w place (byte ∷ bytes)
-in_code-takes (start.Sign sign) w place byte bytes h =
-    one-takes _ _ place (byte ∷ bytes) (plain (kinds.Sign sign) (length (spelling sign))) (spelling-some sign)
-in_code-takes start.OtherByte w place byte bytes h = one-takes _ _ place (byte ∷ bytes) (plain kinds.OtherByte 1)
-    (omega arith)
+in_code-takes (start.Sign sign) w place byte bytes h = grind (arith, nat_tests, one-takes, spelling-some)
+in_code-takes start.OtherByte w place byte bytes h = grind (arith, nat_tests, one-takes)
 
 blank-space : (byte : ℕ) (bytes : List ℕ) → is_in classes.Blank byte ≡ true → begins_space (byte ∷ bytes) ≡ true
-blank-space byte bytes h = one-left (is_in classes.White byte) (byte == backslash && begins newline bytes)
-    (one-right (byte == newline) (is_in classes.Blank byte) h)
+blank-space byte bytes h = grind (arith, nat_tests, one-left, one-right)
 
 white-space : (byte : ℕ) (bytes : List ℕ) → is_in classes.White byte ≡ true → begins_space (byte ∷ bytes) ≡ true
 white-space byte bytes h = one-left (is_in classes.White byte) (byte == backslash && begins newline bytes) h
 
 space-space : (part : Part) (byte : ℕ) (bytes : List ℕ) → is_space part byte bytes ≡ true → begins_space (byte ∷ bytes)
     ≡ true
-space-space part byte bytes h = by (is_in classes.Blank byte) (in_hash_line part) (byte == newline)
-    (byte == backslash && begins newline bytes) h
-  where
-    by : (blank hash_line line cut : Bool) → (blank || (hash_line && cut)) ≡ true → ((line || blank) || cut) ≡ true
-    by true hash_line true cut h = refl
-    by true hash_line false cut h = refl
-    by false true true cut h = refl
-    by false true false cut h = h
-    by false false line cut h = absurd cc
+space-space part byte bytes h = grind (arith, nat_tests)
 
 code_text-takes : (w : Where) (fresh : Bool) (last place byte : ℕ) (bytes : List ℕ)
     → Takes place (byte ∷ bytes) (code_text_apart w fresh last place byte bytes)
@@ -371,8 +280,7 @@ code_text-takes w fresh last place byte bytes =
 
 long-or-line : (long closes line : Bool) → (long && closes) ≡ false → (not long && line) ≡ false
     → (if long then closes else line) ≡ false
-long-or-line true closes line h g = h
-long-or-line false closes line h g = g
+long-or-line x1 closes line h g = grind (arith, nat_tests)
 
 piece-takes : (part : Part) (comments : List Opened) (c : Opened) (place byte : ℕ) (bytes : List ℕ)
     → (byte == at_sign && begins_section bytes) ≡ false → (c.long && (byte == star && begins slash bytes)) ≡ false
@@ -392,16 +300,7 @@ piece-takes part comments c place byte bytes section closes line opens =
 
 closed-takes : (part : Part) (c : Opened) (comments : List Opened) (place : ℕ) (bytes : List ℕ)
     → Takes place bytes (comment_closed part c comments place bytes)
-closed-takes part c comments place bytes = record {
-  first = [];
-  rest = (comment_closed part c comments place bytes).answers;
-  split = refl;
-  bare = tt;
-  whole = (
-    record { from = refl; to = two place; slice = refl },
-    notes-notes (one_note (note_unless (c.braces == 0) MissingBrace place)),
-  );
-}
+closed-takes part c comments place bytes = grind (arith, nat_tests, two, notes-notes)
 
 comment_text-takes : (part : Part) (c : Opened) (comments : List Opened) (last place byte : ℕ) (bytes : List ℕ)
     → (byte == at_sign && begins_section bytes) ≡ false
@@ -433,17 +332,13 @@ is_limbo_effect (effects.Drops note) = true
 is_limbo_effect _ = false
 
 limbo-effect : (code : Code) → is_limbo_effect (effect_in_limbo code) ≡ true
-limbo-effect at.At = refl
-limbo-effect _ = refl
+limbo-effect x1 = grind (arith, nat_tests)
 
 limbo_by-takes : (effect : Effect) (code : Code) (w : Where) (place : ℕ) (bytes : List ℕ) → is_limbo_effect effect
     ≡ true → Takes place bytes (limbo_by effect code w place bytes)
-limbo_by-takes effects.Stands code w place bytes h = one-takes _ _ place bytes (code_token code place bytes)
-    (code-some code place bytes).is
-limbo_by-takes effects.Formats code w place bytes h = one-takes _ _ place bytes (plain (kinds.Code code) 2)
-    (omega arith)
-limbo_by-takes (effects.Drops note) code w place bytes h =
-    one-takes _ _ place bytes (dropped note place (plain (kinds.Code code) (alone_size bytes))) (alone-some bytes)
+limbo_by-takes effects.Stands code w place bytes h = grind (arith, nat_tests, one-takes, code-some)
+limbo_by-takes effects.Formats code w place bytes h = grind (arith, nat_tests, one-takes)
+limbo_by-takes (effects.Drops note) code w place bytes h = grind (arith, nat_tests, one-takes, alone-some)
 limbo_by-takes effects.Defines code w place bytes h = absurd cc
 limbo_by-takes effects.BeginsC code w place bytes h = absurd cc
 
@@ -457,13 +352,10 @@ limbo_text-takes w place byte bytes =
 
 tex_by-takes : (effect : Effect) (code : Code) (w : Where) (place : ℕ) (bytes : List ℕ)
     → Takes place bytes (tex_by effect code w place bytes)
-tex_by-takes effects.Stands code w place bytes = one-takes _ _ place bytes (code_token code place bytes)
-    (code-some code place bytes).is
+tex_by-takes effects.Stands code w place bytes = grind (arith, nat_tests, one-takes, code-some)
 tex_by-takes (effects.Drops note) code w place bytes = one-takes _ _ place bytes (dropped_code note code place bytes)
     (control-some code place bytes).is
-tex_by-takes effects.Defines code w place bytes = one-takes _ _ place bytes (plain (kinds.Code code) 2) (omega arith)
-tex_by-takes effects.Formats code w place bytes = one-takes _ _ place bytes (plain (kinds.Code code) 2) (omega arith)
-tex_by-takes effects.BeginsC code w place bytes = one-takes _ _ place bytes (plain (kinds.Code code) 2) (omega arith)
+tex_by-takes _ code _ place bytes = one-takes _ _ place bytes (plain (kinds.Code code) 2) (omega arith)
 
 tex_text-takes : (w : Where) (place byte : ℕ) (bytes : List ℕ)
     → Takes place (byte ∷ bytes) (tex_text w place byte bytes)
@@ -477,17 +369,11 @@ tex_text-takes w place byte bytes =
 
 head_text-takes : (w : Where) (place byte : ℕ) (bytes : List ℕ)
     → Takes place (byte ∷ bytes) (head_text w place byte bytes)
-head_text-takes w place byte bytes =
-    if-both (Takes place (byte ∷ bytes)) (is_in classes.Blank byte) _ _
-    (λ h. skipped-takes place (byte ∷ bytes) w (blank-space byte bytes h))
-    (λ h. one-takes false (moved w (parts.Plain false false)) place (byte ∷ bytes)
-    (plain kinds.HeadSign (if begins equals bytes then 2 else 1))
-    (if-both (λ n. 0 < n) (begins equals bytes) 2 1 (λ h. omega arith) (λ h. omega arith)))
+head_text-takes w place byte bytes = grind (arith, nat_tests, if-both, skipped-takes, blank-space, one-takes)
 
 -- behind no white space, what follows begins here
 not-white : (byte : ℕ) (bytes : List ℕ) → is_in classes.White byte ≡ false → behind_white (byte ∷ bytes) ≡ byte ∷ bytes
-not-white byte bytes h = ap (λ t. drop (if t then 1 + run classes.White bytes else 0)
-    (byte ∷ bytes)) h
+not-white byte bytes h = grind (arith, nat_tests)
 
 letter-here : (byte : ℕ) (bytes : List ℕ) → name_follows (byte ∷ bytes) ≡ true → is_in classes.White byte ≡ false
     → is_letter byte ≡ true
@@ -554,18 +440,12 @@ part_text-takes (parts.FormatName code second limbo) w fresh last place byte byt
     if-both (Takes place (byte ∷ bytes)) (name_follows (byte ∷ bytes)) _ _
     (λ h. format_name-takes code second limbo w place byte bytes h) (λ h. improper-takes ImproperFormat code limbo w
     fresh last place byte bytes)
-part_text-takes parts.TexInner w fresh last place byte bytes = code_text-takes w fresh last place byte bytes
-part_text-takes parts.Begin w fresh last place byte bytes = code_text-takes w fresh last place byte bytes
-part_text-takes (parts.Plain hash_line include) w fresh last place byte bytes =
-    code_text-takes w fresh last place byte bytes
-part_text-takes parts.Definition w fresh last place byte bytes = code_text-takes w fresh last place byte bytes
-part_text-takes parts.Inner w fresh last place byte bytes = code_text-takes w fresh last place byte bytes
+part_text-takes _ w fresh last place byte bytes = code_text-takes w fresh last place byte bytes
 
 in_text-takes : (part : Part) (comments : List Opened) (fresh : Bool) (last place byte : ℕ) (bytes : List ℕ)
     → (byte == at_sign && begins_section bytes) ≡ false
     → Takes place (byte ∷ bytes) (in_text_apart part comments fresh last place byte bytes)
-in_text-takes part [] fresh last place byte bytes h = part_text-takes part (record { part = part; comments = [] }) fresh
-    last place byte bytes
+in_text-takes part [] fresh last place byte bytes h = grind (arith, part_text-takes)
 in_text-takes part (c ∷ comments) fresh last place byte bytes h =
     if-both (Takes place (byte ∷ bytes)) c.inner _ _
     (λ e. code_text-takes (record { part = part; comments = c ∷ comments }) fresh last place byte bytes)

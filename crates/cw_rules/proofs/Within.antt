@@ -1,7 +1,8 @@
 -- What begins at a byte lies in the bytes that are left.
-use Rattle.std.proofs.Common.{◌≡◌, ℕ, suc, ◌+◌, ◌<◌, ◌≤◌, Bool, true, false, ◌&&◌, ◌||◌, not, ◌==◌, nat_lt, List, []}
-use Rattle.std.proofs.Common.{◌∷◌, ◌++◌, length, drop, refl, sym, ap, ◌∙◌, arith, Option, Some, None, codes, subst}
-use Rattle.std.proofs.Common.{if◌then◌else◌}
+use Rattle.std.proofs.Common.{◌≡◌, ℕ, suc, ◌+◌, ◌<◌, ◌≤◌, Bool, true, false, ◌&&◌, ◌||◌, not, ◌==◌, List, [], ◌∷◌, ◌++◌}
+use Rattle.std.proofs.Common.{length, sym, ap, ◌∙◌, arith, Option, Some, None, codes, if◌then◌else◌}
+use Rattle.std.proofs.lemmas.Bool.Decides.{nat_tests}
+use Rattle.std.proofs.lemmas.Grind.{common_steps}
 use Rattle.cw_base.proofs.TestLaws.{both-right}
 use Rattle.cw_base.specs.declared.notes.NoteKind.{NoteKind}
 use Rattle.cw_base.specs.declared.notes.NoteKind.TheVariants.{UnknownCode, MissingBrace, ImproperMacro, ImproperFormat}
@@ -18,27 +19,25 @@ use Rattle.cw_rules.specs.declared.parts.Start.{Start}
 use Rattle.cw_rules.specs.declared.parts.Start.TheVariants as start
 use Rattle.cw_rules.specs.declared.signs.Sign.{Sign}
 use Rattle.cw_rules.specs.declared.tokens.TokKind.TheVariants as kinds
-use Rattle.cw_base.specs.Bytes.{newline, backslash}
-use Rattle.cw_rules.specs.Bytes.{hash, star, comma, slash, less, equals, right_paren}
-use Rattle.cw_rules.specs.Bytes.{at_sign, run, is_in, is_letter, is_mark, begins, begins_with}
+use Rattle.cw_base.specs.Bytes.{newline}
+use Rattle.cw_rules.specs.Bytes.{hash, star, comma, slash, less, right_paren, at_sign, is_in, is_letter, begins}
+use Rattle.cw_rules.specs.Bytes.{begins_with}
 use Rattle.cw_base.specs.Text.{bar}
 use Rattle.cw_rules.specs.Signs.{all_signs, longest, spelling}
-use Rattle.cw_rules.specs.Constants.{constant}
 use Rattle.cw_rules.specs.Prefixes.{prefix_size}
 use Rattle.cw_rules.proofs.StringPrefixes.{prefix-below}
 use Rattle.cw_rules.specs.Codes.{code_at, begins_section, effect_in_limbo, effect_in_tex}
 use Rattle.cw_rules.specs.Bodies.{extent, noted, one_note, note_unless}
-use Rattle.cw_rules.specs.Answers.{Answer, Token, Begin, Finish, Note, Where, Cut, Found, before, note_answers, plain}
+use Rattle.cw_rules.specs.Answers.{Answer, Token, Begin, Finish, Note, Where, Cut, Found, before, note_answers}
 use Rattle.cw_rules.specs.Order.{AreWithin}
 use Rattle.cw_rules.specs.Tokens.{in_hash_line, behind_include, takes_hash_line, is_space, is_deep, ends_at_bar}
-use Rattle.cw_rules.specs.Tokens.{closes_on_line, moved, one, skipped_byte, comment_end, inner_cut, comment_cut}
-use Rattle.cw_rules.specs.Tokens.{part_cut, inner_or_none, all_cut, section, passed, line_end, sign_or_other, start_of}
-use Rattle.cw_rules.specs.Tokens.{effect_in, code_by, in_code, string, code_token, dropped_code, include_name}
-use Rattle.cw_rules.specs.Tokens.{piece_start, piece, comment_closed, limbo_by, limbo_text}
+use Rattle.cw_rules.specs.Tokens.{closes_on_line, moved, one, skipped_byte, comment_end, inner_cut, part_cut, all_cut}
+use Rattle.cw_rules.specs.Tokens.{section, passed, line_end, sign_or_other, start_of, effect_in, code_by, in_code}
+use Rattle.cw_rules.specs.Tokens.{string, code_token, dropped_code, include_name, piece_start, piece, comment_closed}
+use Rattle.cw_rules.specs.Tokens.{limbo_by, limbo_text, tex_by, tex_text, head_text, behind_white, name_follows}
+use Rattle.cw_rules.specs.Tokens.{macro_name, is_parameter, parameter_follows, parameter, format_name}
 use Rattle.cw_rules.specs.Apart.{code_text_apart, comment_text_apart, behind_head_apart, part_text_apart, in_text_apart}
 use Rattle.cw_rules.specs.Apart.{found_apart}
-use Rattle.cw_rules.specs.Tokens.{tex_by, tex_text, head_text, behind_white, name_follows, macro_name, is_parameter}
-use Rattle.cw_rules.specs.Tokens.{parameter_follows, parameter, format_name}
 use Rattle.cw_rules.proofs.Sizes.{begins-some, begins_with-le, run-le, constant-le, AllFit, longest-fits, extent-le}
 use Rattle.cw_rules.proofs.Sizes.{identifier-le, string-le, include_name-le, control_or_plain-le, code_token-le}
 use Rattle.cw_rules.proofs.Sizes.{section_code-le}
@@ -63,38 +62,23 @@ append-within low high (Note kind place ∷ xs) ys h g = append-within low high 
 pub wider : (low high first last : ℕ) (xs : List Answer) → first ≤ low → high ≤ last → AreWithin low high xs
     → AreWithin first last xs
 wider low high first last [] l h g = tt
-wider low high first last (Token t ∷ xs) l h g = (
-  (omega (arith, g.0.0), g.0.1, omega (arith, g.0.2)),
-  wider low high first last xs l h g.1,
-)
-wider low high first last (Begin t ∷ xs) l h g = (
-  (omega (arith, g.0.0), g.0.1, omega (arith, g.0.2)),
-  wider low high first last xs l h g.1,
-)
-wider low high first last (Finish t ∷ xs) l h g = (
-  (omega (arith, g.0.0), g.0.1, omega (arith, g.0.2)),
-  wider low high first last xs l h g.1,
-)
+wider low high first last (Token t ∷ xs) l h g = grind (arith, nat_tests, wider low high first last xs l h g.1)
+wider low high first last (Begin t ∷ xs) l h g = grind (arith, nat_tests, wider low high first last xs l h g.1)
+wider low high first last (Finish t ∷ xs) l h g = grind (arith, nat_tests, wider low high first last xs l h g.1)
 wider low high first last (Note kind place ∷ xs) l h g = wider low high first last xs l h g
 
 either : (place left : ℕ) (t : Bool) (f g : Found) → (t ≡ true → Fits place left f) → (t ≡ false → Fits place left g)
     → Fits place left (if t then f else g)
-either place left true f g h i = h refl
-either place left false f g h i = i refl
+either place left t f g h i = grind arith
 
 one-fits : (hash_line : Bool) (next : Where) (place : ℕ) (bytes : List ℕ) (cut : Cut) (left : ℕ) → cut.size ≤ left
     → 0 < left → Fits place left (one hash_line next place bytes cut)
-one-fits hash_line next place bytes cut left h some = record {
-  within = ((omega arith, omega arith, omega (arith, h)), notes-within place (place + left) cut.notes);
-  more = omega (arith, h, some);
-}
+one-fits hash_line next place bytes cut left h some =
+    grind (arith, nat_tests, common_steps, notes-within place (place + left) cut.notes, notes-within)
 
 before-fits : (place left : ℕ) (xs : List Answer) (f : Found) → AreWithin place (place + left) xs → Fits place left f
     → Fits place left (before xs f)
-before-fits place left xs f h g = record {
-  within = append-within place (place + left) xs f.answers h g.within;
-  more = g.more;
-}
+before-fits place left xs f h g = grind (arith, nat_tests, append-within)
 
 skipped-fits : (place left : ℕ) (w : Where) → 0 < left → Fits place left (skipped_byte w)
 skipped-fits place left w some = record { within = tt; more = some }
@@ -107,49 +91,20 @@ missing-within low high c about = notes-within low high (one_note (note_unless (
 
 comment_end-within : (hash_line : Bool) (c : Opened) (place size : ℕ) (bytes : List ℕ) (left : ℕ) → size ≤ left
     → AreWithin place (place + left) (comment_end hash_line c place size bytes)
-comment_end-within hash_line c place size bytes left h =
-    ((omega arith, omega arith, omega (arith, h)), missing-within place (place + left) c place)
+comment_end-within hash_line c place size bytes left h = grind (arith, nat_tests, missing-within)
 
 inner_cut-within : (hash_line : Bool) (place about left : ℕ)
     → AreWithin place (place + left) (inner_cut hash_line place about)
 inner_cut-within hash_line place about left = ((omega arith, omega arith, omega arith), tt)
 
-comment_cut-within : (hash_line : Bool) (c : Opened) (place about left : ℕ)
-    → AreWithin place (place + left) (comment_cut hash_line c place about)
-comment_cut-within hash_line c place about left = (
-  (omega arith, omega arith, omega arith),
-  missing-within place (place + left) c about,
-)
-
-inner-within : (inner hash_line : Bool) (place about left : ℕ)
-    → AreWithin place (place + left) (inner_or_none inner hash_line place about)
-inner-within true hash_line place about left = inner_cut-within hash_line place about left
-inner-within false hash_line place about left = tt
-
 part_cut-within : (part : Part) (place about left : ℕ) → AreWithin place (place + left) (part_cut part place about)
-part_cut-within parts.TexInner place about left = inner_cut-within false place about left
-part_cut-within (parts.MacroName code) place about left = tt
-part_cut-within (parts.MacroParen code) place about left = tt
-part_cut-within (parts.Parameters code) place about left = tt
-part_cut-within (parts.FormatName code second limbo) place about left = tt
-part_cut-within parts.Limbo place about left = tt
-part_cut-within parts.Tex place about left = tt
-part_cut-within parts.Begin place about left = tt
-part_cut-within (parts.Plain hash_line include) place about left = tt
-part_cut-within parts.Definition place about left = tt
-part_cut-within parts.Inner place about left = tt
-part_cut-within parts.Head place about left = tt
+part_cut-within part place about left = grind (arith, inner_cut-within)
 
 pub all_cut-within : (part : Part) (comments : List Opened) (place about left : ℕ)
     → AreWithin place (place + left) (all_cut part comments place about)
 all_cut-within part [] place about left = part_cut-within part place about left
 all_cut-within part (c ∷ comments) place about left =
-    let hash_line = in_hash_line part in
-    append-within place (place + left) (inner_or_none c.inner hash_line place about)
-    (comment_cut hash_line c place about ++ all_cut part comments place about)
-    (inner-within c.inner hash_line place about left)
-    (append-within place (place + left) (comment_cut hash_line c place about) (all_cut part comments place about)
-    (comment_cut-within hash_line c place about left) (all_cut-within part comments place about left))
+    grind (arith, nat_tests, all_cut-within part comments place about left)
 
 section-fits : (w : Where) (place : ℕ) (bytes : List ℕ) → Fits place (suc (length bytes)) (section w place bytes)
 section-fits w place bytes =
@@ -160,20 +115,9 @@ section-fits w place bytes =
 
 line_end-fits : (part : Part) (comments : List Opened) (last place left : ℕ) → 0 < left
     → Fits place left (line_end part comments last place)
-line_end-fits part [] last place left some =
-    either place left (in_hash_line part && not (last == backslash)) _ _
-    (λ h. one-fits true (record { part = parts.Plain false false; comments = [] }) place (newline ∷ [])
-    (plain kinds.HashLineEnd 1) left some some)
-    (λ h. skipped-fits place left (record { part = part; comments = [] }) some)
+line_end-fits part [] last place left some = grind (arith, nat_tests, either, one-fits, skipped-fits)
 line_end-fits part (c ∷ comments) last place left some =
-    let hash_line = in_hash_line part in
-    either place left c.long _ _
-    (λ h. skipped-fits place left (record { part = part; comments = c ∷ comments }) some)
-    (λ h. before-fits place left (inner_cut hash_line place place ++ comment_end hash_line c place 0 [])
-    (line_end (passed part) comments last place)
-    (append-within place (place + left) (inner_cut hash_line place place) (comment_end hash_line c place 0 [])
-    (inner_cut-within hash_line place place left) (comment_end-within hash_line c place 0 [] left (omega arith)))
-    (line_end-fits (passed part) comments last place left some))
+    grind (arith, line_end-fits (passed part) comments last place left some, nat_tests, skipped-fits)
 
 -- ## C text
 
@@ -190,8 +134,7 @@ StartFits start.OtherByte bytes = Unit {0}
 
 either-start : (t : Bool) (a b : Start) (bytes : List ℕ) → (t ≡ true → StartFits a bytes)
     → (t ≡ false → StartFits b bytes) → StartFits (if t then a else b) bytes
-either-start true a b bytes f g = f refl
-either-start false a b bytes f g = g refl
+either-start t a b bytes f g = grind arith
 
 sign-fits : (byte : ℕ) (bytes : List ℕ) → StartFits (sign_or_other (longest all_signs (byte ∷ bytes))) bytes
 sign-fits byte bytes = by (longest all_signs (byte ∷ bytes)) (longest-fits all_signs (byte ∷ bytes))
@@ -201,23 +144,10 @@ sign-fits byte bytes = by (longest all_signs (byte ∷ bytes)) (longest-fits all
     by (Some sign) h = h
 
 start_of-fits : (bar_ends : Bool) (byte : ℕ) (bytes : List ℕ) → StartFits (start_of bar_ends byte bytes) bytes
-start_of-fits bar_ends byte bytes =
-    either-start (nat_lt 0 (prefix_size (byte ∷ bytes))) _ _ bytes (λ h. tt)
-    (λ h. either-start (is_letter byte) _ _ bytes (λ h. tt)
-    (λ h. either-start (nat_lt 0 (constant (byte ∷ bytes))) _ _ bytes (λ h. tt)
-    (λ h. either-start (is_mark byte) _ _ bytes (λ h. tt)
-    (λ h. either-start (byte == slash && begins star bytes) _ _ bytes
-    (λ h. begins-some star bytes (both-right (byte == slash) (begins star bytes) h))
-    (λ h. either-start (byte == slash && begins slash bytes) _ _ bytes
-    (λ h. begins-some slash bytes (both-right (byte == slash) (begins slash bytes) h))
-    (λ h. either-start (byte == at_sign) _ _ bytes (λ h. refl)
-    (λ h. either-start (byte == bar && (bar_ends && not (begins bar bytes))) _ _ bytes (λ h. tt)
-    (λ h. sign-fits byte bytes))))))))
+start_of-fits bar_ends byte bytes = grind (arith, either-start, begins-some, both-right, sign-fits)
 
 effect-unknown : (part : Part) (comments : List Opened) → effect_in part comments at.Unknown ≡ effects.Drops UnknownCode
-effect-unknown parts.Definition [] = refl
-effect-unknown parts.Begin [] = refl
-effect-unknown part comments = refl
+effect-unknown part comments = grind arith
 
 code_by-fits : (effect : Effect) (code : Code) (w : Where) (place byte next : ℕ) (bytes : List ℕ)
     → Fits place (suc (suc (length bytes))) (code_by effect code w place (byte ∷ next ∷ bytes))
@@ -227,22 +157,14 @@ code_by-fits effects.Stands code w place byte next bytes = one-fits _ _ place (b
 code_by-fits (effects.Drops note) code w place byte next bytes =
     one-fits _ _ place (byte ∷ next ∷ bytes) (dropped_code note code place (byte ∷ next ∷ bytes))
     (suc (suc (length bytes))) (control_or_plain-le code place byte next bytes) (omega arith)
-code_by-fits effects.Defines code w place byte next bytes = search (one-fits, arith)
-code_by-fits effects.Formats code w place byte next bytes = search (one-fits, arith)
-code_by-fits effects.BeginsC code w place byte next bytes = search (one-fits, arith)
+code_by-fits _ _ _ _ _ _ _ = search (one-fits, arith)
 
 -- a code, which may be the last byte
 code-fits : (part : Part) (comments : List Opened) (code : Code) (place byte : ℕ) (bytes : List ℕ)
     → code ≡ code_at bytes
     → Fits place (suc (length bytes)) (code_by (effect_in part comments code) code
     (record { part = part; comments = comments }) place (byte ∷ bytes))
-code-fits part comments code place byte (next ∷ bytes) e = code_by-fits (effect_in part comments code) code
-    (record { part = part; comments = comments }) place byte next bytes
-code-fits part comments code place byte [] e =
-    let w : Where = record { part = part; comments = comments } in
-    let P : Code → Type 0 = λ code. Fits place 1 (code_by (effect_in part comments code) code w place (byte ∷ [])) in
-    let Q : Effect → Type 0 = λ effect. Fits place 1 (code_by effect at.Unknown w place (byte ∷ [])) in
-    subst P (sym e) (subst Q (sym (effect-unknown part comments)) (search (one-fits, arith)))
+code-fits part comments code place byte bytes e = grind (arith, nat_tests, code_by-fits, effect-unknown, one-fits)
 
 in_code-fits : (begins : Start) (w : Where) (place byte : ℕ) (bytes : List ℕ) → StartFits begins bytes
     → Fits place (suc (length bytes)) (in_code begins w place (byte ∷ bytes))
@@ -252,13 +174,10 @@ in_code-fits (start.Quoted quote) w place byte bytes h =
     let opening = prefix_size (byte ∷ bytes) + 1 in
     one-fits _ _ place (byte ∷ bytes) (string kinds.Quoted opening quote place (byte ∷ bytes)) (suc (length bytes))
     (string-le kinds.Quoted opening quote place (byte ∷ bytes) (omega (arith, prefix-below byte bytes))) (omega arith)
-in_code-fits start.LongComment w place byte bytes h =
-    record { within = ((omega arith, omega arith, omega (arith, h)), tt); more = omega (arith, h) }
-in_code-fits start.ShortComment w place byte bytes h =
-    record { within = ((omega arith, omega arith, omega (arith, h)), tt); more = omega (arith, h) }
+in_code-fits start.LongComment w place byte bytes h = grind arith
+in_code-fits start.ShortComment w place byte bytes h = grind arith
 in_code-fits (start.Code code) w place byte bytes h = code-fits w.part w.comments code place byte bytes h
-in_code-fits start.EndOfInner w place byte bytes h =
-    record { within = ((omega arith, omega arith, omega arith), tt); more = omega arith }
+in_code-fits start.EndOfInner w place byte bytes h = grind arith
 in_code-fits (start.Sign sign) w place byte bytes h = search (one-fits, arith, h)
 in_code-fits start.OtherByte w place byte bytes h = search (one-fits, arith)
 
@@ -331,9 +250,7 @@ limbo-code-fits w place byte (next ∷ bytes) = by (effect_in_limbo (code_at (ne
 
 limbo_text-fits : (w : Where) (place byte : ℕ) (bytes : List ℕ)
     → Fits place (suc (length bytes)) (limbo_text w place byte bytes)
-limbo_text-fits w place byte bytes =
-    either place (suc (length bytes)) (byte == at_sign) _ _ (λ h. limbo-code-fits w place byte bytes)
-    (λ h. search (one-fits, arith, run-le classes.LimboText (byte ∷ bytes)))
+limbo_text-fits w place byte bytes = grind (arith, nat_tests, either, limbo-code-fits, one-fits, run-le)
 
 tex-code-fits : (w : Where) (place byte : ℕ) (bytes : List ℕ)
     → Fits place (suc (length bytes)) (tex_by (effect_in_tex (code_at bytes)) (code_at bytes) w place (byte ∷ bytes))
@@ -353,23 +270,11 @@ tex-code-fits w place byte (next ∷ bytes) = by (effect_in_tex (code_at (next �
 
 tex_text-fits : (w : Where) (place byte : ℕ) (bytes : List ℕ)
     → Fits place (suc (length bytes)) (tex_text w place byte bytes)
-tex_text-fits w place byte bytes =
-    let left = suc (length bytes) in
-    either place left (byte == at_sign) _ _ (λ h. tex-code-fits w place byte bytes)
-    (λ h. either place left (byte == bar) _ _
-    (λ h. record { within = ((omega arith, omega arith, omega arith), tt); more = omega arith })
-    (λ h. search (one-fits, arith, run-le classes.TexText (byte ∷ bytes))))
+tex_text-fits w place byte bytes = grind (arith, nat_tests, either, tex-code-fits, one-fits, run-le)
 
 head_text-fits : (w : Where) (place byte : ℕ) (bytes : List ℕ)
     → Fits place (suc (length bytes)) (head_text w place byte bytes)
-head_text-fits w place byte bytes =
-    let left = suc (length bytes) in
-    either place left (is_in classes.Blank byte) _ _ (λ h. skipped-fits place left w (omega arith))
-    (λ h. search (one-fits, arith, sign-size (begins equals bytes) (λ h. begins-some equals bytes h)))
-  where
-    sign-size : (t : Bool) → (t ≡ true → 0 < length bytes) → (if t then 2 else 1) ≤ suc (length bytes)
-    sign-size true h = omega (arith, h refl)
-    sign-size false h = omega arith
+head_text-fits w place byte bytes = grind (arith, nat_tests, either, skipped-fits, one-fits, begins-some)
 
 macro_name-fits : (code : ℕ) (w : Where) (place byte : ℕ) (bytes : List ℕ)
     → Fits place (suc (length bytes)) (macro_name code w place byte bytes)
@@ -381,9 +286,7 @@ macro_name-fits code w place byte bytes =
 format_name-fits : (code : ℕ) (second limbo : Bool) (w : Where) (place byte : ℕ) (bytes : List ℕ)
     → Fits place (suc (length bytes)) (format_name code second limbo w place byte bytes)
 format_name-fits code second limbo w place byte bytes =
-    let left = suc (length bytes) in
-    either place left (is_in classes.White byte) _ _ (λ h. skipped-fits place left w (omega arith))
-    (λ h. search (one-fits, arith, identifier-le (byte ∷ bytes)))
+    grind (arith, nat_tests, either, skipped-fits, one-fits, identifier-le)
 
 -- where a parameter follows and none of the others stands, it is `...`
 dots-follow : (letter : Bool) (is_comma is_paren dots : Bool) → (letter || (is_comma || (is_paren || dots))) ≡ true
@@ -391,8 +294,7 @@ dots-follow : (letter : Bool) (is_comma is_paren dots : Bool) → (letter || (is
 dots-follow letter is_comma is_paren dots h l c p = cc
 
 not-white : (byte : ℕ) (bytes : List ℕ) → is_in classes.White byte ≡ false → behind_white (byte ∷ bytes) ≡ byte ∷ bytes
-not-white byte bytes h = ap (λ t. drop (if t then 1 + run classes.White bytes else 0)
-    (byte ∷ bytes)) h
+not-white byte bytes h = grind (arith, nat_tests)
 
 parameter-fits : (w : Where) (place byte : ℕ) (bytes : List ℕ) → parameter_follows (byte ∷ bytes) ≡ true
     → Fits place (suc (length bytes)) (parameter w place byte bytes)
@@ -420,10 +322,7 @@ improper-fits : (note : NoteKind) (code : ℕ) (limbo : Bool) (w : Where) (fresh
     (bytes : List ℕ)
     → Fits place (suc (length bytes)) (before (Note note code ∷ []) (behind_head_apart limbo w fresh last place byte
     bytes))
-improper-fits note code limbo w fresh last place byte bytes =
-    before-fits place (suc (length bytes)) (Note note code ∷ []) (behind_head_apart limbo w fresh last place byte bytes)
-    tt
-    (behind_head-fits limbo w fresh last place byte bytes)
+improper-fits note code limbo w fresh last place byte bytes = grind (arith, nat_tests, before-fits, behind_head-fits)
 
 -- ## Any text
 
@@ -442,21 +341,12 @@ part_text-fits (parts.Parameters code) w fresh last place byte bytes =
 part_text-fits (parts.FormatName code second limbo) w fresh last place byte bytes =
     either place (suc (length bytes)) (name_follows (byte ∷ bytes)) _ _ (λ h. format_name-fits code second limbo w place
     byte bytes) (λ h. improper-fits ImproperFormat code limbo w fresh last place byte bytes)
-part_text-fits parts.TexInner w fresh last place byte bytes = code_text-fits w fresh last place byte bytes
-part_text-fits parts.Begin w fresh last place byte bytes = code_text-fits w fresh last place byte bytes
-part_text-fits (parts.Plain hash_line include) w fresh last place byte bytes =
-    code_text-fits w fresh last place byte bytes
-part_text-fits parts.Definition w fresh last place byte bytes = code_text-fits w fresh last place byte bytes
-part_text-fits parts.Inner w fresh last place byte bytes = code_text-fits w fresh last place byte bytes
+part_text-fits _ w fresh last place byte bytes = code_text-fits w fresh last place byte bytes
 
 in_text-fits : (part : Part) (comments : List Opened) (fresh : Bool) (last place byte : ℕ) (bytes : List ℕ)
     → Fits place (suc (length bytes)) (in_text_apart part comments fresh last place byte bytes)
-in_text-fits part [] fresh last place byte bytes = part_text-fits part (record { part = part; comments = [] }) fresh
-    last place byte bytes
-in_text-fits part (c ∷ comments) fresh last place byte bytes =
-    either place (suc (length bytes)) c.inner _ _
-    (λ h. code_text-fits (record { part = part; comments = c ∷ comments }) fresh last place byte bytes)
-    (λ h. comment_text-fits part c comments last place byte bytes)
+in_text-fits part comments fresh last place byte bytes =
+    grind (arith, part_text-fits, either, code_text-fits, comment_text-fits)
 
 pub found-fits : (w : Where) (fresh : Bool) (last place byte : ℕ) (bytes : List ℕ)
     → Fits place (suc (length bytes)) (found_apart w fresh last place byte bytes)

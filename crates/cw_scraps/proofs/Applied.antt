@@ -10,13 +10,13 @@ use Rattle.cw_base.specs.declared.category.Cat.TheVariants.{RawInt}
 use Rattle.cw_base.specs.declared.flags.Flags.{Flags}
 use Rattle.cw_names.specs.declared.NameId.{NameId}
 use Rattle.cw_names.specs.Names.{Entry, with_category}
-use Rattle.cw_trees.specs.Tree.{Search, Found, Stopped, Nothing}
+use Rattle.cw_trees.specs.Tree.{Search, Found}
 use Rattle.cw_trees.specs.Joining.{Scrap}
 use Rattle.cw_table.specs.declared.types.Row.{Row}
 use Rattle.cw_table.specs.Fitting.{row_fits}
 use Rattle.cw_table.specs.Normal.{is_fine}
-use Rattle.cw_table.specs.Rewriting.{cats_of, new_scrap, search_in, reserved_at, named_right, named_scrap, rewrite_from}
-use Rattle.cw_table.specs.Rewriting.{found_names, with_type, rewrite}
+use Rattle.cw_table.specs.Rewriting.{cats_of, new_scrap, search_in, reserved_at, named_right, rewrite_from, found_names}
+use Rattle.cw_table.specs.Rewriting.{with_type, rewrite}
 use Rattle.cw_table.proofs.Falling.{falls, Falls}
 use Rattle.cw_table.proofs.ScrapFacts.{at-length}
 use Rattle.cw_tokens.specs.declared.token.Token.{Token}
@@ -28,9 +28,9 @@ use Rattle.cw_scraps.specs.declared.line.LineEntry.{LineEntry}
 use Rattle.cw_scraps.specs.Lines.{scraps_of, roots_of, AreRoots, IsNamedBelow, IsSoundLine}
 use Rattle.cw_scraps.specs.Inserting.{entry_cats}
 use Rattle.cw_scraps.specs.Changing.{Changes, Keeps}
-use Rattle.cw_scraps.specs.Replacing.{replaced_from, Replaces}
+use Rattle.cw_scraps.specs.Replacing.{Replaces}
 use Rattle.cw_scraps.specs.Turning.{named_by}
-use Rattle.cw_scraps.specs.Marking.{MarkList, marked_names}
+use Rattle.cw_scraps.specs.Marking.{MarkList}
 use Rattle.cw_table.specs.Productions.{productions}
 use Rattle.cw_table.specs.Rows.{no_row, row_numbered, row_of}
 use Rattle.cw_scraps.specs.Applying.{categories, looked_at, state_of, retyped, retyped_by}
@@ -44,11 +44,7 @@ use Rattle.cw_scraps.proofs.Reservings.{length-scraps}
 -- where a name is marked, the row names a scrap in which it is looked for
 pub marked-named : (named : Option ℕ) (scraps : List Scrap) (name : Option NameId) (id : NameId) (spare : ℕ)
     → ((k : ℕ) → named ≡ Some k → 0 < spare) → name ≡ found_name (search_in named scraps) → name ≡ Some id → 0 < spare
-marked-named None scraps name id spare free is e = absurd (none (sym is ∙ e))
-  where
-    none : ◌≡◌ {A = Option NameId} None (Some id) → ⊥
-    none k = cc
-marked-named (Some k) scraps name id spare free is e = free k refl
+marked-named named scraps name id spare free is e = grind arith
 
 -- no name turns no scrap
 map-none : (xs : List Scrap) → map (named_by None) xs ≡ xs
@@ -57,24 +53,16 @@ map-none (x ∷ xs) = ap (λ ys. x ∷ ys) (map-none xs)
 
 pub unturned : (name : Option NameId) (xs : List Scrap) (start : ℕ) → name ≡ None
     → xs ≡ take start xs ++ map (named_by name) (drop start xs)
-unturned name xs start e = sym (ap (λ n. take start xs ++ map (named_by n) (drop start xs)) e
-    ∙ (ap (λ ys. take start xs ++ ys) (map-none (drop start xs)) ∙ take-append-drop start xs))
+unturned name xs start e = grind (arith, map-none, take-append-drop)
 
 right-is : (s : Search) (xs : List Scrap) → map (named_by (found_name s)) xs ≡ named_right s xs
-right-is (Found name) xs = same xs
-  where
-    same : (ys : List Scrap) → map (named_by (Some (record { index = name }))) ys ≡ map (named_scrap name) ys
-    same [] = refl
-    same (y ∷ ys) = ap (λ zs. named_scrap name y ∷ zs) (same ys)
-right-is Stopped xs = map-none xs
-right-is Nothing xs = map-none xs
+right-is s xs = grind (arith, map-none)
 
 -- the row fits the entries as it fits their scraps
 pub fits-line : (row : Row) (lists : List (List Token)) (line : List LineEntry) (place : ℕ)
     → row_fits row (drop place (cats_of (scraps_of lists line))) ≡ true → row_fits row (entry_cats (drop place line))
     ≡ true
-fits-line row lists line place h = ap (row_fits row) (sym (ap (drop place) (cats-same lists line)
-    ∙ drop-map (λ entry. entry.cat) place line)) ∙ h
+fits-line row lists line place h = grind (arith, cats-same, drop-map)
 
 pub keeps-changed : (old new : List (List Token)) (rs : List ℕ) → IsTied old → Changes old new rs → Keeps old new rs rs
 keeps-changed old new rs tied ch = record {
@@ -96,11 +84,7 @@ keeps-trans a b d rs ss ts x y = record {
 pub right-inside : (flags : Flags) (row : Row) (place : ℕ) (lists : List (List Token)) (line : List LineEntry)
     (new : List (List Token)) (after : List LineEntry) → FitsAt flags row (drop place line)
     → Replaces flags row place lists line new after → place + row.offset + 1 ≤ length after
-right-inside flags row place lists line new after f r =
-    let some : 1 ≤ row.replaced = f.some in
-    let inside : row.offset + row.replaced ≤ length (drop place line) = f.inside in
-    let count : length after + row.replaced ≡ length line + 1 = r.count in
-    omega (arith, length-drop place line)
+right-inside flags row place lists line new after f r = grind (arith, length-drop)
 
 pub record Applies (flags : Flags) (row : Row) (place : ℕ) (old : List (List Token)) (line : List LineEntry)
     (new : List (List Token)) (after : List LineEntry) : Type 0 where
@@ -129,53 +113,23 @@ module _ (flags : Flags) (row : Row) (place : ℕ) (l0 l1 l2 l3 : List (List Tok
   rest = drop (row.offset + row.replaced) (reserved_at row.action.reserve (drop place (scraps_of l0 line0)))
 
   front-length : length front ≡ place
-  front-length = length-take-le place (scraps_of l0 line0) (let h : place < length line0 = place-inside flags row line0
-      place f in omega (arith, length-scraps l0 line0))
+  front-length = grind (arith, length-take-le, place-inside, length-scraps)
 
   named-length : length named ≡ length (drop place line0)
-  named-length = at-length row.action.reserve (drop place (scraps_of l0 line0))
-      ∙ omega (arith, length-drop place (scraps_of l0 line0), length-drop place line0, length-scraps l0 line0)
+  named-length = grind (arith, at-length, length-drop, length-scraps)
 
   -- up to the new scrap
   abbrev head : List Scrap
   head = front ++ (take row.offset named ++ new_scrap flags row named ∷ [])
 
   replaced-is : scraps_of l2 line1 ≡ head ++ rest
-  replaced-is =
-      r.scraps
-      ∙ (ap (λ xs. take place xs ++ replaced_from flags row (drop place xs)) e1
-      ∙ (ap (λ xs. xs ++ replaced_from flags row (drop place (front ++ named))) (take_at front named place front-length)
-      ∙ (ap (λ xs. front ++ replaced_from flags row xs) (drop_at front named place front-length)
-      ∙ (ap (λ xs. front ++ xs) (sym (append_assoc (take row.offset named) (new_scrap flags row named ∷ []) rest))
-      ∙ sym (append_assoc front (take row.offset named ++ new_scrap flags row named ∷ []) rest)))))
+  replaced-is = grind (arith, take_at, front-length, drop_at, append_assoc)
 
   head-length : length head ≡ place + row.offset + 1
-  head-length =
-      let inside : row.offset + row.replaced ≤ length (drop place line0) = f.inside in
-      omega (
-        arith,
-        front-length,
-        named-length,
-        length-append front (take row.offset named ++ new_scrap flags row named
-            ∷ []),
-        length-append (take row.offset named) (new_scrap flags row named ∷ []),
-        length-take row.offset named,
-      )
+  head-length = grind (arith, front-length, named-length, length-append, length-take)
 
   scraps-are : scraps_of l3 line2 ≡ front ++ rewrite_from flags row (drop place (scraps_of l0 line0))
-  scraps-are =
-      e3
-      ∙ (ap (λ xs. take (place + row.offset + 1) xs ++ map (named_by reserved) (drop (place + row.offset + 1) xs))
-      replaced-is
-      ∙ (ap (λ xs. xs ++ map (named_by reserved) (drop (place + row.offset + 1) (head ++ rest)))
-      (take_at head rest (place + row.offset + 1) head-length)
-      ∙ (ap (λ xs. head ++ map (named_by reserved) xs) (drop_at head rest (place + row.offset + 1) head-length)
-      ∙ (ap (λ n. head ++ map (named_by n) rest) name
-      ∙ (ap (λ xs. head ++ xs) (right-is (search_in row.action.reserve (drop place (scraps_of l0 line0))) rest)
-      ∙ (append_assoc front (take row.offset named ++ new_scrap flags row named ∷ [])
-      (named_right (search_in row.action.reserve (drop place (scraps_of l0 line0))) rest)
-      ∙ ap (λ xs. front ++ xs) (append_assoc (take row.offset named) (new_scrap flags row named ∷ [])
-      (named_right (search_in row.action.reserve (drop place (scraps_of l0 line0))) rest))))))))
+  scraps-are = grind (arith, replaced-is, take_at, head-length, drop_at, right-is, append_assoc)
 
   pub applies : Applies flags row place l0 line0 l3 line2
   applies = record {
@@ -197,10 +151,7 @@ pub ticked-is : (given reserve : Option ℕ) (line1 line2 : List LineEntry) (sta
     → given ≡ reserve → start ≡ start' → roots_of line2 ≡ roots_of line1
     → steps' ≡ steps + looked_at given (length line1 - start)
     → steps' ≡ steps + looked_at reserve (length line2 - start')
-ticked-is given reserve line1 line2 start start' steps steps' n s same e =
-    let long : length line1 ≡ length line2 = sym (length-roots line1) ∙ (ap length (sym same) ∙ length-roots line2) in
-    e ∙ (ap (λ r. steps + looked_at r (length line1 - start)) n ∙ (ap (λ m. steps + looked_at reserve (m - start)) long
-    ∙ ap (λ m. steps + looked_at reserve (length line2 - m)) s))
+ticked-is given reserve line1 line2 start start' steps steps' n s same e = grind (arith, length-roots)
 
 -- the row of a number is the same in a table as among the productions
 pub same-row : (rows : List Row) (n : ℕ) (row : Row) → row_numbered rows n ≡ Some row → row_numbered productions n
@@ -209,9 +160,7 @@ same-row rows n row a b = ap (λ (o : Option Row). unwrap_or o no_row) (a ∙ sy
 
 -- names and marks
 some-found : (s : Search) (id : NameId) → found_name s ≡ Some id → s ≡ Found id.index
-some-found (Found name) id e = ap (λ (o : Option NameId). Found (elim o [ Some i ↦ i.index | None ↦ name ])) e
-some-found Stopped id e = absurd (let k : ◌≡◌ {A = Option NameId} None (Some id) = e in cc)
-some-found Nothing id e = absurd (let k : ◌≡◌ {A = Option NameId} None (Some id) = e in cc)
+some-found s id e = grind arith
 
 pub reserved-there : (names : List Entry) (reserve : Option ℕ) (place : ℕ) (scraps : List Scrap)
     (reserved : Option NameId) (id : NameId) → All (λ scrap. IsNamedBelow (length names) scrap.tree) scraps → reserved
@@ -222,9 +171,7 @@ reserved-there names reserve place scraps reserved id all is e =
     (some-found (search_in reserve (drop place scraps)) id (sym is ∙ e))
 
 pub retyped-is : (s : Search) (names : List Entry) → retyped_by (found_name s) names ≡ retyped s names
-retyped-is (Found name) names = refl
-retyped-is Stopped names = refl
-retyped-is Nothing names = refl
+retyped-is s names = grind arith
 
 cats-retyped : (n : ℕ) (names : List Entry) → categories (with_category n RawInt names)
     ≡ set (categories names) n RawInt
@@ -233,9 +180,7 @@ cats-retyped zero (e ∷ names) = refl
 cats-retyped (suc n) (e ∷ names) = ap (λ cs. e.category ∷ cs) (cats-retyped n names)
 
 categories-are : (s : Search) (names : List Entry) → categories (retyped s names) ≡ with_type s (categories names)
-categories-are (Found name) names = cats-retyped name names
-categories-are Stopped names = refl
-categories-are Nothing names = refl
+categories-are s names = grind (arith, cats-retyped)
 
 length-with : (n : ℕ) (names : List Entry) → length (with_category n RawInt names) ≡ length names
 length-with n [] = refl
@@ -243,14 +188,10 @@ length-with zero (e ∷ names) = refl
 length-with (suc n) (e ∷ names) = ap suc (length-with n names)
 
 pub length-retyped : (s : Search) (names : List Entry) → length (retyped s names) ≡ length names
-length-retyped (Found name) names = length-with name names
-length-retyped Stopped names = refl
-length-retyped Nothing names = refl
+length-retyped s names = grind (arith, length-with)
 
 marks-found : (s : Search) → map (λ (id : NameId). id.index) (option_to_list (found_name s)) ≡ found_names s
-marks-found (Found name) = refl
-marks-found Stopped = refl
-marks-found Nothing = refl
+marks-found s = grind arith
 
 -- the state as a whole
 pub state-is : (flags : Flags) (row : Row) (place : ℕ) (old : List (List Token)) (line : List LineEntry)
@@ -261,25 +202,7 @@ pub state-is : (flags : Flags) (row : Row) (place : ℕ) (old : List (List Token
     → names' ≡ retyped (search_in row.action.reserve (drop place (scraps_of old line))) names
     → state_of new after marks' names' ≡ rewrite flags row place (state_of old line marks names)
 state-is flags row place old line marks names new after marks' names' marked a m n e =
-    ap (λ ss. record { scraps = ss; marks = marked_names marks'; cats = categories names' }) a.scraps
-    ∙ (ap (λ ms. record {
-      scraps = take place (scraps_of old line)
-          ++ rewrite_from flags row (drop place (scraps_of old line));
-      marks = ms;
-      cats = categories names';
-    })
-    (ap (map (λ (id : NameId). id.index)) m
-    ∙ (map-append (λ (id : NameId). id.index) marks.names (option_to_list marked)
-    ∙ ap (λ xs. marked_names marks ++ xs) (ap (λ o. map (λ (id : NameId). id.index) (option_to_list o)) n
-    ∙ marks-found (search_in row.action.underline (drop place (scraps_of old line))))))
-    ∙ ap (λ cs. record {
-      scraps = take place (scraps_of old line)
-          ++ rewrite_from flags row (drop place (scraps_of old line));
-      marks = marked_names marks
-          ++ found_names (search_in row.action.underline (drop place (scraps_of old line)));
-      cats = cs;
-    })
-    (ap categories e ∙ categories-are (search_in row.action.reserve (drop place (scraps_of old line))) names))
+    grind (arith, map-append, marks-found, categories-are)
 
 pub sound-after : (flags : Flags) (row : Row) (place : ℕ) (old new : StoredLists) (line after : List LineEntry)
     (names names' : List Entry) → FitsAt flags row (drop place line)

@@ -1,9 +1,9 @@
 -- One piece more goes into the list that is being built.
-use Rattle.std.proofs.Common.{◌≡◌, ℕ, zero, suc, ◌+◌, ◌-◌, ◌*◌, ◌<◌, ◌≤◌, List, [], ◌∷◌, ◌++◌, length, map, drop}
-use Rattle.std.proofs.Common.{get_or, Option, Some, None, inl, inr, refl, sym, ap, ◌∙◌, subst, option_map, arith}
+use Rattle.std.proofs.Common.{◌≡◌, ℕ, suc, ◌+◌, ◌-◌, ◌*◌, ◌<◌, ◌≤◌, List, [], ◌∷◌, ◌++◌, length, map, drop, get_or}
+use Rattle.std.proofs.Common.{Option, Some, None, refl, sym, ap, ◌∙◌, subst, option_map, arith}
 use Rattle.std.proofs.lemmas.List.{append_assoc, append-nil, length-append, length_push}
 use Rattle.cw_base.specs.declared.mode.MathMode.{MathMode}
-use Rattle.cw_base.specs.declared.mode.MathMode.TheVariants.{Text, Math, Maybe}
+use Rattle.cw_base.specs.declared.mode.MathMode.TheVariants.{Math, Maybe}
 use Rattle.cw_trees.specs.Joining.{after, first_mode}
 use Rattle.cw_table.specs.declared.types.Piece.{Piece}
 use Rattle.cw_table.specs.declared.types.Piece.TheVariants as piece
@@ -22,9 +22,8 @@ use Rattle.cw_scraps.specs.Inserting.{right_after, IsRun}
 use Rattle.cw_scraps.specs.Building.{Joins}
 
 pub root-entry : (es : List LineEntry) (k : ℕ) → get_or (roots_of es) k 0 ≡ (get_or es k no_entry).list.index
-root-entry [] k = refl
-root-entry (e ∷ es) zero = refl
 root-entry (e ∷ es) (suc k) = root-entry es k
+root-entry _ _ = refl
 
 pub length-roots : (es : List LineEntry) → length (roots_of es) ≡ length es
 length-roots [] = refl
@@ -32,78 +31,31 @@ length-roots (e ∷ es) = ap suc (length-roots es)
 
 -- a list that is begun refers to nothing
 pub unreferred-begun : (lists : List (List Token)) (x : ℕ) → IsUnreferred lists x → IsUnreferred (lists ++ [] ∷ []) x
-unreferred-begun lists x free l p e = elim (refers-more lists [] l p x e) [
-  | inl k ↦ free l p k
-  | inr k ↦ absurd (empty k.1)
-]
-  where
-    empty : ◌≡◌ {A = Option ℕ} None (Some x) → ⊥
-    empty k = cc
+unreferred-begun lists x free l p e = grind (arith, refers-more)
 
 -- a token that refers to another list, or to none
 pub unreferred-pushed : (lists : List (List Token)) (ts : List Token) (t : Token) (x : ℕ)
     → (ref_of (shape t) ≡ Some x → ⊥) → IsUnreferred (lists ++ ts ∷ []) x
     → IsUnreferred (lists ++ (ts ++ t ∷ []) ∷ []) x
-unreferred-pushed lists ts t x other free l p e = elim (pushed-ref lists ts t l p x e) [
-  | inl k ↦ free l p k
-  | inr k ↦ other k.2
-]
+unreferred-pushed lists ts t x other free l p e = grind (arith, pushed-ref)
 
 pub unreferred-toggled : (lists : List (List Token)) (ts : List Token) (mode left : MathMode) (x : ℕ)
     → IsUnreferred (lists ++ ts ∷ []) x → IsUnreferred (lists ++ (ts ++ toggle mode left) ∷ []) x
-unreferred-toggled lists ts Math Text x free = unreferred-pushed lists ts _ x (λ e. absurd (none e)) free
-  where
-    none : ◌≡◌ {A = Option ℕ} None (Some x) → ⊥
-    none k = cc
-unreferred-toggled lists ts Text Math x free = unreferred-pushed lists ts _ x (λ e. absurd (none e)) free
-  where
-    none : ◌≡◌ {A = Option ℕ} None (Some x) → ⊥
-    none k = cc
-unreferred-toggled lists ts Math Math x free = rw (append-nil ts) free
-unreferred-toggled lists ts Math Maybe x free = rw (append-nil ts) free
-unreferred-toggled lists ts Text Text x free = rw (append-nil ts) free
-unreferred-toggled lists ts Text Maybe x free = rw (append-nil ts) free
-unreferred-toggled lists ts Maybe left x free = rw (append-nil ts) free
+unreferred-toggled lists ts mode left x free = grind (arith, unreferred-pushed, append-nil)
 
 pub toggle-short : (mode left : MathMode) → length (toggle mode left) ≤ 1
-toggle-short Math Text = omega arith
-toggle-short Text Math = omega arith
-toggle-short Math Math = omega arith
-toggle-short Math Maybe = omega arith
-toggle-short Text Text = omega arith
-toggle-short Text Maybe = omega arith
-toggle-short Maybe left = omega arith
+toggle-short mode left = grind arith
 
 -- Where nothing has a mode yet, none is known so far.
 begun-next : (left mode l r : MathMode) → (left ≡ Maybe → mode ≡ Maybe) → first_mode left l ≡ Maybe → after mode l r
     ≡ Maybe
-begun-next Maybe mode Maybe r begun e = begun refl
-begun-next Maybe mode Text r begun e = absurd (apart e)
-  where
-    apart : ◌≡◌ {A = MathMode} Text Maybe → ⊥
-    apart k = cc
-begun-next Maybe mode Math r begun e = absurd (apart e)
-  where
-    apart : ◌≡◌ {A = MathMode} Math Maybe → ⊥
-    apart k = cc
-begun-next Text mode l r begun e = absurd (apart e)
-  where
-    apart : ◌≡◌ {A = MathMode} Text Maybe → ⊥
-    apart k = cc
-begun-next Math mode l r begun e = absurd (apart e)
-  where
-    apart : ◌≡◌ {A = MathMode} Math Maybe → ⊥
-    apart k = cc
+begun-next left mode l r begun e = grind arith
 
 toggle-first : (mode left : MathMode) → mode ≡ Maybe → toggle mode left ≡ []
 toggle-first mode left e = ap (λ m. toggle m left) e
 
 math-token : (token : Token) (l r : MathMode) → (insert_in Math token l r).token ≡ token
-math-token token Maybe Maybe = refl
-math-token token Maybe Text = refl
-math-token token Maybe Math = refl
-math-token token Text r = refl
-math-token token Math r = refl
+math-token token l r = grind arith
 
 -- a piece is a scrap of the line or a sign
 pub data Kind (entries : List LineEntry) (p : Piece) : Type 0 where
@@ -128,17 +80,7 @@ pub record Goes (k first more : ℕ) (rest : List ℕ) : Type 0 where
   pub run : rest ≡ numbers_from (suc first) fewer
 
 pub goes : (k first more : ℕ) (rest : List ℕ) → k ∷ rest ≡ numbers_from first more → Goes k first more rest
-goes k first zero rest e = absurd (empty e)
-  where
-    empty : ◌≡◌ {A = List ℕ} (k ∷ rest) [] → ⊥
-    empty h = cc
-goes k first (suc m) rest e = record { fewer = m; more_is = refl; first_is = head e; run = tail e }
-  where
-    head : k ∷ rest ≡ first ∷ numbers_from (suc first) m → k ≡ first
-    head h = cc
-
-    tail : k ∷ rest ≡ first ∷ numbers_from (suc first) m → rest ≡ numbers_from (suc first) m
-    tail h = cc
+goes k first more rest e = grind arith
 
 pub joins-start : (lists : List (List Token)) (entries : List LineEntry) (pieces : List Piece) (spare : ℕ)
     (store : StoredLists) → store.lists ≡ lists → store.building ≡ Some [] → store.spare + 1 ≡ spare
@@ -196,44 +138,24 @@ module _ (lists : List (List Token)) (entries : List LineEntry) (pieces : List P
   -- what doesn't depend on the kind of the piece
   tokens-next : (with_toggle ++ ins.token ∷ []) ++ tokens_of (after mode ins.left ins.right)
       (map (inserting entries) (drop (i + 1) pieces)) ≡ tokens_of Maybe (map (inserting entries) pieces)
-  tokens-next =
-      append_assoc with_toggle (ins.token ∷ []) (tokens_of (after mode ins.left ins.right)
-      (map (inserting entries) (drop (i + 1) pieces)))
-      ∙ (append_assoc j.done (toggle mode ins.left) (ins.token ∷ tokens_of (after mode ins.left ins.right)
-      (map (inserting entries) (drop (i + 1) pieces)))
-      ∙ (ap (λ ps. j.done ++ tokens_of mode (map (inserting entries) ps)) (sym at) ∙ j.tokens))
+  tokens-next = grind (arith, append_assoc)
 
   first-first : (a b d : MathMode) → first_mode (first_mode a b) d ≡ first_mode a (first_mode b d)
-  first-first Maybe b d = refl
-  first-first Text b d = refl
-  first-first Math b d = refl
+  first-first a b d = grind arith
 
   left-next : first_mode (first_mode left ins.left) (left_of (map (inserting entries) (drop (i + 1) pieces)))
       ≡ left_of (map (inserting entries) pieces)
-  left-next = first-first left ins.left (left_of (map (inserting entries) (drop (i + 1) pieces)))
-      ∙ (ap (λ ps. first_mode left (left_of (map (inserting entries) ps))) (sym at) ∙ j.left_is)
+  left-next = grind (arith, first-first)
 
   right-next : right_after (after mode ins.left ins.right) (map (inserting entries) (drop (i + 1) pieces))
       ≡ right_after Maybe (map (inserting entries) pieces)
   right-next = ap (λ ps. right_after mode (map (inserting entries) ps)) (sym at) ∙ j.right_is
 
   few-next : (n : ℕ) → i ≡ n → length (with_toggle ++ ins.token ∷ []) ≤ 2 * (i + 1) - 1
-  few-next zero e =
-      let none : toggle mode ins.left ≡ [] = toggle-first mode ins.left (j.start e) in
-      let short : length j.done ≤ 2 * i - 1 = j.few in
-      omega (arith, length_push with_toggle ins.token, length-append j.done (toggle mode ins.left), ap length none)
-  few-next (suc n) e =
-      let short : length j.done ≤ 2 * i - 1 = j.few in
-      omega (
-        arith,
-        length_push with_toggle ins.token,
-        length-append j.done (toggle mode ins.left),
-        toggle-short mode ins.left,
-      )
+  few-next n e = grind (arith, toggle-first, length_push, length-append, toggle-short)
 
   spent-next : pushed.spare + length (with_toggle ++ ins.token ∷ []) + 1 ≡ spare
-  spent-next = let s : store.spare + length j.done + 1 ≡ spare =
-      j.spent in omega (arith, length_push with_toggle ins.token, length-append j.done (toggle mode ins.left))
+  spent-next = grind (arith, length_push, length-append)
 
   next-with : (run : IsRun (drop (i + 1) pieces) (length entries)) → ((k : ℕ) → run.first ≤ k → k < run.first + run.more
       → IsUnreferred (lists ++ (with_toggle ++ ins.token ∷ []) ∷ []) (get_or (roots_of entries) k 0))
@@ -255,8 +177,7 @@ module _ (lists : List (List Token)) (entries : List LineEntry) (pieces : List P
 
   still-free : (k : ℕ) → j.rest.first ≤ k → k < j.rest.first + j.rest.more
       → IsUnreferred (lists ++ with_toggle ∷ []) (get_or (roots_of entries) k 0)
-  still-free k low high = unreferred-toggled lists j.done mode ins.left (get_or (roots_of entries) k 0)
-      (j.fresh k low high)
+  still-free k low high = grind (arith, unreferred-toggled)
 
   pub joins-more : JoinsMore lists entries pieces spare i left mode p place count toggled pushed
   joins-more = go (kind entries p)
@@ -342,18 +263,4 @@ pub joins-within : (lists : List (List Token)) (entries : List LineEntry) (piece
     → drop i pieces ≡ p ∷ drop (i + 1) pieces → AreRoots lists (roots_of entries) → (place count : ℕ)
     → count ≡ place + length entries → 2 ≤ store.spare → IsPieceWithin place count p
 joins-within lists entries pieces spare i left mode store j p at roots place count long room =
-    let short : length (toggle mode (inserting entries p).left) ≤ 1 = toggle-short mode (inserting entries p).left in
-    let toggled : StoredLists = record {
-      lists = store.lists;
-      building = option_map (λ tokens. tokens ++ toggle mode (inserting entries p).left) store.building;
-      spare =
-          store.spare - length (toggle mode (inserting entries p).left);
-    } in
-    let pushed : StoredLists = record {
-      lists = toggled.lists;
-      building = option_map (λ tokens. tokens ++ (inserting entries p).token ∷ []) toggled.building;
-      spare =
-          toggled.spare - 1;
-    } in
-    (joins-more lists entries pieces spare i left mode store j p at roots place count long toggled pushed refl refl
-    (omega arith) refl refl (omega arith)).within
+    grind (arith, toggle-short, option_map, joins-more)

@@ -1,6 +1,5 @@
 -- Steps that change no reference.
-use Rattle.std.proofs.Common.{◌≡◌, ℕ, zero, suc, ◌<◌, ◌≤◌, List, [], ◌∷◌, length, get_or, None, inl, inr, sym, ap}
-use Rattle.std.proofs.Common.{◌∙◌, subst, arith}
+use Rattle.std.proofs.Common.{◌≡◌, ℕ, ◌<◌, List, [], ◌∷◌, length, get_or, None, sym, ap, ◌∙◌, subst, arith}
 use Rattle.cw_tokens.specs.declared.token.Token.{Token}
 use Rattle.cw_tokens.specs.Shapes.{unfolded}
 use Rattle.cw_tokens.specs.References.{refers, IsTied, Reach, here, next}
@@ -22,34 +21,18 @@ pub reach-back : (old new : List (List Token)) → ((l p : ℕ) → refers new l
 reach-back old new same a b r = reach-same new old (λ l p. sym (same l p)) a b r
 
 pub tied-same : (old new : List (List Token)) → ((l p : ℕ) → refers new l p ≡ refers old l p) → IsTied old → IsTied new
-tied-same old new same t = record {
-  earlier = λ l p x e. t.earlier l p x (sym (same l p) ∙ e);
-  once = λ l p m q x e f. t.once l p m q x (sym (same l p) ∙ e) (sym (same m q) ∙ f);
-}
+tied-same old new same t = grind arith
 
 pub roots-stay : (old new : List (List Token)) (rs ts : List ℕ) → Changes old new ts → AreRoots old rs → AreRoots new rs
-roots-stay old new rs ts ch r = record {
-  there = λ i h. let a : get_or rs i 0 < length old = r.there i h in let e : length new ≡ length old = ch.same_length in
-      omega arith;
-  free = λ i h l p e. r.free i h l p (sym (ch.same_refs l p) ∙ e);
-  apart = r.apart;
-}
+roots-stay old new rs ts ch r = grind arith
 
 pub outside-stay : (old new : List (List Token)) (rs ts : List ℕ) (k : ℕ) → Changes old new ts → IsOutside old rs k
     → IsOutside new rs k
-outside-stay old new rs ts k ch o = record {
-  there = let a : k < length old = o.there in let e : length new ≡ length old = ch.same_length in omega arith;
-  above = λ i h r. o.above i h (reach-back old new ch.same_refs k (get_or rs i 0) r);
-  below = λ i h r. o.below i h (reach-back old new ch.same_refs (get_or rs i 0) k r);
-}
+outside-stay old new rs ts k ch o = grind (arith, reach-back)
 
 pub outside-reach : (ls : List (List Token)) (rs : List ℕ) (k j : ℕ) → IsTied ls → IsOutside ls rs k → Reach ls k j
     → IsOutside ls rs j
-outside-reach ls rs k j tied o r = record {
-  there = let a : k < length ls = o.there in let b : j ≤ k = reach-le ls k j tied r in omega arith;
-  above = λ i h s. o.above i h (reach-trans ls k j (get_or rs i 0) r s);
-  below = λ i h s. elim (comparable ls tied k (get_or rs i 0) j r s) [ inl w ↦ o.above i h w | inr w ↦ o.below i h w ];
-}
+outside-reach ls rs k j tied o r = grind (arith, reach-le, reach-trans, comparable)
 
 -- a tree outside stays
 pub trees-outside : (old new : List (List Token)) (rs : List ℕ) (k : ℕ) → IsTied old → Changes old new rs
@@ -67,56 +50,15 @@ changes-trans a b d rs x y = record {
 
 pub changes-more : (old new : List (List Token)) (rs : List ℕ) (i : ℕ) → i < length rs
     → Changes old new (get_or rs i 0 ∷ []) → Changes old new rs
-changes-more old new rs i h ch = record {
-  others = λ k o. ch.others k (record {
-    there = o.there;
-    above = λ j g r. o.above i h (one j g r);
-    below = λ j g r. o.below i h (two j g r);
-  });
-  same_length = ch.same_length;
-  same_refs = ch.same_refs;
-  same_count = ch.same_count;
-}
-  where
-    one : {k : ℕ} (j : ℕ) → j < length (get_or rs i 0 ∷ []) → Reach old k (get_or (get_or rs i 0 ∷ []) j 0)
-        → Reach old k (get_or rs i 0)
-    one zero g r = r
-    one (suc j) g r = absurd (omega arith)
-
-    two : {k : ℕ} (j : ℕ) → j < length (get_or rs i 0 ∷ []) → Reach old (get_or (get_or rs i 0 ∷ []) j 0) k
-        → Reach old (get_or rs i 0) k
-    two zero g r = r
-    two (suc j) g r = absurd (omega arith)
+changes-more old new rs i h ch = grind arith
 
 -- one root stands in the tree of no other
 pub root-outside : (ls : List (List Token)) (rs : List ℕ) (i m : ℕ) → IsTied ls → AreRoots ls rs → i < length rs
     → m < length rs → (m ≡ i → ⊥) → IsOutside ls (get_or rs i 0 ∷ []) (get_or rs m 0)
-root-outside ls rs i m tied roots hi hm apart = record {
-  there = roots.there m hm;
-  above = λ j g r. apart (roots.apart m i hm hi (unreferred-reach ls tied (get_or rs m 0) (get_or rs i 0)
-      (roots.free i hi) (one j g r)));
-  below = λ j g r. apart
-      (roots.apart m i hm hi (sym (unreferred-reach ls tied (get_or rs i 0) (get_or rs m 0) (roots.free m hm)
-      (two j g r))));
-}
-  where
-    one : (j : ℕ) → j < length (get_or rs i 0 ∷ []) → Reach ls (get_or rs m 0) (get_or (get_or rs i 0 ∷ []) j 0)
-        → Reach ls (get_or rs m 0) (get_or rs i 0)
-    one zero g r = r
-    one (suc j) g r = absurd (omega arith)
-
-    two : (j : ℕ) → j < length (get_or rs i 0 ∷ []) → Reach ls (get_or (get_or rs i 0 ∷ []) j 0) (get_or rs m 0)
-        → Reach ls (get_or rs i 0) (get_or rs m 0)
-    two zero g r = r
-    two (suc j) g r = absurd (omega arith)
+root-outside ls rs i m tied roots hi hm apart = grind (arith, unreferred-reach)
 
 pub reserves-changes : (old new : List (List Token)) (root : ℕ) → Reserves old new root → Changes old new (root ∷ [])
-reserves-changes old new root r = record {
-  others = λ k o. r.other_lists k (o.above 0 (omega arith)) (o.below 0 (omega arith));
-  same_length = r.same_length;
-  same_refs = r.same_refs;
-  same_count = r.same_count;
-}
+reserves-changes old new root r = grind arith
 
 -- what is seen of an entry
 pub seen-same : (old new : List (List Token)) (e : LineEntry) → unfolded new e.list.index ≡ unfolded old e.list.index

@@ -22,11 +22,7 @@ use Rattle.cw_scraps.specs.Lines.{no_entry}
 
 window-four : (cats : List Cat) → window_of cats ≡ get_or cats 0 End ∷ get_or cats 1 End ∷ get_or cats 2 End
     ∷ get_or cats 3 End ∷ []
-window-four [] = refl
-window-four (a ∷ []) = refl
-window-four (a ∷ b ∷ []) = refl
-window-four (a ∷ b ∷ c ∷ []) = refl
-window-four (a ∷ b ∷ c ∷ d ∷ cats) = refl
+window-four cats = grind arith
 
 cat-line : (line : List LineEntry) (place i : ℕ) → (get_or line (place + i) no_entry).cat
     ≡ get_or (drop place (entry_cats line)) i End

@@ -41,10 +41,7 @@ there row cats k sound fits tested not_end = elim (cases_lt k (length cats)) [
 
 -- a row has at most twelve pieces
 pieces-few : (row : Row) → IsSound row → (b : Bool) → length (pieces_for b row) ≤ 12
-pieces-few row s true = let few : row.action.other.count ≤ 12 = s.other_short in
-    omega (arith, length-take row.action.other.count row.action.other.pieces)
-pieces-few row s false = let few : row.action.usual.count ≤ 12 = s.usual_short in
-    omega (arith, length-take row.action.usual.count row.action.usual.pieces)
+pieces-few row s b = grind (arith, length-take)
 
 pub record FitsAt (flags : Flags) (row : Row) (entries : List LineEntry) : Type 0 where
   pub is_sound : IsSound row
@@ -87,18 +84,11 @@ behind line place k h = omega (arith, length-drop place line)
 
 pub kept-there : (flags : Flags) (row : Row) (entries : List LineEntry) (k : ℕ) → FitsAt flags row entries
     → alone row.replaced (pieces_at flags row entries) ≡ Some k → k < length entries
-kept-there flags row entries k f e =
-    let one : row.replaced ≡ 1 = (f.kept_at k e).0 in
-    let at : k ≡ row.offset = (f.kept_at k e).1 in
-    let inside : row.offset + row.replaced ≤ length entries = f.inside in
-    omega arith
+kept-there flags row entries k f e = grind arith
 
 pub place-inside : (flags : Flags) (row : Row) (line : List LineEntry) (place : ℕ) → FitsAt flags row (drop place line)
     → place < length line
-place-inside flags row line place f =
-    let some : 1 ≤ row.replaced = f.some in
-    let inside : row.offset + row.replaced ≤ length (drop place line) = f.inside in
-    omega (arith, length-drop place line)
+place-inside flags row line place f = grind (arith, length-drop)
 
 pub kept-is : (line : List LineEntry) (place k : ℕ) (cat cat' : Cat) (entry : LineEntry) → cat ≡ cat'
     → entry ≡ get_or line (place + k) no_entry
@@ -109,7 +99,4 @@ pub kept-is : (line : List LineEntry) (place k : ℕ) (cat cat' : Cat) (entry : 
       left = (get_or (drop place line) k no_entry).left;
       right = (get_or (drop place line) k no_entry).right;
     })
-kept-is line place k cat cat' entry e f =
-    ap (λ (x : Cat). record { cat = x; list = entry.list; left = entry.left; right = entry.right }) e
-    ∙ ap (λ (x : LineEntry). record { cat = cat'; list = x.list; left = x.left; right = x.right }) (f
-    ∙ sym (get_or-drop place line k no_entry))
+kept-is line place k cat cat' entry e f = grind (arith, get_or-drop)

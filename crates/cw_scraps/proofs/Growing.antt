@@ -1,6 +1,6 @@
 -- A new list takes the place of some roots, to which it refers.
-use Rattle.std.proofs.Common.{◌≡◌, ℕ, ◌+◌, ◌<◌, ◌≤◌, List, [], ◌∷◌, ◌++◌, length, map, take, drop, get_or, Some, ◌⊎◌}
-use Rattle.std.proofs.Common.{inl, inr, refl, sym, ap, ◌∙◌, subst, arith}
+use Rattle.std.proofs.Common.{◌≡◌, ℕ, ◌+◌, ◌<◌, ◌≤◌, List, [], ◌∷◌, ◌++◌, length, take, drop, get_or, Some, ◌⊎◌, inl}
+use Rattle.std.proofs.Common.{inr, refl, sym, ap, ◌∙◌, subst, arith}
 use Rattle.std.specs.List.{slice_get}
 use Rattle.std.proofs.lemmas.List.{length_push, map-append, take-map, drop-map, drop_more, take-append-drop}
 use Rattle.cw_tokens.specs.declared.token.Token.{Token}
@@ -116,28 +116,7 @@ module _ (old : List (List Token)) (ts : List Token) (rs : List ℕ) (at n : ℕ
   ]
 
   pub grown-outside : (k : ℕ) → IsOutside old rs k → IsOutside new (spliced rs at n (length old)) k
-  grown-outside k o = record {
-    there = let a : k < length old = o.there in omega (arith, size);
-    above = λ i h r. elim (splice rs at n (length old) i order fits h) [
-      | low a e ↦ o.above i (omega arith) (reach-old k (get_or rs i 0) o.there (subst (λ x. Reach new k x) e r))
-      | mid a e ↦
-          let s : Reach old k (length old) = reach-old k (length old) o.there (subst (λ x. Reach new k x) e r) in
-          let u : length old ≤ k = reach-le old k (length old) tied s in
-          let t : k < length old = o.there in
-          omega arith
-      | high j a b e s ↦ o.above j b (reach-old k (get_or rs j 0) o.there (subst (λ x. Reach new k x) e r))
-    ];
-    below = λ i h r. elim (splice rs at n (length old) i order fits h) [
-      | low a e ↦ o.below i (omega arith) (reach-old (get_or rs i 0) k (root-below i (omega arith))
-          (subst (λ x. Reach new x k) e r))
-      | mid a e ↦ elim (reach-first k (subst (λ x. Reach new x k) e r)) [
-        | inl d ↦ (let t : k < length old = o.there in omega arith)
-        | inr s ↦ o.below s.0 (let u : s.0 < n = s.2 in omega arith) (reach-old (get_or rs s.0 0) k (root-below s.0 s.2)
-            s.3)
-      ]
-      | high j a b e s ↦ o.below j b (reach-old (get_or rs j 0) k (roots.there j b) (subst (λ x. Reach new x k) e r))
-    ];
-  }
+  grown-outside k o = grind (arith, size, splice, low, reach-old, mid, reach-le, high, root-below, reach-first)
 
   -- the new list refers to nothing outside
   pub grown-free : (k : ℕ) → IsOutside old rs k → IsUnreferred old k → IsUnreferred new k
@@ -150,13 +129,8 @@ module _ (old : List (List Token)) (ts : List Token) (rs : List ℕ) (at n : ℕ
 -- the lists of a line in which entries are replaced
 pub roots-replaced : (line : List LineEntry) (at n : ℕ) (made : LineEntry)
     → roots_of (take at line ++ made ∷ drop n line) ≡ spliced (roots_of line) at n made.list.index
-roots-replaced line at n made =
-    map-append (λ entry. entry.list.index) (take at line) (made ∷ drop n line)
-    ∙ (ap (λ xs. xs ++ made.list.index ∷ map (λ entry. entry.list.index) (drop n line))
-    (sym (take-map (λ entry. entry.list.index) at line))
-    ∙ ap (λ xs. take at (roots_of line) ++ made.list.index ∷ xs) (sym (drop-map (λ entry. entry.list.index) n line)))
+roots-replaced line at n made = grind (arith, map-append, take-map, drop-map)
 
 -- where a root takes its own place nothing changes
 pub same-spliced : (rs : List ℕ) (at x : ℕ) → at < length rs → x ≡ get_or rs at 0 → spliced rs at (at + 1) x ≡ rs
-same-spliced rs at x h e = ap (λ y. take at rs ++ y ∷ drop (at + 1) rs) e
-    ∙ (ap (λ ys. take at rs ++ ys) (sym (drop_more rs at 0 h)) ∙ take-append-drop at rs)
+same-spliced rs at x h e = grind (arith, drop_more, take-append-drop)

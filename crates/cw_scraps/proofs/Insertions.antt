@@ -1,24 +1,23 @@
 -- What the insertion of a piece puts into the list that is being built is what the piece puts there.
-use Rattle.std.proofs.Common.{◌≡◌, ℕ, ◌+◌, ◌<◌, ◌≤◌, List, [], ◌∷◌, ◌++◌, length, drop, get_or, Some, refl, sym, ap}
-use Rattle.std.proofs.Common.{◌∙◌, subst, option_map}
+use Rattle.std.proofs.Common.{◌≡◌, ℕ, ◌+◌, ◌<◌, ◌≤◌, List, [], ◌∷◌, ◌++◌, length, drop, get_or, Some, sym, ap, ◌∙◌}
+use Rattle.std.proofs.Common.{subst, option_map, arith}
 use Rattle.std.proofs.lemmas.List.{drop_more}
 use Rattle.std.proofs.lemmas.Option.{slice_get-get_or}
 use Rattle.std.specs.Prelude.{slice_get}
 use Rattle.cw_base.specs.declared.mode.MathMode.{MathMode}
-use Rattle.cw_base.specs.declared.mode.MathMode.TheVariants.{Text, Math, Maybe}
+use Rattle.cw_base.specs.declared.mode.MathMode.TheVariants.{Maybe}
 use Rattle.cw_trees.specs.Joining.{after, first_mode}
 use Rattle.cw_table.specs.declared.types.Insertion.{Insertion}
 use Rattle.cw_table.specs.declared.types.Piece.{Piece}
 use Rattle.cw_table.specs.declared.types.Piece.TheVariants as piece
 use Rattle.cw_table.specs.Insertions.{insertion_of}
 use Rattle.cw_tokens.specs.declared.token.Token.{Token}
-use Rattle.cw_tokens.specs.declared.token.Token.TheVariants.{«List» as ListOf}
 use Rattle.cw_tokens.specs.Stored.{StoredLists, MayBePushed}
 use Rattle.cw_scraps.specs.declared.line.LineEntry.{LineEntry}
 use Rattle.cw_scraps.specs.declared.pieces.Insert.{Insert}
-use Rattle.cw_scraps.specs.Lines.{no_entry, roots_of, AreRoots}
-use Rattle.cw_scraps.specs.Inserting.{insert_in, inserted_by, inserting, toggle, toggled}
-use Rattle.cw_scraps.specs.Inserting.{IsInsertionWithin, IsPieceWithin}
+use Rattle.cw_scraps.specs.Lines.{roots_of, AreRoots}
+use Rattle.cw_scraps.specs.Inserting.{insert_in, inserted_by, inserting, toggle, toggled, IsInsertionWithin}
+use Rattle.cw_scraps.specs.Inserting.{IsPieceWithin}
 use Rattle.cw_scraps.specs.Building.{Joins}
 use Rattle.cw_scraps.proofs.Buildings.{joins-next, joins-put, joins-within}
 
@@ -43,21 +42,13 @@ inserts pieces i insertion inside is = record {
 -- a scrap that is joined as it is
 plain : (token : Token) (l r : MathMode) → ◌≡◌ {A = Insert} (record { token = token; left = l; right = r })
     (insert_in Maybe token l r)
-plain token Maybe Maybe = refl
-plain token Maybe Text = refl
-plain token Maybe Math = refl
-plain token Text r = refl
-plain token Math r = refl
+plain token l r = grind arith
 
 inserting-is : (entries : List LineEntry) (p : Piece) → inserting entries p ≡ inserted_by entries (insertion_of p)
-inserting-is entries (piece.Scrap k) =
-    plain (ListOf (get_or entries k no_entry).list) (get_or entries k no_entry).left (get_or entries k no_entry).right
-inserting-is entries _ = refl
+inserting-is entries p = grind (arith, plain)
 
 within-is : (place count : ℕ) (p : Piece) → IsPieceWithin place count p → IsInsertionWithin place count (insertion_of p)
-within-is place count (piece.Scrap k) h = h
-within-is place count (piece.MathScrap k) h = h
-within-is place count _ h = tt
+within-is place count p h = grind arith
 
 module _ (lists : List (List Token)) (entries : List LineEntry) (pieces : List Piece) (spare i : ℕ)
     (left mode : MathMode) (store : StoredLists) (j : Joins lists entries pieces spare i left mode store)
@@ -67,9 +58,7 @@ module _ (lists : List (List Token)) (entries : List LineEntry) (pieces : List P
 
   pub inserts-within : (place count : ℕ) → count ≡ place + length entries → 2 ≤ store.spare
       → IsInsertionWithin place count insertion
-  inserts-within place count long room =
-      subst (IsInsertionWithin place count) next.is (within-is place count next.piece
-      (joins-within lists entries pieces spare i left mode store j next.piece next.at roots place count long room))
+  inserts-within place count long room = grind (arith, within-is, joins-within)
 
   pub inserts-put : 2 ≤ store.spare
       → MayBePushed (toggled mode (inserted_by entries insertion).left store) (inserted_by entries insertion).token
@@ -83,10 +72,4 @@ module _ (lists : List (List Token)) (entries : List LineEntry) (pieces : List P
       → new.spare + 1 + length (toggle mode (inserted_by entries insertion).left) ≡ store.spare
       → Joins lists entries pieces spare (i + 1) (first_mode left (inserted_by entries insertion).left)
       (after mode (inserted_by entries insertion).left (inserted_by entries insertion).right) new
-  inserts-next new built same_lists spent =
-      subst (λ (x : Insert). Joins lists entries pieces spare (i + 1) (first_mode left x.left)
-      (after mode x.left x.right) new) same
-      (joins-next lists entries pieces spare i left mode store j next.piece next.at roots new
-      (subst (λ (x : Insert). new.building ≡ option_map (λ tokens. tokens ++ x.token ∷ [])
-      (toggled mode x.left store).building) (sym same) built) same_lists
-      (subst (λ (x : Insert). new.spare + 1 + length (toggle mode x.left) ≡ store.spare) (sym same) spent))
+  inserts-next new built same_lists spent = grind (arith, same, joins-next, option_map)

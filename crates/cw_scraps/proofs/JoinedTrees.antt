@@ -1,21 +1,18 @@
 -- The tokens of a new list have the joined tree.
-use Rattle.std.proofs.Common.{◌≡◌, ℕ, suc, ◌+◌, ◌≤◌, List, [], ◌∷◌, ◌++◌, length, map, get_or, refl, sym, ap, ◌∙◌}
-use Rattle.std.proofs.Common.{arith}
+use Rattle.std.proofs.Common.{◌≡◌, ℕ, suc, ◌+◌, ◌≤◌, List, [], ◌∷◌, ◌++◌, length, map, refl, sym, ◌∙◌, arith}
 use Rattle.cw_base.specs.declared.mode.MathMode.{MathMode}
-use Rattle.cw_base.specs.declared.mode.MathMode.TheVariants.{Text, Math, Maybe}
+use Rattle.cw_base.specs.declared.mode.MathMode.TheVariants.{Math}
 use Rattle.cw_trees.specs.Tree.{Sign, Tree, Then, Sub}
-use Rattle.cw_trees.specs.Joining.{Scrap, no_scrap, Joined, Whole, Mark, needs, after, first_mode, toggled, joined_tree}
-use Rattle.cw_trees.specs.Joining.{joined_left, joined_right}
+use Rattle.cw_trees.specs.Joining.{Joined, Whole, Mark, needs, after, first_mode, toggled, joined_tree, joined_left}
+use Rattle.cw_trees.specs.Joining.{joined_right}
 use Rattle.cw_table.specs.declared.types.Piece.{Piece}
-use Rattle.cw_table.specs.declared.types.Piece.TheVariants as piece
 use Rattle.cw_table.specs.Sound.{scraps_in, numbers_from}
-use Rattle.cw_table.specs.Rewriting.{as_piece, math_piece, joined_of}
+use Rattle.cw_table.specs.Rewriting.{math_piece, joined_of}
 use Rattle.cw_tokens.specs.declared.token.Token.{Token}
-use Rattle.cw_tokens.specs.declared.token.Token.TheVariants.{«List» as ListOf}
-use Rattle.cw_tokens.specs.Shapes.{shape, item_of, tree_in, trees_from, unfolded}
+use Rattle.cw_tokens.specs.Shapes.{shape, item_of, tree_in, trees_from}
 use Rattle.cw_scraps.specs.declared.line.LineEntry.{LineEntry}
 use Rattle.cw_scraps.specs.declared.pieces.Insert.{Insert}
-use Rattle.cw_scraps.specs.Lines.{seen, scraps_of, no_entry}
+use Rattle.cw_scraps.specs.Lines.{scraps_of}
 use Rattle.cw_scraps.specs.Inserting.{insert_in, inserting, IsPieceWithin, toggle, tokens_of, left_of, right_after}
 use Rattle.cw_scraps.proofs.Buildings.{Kind, scrap, sign, kind, Goes, goes}
 use Rattle.cw_scraps.proofs.Reservings.{seen-get}
@@ -40,38 +37,25 @@ pub record Matches (trees : List Tree) (i : Insert) (j : Joined) : Type 0 where
 
 toggle-tree : (trees : List Tree) (mode left : MathMode) (ts : List Token) → tree_in trees (toggle mode left ++ ts)
     ≡ toggled mode left (tree_in trees ts)
-toggle-tree trees Math Text ts = refl
-toggle-tree trees Text Math ts = refl
-toggle-tree trees Math Math ts = refl
-toggle-tree trees Math Maybe ts = refl
-toggle-tree trees Text Text ts = refl
-toggle-tree trees Text Maybe ts = refl
-toggle-tree trees Maybe left ts = refl
+toggle-tree trees mode left ts = grind arith
 
 -- one piece more in front
 cons-tree : (mode : MathMode) (j : Joined) (js : List Joined)
     → toggled mode (left_mode j) (joined_item j (joined_tree (after mode (left_mode j) (right_mode j)) js))
     ≡ joined_tree mode (j ∷ js)
-cons-tree mode (Whole tree left right) js = refl
-cons-tree mode (Mark control) js = refl
+cons-tree mode j js = grind arith
 
 cons-left : (j : Joined) (js : List Joined) → first_mode (left_mode j) (joined_left js) ≡ joined_left (j ∷ js)
-cons-left (Whole tree left right) js = refl
-cons-left (Mark control) js = refl
+cons-left j js = grind arith
 
 cons-right : (mode : MathMode) (j : Joined) (js : List Joined)
     → joined_right (after mode (left_mode j) (right_mode j)) js ≡ joined_right mode (j ∷ js)
-cons-right mode (Whole tree left right) js = refl
-cons-right mode (Mark control) js = refl
+cons-right mode j js = grind arith
 
 math-matches : (trees : List Tree) (token : Token) (tree : Tree) (l r : MathMode)
     → ((rest : Tree) → item_of trees (shape token) rest ≡ Sub tree rest)
     → Matches trees (insert_in Math token l r) (math_piece tree l r)
-math-matches trees token tree Maybe Maybe h = record { item = h; left = refl; right = refl }
-math-matches trees token tree Maybe Text h = record { item = h; left = refl; right = refl }
-math-matches trees token tree Maybe Math h = record { item = h; left = refl; right = refl }
-math-matches trees token tree Text r h = record { item = h; left = refl; right = refl }
-math-matches trees token tree Math r h = record { item = h; left = refl; right = refl }
+math-matches trees token tree l r h = grind arith
 
 module _ (lists : List (List Token)) (entries : List LineEntry) where
   abbrev trees : List Tree
@@ -79,21 +63,7 @@ module _ (lists : List (List Token)) (entries : List LineEntry) where
 
   matches : (p : Piece) → IsPieceWithin 0 (length entries) p
       → Matches trees (inserting entries p) (joined_of (scraps_of lists entries) p)
-  matches (piece.Scrap k) h =
-      let e : get_or (scraps_of lists entries) k no_scrap ≡ seen lists (get_or entries k no_entry) =
-      seen-get lists entries k (omega arith) in
-      record {
-        item = λ rest. ap (λ s. joined_item (as_piece s) rest) (sym e);
-        left = ap (λ (s : Scrap). s.left) (sym e);
-        right = ap (λ (s : Scrap). s.right) (sym e);
-      }
-  matches (piece.MathScrap k) h =
-      let e : get_or (scraps_of lists entries) k no_scrap ≡ seen lists (get_or entries k no_entry) =
-      seen-get lists entries k (omega arith) in
-      rw e (math-matches trees (ListOf (get_or entries k no_entry).list)
-      (unfolded lists (get_or entries k no_entry).list.index) (get_or entries k no_entry).left
-      (get_or entries k no_entry).right (λ rest. refl))
-  matches _ h = record { item = λ rest. refl; left = refl; right = refl }
+  matches p h = grind (arith, seen-get, math-matches)
 
   -- the pieces of a run are all of the line
   pub record Joint (mode : MathMode) (pieces : List Piece) : Type 0 where
@@ -107,33 +77,7 @@ module _ (lists : List (List Token)) (entries : List LineEntry) where
       → Matches trees (inserting entries p) (joined_of (scraps_of lists entries) p)
       → Joint (after mode (left_mode (joined_of (scraps_of lists entries) p))
       (right_mode (joined_of (scraps_of lists entries) p))) pieces → Joint mode (p ∷ pieces)
-  joint-cons mode p pieces m rest =
-      let j : Joined = joined_of (scraps_of lists entries) p in
-      record {
-        tree = ap (λ l. tree_in trees (toggle mode l ++ (inserting entries p).token
-            ∷ tokens_of (after mode l (inserting entries p).right) (map (inserting entries) pieces))) m.left
-            ∙ (ap (λ r. tree_in trees (toggle mode (left_mode (joined_of (scraps_of lists entries) p))
-            ++ (inserting entries p).token ∷ tokens_of
-            (after mode (left_mode (joined_of (scraps_of lists entries) p)) r) (map (inserting entries) pieces)))
-            m.right
-            ∙ (toggle-tree trees mode (left_mode (joined_of (scraps_of lists entries) p)) ((inserting entries p).token
-            ∷ tokens_of (after mode (left_mode (joined_of (scraps_of lists entries) p))
-            (right_mode (joined_of (scraps_of lists entries) p))) (map (inserting entries) pieces))
-            ∙ (ap (toggled mode (left_mode (joined_of (scraps_of lists entries) p)))
-            (m.item (tree_in trees (tokens_of (after mode (left_mode (joined_of (scraps_of lists entries) p))
-            (right_mode (joined_of (scraps_of lists entries) p))) (map (inserting entries) pieces)))
-            ∙ ap (joined_item (joined_of (scraps_of lists entries) p)) rest.tree)
-            ∙ cons-tree mode (joined_of (scraps_of lists entries) p)
-            (map (joined_of (scraps_of lists entries)) pieces))));
-        left = ap (λ l. first_mode l (left_of (map (inserting entries) pieces))) m.left
-            ∙ (ap (first_mode (left_mode (joined_of (scraps_of lists entries) p))) rest.left
-            ∙ cons-left (joined_of (scraps_of lists entries) p) (map (joined_of (scraps_of lists entries)) pieces));
-        right = ap (λ l. right_after (after mode l (inserting entries p).right) (map (inserting entries) pieces)) m.left
-            ∙ (ap (λ r. right_after (after mode (left_mode (joined_of (scraps_of lists entries) p)) r)
-            (map (inserting entries) pieces)) m.right
-            ∙ (rest.right ∙ cons-right mode (joined_of (scraps_of lists entries) p)
-            (map (joined_of (scraps_of lists entries)) pieces)));
-      }
+  joint-cons mode p pieces m rest = grind (arith, toggle-tree, cons-tree, cons-left, cons-right)
 
   pub joint : (mode : MathMode) (pieces : List Piece) (first more : ℕ) → scraps_in pieces ≡ numbers_from first more
       → first + more ≤ length entries → Joint mode pieces

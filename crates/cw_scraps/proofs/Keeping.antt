@@ -1,21 +1,18 @@
 -- What one production keeps of every scrap.
-use Rattle.std.proofs.Common.{◌≡◌, ℕ, ◌+◌, ◌<◌, Bool, true, false, ◌&&◌, List, [], ◌∷◌, ◌++◌, length, map, take, drop}
-use Rattle.std.proofs.Common.{get_or, Option, Some, None, ◌⊎◌, inl, inr, refl, sym, ap, subst}
+use Rattle.std.proofs.Common.{◌≡◌, ℕ, ◌+◌, ◌<◌, Bool, true, false, ◌&&◌, List, [], ◌∷◌, ◌++◌, map, take, drop, get_or}
+use Rattle.std.proofs.Common.{Option, Some, None, ◌⊎◌, inl, inr, refl, sym, ap, subst, arith}
 use Rattle.std.specs.List.{All}
 use Rattle.std.proofs.lemmas.List.{get_or_past}
 use Rattle.std.proofs.lemmas.List.Elements.{All-append, All-take, All-drop, All-set, All-map, All-cons, All-head}
 use Rattle.std.proofs.lemmas.List.Elements.{All-tail}
 use Rattle.std.proofs.lemmas.Bool.{cases_lt}
 use Rattle.cw_base.specs.declared.category.Cat.{Cat}
-use Rattle.cw_base.specs.declared.category.Cat.TheVariants.{RawInt, CaseLike}
-use Rattle.cw_trees.specs.declared.Control.{Control}
-use Rattle.cw_trees.specs.declared.Control.TheVariants.{Inserted}
+use Rattle.cw_base.specs.declared.category.Cat.TheVariants.{RawInt}
 use Rattle.cw_base.specs.declared.flags.Flags.{Flags}
 use Rattle.cw_base.specs.declared.mode.MathMode.{MathMode}
 use Rattle.cw_base.specs.declared.mode.MathMode.TheVariants.{Text, Math, Maybe}
-use Rattle.cw_trees.specs.Tree.{Leaf, Source, Ident, Reserved, Sign, Tree, Empty, Then, Sub, Inner, bare_name, Search}
-use Rattle.cw_trees.specs.Tree.{Found, Stopped, Nothing, or_else, search_word, search_sign, search_leaf, first_ident}
-use Rattle.cw_trees.specs.Tree.{reserved_leaf, reserve_first}
+use Rattle.cw_trees.specs.Tree.{Leaf, Tree, Empty, Then, Sub, Inner, bare_name, Search, Found, Nothing, or_else}
+use Rattle.cw_trees.specs.Tree.{search_leaf, first_ident, reserve_first}
 use Rattle.cw_trees.specs.Joining.{Scrap, no_scrap, scrap_agrees, Joined, Whole, Mark, needs, after, toggled}
 use Rattle.cw_trees.specs.Joining.{joined_tree, join, Agrees}
 use Rattle.cw_table.specs.declared.types.Piece.{Piece}
@@ -35,10 +32,7 @@ module _ (P : Scrap → Type 0) (none : P no_scrap) (reserves : (s : Scrap) → 
     (joins : (cat : Cat) (scraps : List Scrap) (pieces : List Piece) → All P scraps
     → P (join cat (map (joined_of scraps) pieces))) where
   at : (scraps : List Scrap) (k : ℕ) → All P scraps → P (get_or scraps k no_scrap)
-  at scraps k all = elim (cases_lt k (length scraps)) [
-    | inl h ↦ all k no_scrap h
-    | inr h ↦ subst P (sym (get_or_past scraps k no_scrap h)) none
-  ]
+  at scraps k all = grind (arith, cases_lt, get_or_past)
 
   in_named : (named : Option ℕ) (scraps : List Scrap) → All P scraps → All P (reserved_at named scraps)
   in_named None scraps all = all
@@ -47,11 +41,7 @@ module _ (P : Scrap → Type 0) (none : P no_scrap) (reserves : (s : Scrap) → 
 
   in_new : (o : Option ℕ) (cat : Cat) (n : ℕ) (pieces : List Piece) (scraps : List Scrap) → alone n pieces ≡ o
       → All P scraps → P (new_from cat n pieces scraps)
-  in_new (Some k) cat n pieces scraps e all = subst P
-      (sym (ap (λ (q : Option ℕ). elim q [
-        | Some m ↦ with_cat cat (get_or scraps m no_scrap)
-        | None ↦ join cat (map (joined_of scraps) pieces)
-      ]) e)) (recats cat (get_or scraps k no_scrap) (at scraps k all))
+  in_new (Some k) cat n pieces scraps e all = grind (arith, at)
   in_new None cat n pieces scraps e all =
       subst P (sym (ap (λ (q : Option ℕ). elim q [
         | Some m ↦ with_cat cat (get_or scraps m no_scrap)
@@ -67,8 +57,7 @@ module _ (P : Scrap → Type 0) (none : P no_scrap) (reserves : (s : Scrap) → 
   in_right (Found name) scraps all = All-map P (named_scrap name) scraps
       (λ k d h. in_scrap (is_exp (get_or scraps k d).cat && is_bare_name name (bare_name (get_or scraps k d).tree)) name
       (get_or scraps k d) refl (all k d h))
-  in_right Stopped scraps all = all
-  in_right Nothing scraps all = all
+  in_right _ _ all = all
 
   pub keeps-all : (flags : Flags) (row : Row) (place : ℕ) (scraps : List Scrap) → All P scraps
       → All P (take place scraps ++ rewrite_from flags row (drop place scraps))
@@ -96,10 +85,7 @@ module _ (P : Scrap → Type 0) (none : P no_scrap) (reserves : (s : Scrap) → 
 
 -- modes
 all-at : (P : Scrap → Type 0) → P no_scrap → (scraps : List Scrap) (k : ℕ) → All P scraps → P (get_or scraps k no_scrap)
-all-at P none scraps k all = elim (cases_lt k (length scraps)) [
-  | inl h ↦ all k no_scrap h
-  | inr h ↦ subst P (sym (get_or_past scraps k no_scrap h)) none
-]
+all-at P none scraps k all = grind (arith, cases_lt, get_or_past)
 
 math-agrees : (tree : Tree) (l r : MathMode) → Agrees tree l r → piece_agrees (math_piece tree l r)
 math-agrees tree Maybe Maybe h = h Math
@@ -127,41 +113,23 @@ keeps-modes flags row place scraps all = keeps-all scrap_agrees (λ m. refl)
     (λ cat ss pieces h. join-agrees (map (joined_of ss) pieces) (agrees-pieces ss pieces h))
     flags row place scraps all
 
--- names
-reserved-leaf-named : (n : ℕ) (leaf : Leaf) → leaf_named_below n leaf → leaf_named_below n (reserved_leaf leaf)
-reserved-leaf-named n (Source number mode) h = h
-reserved-leaf-named n (Ident name number) h = h
-reserved-leaf-named n (Reserved name number cat) h = h
-reserved-leaf-named n (Sign control) h = h
-
 then-named : (s : Search) (n : ℕ) (leaf : Leaf) (rest : Tree) → search_leaf leaf ≡ s → IsNamedBelow n (Then leaf rest)
     → IsNamedBelow n (reserve_first rest) → IsNamedBelow n (reserve_first (Then leaf rest))
-then-named (Found name) n leaf rest e h r = rw (e, reserve_first) (reserved-leaf-named n leaf h.0, h.1)
-then-named Stopped n leaf rest e h r = rw (e, reserve_first) h
-then-named Nothing n leaf rest e h r = rw (e, reserve_first) (h.0, r)
+then-named s n leaf rest e h r = grind arith
 
 sub-named : (s : Search) (n : ℕ) (tree rest : Tree) → first_ident tree ≡ s → IsNamedBelow n (Sub tree rest)
     → IsNamedBelow n (reserve_first tree) → IsNamedBelow n (reserve_first rest)
     → IsNamedBelow n (reserve_first (Sub tree rest))
-sub-named (Found name) n tree rest e h t r = rw (e, reserve_first) (t, h.1)
-sub-named Stopped n tree rest e h t r = rw (e, reserve_first) h
-sub-named Nothing n tree rest e h t r = rw (e, reserve_first) (h.0, r)
+sub-named s n tree rest e h t r = grind arith
 
 reserve-named : (n : ℕ) (t : Tree) → IsNamedBelow n t → IsNamedBelow n (reserve_first t)
 reserve-named n Empty h = h
 reserve-named n (Then leaf rest) h = then-named (search_leaf leaf) n leaf rest refl h (reserve-named n rest h.1)
-reserve-named n (Sub tree rest) h = sub-named (first_ident tree) n tree rest refl h (reserve-named n tree h.0)
-    (reserve-named n rest h.1)
+reserve-named n (Sub tree rest) h = grind (arith, reserve-named n tree h.0, reserve-named n rest h.1, sub-named)
 reserve-named n (Inner tree rest) h = (h.0, reserve-named n rest h.1)
 
 toggled-named : (n : ℕ) (m l : MathMode) (tree : Tree) → IsNamedBelow n tree → IsNamedBelow n (toggled m l tree)
-toggled-named n Math Text tree h = (tt, h)
-toggled-named n Text Math tree h = (tt, h)
-toggled-named n Math Math tree h = h
-toggled-named n Math Maybe tree h = h
-toggled-named n Text Text tree h = h
-toggled-named n Text Maybe tree h = h
-toggled-named n Maybe l tree h = h
+toggled-named n m l tree h = grind arith
 
 abbrev piece_named : ℕ → Joined → Type 0
 piece_named n (Whole tree left right) = IsNamedBelow n tree
@@ -174,12 +142,8 @@ joined-named n m (Whole tree l r ∷ js) all = toggled-named n m l (Sub tree (jo
   joined-named n (after m l r) js
       (All-tail (piece_named n) (Whole tree l r) js all),
 )
-joined-named n m (Mark c ∷ js) all = toggled-named n m (needs c)
-    (Then (Sign c) (joined_tree (after m (needs c) (needs c)) js)) (
-      tt,
-      joined-named n (after m (needs c) (needs c)) js
-          (All-tail (piece_named n) (Mark c) js all),
-    )
+joined-named n m (Mark c ∷ js) all =
+    grind (arith, joined-named n (after m (needs c) (needs c)) js (All-tail (piece_named n) (Mark c) js all))
 
 math-named : (n : ℕ) (tree : Tree) (l r : MathMode) → IsNamedBelow n tree → piece_named n (math_piece tree l r)
 math-named n tree Maybe Maybe h = h
@@ -208,26 +172,10 @@ keeps-named n flags row place scraps all = keeps-all (λ s. IsNamedBelow n s.tre
 
 -- the first identifier of a tree is one of its names
 leaf-found : (n : ℕ) (leaf : Leaf) (name : ℕ) → leaf_named_below n leaf → search_leaf leaf ≡ Found name → name < n
-leaf-found n (Source number mode) name h e = absurd (let k : Nothing ≡ Found name = e in cc)
-leaf-found n (Ident m number) name h e = subst (λ q. q < n) (same m name e) h
-  where
-    same : (a b : ℕ) → Found a ≡ Found b → a ≡ b
-    same a b k = cc
-leaf-found n (Reserved m number cat) name h e = absurd (word cat e)
-  where
-    word : (c : Cat) → search_word c ≡ Found name → ⊥
-    word CaseLike k = cc
-    word _ k = cc
-leaf-found n (Sign control) name h e = absurd (sign control e)
-  where
-    sign : (c : Control) → search_sign c ≡ Found name → ⊥
-    sign Inserted k = cc
-    sign _ k = cc
+leaf-found n leaf name h e = grind arith
 
 or-found : (s t : Search) (name : ℕ) → or_else s t ≡ Found name → (s ≡ Found name) ⊎ (t ≡ Found name)
-or-found (Found m) t name e = inl e
-or-found Stopped t name e = absurd (let k : Stopped ≡ Found name = e in cc)
-or-found Nothing t name e = inr e
+or-found s t name e = grind arith
 
 pub found-named : (n : ℕ) (t : Tree) (name : ℕ) → IsNamedBelow n t → first_ident t ≡ Found name → name < n
 found-named n Empty name h e = absurd (let k : Nothing ≡ Found name = e in cc)

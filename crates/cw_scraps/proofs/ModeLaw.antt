@@ -1,12 +1,12 @@
 -- What is joined of pieces that agree with their modes agrees with its own.
-use Rattle.std.proofs.Common.{◌≡◌, List, [], ◌∷◌, Option, Some, None, refl, sym, ap, ◌∙◌, subst}
+use Rattle.std.proofs.Common.{◌≡◌, List, [], ◌∷◌, Option, Some, refl, sym, ap, ◌∙◌, subst, arith}
 use Rattle.std.specs.List.{All}
 use Rattle.std.proofs.lemmas.List.Elements.{All-head, All-tail}
 use Rattle.cw_base.specs.declared.mode.MathMode.{MathMode}
 use Rattle.cw_base.specs.declared.mode.MathMode.TheVariants.{Text, Math, Maybe}
 use Rattle.cw_trees.specs.declared.Control.{Control}
-use Rattle.cw_trees.specs.Tree.{Leaf, Source, Ident, Reserved, Sign, Tree, Empty, Then, Sub, Inner, Search, Found}
-use Rattle.cw_trees.specs.Tree.{Stopped, Nothing, search_leaf, first_ident, reserved_leaf, reserve_first}
+use Rattle.cw_trees.specs.Tree.{Leaf, Sign, Tree, Empty, Then, Sub, Inner, Search, search_leaf, first_ident}
+use Rattle.cw_trees.specs.Tree.{reserved_leaf, reserve_first}
 use Rattle.cw_trees.specs.Joining.{Joined, Whole, Mark, needs, after, first_mode, toggled, joined_tree, joined_left}
 use Rattle.cw_trees.specs.Joining.{joined_right, stays, reads_sign, reads_leaf, leads_on, reads, Agrees}
 use Rattle.cw_scraps.specs.Modes.{IsSteady, piece_agrees, JoinsAgree}
@@ -18,13 +18,7 @@ IsTold Math = Unit {0}
 IsTold Maybe = ⊥
 
 agrees-told : (tree : Tree) (l r : MathMode) → IsTold l → IsTold r → reads tree l ≡ Some r → Agrees tree l r
-agrees-told tree Text Text a b h = h
-agrees-told tree Text Math a b h = h
-agrees-told tree Math Text a b h = h
-agrees-told tree Math Math a b h = h
-agrees-told tree Maybe r a b h = absurd a
-agrees-told tree Text Maybe a b h = absurd b
-agrees-told tree Math Maybe a b h = absurd b
+agrees-told tree l r a b h = grind arith
 
 -- a tree that agrees from a told mode
 pub record Leads (tree : Tree) (l r : MathMode) : Type 0 where
@@ -32,69 +26,40 @@ pub record Leads (tree : Tree) (l r : MathMode) : Type 0 where
   pub reading : reads tree l ≡ Some r
 
 leads : (tree : Tree) (l r : MathMode) → IsTold l → Agrees tree l r → Leads tree l r
-leads tree Text Text a h = record { told = tt; reading = h }
-leads tree Text Math a h = record { told = tt; reading = h }
-leads tree Math Text a h = record { told = tt; reading = h }
-leads tree Math Math a h = record { told = tt; reading = h }
 leads tree Text Maybe a h = absurd h
 leads tree Math Maybe a h = absurd h
 leads tree Maybe r a h = absurd a
+leads _ _ _ _ h = record { told = tt; reading = h }
 
 -- one that agrees from Maybe
 maybe-reads : (tree : Tree) (r : MathMode) → Agrees tree Maybe r → (m : MathMode) → reads tree m ≡ Some m
-maybe-reads tree Maybe h m = h m
-maybe-reads tree Text h m = absurd h
-maybe-reads tree Math h m = absurd h
+maybe-reads tree r h m = grind arith
 
 pub agrees-same : (a b : Tree) (l r : MathMode) → ((m : MathMode) → reads a m ≡ reads b m) → Agrees b l r → Agrees a l r
-agrees-same a b Maybe Maybe e h = λ m. e m ∙ h m
-agrees-same a b Maybe Text e h = h
-agrees-same a b Maybe Math e h = h
-agrees-same a b Text Maybe e h = h
-agrees-same a b Math Maybe e h = h
-agrees-same a b Text Text e h = e Text ∙ h
-agrees-same a b Text Math e h = e Text ∙ h
-agrees-same a b Math Text e h = e Math ∙ h
-agrees-same a b Math Math e h = e Math ∙ h
+agrees-same a b l r e h = grind arith
 
 -- a toggle leads to the mode that the next piece needs
 toggled-reads : (m l : MathMode) (tree : Tree) → IsTold m → IsTold l → reads (toggled m l tree) m ≡ reads tree l
-toggled-reads Text Text tree a b = refl
-toggled-reads Text Math tree a b = refl
-toggled-reads Math Text tree a b = refl
-toggled-reads Math Math tree a b = refl
-toggled-reads Maybe l tree a b = absurd a
-toggled-reads Text Maybe tree a b = absurd b
-toggled-reads Math Maybe tree a b = absurd b
+toggled-reads m l tree a b = grind arith
 
 toggled-maybe : (m : MathMode) (tree : Tree) → toggled m Maybe tree ≡ tree
-toggled-maybe Text tree = refl
-toggled-maybe Math tree = refl
-toggled-maybe Maybe tree = refl
+toggled-maybe m tree = grind arith
 
 after-told : (m l r : MathMode) → IsTold l → after m l r ≡ r
-after-told m Text r h = refl
-after-told m Math r h = refl
-after-told m Maybe r h = absurd h
+after-told m l r h = grind arith
 
 first-told : (l later : MathMode) → IsTold l → first_mode l later ≡ l
-first-told Text later h = refl
-first-told Math later h = refl
-first-told Maybe later h = absurd h
+first-told l later h = grind arith
 
 data Told (m : MathMode) : Type 0 where
   is_told : IsTold m → Told m
   is_maybe : m ≡ Maybe → Told m
 
 told : (m : MathMode) → Told m
-told Text = is_told tt
-told Math = is_told tt
-told Maybe = is_maybe refl
+told m = grind arith
 
 steady-reads : (c : Control) (l : MathMode) → IsSteady c → needs c ≡ l → IsTold l → reads_sign c l ≡ Some l
-steady-reads c Text h e t = h Text ∙ ap (λ n. stays n Text) e
-steady-reads c Math h e t = h Math ∙ ap (λ n. stays n Math) e
-steady-reads c Maybe h e t = absurd t
+steady-reads c l h e t = grind arith
 
 -- from a told mode the joined tree leads to its right mode, which is told
 pub record FromTold (m : MathMode) (js : List Joined) : Type 0 where
@@ -205,34 +170,22 @@ join-agrees (Mark c ∷ js) all = go (needs c) refl (told (needs c))
 
 -- an identifier and a reserved word need no mode
 reserved-leaf-reads : (leaf : Leaf) (m : MathMode) → reads_leaf (reserved_leaf leaf) m ≡ reads_leaf leaf m
-reserved-leaf-reads (Source number mode) m = refl
-reserved-leaf-reads (Ident name number) m = refl
-reserved-leaf-reads (Reserved name number cat) m = refl
-reserved-leaf-reads (Sign control) m = refl
+reserved-leaf-reads leaf m = grind arith
 
 same-leads : (o : Option MathMode) (f g : MathMode → Option MathMode) → ((m : MathMode) → f m ≡ g m) → leads_on o f
     ≡ leads_on o g
-same-leads None f g h = refl
-same-leads (Some m) f g h = h m
+same-leads o f g h = grind arith
 
 reserve-then-reads : (s : Search) (leaf : Leaf) (rest : Tree) (m : MathMode) → search_leaf leaf ≡ s
     → ((n : MathMode) → reads (reserve_first rest) n ≡ reads rest n) → reads (reserve_first (Then leaf rest)) m
     ≡ reads (Then leaf rest) m
-reserve-then-reads (Found name) leaf rest m e rec =
-    rw (e, reserve_first) (ap (λ o. leads_on o (reads rest)) (reserved-leaf-reads leaf m))
-reserve-then-reads Stopped leaf rest m e rec = rw (e, reserve_first) refl
-reserve-then-reads Nothing leaf rest m e rec = rw (e, reserve_first)
-    (same-leads (reads_leaf leaf m) (reads (reserve_first rest)) (reads rest) rec)
+reserve-then-reads s leaf rest m e rec = grind (arith, reserved-leaf-reads, same-leads)
 
 reserve-sub-reads : (s : Search) (tree rest : Tree) (m : MathMode) → first_ident tree ≡ s
     → ((n : MathMode) → reads (reserve_first tree) n ≡ reads tree n)
     → ((n : MathMode) → reads (reserve_first rest) n ≡ reads rest n) → reads (reserve_first (Sub tree rest)) m
     ≡ reads (Sub tree rest) m
-reserve-sub-reads (Found name) tree rest m e here rec =
-    rw (e, reserve_first) (ap (λ o. leads_on o (reads rest)) (here m))
-reserve-sub-reads Stopped tree rest m e here rec = rw (e, reserve_first) refl
-reserve-sub-reads Nothing tree rest m e here rec =
-    rw (e, reserve_first) (same-leads (reads tree m) (reads (reserve_first rest)) (reads rest) rec)
+reserve-sub-reads s tree rest m e here rec = grind (arith, same-leads)
 
 pub reserve-reads : (t : Tree) (m : MathMode) → reads (reserve_first t) m ≡ reads t m
 reserve-reads Empty m = refl

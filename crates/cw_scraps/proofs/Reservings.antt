@@ -57,8 +57,7 @@ set-behind : (xs : List Scrap) (place k : ℕ) (x : Scrap) → place + k < lengt
     ≡ take place xs ++ set (drop place xs) k x
 set-behind xs zero k x h = let z : zero + k ≡ k = omega arith in ap (λ n. set xs n x) z
 set-behind [] (suc place) k x h = absurd (omega arith)
-set-behind (y ∷ xs) (suc place) k x h = let s : suc place + k ≡ suc (place + k) = omega arith in
-    ap (λ n. set (y ∷ xs) n x) s ∙ ap (λ us. y ∷ us) (set-behind xs place k x (omega arith))
+set-behind (y ∷ xs) (suc place) k x h = grind (arith, set-behind xs place k x (omega arith))
 
 -- the scrap that a row names has its first identifier reserved
 pub reserve-scraps : (old new : List (List Token)) (line : List LineEntry) (place k : ℕ) → IsTied old

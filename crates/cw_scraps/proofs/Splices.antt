@@ -6,7 +6,6 @@ use Rattle.std.proofs.lemmas.List.{get_or-take, get_or-drop, get_or_append_left,
 use Rattle.std.proofs.lemmas.List.{length-take-le, length-drop}
 use Rattle.std.proofs.lemmas.Bool.{cases_lt, cases_eq}
 use Rattle.cw_base.specs.declared.mode.MathMode.{MathMode}
-use Rattle.cw_base.specs.declared.mode.MathMode.TheVariants.{Text, Math, Maybe}
 use Rattle.cw_trees.specs.Joining.{after}
 use Rattle.cw_table.specs.declared.types.Piece.{Piece}
 use Rattle.cw_table.specs.Sound.{scraps_in, numbers_from}
@@ -61,30 +60,13 @@ pub record FromScrap (entries : List LineEntry) (first more x : ℕ) : Type 0 wh
 
 toggle-ref : (mode left : MathMode) (ts : List Token) (p x : ℕ) → token_ref (slice_get (toggle mode left ++ ts) p)
     ≡ Some x → (q : ℕ) × (token_ref (slice_get ts q) ≡ Some x)
-toggle-ref Math Text ts zero x e = absurd (none e)
-  where
-    none : ◌≡◌ {A = Option ℕ} None (Some x) → ⊥
-    none k = cc
-toggle-ref Math Text ts (suc p) x e = (p, e)
-toggle-ref Text Math ts zero x e = absurd (none e)
-  where
-    none : ◌≡◌ {A = Option ℕ} None (Some x) → ⊥
-    none k = cc
-toggle-ref Text Math ts (suc p) x e = (p, e)
-toggle-ref Math Math ts p x e = (p, e)
-toggle-ref Math Maybe ts p x e = (p, e)
-toggle-ref Text Text ts p x e = (p, e)
-toggle-ref Text Maybe ts p x e = (p, e)
-toggle-ref Maybe left ts p x e = (p, e)
+toggle-ref mode left ts p x e = grind arith
 
 pub tokens-ref : (entries : List LineEntry) (mode : MathMode) (pieces : List Piece) (first more p x : ℕ)
     → scraps_in pieces ≡ numbers_from first more
     → token_ref (slice_get (tokens_of mode (map (inserting entries) pieces)) p) ≡ Some x
     → FromScrap entries first more x
-tokens-ref entries mode [] first more p x run e = absurd (none e)
-  where
-    none : ◌≡◌ {A = Option ℕ} None (Some x) → ⊥
-    none k = cc
+tokens-ref entries mode [] first more p x run e = grind arith
 tokens-ref entries mode (q ∷ pieces) first more p x run e = go (kind entries q)
     (toggle-ref mode (inserting entries q).left ((inserting entries q).token
     ∷ tokens_of (after mode (inserting entries q).left (inserting entries q).right) (map (inserting entries) pieces)) p

@@ -1,15 +1,14 @@
 -- Names in memory, and the first that pass a test.
 use Rattle.std.proofs.Common.{◌≡◌, ℕ, zero, suc, ◌+◌, ◌<◌, ◌≤◌, ◌&&◌, Bool, true, false, not, nat_lt, List, [], ◌∷◌}
-use Rattle.std.proofs.Common.{Option, Some, None, map, length, drop, cond, refl, ap, ◌∙◌, sym, if◌then◌else◌}
-use Rattle.std.proofs.Common.{subst, get_or, add-zero, zero-add, arith}
-use borrow.Author.Tests.{lt-ltb, ltb-true}
+use Rattle.std.proofs.Common.{Option, Some, None, map, length, drop, cond, refl, ap, sym, get_or, add-zero, zero-add}
+use Rattle.std.proofs.Common.{arith}
 use Rattle.cw_secnames.specs.declared.kinds.Earliest.TheVariants.{Nobody, One, Several}
 use Rattle.cw_secnames.specs.declared.kinds.RefKind.{RefKind}
 use Rattle.cw_secnames.specs.References.{with_section, with_reference}
 use Rattle.std.specs.List.{position, position_or_len}
 use Rattle.std.specs.Option.{option_map}
 use Rattle.cw_secnames.specs.declared.sec_names.Kept.{Kept}
-use Rattle.cw_secnames.specs.Kept.{SecName, with_text, positions_from, grown, is_shorter, earliest}
+use Rattle.cw_secnames.specs.Kept.{SecName, with_text, positions_from, grown, earliest}
 use Rattle.cw_secnames.specs.Inside.{name_of}
 use Rattle.std.specs.Prelude.{slice_set}
 use Rattle.std.specs.Global.{Vec}
@@ -52,18 +51,12 @@ pub reference-map : (xs : List Kept) (i : ℕ) (d new : Kept) (how : RefKind) (s
     → map name_of (slice_set xs i new) ≡ with_reference i how section (map name_of xs)
 reference-map [] i d new how section h = refl
 reference-map (x ∷ xs) zero d new how section h = ap (λ n. n ∷ map name_of xs) h
-reference-map (x ∷ xs) (suc i) d new how section h =
-    ap (λ rest. name_of x ∷ rest) (reference-map xs i d new how section h)
+reference-map (x ∷ xs) (suc i) d new how section h = grind (arith, reference-map xs i d new how section h)
 
 shorter-by : (b : Bool) (x : Kept) (prefix : List ℕ) (rest : List SecName) → b ≡ false → x.complete ≡ b
     → length x.text.items < length prefix
     → (record (name_of x) { text = prefix; complete = false } ∷ rest) ≡ grown prefix zero (name_of x ∷ rest)
-shorter-by true x prefix rest f e h = absurd (cc)
-shorter-by false x prefix rest f e h =
-    ap (λ (c : Bool). record (name_of x) { text = prefix; complete = c } ∷ rest) (sym e) ∙
-    sym (let test : is_shorter prefix (name_of x) ≡ true = rw (e, lt-ltb (length x.text.items) (length prefix) h)
-    refl in
-    ap (λ (t : Bool). if t then record (name_of x) { text = prefix } ∷ rest else name_of x ∷ rest) test)
+shorter-by b x prefix rest f e h = grind arith
 
 pub grown-shorter : (prefix : List ℕ) (xs : List Kept) (i : ℕ) (d : Kept)
     → (get_or xs i d).complete ≡ false → length (get_or xs i d).text.items < length prefix
@@ -82,8 +75,7 @@ not-below : (a b : ℕ) → b ≤ a → nat_lt a b ≡ false
 not-below a b h = grind arith
 
 still : (complete : Bool) → (not complete && false) ≡ false
-still true = refl
-still false = refl
+still complete = grind arith
 
 pub grown-longer : (prefix : List ℕ) (xs : List Kept) (i : ℕ) (d : Kept)
     → length prefix ≤ length (get_or xs i d).text.items
@@ -105,60 +97,37 @@ dropped n names j = let one : (1 + j) + 1 ≡ suc (j + 1) = omega arith in ap (�
 first-by : (t : Bool) (test : SecName → Bool) (n : SecName) (names : List SecName) (k j : ℕ) → test n ≡ t
     → cond (not t) (1 + j) 0 < suc (length names) → (j < length names → IsFirst test names (k + 1) j)
     → IsFirst test (n ∷ names) k (cond (not t) (1 + j) 0)
-first-by true test n names k j h below rest =
-    record { positions = rw (h, positions_from, add-zero k) refl; below = below }
-first-by false test n names k j h below rest =
-    let f : IsFirst test names (k + 1) j = rest (omega arith) in
-    let one : (k + 1) + j ≡ k + (1 + j) = omega arith in
-    record {
-      positions =
-          (let open_one : positions_from k test (n ∷ names) ≡ positions_from (k + 1) test names = rw (h, positions_from)
-          refl in open_one) ∙
-          (f.positions ∙ (ap (λ m. m ∷ positions_from (m + 1) test (drop (j + 1) names)) one ∙
-          ap (λ rest. (k + (1 + j)) ∷ positions_from ((k + (1 + j)) + 1) test rest) (sym (dropped n names j))));
-      below = below;
-    }
+first-by t test n names k j h below rest = grind (arith, add-zero, dropped)
 
 is_first : (test : SecName → Bool) (names : List SecName) (k : ℕ) → position_or_len test names < length names
     → IsFirst test names k (position_or_len test names)
 is_first test [] k h = absurd (omega arith)
-is_first test (n ∷ names) k h = first-by (test n) test n names k (position_or_len test names) refl h
-    (is_first test names (k + 1))
+is_first test (n ∷ names) k h = grind (arith, is_first test names (k + 1), first-by)
 
 nobody-by : (t : Bool) (test : SecName → Bool) (n : SecName) (names : List SecName) (k j : ℕ) → test n ≡ t
     → (cond (not t) (1 + j) 0 < suc (length names) → ⊥) → ((j < length names → ⊥) → positions_from (k + 1) test names
     ≡ [])
     → positions_from k test (n ∷ names) ≡ []
-nobody-by true test n names k j h none rest = absurd (none (omega arith))
-nobody-by false test n names k j h none rest =
-    rw (h, positions_from) (rest (λ below. none (omega arith)))
+nobody-by t test n names k j h none rest = grind arith
 
 nobody : (test : SecName → Bool) (names : List SecName) (k : ℕ) → (position_or_len test names < length names → ⊥)
     → positions_from k test names ≡ []
 nobody test [] k h = refl
-nobody test (n ∷ names) k h = nobody-by (test n) test n names k (position_or_len test names) refl h
-    (nobody test names (k + 1))
+nobody test (n ∷ names) k h = grind (arith, nobody test names (k + 1), nobody-by)
 
 some-by : (b : Bool) (p n i : ℕ) → nat_lt p n ≡ b → cond b (Some p) None ≡ Some i → (p ≡ i) × (p < n)
-some-by true p n i h e = (cc, ltb-true p n h)
-some-by false p n i h e = absurd (cc)
+some-by b p n i h e = grind arith
 
 none-by : (b : Bool) (p n : ℕ) → nat_lt p n ≡ b → cond b (Some p) None ≡ None → p < n → ⊥
-none-by true p n h e below = cc
-none-by false p n h e below = let wrong : nat_lt p n ≡ true = lt-ltb p n below in cc
+none-by b p n h e below = grind arith
 
 pub found-first : (test : SecName → Bool) (names : List SecName) (k i : ℕ) → position test names ≡ Some i
     → IsFirst test names k i
-found-first test names k i h =
-    let s : (position_or_len test names ≡ i) × (position_or_len test names < length names) =
-    some-by (nat_lt (position_or_len test names) (length names)) (position_or_len test names) (length names) i refl h in
-    subst (IsFirst test names k) s.0 (is_first test names k s.1)
+found-first test names k i h = grind (arith, some-by, is_first)
 
 pub found-nobody : (test : SecName → Bool) (names : List SecName) (k : ℕ) → position test names ≡ None
     → positions_from k test names ≡ []
-found-nobody test names k h =
-    nobody test names k (none-by (nat_lt (position_or_len test names) (length names)) (position_or_len test names)
-    (length names) refl h)
+found-nobody test names k h = grind (arith, nobody, none-by)
 
 pub earliest-nobody : (test : SecName → Bool) (names : List SecName) → position test names ≡ None
     → Nobody ≡ earliest (positions_from 0 test names)
@@ -167,27 +136,21 @@ earliest-nobody test names h = sym (ap earliest (found-nobody test names 0 h))
 pub earliest-one : (test : SecName → Bool) (names : List SecName) (i : ℕ) → position test names ≡ Some i
     → position test (drop (i + 1) names) ≡ None → One i ≡ earliest (positions_from 0 test names)
 earliest-one test names i h none =
-    sym (ap earliest ((found-first test names 0 i h).positions ∙
-    (ap (λ m. m ∷ positions_from (m + 1) test (drop (i + 1) names)) (zero-add i) ∙
-    ap (λ rest. i ∷ rest) (found-nobody test (drop (i + 1) names) (i + 1) none))))
+    grind (arith, found-first test names 0 i h, zero-add i, found-nobody test (drop (i + 1) names) (i + 1) none)
 
 pub earliest-several : (test : SecName → Bool) (names : List SecName) (i j : ℕ) → position test names ≡ Some i
     → position test (drop (i + 1) names) ≡ Some j → Several i ((i + 1) + j) ≡ earliest (positions_from 0 test names)
 earliest-several test names i j h more =
-    sym (ap earliest ((found-first test names 0 i h).positions ∙
-    (ap (λ m. m ∷ positions_from (m + 1) test (drop (i + 1) names)) (zero-add i) ∙
-    ap (λ rest. i ∷ rest) (found-first test (drop (i + 1) names) (i + 1) j more).positions)))
+    grind (arith, found-first test names 0 i h, found-first test (drop (i + 1) names) (i + 1) j more, zero-add i)
 
 -- ## The next one from a position on
 
 moved-none : (i : ℕ) (o : Option ℕ) → option_map (λ more. i + more) o ≡ None → o ≡ None
-moved-none i None h = refl
-moved-none i (Some more) h = absurd (cc)
+moved-none i o h = grind arith
 
 moved-some : (i k : ℕ) (o : Option ℕ) → option_map (λ more. i + more) o ≡ Some k → (more : ℕ) × (o ≡ Some more)
     × (i + more ≡ k)
-moved-some i k None h = absurd (cc)
-moved-some i k (Some more) h = (more, refl, cc)
+moved-some i k o h = grind arith
 
 pub from-nobody : (test : SecName → Bool) (names : List SecName)
     → option_map (λ more. 0 + more) (position test (drop 0 names)) ≡ None
@@ -197,21 +160,16 @@ from-nobody test names h = earliest-nobody test names (moved-none 0 (position te
 first-from : (test : SecName → Bool) (names : List SecName) (i : ℕ)
     → option_map (λ more. 0 + more) (position test (drop 0 names)) ≡ Some i
     → position test names ≡ Some i
-first-from test names i h =
-    let m = moved-some 0 i (position test names) h in
-    m.1 ∙ ap (λ k. Some k) (sym (zero-add m.0) ∙ m.2)
+first-from test names i h = grind (arith, moved-some, zero-add)
 
 pub from-one : (test : SecName → Bool) (names : List SecName) (i : ℕ)
     → option_map (λ more. 0 + more) (position test (drop 0 names)) ≡ Some i
     → option_map (λ more. (i + 1) + more) (position test (drop (i + 1) names)) ≡ None
     → One i ≡ earliest (positions_from 0 test names)
-from-one test names i h none = earliest-one test names i (first-from test names i h)
-    (moved-none (i + 1) (position test (drop (i + 1) names)) none)
+from-one test names i h none = grind (arith, earliest-one, first-from, moved-none)
 
 pub from-several : (test : SecName → Bool) (names : List SecName) (i next : ℕ)
     → option_map (λ more. 0 + more) (position test (drop 0 names)) ≡ Some i
     → option_map (λ more. (i + 1) + more) (position test (drop (i + 1) names)) ≡ Some next
     → Several i next ≡ earliest (positions_from 0 test names)
-from-several test names i next h more =
-    let m = moved-some (i + 1) next (position test (drop (i + 1) names)) more in
-    ap (λ k. Several i k) (sym m.2) ∙ earliest-several test names i m.0 (first-from test names i h) m.1
+from-several test names i next h more = grind (arith, moved-some, earliest-several, first-from)

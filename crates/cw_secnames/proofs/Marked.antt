@@ -1,7 +1,7 @@
 -- The positions that are found by marks hold those of all names near a text.
-use Rattle.std.proofs.Common.{nat_lt, ◌≡◌, ℕ, zero, suc, ◌+◌, ◌<◌, ◌≤◌, ◌&&◌, ◌||◌, ◌==◌, ◌⊎◌, inl, inr, Bool}
-use Rattle.std.proofs.Common.{true, false, nat_eq, List, [], ◌∷◌, ◌++◌, length, take, get_or, refl, ap, if◌then◌else◌}
-use Rattle.std.proofs.Common.{◌∙◌, sym, subst, arith, min, length-take, take_all, take-take}
+use Rattle.std.proofs.Common.{nat_lt, ◌≡◌, ℕ, zero, suc, ◌+◌, ◌<◌, ◌≤◌, ◌&&◌, ◌||◌, ◌==◌, ◌⊎◌, Bool, true, nat_eq, List}
+use Rattle.std.proofs.Common.{[], ◌∷◌, ◌++◌, length, take, get_or, refl, ap, if◌then◌else◌, ◌∙◌, sym, subst, arith, min}
+use Rattle.std.proofs.Common.{length-take, take_all, take-take}
 use Rattle.std.proofs.lemmas.Bool.{ltb-true}
 use Rattle.std.specs.Cmp.Lexicographic.{same_text, pointwise}
 use Rattle.std.proofs.lemmas.Cmp.{nat_list_eq_equiv}
@@ -16,16 +16,13 @@ use Rattle.cw_secnames.specs.Marks.{positions_at, is_one_of, wholes_at, IsMarked
 -- ## What tables have under a mark
 
 pub both : (a b : Bool) → (a && b) ≡ true → (a ≡ true) × (b ≡ true)
-both true b h = (refl, h)
-both false b h = absurd (cc)
+both a b h = grind arith
 
 pub and-yes : (a b : Bool) → a ≡ true → b ≡ true → (a && b) ≡ true
-and-yes true b h k = k
-and-yes false b h k = absurd (cc)
+and-yes a b h k = grind arith
 
 pub or-yes : (a b : Bool) → (a || b) ≡ true → (a ≡ true) ⊎ (b ≡ true)
-or-yes true b h = inl refl
-or-yes false b h = inr h
+or-yes a b h = grind arith
 
 pub in-left : (k : ℕ) (xs ys : List ℕ) → is_one_of k xs ≡ true → is_one_of k (xs ++ ys) ≡ true
 in-left k xs ys h = list_any-append (λ other. other == k) xs ys ∙ one-left (is_one_of k xs) (is_one_of k ys) h
@@ -58,15 +55,7 @@ pub found-first : (marks : Marks) (kind : SecKind) (text : List ℕ) (mark start
     → mark ≡ first_mark kind → start ≡ first_mark kind
     → Found marks kind text 0 mark start near
 unfolding is_kept_length
-found-first marks kind text mark start near is same = record {
-  mark_is = is;
-  at = 0;
-  at_most = omega arith;
-  within = omega arith;
-  kept = refl;
-  start_is = same;
-  shorter = λ before k h m. absurd (omega arith);
-}
+found-first marks kind text mark start near is same = grind arith
 
 below-or : (a b : ℕ) → a < b + 1 → (a < b) ⊎ (a ≡ b)
 below-or a b h = grind arith
@@ -76,66 +65,33 @@ found-here : (short : Bool) (marks : Marks) (kind : SecKind) (text : List ℕ) (
     → nat_lt count marks.shortest ≡ short
     → mark ≡ mark_of kind (take count text) → IsMarked marks kind (take count text) k
     → is_one_of k (if short then [] else positions_at mark marks.wholes) ≡ true
-found-here true marks kind text count k mark below is m =
-    let low : count < marks.shortest = ltb-true count marks.shortest below in
-    let size : length (take count text) ≡ min count (length text) = length-take count text in
-    let long : marks.shortest ≤ length (take count text) = m.long in
-    absurd (omega (arith, size))
-found-here false marks kind text count k mark below is m =
-    subst (λ n. Has marks.wholes n k) (sym is) m.whole
+found-here short marks kind text count k mark below is m = grind (arith, ltb-true, length-take)
 
 shorter-more : (marks : Marks) (kind : SecKind) (text : List ℕ) (count mark : ℕ) (near : List ℕ)
     → mark ≡ mark_of kind (take count text)
     → ((before k : ℕ) → before < count → IsMarked marks kind (take before text) k → is_one_of k near ≡ true)
     → (before k : ℕ) → before < count + 1 → IsMarked marks kind (take before text) k
     → is_one_of k (near ++ wholes_at marks count mark) ≡ true
-shorter-more marks kind text count mark near is f before k h m = elim (below-or before count h) [
-  | inl below ↦ in-left k near (wholes_at marks count mark) (f before k below m)
-  | inr same ↦
-      in-right k near (wholes_at marks count mark)
-      (found-here (nat_lt count marks.shortest) marks kind text count k mark refl is
-      (subst (λ n. IsMarked marks kind (take n text) k) same m))
-]
+shorter-more marks kind text count mark near is f before k h m = grind (arith, below-or, in-left, in-right, found-here)
 
 pub found-more : (marks : Marks) (kind : SecKind) (text : List ℕ) (count mark start d : ℕ) (near : List ℕ)
     → Found marks kind text count mark start near → count < length text
     → Found marks kind text (count + 1) (next_mark mark (get_or text count d)) start
     (near ++ wholes_at marks count mark)
-found-more marks kind text count mark start d near f h = record {
-  mark_is = ap (λ m. next_mark m (get_or text count d)) f.mark_is ∙ sym (mark-more (first_mark kind) text count d h);
-  at = f.at;
-  at_most = let most : f.at ≤ count = f.at_most in omega arith;
-  within = omega arith;
-  kept = f.kept;
-  start_is = f.start_is;
-  shorter = shorter-more marks kind text count mark near f.mark_is f.shorter;
-}
+found-more marks kind text count mark start d near f h = grind (arith, mark-more, shorter-more)
 
 kept-by : (b : Bool) (marks : Marks) (kind : SecKind) (text : List ℕ) (count mark start : ℕ) (near : List ℕ)
     → is_kept_length count ≡ b
     → Found marks kind text count mark start near
     → Found marks kind text count mark (if b then mark else start) near
-kept-by true marks kind text count mark start near kept f = record {
-  mark_is = f.mark_is;
-  at = count;
-  at_most = omega arith;
-  within = f.within;
-  kept = kept;
-  start_is = f.mark_is;
-  shorter = f.shorter;
-}
-kept-by false marks kind text count mark start near kept f = f
+kept-by b marks kind text count mark start near kept f = grind arith
 
 -- a byte more, behind which the mark is kept or not
 pub found-next : (marks : Marks) (kind : SecKind) (text : List ℕ) (count mark start new next d : ℕ) (near more : List ℕ)
     → Found marks kind text count mark start near → count < length text → new ≡ next_mark mark (get_or text count d)
     → next ≡ last_kept (count + 1) new start → more ≡ near ++ wholes_at marks count mark
     → Found marks kind text (count + 1) new next more
-found-next marks kind text count mark start new next d near more f h is last all =
-    rw (all, last, is)
-    (kept-by (is_kept_length (count + 1)) marks kind text (count + 1) (next_mark mark (get_or text count d)) start
-    (near ++ wholes_at marks count mark) refl
-    (found-more marks kind text count mark start d near f h))
+found-next marks kind text count mark start new next d near more f h is last all = grind (arith, kept-by, found-more)
 
 -- ## What is found in the end
 
@@ -143,19 +99,12 @@ begins-take : (first text : List ℕ) → is_beginning_of first text ≡ true �
 begins-take first text h = same_text first (take (length first) text) (sym h)
 
 not-longer : (first text : List ℕ) → is_beginning_of first text ≡ true → length first ≤ length text
-not-longer first text h =
-    let e : length first ≡ min (length first) (length text) = ap length (begins-take first text h)
-    ∙ length-take (length first) text in
-    omega arith
+not-longer first text h = grind (arith, begins-take, length-take)
 
 longer : (marks : Marks) (kind : SecKind) (text other : List ℕ) (k at : ℕ) → IsMarked marks kind other k
     → is_beginning_of text other ≡ true → at ≤ length text → is_kept_length at ≡ true
     → is_one_of k (positions_at (mark_of kind (take at text)) marks.starts) ≡ true
-longer marks kind text other k at m h most kept =
-    let below : length text ≤ length other = not-longer text other h in
-    let same : take at other ≡ take at text =
-    sym (ap (take at) (begins-take text other h) ∙ take-take at (length text) other most) in
-    subst (λ t. Has marks.starts (mark_of kind t) k) same (m.starts at (omega arith) kept)
+longer marks kind text other k at m h most kept = grind (arith, not-longer, begins-take, take-take)
 
 decide : (a b : ℕ) → a ≤ b → (a < b) ⊎ (a ≡ b)
 decide a b h = grind arith
@@ -168,20 +117,7 @@ found-all : (marks : Marks) (kind : SecKind) (text other : List ℕ) (mark start
     → Found marks kind text (length text) mark start near → IsMarked marks kind other k → IsNear other text
     → is_one_of k (near ++ positions_at start marks.starts) ≡ true
 found-all marks kind text other mark start k near f m h =
-    let more = λ (begun : is_beginning_of text other ≡ true). in-right k near (positions_at start marks.starts)
-    (subst (λ s. is_one_of k (positions_at s marks.starts) ≡ true) (sym f.start_is)
-    (longer marks kind text other k f.at m begun f.at_most f.kept)) in
-    elim (or-yes (is_beginning_of other text) (is_beginning_of text other) h) [
-      | inl first ↦ elim (decide (length other) (length text) (not-longer other text first)) [
-        | inl below ↦
-            in-left k near (positions_at start marks.starts)
-            (f.shorter (length other) k below (subst (λ t. IsMarked marks kind t k) (begins-take other text first) m))
-        | inr same ↦
-            more (begins-self text other (begins-take other text first
-            ∙ (ap (λ n. take n text) same ∙ take_all (length text) text (omega arith))))
-      ]
-      | inr begun ↦ more begun
-    ]
+    grind (arith, in-right, longer, or-yes, decide, not-longer, in-left, begins-take, begins-self, take_all)
 
 pub found-end : (marks : Marks) (kind : SecKind) (text other : List ℕ) (count mark start k : ℕ) (near : List ℕ)
     → Found marks kind text count mark start near → length text ≤ count → IsMarked marks kind other k
@@ -196,11 +132,7 @@ found-end marks kind text other count mark start k near f end m h =
 
 pub keeps-all : (marks more : Marks) → more.shortest ≤ marks.shortest → HasAll marks.wholes more.wholes
     → HasAll marks.starts more.starts → KeepsMarks marks more
-keeps-all marks more low wholes starts kind text k m = record {
-  long = let long : marks.shortest ≤ length text = m.long in omega arith;
-  whole = wholes (mark_of kind text) k m.whole;
-  starts = λ count h kept. starts (mark_of kind (take count text)) k (m.starts count h kept);
-}
+keeps-all marks more low wholes starts kind text k m = grind arith
 
 -- the marks of a name that are kept so far
 pub record Marking (old marks : Marks) (kind : SecKind) (text : List ℕ) (k count mark : ℕ) : Type 0 where
@@ -214,28 +146,14 @@ pub enter-first : (old marks : Marks) (kind : SecKind) (text : List ℕ) (k mark
     → marks.shortest ≡ min old.shortest (length text)
     → HasAll old.wholes marks.wholes → HasAll old.starts marks.starts
     → (is_kept_length 0 ≡ true → Has marks.starts mark k) → Marking old marks kind text k 0 mark
-enter-first old marks kind text k mark is shortest wholes keeps has = record {
-  mark_is = is;
-  shortest = shortest;
-  wholes = wholes;
-  keeps = keeps;
-  starts = λ at h kept.
-      let none : at ≡ 0 = omega arith in
-      subst (λ n. Has marks.starts (mark_of kind (take n text)) k) (sym none)
-      (subst (λ m. Has marks.starts m k) is (has (subst (λ n. is_kept_length n ≡ true) none kept)));
-}
+enter-first old marks kind text k mark is shortest wholes keeps has = grind arith
 
 starts-more : (marks more : Marks) (kind : SecKind) (text : List ℕ) (k count mark : ℕ)
     → HasAll marks.starts more.starts
     → ((at : ℕ) → at ≤ count → is_kept_length at ≡ true → Has marks.starts (mark_of kind (take at text)) k)
     → (is_kept_length (count + 1) ≡ true → Has more.starts (mark_of kind (take (count + 1) text)) k)
     → (at : ℕ) → at ≤ count + 1 → is_kept_length at ≡ true → Has more.starts (mark_of kind (take at text)) k
-starts-more marks more kind text k count mark grows starts has at h kept = elim (decide at (count + 1) h) [
-  | inl below ↦ grows (mark_of kind (take at text)) k (starts at (omega arith) kept)
-  | inr same ↦
-      let here : is_kept_length (count + 1) ≡ true = subst (λ n. is_kept_length n ≡ true) same kept in
-      subst (λ n. Has more.starts (mark_of kind (take n text)) k) (sym same) (has here)
-]
+starts-more marks more kind text k count mark grows starts has at h kept = grind (arith, decide)
 
 pub enter-more : (old marks more : Marks) (kind : SecKind) (text : List ℕ) (k count mark new d : ℕ)
     → Marking old marks kind text k count mark
@@ -243,25 +161,12 @@ pub enter-more : (old marks more : Marks) (kind : SecKind) (text : List ℕ) (k 
     → HasAll marks.wholes more.wholes → HasAll marks.starts more.starts
     → (is_kept_length (count + 1) ≡ true → Has more.starts new k) → Marking old more kind text k (count + 1) new
 enter-more old marks more kind text k count mark new d e h byte shortest wholes grows has =
-    let is : new ≡ mark_of kind (take (count + 1) text) =
-    byte ∙ (ap (λ m. next_mark m (get_or text count d)) e.mark_is ∙ sym (mark-more (first_mark kind) text count d h)) in
-    record {
-      mark_is = is;
-      shortest = shortest ∙ e.shortest;
-      wholes = λ m j h. wholes m j (e.wholes m j h);
-      keeps = λ m j h. grows m j (e.keeps m j h);
-      starts = starts-more marks more kind text k count mark grows e.starts
-          (λ kept. subst (λ m. Has more.starts m k) is (has kept));
-    }
+    grind (arith, mark-more, starts-more)
 
 pub enter-last : (old marks more : Marks) (kind : SecKind) (text : List ℕ) (k count mark : ℕ)
     → more.shortest ≤ length text → Marking old marks kind text k count mark
     → length text ≤ count → HasAll marks.starts more.starts → Has more.wholes mark k → IsMarked more kind text k
-enter-last old marks more kind text k count mark long e end grows has = record {
-  long = long;
-  whole = subst (λ m. Has more.wholes m k) (e.mark_is ∙ ap (mark_of kind) (take_all count text end)) has;
-  starts = λ at h kept. grows (mark_of kind (take at text)) k (e.starts at (omega arith) kept);
-}
+enter-last old marks more kind text k count mark long e end grows has = grind (arith, take_all)
 
 -- the lesser of two is no more than the first
 pub no-more : (old new size : ℕ) → new ≡ min old size → new ≤ old

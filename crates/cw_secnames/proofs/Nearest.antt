@@ -1,24 +1,23 @@
 -- The earliest name that passes is the least position, among those near a text, of a name that passes.
-use Rattle.std.proofs.Common.{◌≡◌, ℕ, zero, suc, ◌+◌, ◌-◌, ◌<◌, ◌≤◌, ◌&&◌, ◌||◌, ◌==◌, ◌⊎◌, inl, inr, Bool, true, false}
-use Rattle.std.proofs.Common.{not, nat_lt, nat_le, nat_eq, List, [], ◌∷◌, ◌++◌, Option, Some, None, IfSome, slice_set}
+use Rattle.std.proofs.Common.{◌≡◌, ℕ, zero, suc, ◌+◌, ◌-◌, ◌<◌, ◌≤◌, ◌&&◌, ◌==◌, ◌⊎◌, inl, inr, Bool, true, false}
+use Rattle.std.proofs.Common.{nat_lt, nat_le, nat_eq, List, [], ◌∷◌, ◌++◌, Option, Some, None, IfSome, slice_set}
 use Rattle.std.proofs.Common.{option_map, map, length, drop, take, get_or, cond, refl, ap, ◌∙◌, sym, subst, arith}
 use Rattle.std.proofs.Common.{add-zero, zero-add, length-drop, get_or-drop, eqb-true, lt-ltb, ltb-true, ltb-false}
 use Rattle.std.proofs.Common.{le-ltb, leb-true, le-leb}
 use Rattle.std.specs.List.{position, position_or_len}
-use Rattle.std.specs.Cmp.Lexicographic.{same_text, pointwise}
 use Rattle.std.proofs.lemmas.List.Sums.{position_or_len_is}
+use Rattle.std.proofs.lemmas.Bool.Decides.{nat_tests}
+use Rattle.std.proofs.lemmas.Grind.{common_steps}
 use Rattle.cw_base.proofs.TestLaws.{one-left, one-right}
 use Rattle.cw_secnames.specs.declared.kinds.SecKind.{SecKind}
-use Rattle.cw_secnames.specs.declared.kinds.SecKind.TheVariants.{Named, File}
+use Rattle.cw_secnames.specs.declared.kinds.SecKind.TheVariants.{Named}
 use Rattle.cw_secnames.specs.declared.sec_names.Asked.{Asked}
-use Rattle.cw_secnames.specs.declared.sec_names.Asked.TheVariants.{Whole, Growing, Conflicting, Candidate}
 use Rattle.cw_secnames.specs.declared.sec_names.Kept.{Kept}
 use Rattle.cw_secnames.specs.declared.marks.Marks.{Marks}
 use Rattle.cw_secnames.specs.declared.kinds.RefKind.{RefKind}
-use Rattle.cw_secnames.specs.declared.kinds.RefKind.TheVariants.{Defined, Used, Cited}
 use Rattle.cw_secnames.specs.References.{with_reference, with_section}
 use Rattle.cw_secnames.specs.Inside.{name_of}
-use Rattle.cw_secnames.specs.Kept.{SecName, same_name_kind, is_beginning_of, begins_properly, unreferred}
+use Rattle.cw_secnames.specs.Kept.{SecName, same_name_kind, is_beginning_of, unreferred}
 use Rattle.cw_secnames.specs.Asked.{kind_asked, passes, passes_at, is_below, chosen, is_lesser, least_of}
 use Rattle.cw_secnames.specs.Marks.{is_one_of, is_near, IsNear, IsMarked, KeepsMarks, AreMarked, HoldNear}
 use Rattle.cw_secnames.proofs.Finding.{length-named}
@@ -29,18 +28,12 @@ use Rattle.cw_secnames.proofs.Marked.{both, and-yes, or-yes, begins-self}
 pub marked-more : (marks more : Marks) (k : ℕ) (names : List SecName) → KeepsMarks marks more → AreMarked marks k names
     → AreMarked more k names
 marked-more marks more k [] keeps h = tt
-marked-more marks more k (n ∷ names) keeps h = (
-  keeps n.kind n.text k h.0,
-  marked-more marks more (k + 1) names keeps
-      h.1,
-)
+marked-more marks more k (n ∷ names) keeps h = grind (arith, marked-more marks more (k + 1) names keeps h.1, keeps)
 
 marked-by : (marks : Marks) (k : ℕ) (how : RefKind) (section : ℕ) (n : SecName) (names : List SecName)
     → AreMarked marks k (n ∷ names)
     → AreMarked marks k (with_section how section n ∷ names)
-marked-by marks k Defined section n names h = h
-marked-by marks k Used section n names h = h
-marked-by marks k Cited section n names h = h
+marked-by marks k how section n names h = grind arith
 
 pub marked-with_reference : (marks : Marks) (k i : ℕ) (how : RefKind) (section : ℕ) (names : List SecName)
     → AreMarked marks k names
@@ -53,85 +46,35 @@ marked-with_reference marks k (suc i) how section (n ∷ names) h =
 -- ## The names near a text
 
 same : (a b : SecKind) → same_name_kind a b ≡ true → b ≡ a
-same Named Named h = refl
-same File File h = refl
-same Named File h = absurd (cc)
-same File Named h = absurd (cc)
+same a b h = grind arith
 
 pub holds : (marks : Marks) (near : List ℕ) (kind : SecKind) (text : List ℕ) (k : ℕ) (names : List SecName)
     → AreMarked marks k names
     → ((other : List ℕ) (k : ℕ) → IsMarked marks kind other k → IsNear other text → is_one_of k near ≡ true)
     → HoldNear near kind text k names
 holds marks near kind text k [] h f = tt
-holds marks near kind text k (n ∷ names) h f = (
-  λ is.
-      let each : (same_name_kind kind n.kind ≡ true) × (IsNear n.text text) =
-      both (same_name_kind kind n.kind) (is_beginning_of n.text text || is_beginning_of text n.text) is in
-      f n.text k (subst (λ kind. IsMarked marks kind n.text k) (same kind n.kind each.0) h.0) each.1,
-  holds marks near kind text (k + 1) names h.1 f,
-)
+holds marks near kind text k (n ∷ names) h f = grind (arith, holds marks near kind text (k + 1) names h.1 f, both, same)
 
 begun : (kind : SecKind) (text : List ℕ) (n : SecName) → same_name_kind kind n.kind ≡ true → is_beginning_of n.text text
     ≡ true
     → is_near kind text n ≡ true
-begun kind text n h k = and-yes (same_name_kind kind n.kind) (is_beginning_of n.text text
-    || is_beginning_of text n.text) h
-    (one-left (is_beginning_of n.text text) (is_beginning_of text n.text) k)
+begun kind text n h k = grind (arith, and-yes, one-left)
 
 begins-it : (kind : SecKind) (text : List ℕ) (n : SecName) → same_name_kind kind n.kind ≡ true
     → is_beginning_of text n.text ≡ true
     → is_near kind text n ≡ true
-begins-it kind text n h k = and-yes (same_name_kind kind n.kind) (is_beginning_of n.text text
-    || is_beginning_of text n.text) h
-    (one-right (is_beginning_of n.text text) (is_beginning_of text n.text) k)
+begins-it kind text n h k = grind (arith, and-yes, one-right)
 
 -- a name that passes is near
 passes-near : (asked : Asked) (text : List ℕ) (n : SecName) → passes asked text n ≡ true
     → is_near (kind_asked asked) text n ≡ true
-passes-near (Whole kind) text n h =
-    let a : (n.complete ≡ true) × ((same_name_kind kind n.kind && pointwise nat_eq text n.text) ≡ true) =
-    both n.complete (same_name_kind kind n.kind && pointwise nat_eq text n.text) h in
-    let b : (same_name_kind kind n.kind ≡ true) × (pointwise nat_eq text n.text ≡ true) =
-    both (same_name_kind kind n.kind) (pointwise nat_eq text n.text) a.1 in
-    begins-it kind text n b.0 (begins-self text n.text (sym (same_text text n.text (sym b.1))))
-passes-near (Growing kind) text n h =
-    let a : (not n.complete ≡ true) × ((same_name_kind kind n.kind && is_beginning_of n.text text) ≡ true) =
-    both (not n.complete) (same_name_kind kind n.kind && is_beginning_of n.text text) h in
-    let b : (same_name_kind kind n.kind ≡ true) × (is_beginning_of n.text text ≡ true) =
-    both (same_name_kind kind n.kind) (is_beginning_of n.text text) a.1 in
-    begun kind text n b.0 b.1
-passes-near (Conflicting kind) text n h =
-    let a : (same_name_kind kind n.kind ≡ true) × ((begins_properly n.text text || begins_properly text n.text)
-    ≡ true) =
-    both (same_name_kind kind n.kind) (begins_properly n.text text || begins_properly text n.text) h in
-    elim (or-yes (begins_properly n.text text) (begins_properly text n.text) a.1) [
-      | inl one ↦ begun kind text n a.0 (both (nat_lt (length n.text) (length text)) (is_beginning_of n.text text)
-          one).1
-      | inr one ↦ begins-it kind text n a.0 (both (nat_lt (length text) (length n.text)) (is_beginning_of text n.text)
-          one).1
-    ]
-passes-near Candidate text n h =
-    let a : (same_name_kind Named n.kind ≡ true)
-    × ((is_beginning_of text n.text || (not n.complete && is_beginning_of n.text text)) ≡ true) =
-    both (same_name_kind Named n.kind) (is_beginning_of text n.text || (not n.complete && is_beginning_of n.text text))
-    h in
-    elim (or-yes (is_beginning_of text n.text) (not n.complete && is_beginning_of n.text text) a.1) [
-      | inl one ↦ begins-it Named text n a.0 one
-      | inr one ↦ begun Named text n a.0 (both (not n.complete) (is_beginning_of n.text text) one).1
-    ]
+passes-near asked text n h = grind (arith, nat_tests, common_steps, nat_eq, both, begins-it, begins-self, begun, or-yes)
 
 pub is-held : (near : List ℕ) (asked : Asked) (text : List ℕ) (j : ℕ) (names : List SecName) (k : ℕ)
     → HoldNear near (kind_asked asked) text j names
     → passes_at (passes asked text) names k ≡ true → is_one_of (j + k) near ≡ true
-is-held near asked text j [] k h p =
-    let a : (nat_lt k 0 ≡ true) × (passes asked text (get_or [] k (unreferred Named [] false)) ≡ true) =
-    both (nat_lt k 0) _ p in
-    let none : k < 0 = ltb-true k 0 a.0 in
-    absurd (omega arith)
-is-held near asked text j (n ∷ names) zero h p =
-    let a : (nat_lt 0 (suc (length names)) ≡ true) × (passes asked text n ≡ true) =
-    both (nat_lt 0 (suc (length names))) (passes asked text n) p in
-    subst (λ i. is_one_of i near ≡ true) (sym (add-zero j)) (h.0 (passes-near asked text n a.1))
+is-held near asked text j [] k h p = grind (arith, both, ltb-true)
+is-held near asked text j (n ∷ names) zero h p = grind (arith, both, add-zero, passes-near)
 is-held near asked text j (n ∷ names) (suc k) h p =
     let at : SecName = get_or names k (unreferred Named [] false) in
     let a : (nat_lt (suc k) (suc (length names)) ≡ true) × (passes asked text at ≡ true) =
@@ -158,11 +101,7 @@ lesser test names from least k = chosen (is_lesser test names from least k) k le
 sound-by : (b : Bool) (test : SecName → Bool) (names : List SecName) (from k : ℕ) (least : Option ℕ)
     → is_lesser test names from least k ≡ b
     → Sound test names from least → Sound test names from (chosen b k least)
-sound-by true test names from k least h s =
-    let a : (nat_le from k ≡ true) × ((is_below k least && passes_at test names k) ≡ true) =
-    both (nat_le from k) (is_below k least && passes_at test names k) h in
-    (leb-true from k a.0, (both (is_below k least) (passes_at test names k) a.1).1)
-sound-by false test names from k least h s = s
+sound-by b test names from k least h s = grind (arith, nat_le, both, leb-true)
 
 pub sound : (test : SecName → Bool) (names : List SecName) (from : ℕ) (least : Option ℕ) (positions : List ℕ)
     → Sound test names from least
@@ -174,37 +113,23 @@ sound test names from least (k ∷ positions) s =
 
 keeps-by : (b : Bool) (k j : ℕ) (least : Option ℕ) → (b ≡ true → is_below j least ≡ true) → AtMost least k
     → AtMost (chosen b j least) k
-keeps-by false k j least below h = h
-keeps-by true k j None below h = absurd h
-keeps-by true k j (Some least) below h =
-    let less : j < least = ltb-true j least (below refl) in omega arith
+keeps-by b k j least below h = grind (arith, ltb-true)
 
 keeps : (test : SecName → Bool) (names : List SecName) (from k j : ℕ) (least : Option ℕ) → AtMost least k
     → AtMost (lesser test names from least j) k
-keeps test names from k j least h =
-    keeps-by (is_lesser test names from least j) k j least
-    (λ e.
-    let a : (nat_le from j ≡ true) × ((is_below j least && passes_at test names j) ≡ true) =
-    both (nat_le from j) (is_below j least && passes_at test names j) e in
-    (both (is_below j least) (passes_at test names j) a.1).0)
-    h
+keeps test names from k j least h = grind (arith, keeps-by, nat_le, both)
 
 here-below : (b : Bool) (k : ℕ) (least : Option ℕ) → (b ≡ false → is_below k least ≡ false)
     → AtMost (chosen b k least) k
-here-below true k least h = omega arith
-here-below false k None h = absurd (let e : true ≡ false = h refl in cc)
-here-below false k (Some least) h = ltb-false k least (h refl)
+here-below b k least h = grind (arith, ltb-false)
 
 and-no : (a b c : Bool) → a ≡ true → c ≡ true → (a && (b && c)) ≡ false → b ≡ false
-and-no a true c h k e = absurd (let f : (a && (true && c)) ≡ true = and-yes a c h k in cc)
-and-no a false c h k e = refl
+and-no a b c h k e = grind (arith, and-yes)
 
 here : (test : SecName → Bool) (names : List SecName) (from k : ℕ) (least : Option ℕ) → from ≤ k
     → passes_at test names k ≡ true
     → AtMost (lesser test names from least k) k
-here test names from k least h p =
-    here-below (is_lesser test names from least k) k least
-    (and-no (nat_le from k) (is_below k least) (passes_at test names k) (le-leb from k h) p)
+here test names from k least h p = grind (arith, here-below, and-no, nat_le, le-leb)
 
 pub at-most : (test : SecName → Bool) (names : List SecName) (from : ℕ) (least : Option ℕ) (positions : List ℕ) (k : ℕ)
     → from ≤ k
@@ -225,8 +150,7 @@ at-most test names from least (j ∷ positions) k h p (inl e) = elim (or-yes (j 
 -- ## The first name that passes
 
 not-true : (b : Bool) → (b ≡ true → ⊥) → b ≡ false
-not-true true h = absurd (h refl)
-not-true false h = refl
+not-true b h = grind arith
 
 abbrev nobody : SecName
 nobody = unreferred Named [] false
@@ -234,11 +158,7 @@ nobody = unreferred Named [] false
 passes-behind : (test : SecName → Bool) (names : List SecName) (from k : ℕ) → k < length (drop from names)
     → test (get_or (drop from names) k nobody) ≡ true
     → passes_at test names (from + k) ≡ true
-passes-behind test names from k h e =
-    let long : length (drop from names) ≡ length names - from = length-drop from names in
-    and-yes (nat_lt (from + k) (length names)) (test (get_or names (from + k) nobody))
-    (lt-ltb (from + k) (length names) (omega arith))
-    (ap test (sym (get_or-drop from names k nobody)) ∙ e)
+passes-behind test names from k h e = grind (arith, length-drop, and-yes, lt-ltb, get_or-drop)
 
 at-end : (p n : ℕ) → p ≡ n → cond (nat_lt p n) (Some p) None ≡ None
 at-end p n h = rw (le-ltb p n (omega arith)) refl
@@ -286,8 +206,7 @@ least-first near asked text names from h =
     (inl (subst (λ i. is_one_of i near ≡ true) (zero-add k) (is-held near asked text 0 names k h p))))
 
 pub from-first : (o : Option ℕ) → option_map (λ more. 0 + more) o ≡ o
-from-first None = refl
-from-first (Some k) = ap Some (zero-add k)
+from-first o = grind (arith, zero-add)
 
 -- a position more
 least-more : (test : SecName → Bool) (names : List SecName) (from : ℕ) (least : Option ℕ) (near : List ℕ) (i : ℕ)
@@ -306,21 +225,15 @@ pub least-next : (test : SecName → Bool) (names : List SecName) (from : ℕ) (
     → i < length near → best ≡ least_of test names from None (take i near)
     → less ≡ is_lesser test names from best (get_or near i 0)
     → next ≡ chosen less (get_or near i 0) best → next ≡ least_of test names from None (take (i + 1) near)
-least-next test names from near i less best next h is goes chooses =
-    chooses ∙ (ap (λ b. chosen b (get_or near i 0) best) goes ∙
-    (ap (λ b. lesser test names from b (get_or near i 0)) is ∙ sym (least-more test names from None near i h)))
+least-next test names from near i less best next h is goes chooses = grind (arith, least-more)
 
 sound-within : (test : SecName → Bool) (names : List SecName) (from : ℕ) (r : Option ℕ) → Sound test names from r
     → IfSome r (λ k. k < length names)
-sound-within test names from None s = tt
-sound-within test names from (Some k) s =
-    ltb-true k (length names) (both (nat_lt k (length names)) (test (get_or names k (unreferred Named [] false))) s.1).0
+sound-within test names from r s = grind (arith, ltb-true, both)
 
 pub least-within : (test : SecName → Bool) (names : List SecName) (from : ℕ) (near : List ℕ) (r : Option ℕ)
     → r ≡ least_of test names from None near → IfSome r (λ k. k < length names)
-least-within test names from near r h =
-    subst (λ r. IfSome r (λ k. k < length names)) (sym h)
-    (sound-within test names from (least_of test names from None near) (sound test names from None near tt))
+least-within test names from near r h = grind (arith, sound-within, sound)
 
 -- ## Names in memory
 
@@ -342,9 +255,7 @@ marked-set marks k (x ∷ xs) (suc i) new h m =
 pub marked-as : (marks : Marks) (kind other : SecKind) (text items : List ℕ) (k j : ℕ) → kind ≡ other → items ≡ text
     → k ≡ j → IsMarked marks kind text k
     → IsMarked marks other items (0 + j)
-marked-as marks kind other text items k j e f g m =
-    subst (IsMarked marks other items) (sym (zero-add j)) (subst (IsMarked marks other items) g
-    (subst (λ t. IsMarked marks other t k) (sym f) (subst (λ (kind : SecKind). IsMarked marks kind text k) e m)))
+marked-as marks kind other text items k j e f g m = grind (arith, zero-add)
 
 pub same-kind : (xs : List Kept) (i : ℕ) (a b : Kept) → i < length xs → (get_or xs i a).kind ≡ (get_or xs i b).kind
 same-kind [] i a b h = absurd (omega arith)
@@ -360,14 +271,8 @@ named-at (x ∷ xs) (suc k) d e h = named-at xs k d e (omega arith)
 pub passes-there : (test : SecName → Bool) (xs : List Kept) (names : List SecName) (k : ℕ) (x : Kept) → map name_of xs
     ≡ names → k < length xs
     → x ≡ get_or xs k x → test (name_of x) ≡ passes_at test names k
-passes-there test xs names k x view h is =
-    let some : nat_lt k (length (map name_of xs)) ≡ true =
-    lt-ltb k (length (map name_of xs)) (subst (λ n. k < n) (sym (length-named xs)) h) in
-    subst (λ names. test (name_of x) ≡ passes_at test names k) view
-    (sym (ap (λ b. b && test (get_or (map name_of xs) k (unreferred Named [] false))) some ∙
-    ap test (named-at xs k x (unreferred Named [] false) h ∙ ap name_of (sym is))))
+passes-there test xs names k x view h is = grind (arith, lt-ltb, length-named, named-at)
 
 pub passes-not : (test : SecName → Bool) (names : List SecName) (k : ℕ) → length names ≤ k
     → false ≡ passes_at test names k
-passes-not test names k h = sym (ap (λ b. b && test (get_or names k (unreferred Named [] false)))
-    (le-ltb k (length names) h))
+passes-not test names k h = grind (arith, le-ltb)

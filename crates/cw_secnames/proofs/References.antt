@@ -1,6 +1,6 @@
 -- A number more in an ascending list.
 use Rattle.std.proofs.Common.{◌≡◌, ℕ, zero, suc, ◌<◌, ◌≤◌, ◌==◌, ◌||◌, ◌+◌, Bool, true, false, List, [], ◌∷◌, ◌++◌}
-use Rattle.std.proofs.Common.{length, refl, ap, sym, subst, ◌∙◌, get_or, map, insert, slice_set, arith, Result, Ok, Err}
+use Rattle.std.proofs.Common.{length, refl, ap, sym, ◌∙◌, get_or, map, insert, slice_set, arith, Result, Ok, Err}
 use Rattle.std.proofs.Common.{MatchResult}
 use Rattle.std.specs.List.Sorted.{IsBinarySearchResult}
 use Rattle.std.specs.Ordering.{nat_cmp}
@@ -8,7 +8,6 @@ use Rattle.std.proofs.lemmas.List.Sorted.{searched}
 use Rattle.std.proofs.lemmas.Bool.{eq-eqb, eqb-true}
 use Rattle.cw_base.proofs.TestLaws.{or-false}
 use Rattle.cw_secnames.specs.declared.kinds.RefKind.{RefKind}
-use Rattle.cw_secnames.specs.declared.kinds.RefKind.TheVariants.{Defined, Used, Cited}
 use Rattle.cw_secnames.specs.declared.sec_names.Kept.{Kept}
 use Rattle.cw_secnames.specs.Inside.{listed, lists_of, name_of}
 use Rattle.cw_secnames.specs.Kept.{SecName}
@@ -18,18 +17,10 @@ use Rattle.cw_secnames.specs.References.{with_reference, with_section}
 use Rattle.cw_secnames.specs.OnceLaws.{with_number-ascends, with_number-is}
 
 or-comm : (a b : Bool) → (a || b) ≡ (b || a)
-or-comm true true = refl
-or-comm true false = refl
-or-comm false true = refl
-or-comm false false = refl
+or-comm a b = grind arith
 
 or-assoc : (a b c : Bool) → ((a || b) || c) ≡ (a || (b || c))
-or-assoc true b c = refl
-or-assoc false b c = refl
-
-or-same : (a : Bool) → (a || a) ≡ a
-or-same true = refl
-or-same false = refl
+or-assoc a b c = grind arith
 
 -- ## One or two numbers
 
@@ -60,16 +51,14 @@ pub ruleset few = (with_first, with_up, with_down, with_same)
 ascend-at : (least k : ℕ) (ns : List ℕ) → AscendFrom least ns → k < length ns → least ≤ get_or ns k 0
 ascend-at least k [] up low = absurd (omega arith)
 ascend-at least zero (n ∷ ns) up low = up.0
-ascend-at least (suc k) (n ∷ ns) up low =
-    let there : n + 1 ≤ get_or ns k 0 = ascend-at (n + 1) k ns up.1 (omega arith) in omega (arith, up.0)
+ascend-at least (suc k) (n ∷ ns) up low = grind (arith, ascend-at (n + 1) k ns up.1 (omega arith))
 
 -- what a binary search asks
 pub rises : (least : ℕ) (ns : List ℕ) → AscendFrom least ns → (i j : ℕ) → i ≤ j → j < length ns
     → get_or ns i 0 ≤ get_or ns j 0
 rises least [] up i j h low = absurd (omega arith)
 rises least (n ∷ ns) up zero zero h low = omega arith
-rises least (n ∷ ns) up zero (suc j) h low =
-    let there : n + 1 ≤ get_or ns j 0 = ascend-at (n + 1) j ns up.1 (omega arith) in omega arith
+rises least (n ∷ ns) up zero (suc j) h low = grind (arith, ascend-at)
 rises least (n ∷ ns) up (suc i) zero h low = absurd (omega arith)
 rises least (n ∷ ns) up (suc i) (suc j) h low = rises (n + 1) ns up.1 i j (omega arith) (omega arith)
 
@@ -79,12 +68,7 @@ found-in zero n (x ∷ ns) low is = ap (λ b. b || is_one_of n ns) (eq-eqb x n i
 found-in (suc i) n (x ∷ ns) low is = ap (λ b. (x == n) || b) (found-in i n ns (omega arith) is) ∙ or-comm (x == n) true
 
 pub with_there : (i n : ℕ) (ns : List ℕ) → Ascend ns → i < length ns → get_or ns i 0 ≡ n → with_number n ns ≡ ns
-with_there i n ns up low is = with_number-is n ns ns up (λ k. by k (n == k) refl)
-  where
-    by : (k : ℕ) (t : Bool) → (n == k) ≡ t → (is_one_of k ns || t) ≡ is_one_of k ns
-    by k true e = or-comm (is_one_of k ns) true
-        ∙ sym (subst (λ (j : ℕ). is_one_of j ns ≡ true) (eqb-true n k e) (found-in i n ns low is))
-    by k false e = or-false (is_one_of k ns)
+with_there i n ns up low is = grind (arith, with_number-is, or-comm, eqb-true, found-in, or-false)
 
 ascend-inserted : (least i n : ℕ) (ns : List ℕ) → AscendFrom least ns → i ≤ length ns → least ≤ n
     → ((k : ℕ) → k < i → get_or ns k 0 < n) → ((k : ℕ) → i ≤ k → k < length ns → n < get_or ns k 0)
@@ -101,11 +85,10 @@ ascend-inserted least (suc i) n (x ∷ ns) up within low before behind =
     )
 
 in-inserted : (i n k : ℕ) (ns : List ℕ) → (is_one_of k ns || (n == k)) ≡ is_one_of k (insert ns i n)
-in-inserted zero n k [] = sym (or-false (n == k))
-in-inserted (suc i) n k [] = sym (or-false (n == k))
 in-inserted zero n k (x ∷ ns) = or-comm (is_one_of k (x ∷ ns)) (n == k)
 in-inserted (suc i) n k (x ∷ ns) = or-assoc (x == k) (is_one_of k ns) (n == k)
     ∙ ap (λ b. (x == k) || b) (in-inserted i n k ns)
+in-inserted _ n k _ = sym (or-false (n == k))
 
 pub with_inserted : (i n : ℕ) (ns : List ℕ) → Ascend ns → i ≤ length ns
     → ((k : ℕ) → k < i → get_or ns k 0 < n) → ((k : ℕ) → i ≤ k → k < length ns → n < get_or ns k 0)
@@ -131,9 +114,7 @@ searched_number n ns r up is = by r (searched ns n r is (rises 0 ns up))
 
 section-ascends : (how : RefKind) (section : ℕ) (n : SecName) → RefersAscending n
     → RefersAscending (with_section how section n)
-section-ascends Defined section n up = (with_number-ascends section n.defined, up.1, up.2)
-section-ascends Used section n up = (up.0, with_number-ascends section n.used, up.2)
-section-ascends Cited section n up = (up.0, up.1, with_number-ascends section n.cited)
+section-ascends how section n up = grind (arith, with_number-ascends)
 
 pub ascending-with_reference : (i : ℕ) (how : RefKind) (section : ℕ) (names : List SecName) → ReferAscending names
     → ReferAscending (with_reference i how section names)
@@ -161,6 +142,4 @@ ascending-at (x ∷ xs) (suc i) d up low = ascending-at xs i d up.1 (omega arith
 
 -- in one way
 pub ascending-in : (how : RefKind) (x : Kept) → RefersAscending (name_of x) → Ascend (listed how (lists_of x.referrers))
-ascending-in Defined x up = up.0
-ascending-in Used x up = up.1
-ascending-in Cited x up = up.2
+ascending-in how x up = grind arith

@@ -1,14 +1,15 @@
 -- The pair at a place.
-use Rattle.std.proofs.Common.{◌≡◌, ◌≢◌, ℕ, zero, suc, ◌<◌, ◌≤◌, Bool, true, false, List, [], ◌∷◌, ◌++◌, Some}
-use Rattle.std.proofs.Common.{None, map, length, nat_lt, refl, ap, sym, subst, ◌∙◌, get_or, arith, All, length-append}
+use Rattle.std.proofs.Common.{◌≡◌, ◌≢◌, ℕ, zero, suc, ◌<◌, ◌≤◌, Bool, true, false, List, [], ◌∷◌, ◌++◌, Some, None, map}
+use Rattle.std.proofs.Common.{length, nat_lt, refl, ap, get_or, arith, All, length-append}
 use Rattle.std.proofs.Math.ListN.{get_or-append}
 use Rattle.std.proofs.Math.Seq.{get_or-append_seam}
 use Rattle.std.proofs.Math.Dec.{ltb}
 use Rattle.std.specs.List.Sorted.{IsPartitionPoint, IsPartitionedBy}
-use Rattle.std.proofs.lemmas.List.Sorted.{IsPartitionedBy-ltb}
+use Rattle.std.proofs.lemmas.Bool.Decides.{nat_tests}
+use Rattle.std.proofs.lemmas.Grind.{common_steps}
 use Rattle.cw_base.proofs.NumberLaws.{apart}
-use borrow.Author.Tests.{eq-eqb, ltb-true, ltb-false}
-use Rattle.cw_secnames.specs.Uses.{NameUse, name_at}
+use borrow.Author.Tests.{eq-eqb, ltb-true}
+use Rattle.cw_secnames.specs.Uses.{name_at}
 use Rattle.cw_secnames.specs.InsideUses.{use_of, AreAscending}
 use Rattle.cw_secnames.specs.declared.name_uses.Pair.{Pair}
 
@@ -33,9 +34,8 @@ nowhere place (p ∷ pairs) d none =
 
 -- One pair more, behind all others.
 use_at : (pairs : List Pair) (i : ℕ) (d : Pair) → use_of (get_or pairs i d) ≡ get_or (map use_of pairs) i (use_of d)
-use_at [] i d = refl
-use_at (p ∷ pairs) zero d = refl
 use_at (p ∷ pairs) (suc i) d = use_at pairs i d
+use_at _ _ _ = refl
 
 length-uses : (pairs : List Pair) → length (map use_of pairs) ≡ length pairs
 length-uses [] = refl
@@ -44,16 +44,8 @@ length-uses (p ∷ pairs) = ap suc (length-uses pairs)
 more-by : (b : Bool) (pairs : List Pair) (p : Pair) (i j : ℕ) (d : Pair) → nat_lt j (length pairs) ≡ b
     → AreAscending pairs → All (λ u. u.place < p.place) (map use_of pairs) → i < j → j < length (pairs ++ p ∷ [])
     → (get_or (pairs ++ p ∷ []) i d).place < (get_or (pairs ++ p ∷ []) j d).place
-more-by true pairs p i j d t a below h within =
-    let l : j < length pairs = ltb-true j (length pairs) t in
-    let m : i < length pairs = omega arith in
-    rw (get_or-append pairs (p ∷ []) d i m, get_or-append pairs (p ∷ []) d j l) (a i j d h l)
-more-by false pairs p i j d t a below h within =
-    let at_end : j ≡ length pairs = omega (arith, ltb-false j (length pairs) t, length-append pairs (p ∷ [])) in
-    let m : i < length pairs = omega arith in
-    let n : i < length (map use_of pairs) = rw (length-uses pairs) m in
-    rw (get_or-append pairs (p ∷ []) d i m, at_end, get_or-append_seam pairs p [] d)
-    (subst (λ (u : NameUse). u.place < p.place) (sym (use_at pairs i d)) (below i (use_of d) n))
+more-by b pairs p i j d t a below h within =
+    grind (arith, nat_tests, common_steps, get_or-append, length-append, length-uses, get_or-append_seam, use_at)
 
 pub ascending-more : (pairs : List Pair) (p : Pair) → AreAscending pairs
     → All (λ u. u.place < p.place) (map use_of pairs)
@@ -63,10 +55,7 @@ ascending-more pairs p a below i j d h within = more-by (nat_lt j (length pairs)
 weak-by : (b : Bool) (pairs : List Pair) (i j : ℕ) (d : Pair) → nat_lt i j ≡ b → AreAscending pairs → i ≤ j
     → j < length pairs
     → (get_or pairs i d).place ≤ (get_or pairs j d).place
-weak-by true pairs i j d t a h within = omega (arith, a i j d (ltb-true i j t) within)
-weak-by false pairs i j d t a h within =
-    let same : j ≡ i = omega (arith, ltb-false i j t) in
-    rw same (omega arith)
+weak-by b pairs i j d t a h within = grind arith
 
 -- The pairs of one place and more are those behind a point.
 unfoldable pub IsPoint : (place : ℕ) (pairs : List Pair) (first : ℕ) → Type 0
@@ -75,8 +64,7 @@ IsPoint place pairs first = IsPartitionPoint (λ (p : Pair). ltb p.place place �
 
 pub parted : (place : ℕ) (pairs : List Pair) → AreAscending pairs
     → IsPartitionedBy (λ (p : Pair). ltb p.place place) pairs
-parted place pairs a = IsPartitionedBy-ltb (λ (p : Pair). p.place) pairs place
-    (λ i j d h within. weak-by (nat_lt i j) pairs i j d refl a h within)
+parted place pairs a = grind (arith, weak-by)
 
 pub point-below : (place : ℕ) (pairs : List Pair) (first : ℕ) (d : Pair) → IsPoint place pairs first
     → (k : ℕ) → k < first → (get_or pairs k d).place < place
@@ -88,20 +76,7 @@ none-by : (before behind : Bool) (place : ℕ) (pairs : List Pair) (first k : �
     → AreAscending pairs → IsPoint place pairs first → (first < length pairs → (get_or pairs first d).place ≢ place)
     → k < length pairs → (get_or pairs k d).place ≢ place
 unfolding IsPoint
-none-by true behind place pairs first k d t u a point other within same =
-    omega (arith, ltb-true _ _ (point.0 k d (omega arith) (ltb-true k first t)))
-none-by false true place pairs first k d t u a point other within same =
-    let here : first < length pairs = omega (arith, ltb-true first k u) in
-    other here (omega (
-      arith,
-      ltb-false _ _ (point.1 first d (omega arith) here),
-      a first k d (ltb-true first k u)
-          within,
-    ))
-none-by false false place pairs first k d t u a point other within same =
-    let at : k ≡ first = omega (arith, ltb-false k first t, ltb-false first k u) in
-    let here : first < length pairs = omega arith in
-    other here (ap (λ i. (get_or pairs i d).place) (sym at) ∙ same)
+none-by before behind place pairs first k d t u a point other within same = grind arith
 
 pub nowhere-by : (place : ℕ) (pairs : List Pair) (first : ℕ) (d : Pair) → AreAscending pairs → IsPoint place pairs first
     → (first < length pairs → (get_or pairs first d).place ≢ place) → name_at place (map use_of pairs) ≡ None

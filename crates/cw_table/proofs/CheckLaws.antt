@@ -7,11 +7,11 @@ use Rattle.std.proofs.lemmas.Bool.{ne_eqb}
 use Rattle.std.proofs.lemmas.List.{drop_more}
 use Rattle.std.proofs.lemmas.List.Sums.{AllPass-from_list_all}
 use Rattle.std.proofs.lemmas.List.Folds.{list_all-append, list_all_at, list_all_more}
+use Rattle.std.proofs.lemmas.Bool.Decides.{nat_tests}
 use Rattle.cw_base.specs.declared.category.Cat.{Cat}
 use Rattle.cw_base.specs.declared.category.Cat.TheVariants.{End}
 use Rattle.cw_base.specs.Category.{all_cats, in_set}
 use Rattle.cw_table.specs.declared.types.Piece.{Piece}
-use Rattle.cw_table.specs.declared.types.Piece.TheVariants.{Scrap, MathScrap}
 use Rattle.cw_table.specs.declared.types.Row.{Row}
 use Rattle.cw_table.specs.Rows.{test}
 use Rattle.cw_table.specs.Sound.{IsSound, counts_parts, lowers, lowers_all, marks_parts, numbers_from, pieces_parts}
@@ -26,8 +26,7 @@ all-sound rows h k d lt = sound-row (get_or rows k d) (AllPass-from_list_all row
 
 pub lowers-more : (row : Row) (i : ℕ) (d : Cat) → i < length all_cats → list_all (lowers row) (take i all_cats) ≡ true
     → lowers row (get_or all_cats i d) ≡ true → list_all (lowers row) (take (i + 1) all_cats) ≡ true
-lowers-more row i d lt h k = list_all_more (lowers row) all_cats i d lt
-    ∙ ap (λ b. b && lowers row (get_or all_cats i d)) h ∙ k
+lowers-more row i d lt h k = grind (arith, nat_tests, list_all_more (lowers row) all_cats i d lt)
 
 pub lowers-none : (row : Row) (i : ℕ) (d : Cat) → i < length all_cats → lowers row (get_or all_cats i d) ≡ false
     → false ≡ lowers_all row
@@ -49,22 +48,16 @@ ends-none row k from to h =
 pub ends-whole : (row : Row) (k : ℕ) → row.offset + row.replaced ≤ k
     → ((n : ℕ) → row.offset ≤ n → n < k → in_set (test row n) End ≡ false)
     → true ≡ without_end row row.offset row.replaced
-ends-whole row k past h =
-    sym (all-numbers (λ n. not (in_set (test row n) End)) row.offset row.replaced
-    (λ i lt. ap not (h (row.offset + i) (omega arith) (omega arith))))
+ends-whole row k past h = grind (arith, nat_tests, all-numbers)
 
 -- The pieces, one after the other.
 
 scraps-some : (piece : Piece) (rest : List Piece) (k : ℕ) → scrap_in piece ≡ Some k → scraps_in (piece ∷ rest)
     ≡ k ∷ scraps_in rest
-scraps-some (Scrap n) rest k e = let same : n ≡ k = cc in ap (λ m. m ∷ scraps_in rest) same
-scraps-some (MathScrap n) rest k e = let same : n ≡ k = cc in ap (λ m. m ∷ scraps_in rest) same
-scraps-some _ rest k e = absurd cc
+scraps-some x1 rest k e = grind (arith, nat_tests)
 
 scraps-none : (piece : Piece) (rest : List Piece) → scrap_in piece ≡ None → scraps_in (piece ∷ rest) ≡ scraps_in rest
-scraps-none (Scrap n) rest e = absurd cc
-scraps-none (MathScrap n) rest e = absurd cc
-scraps-none _ rest e = refl
+scraps-none x1 rest e = grind (arith, nat_tests)
 
 pub scraps-on : (pieces : List Piece) (i : ℕ) (d : Piece) (k : ℕ) → i < length pieces → scrap_in (get_or pieces i d)
     ≡ Some k → scraps_in (drop i pieces) ≡ k ∷ scraps_in (drop (i + 1) pieces)
@@ -82,36 +75,22 @@ drop-past (x ∷ xs) (suc i) h = drop-past xs i (omega arith)
 
 count-down : (next end : ℕ) → next < end → numbers_from next (end - next)
     ≡ next ∷ numbers_from (suc next) (end - suc next)
-count-down next end lt =
-    let e : end - next ≡ suc (end - suc next) = omega arith in ap (numbers_from next) e
+count-down next end lt = grind (arith, nat_tests)
 
 -- a scrap that is the next one, that is none of the next ones, or that is one too many
 pub order-on : (pieces : List Piece) (i k next end : ℕ) (d : Piece) → i < length pieces → scrap_in (get_or pieces i d)
     ≡ Some k → next < end → k ≡ next → same_numbers (scraps_in (drop i pieces)) (numbers_from next (end - next))
     ≡ same_numbers (scraps_in (drop (i + 1) pieces)) (numbers_from (next + 1) (end - (next + 1)))
-order-on pieces i k next end d lt e within is =
-    let step : suc next ≡ next + 1 = omega arith in
-    ap (λ ks. same_numbers ks (numbers_from next (end - next))) (scraps-on pieces i d k lt e)
-    ∙ ap (same_numbers (k ∷ scraps_in (drop (i + 1) pieces))) (count-down next end within)
-    ∙ ap (λ b. b && same_numbers (scraps_in (drop (i + 1) pieces)) (numbers_from (suc next) (end - suc next)))
-    (eq-eqb k next is)
-    ∙ ap (λ n. same_numbers (scraps_in (drop (i + 1) pieces)) (numbers_from n (end - n))) step
+order-on pieces i k next end d lt e within is = grind (arith, nat_tests, scraps-on, count-down, eq-eqb)
 
 pub order-wrong : (pieces : List Piece) (i k next end : ℕ) (d : Piece) → i < length pieces
     → scrap_in (get_or pieces i d) ≡ Some k → next < end → (k ≡ next → ⊥)
     → same_numbers (scraps_in (drop i pieces)) (numbers_from next (end - next)) ≡ false
-order-wrong pieces i k next end d lt e within differs =
-    ap (λ ks. same_numbers ks (numbers_from next (end - next))) (scraps-on pieces i d k lt e)
-    ∙ ap (same_numbers (k ∷ scraps_in (drop (i + 1) pieces))) (count-down next end within)
-    ∙ ap (λ b. b && same_numbers (scraps_in (drop (i + 1) pieces)) (numbers_from (suc next) (end - suc next)))
-    (ne_eqb k next differs)
+order-wrong pieces i k next end d lt e within differs = grind (arith, nat_tests, scraps-on, count-down, ne_eqb)
 
 pub order-many : (pieces : List Piece) (i k next end : ℕ) (d : Piece) → i < length pieces → scrap_in (get_or pieces i d)
     ≡ Some k → next ≡ end → same_numbers (scraps_in (drop i pieces)) (numbers_from next (end - next)) ≡ false
-order-many pieces i k next end d lt e full =
-    let none : end - next ≡ 0 = omega arith in
-    ap (λ ks. same_numbers ks (numbers_from next (end - next))) (scraps-on pieces i d k lt e)
-    ∙ ap (λ n. same_numbers (k ∷ scraps_in (drop (i + 1) pieces)) (numbers_from next n)) none
+order-many pieces i k next end d lt e full = grind (arith, nat_tests, scraps-on)
 
 pub order-past : (pieces : List Piece) (i : ℕ) (d : Piece) (numbers : List ℕ) → i < length pieces
     → scrap_in (get_or pieces i d) ≡ None → same_numbers (scraps_in (drop i pieces)) numbers
@@ -120,12 +99,7 @@ order-past pieces i d numbers lt e = ap (λ ks. same_numbers ks numbers) (scraps
 
 pub order-end : (pieces : List Piece) (i next end : ℕ) → length pieces ≤ i → next ≤ end
     → same_numbers (scraps_in (drop i pieces)) (numbers_from next (end - next)) ≡ eqb next end
-order-end pieces i next end past within = ap (λ ps. same_numbers (scraps_in ps) (numbers_from next (end - next)))
-    (drop-past pieces i past) ∙ left (end - next) refl
-  where
-    left : (n : ℕ) → end - next ≡ n → same_numbers [] (numbers_from next n) ≡ eqb next end
-    left zero e = sym (eq-eqb next end (omega arith))
-    left (suc n) e = sym (ne_eqb next end (λ h. absurd (omega arith)))
+order-end pieces i next end past within = grind (arith, nat_tests, drop-past, eq-eqb, ne_eqb)
 
 -- the five parts together are the whole test
 pub parts-joined : (row : Row) (a b c d e : Bool) → a ≡ list_all (λ x. x) (tests_parts row)

@@ -1,8 +1,9 @@
 -- How many turns the walk takes, and how many steps it counts.
-use Rattle.std.proofs.Common.{◌≡◌, ℕ, zero, suc, ◌+◌, ◌-◌, ◌*◌, ◌<◌, ◌≤◌, inl, inr, Bool, true, false, ltb, Option}
-use Rattle.std.proofs.Common.{Some, None, List, [], ◌∷◌, length, drop, refl, sym, ◌∙◌, ap, arith, ltb-true, ltb-false}
+use Rattle.std.proofs.Common.{◌≡◌, ℕ, zero, suc, ◌+◌, ◌-◌, ◌*◌, ◌<◌, ◌≤◌, Bool, true, false, ltb, Option, Some, None}
+use Rattle.std.proofs.Common.{List, [], ◌∷◌, length, drop, refl, sym, ◌∙◌, ap, arith, ltb-true, ltb-false}
 use Rattle.std.specs.List.{list_all, All}
 use Rattle.std.proofs.lemmas.List.Elements.{All-nil, All-cons}
+use Rattle.std.proofs.lemmas.Bool.Decides.{nat_tests}
 use Rattle.cw_base.specs.declared.flags.Flags.{Flags}
 use Rattle.cw_table.specs.declared.types.Row.{Row}
 use Rattle.cw_table.specs.Fitting.{first_of}
@@ -21,10 +22,7 @@ use Rattle.cw_table.proofs.WalkLaws.{NoneBelow, Turns, turning, next-nowhere, lt
 -- Above a place where no row fits, none fits below the next one.
 pub none-below-next : (rows : List Row) (st : State) (place : ℕ) → NoneBelow rows st place
     → first_of rows (drop place (cats_of st.scraps)) ≡ None → NoneBelow rows st (suc place)
-none-below-next rows st place below found = λ k less. elim (lt-or-is k place less) [
-  | inl lower ↦ below k lower
-  | inr same ↦ ap (λ m. first_of rows (drop m (cats_of st.scraps))) same ∙ found
-]
+none-below-next rows st place below found = grind (arith, nat_tests, lt-or-is)
 
 -- The turns.
 abbrev here : ℕ → State → Position
@@ -35,8 +33,7 @@ positions-step : (rows : List Row) (f : Flags) (n place : ℕ) (st : State) (b :
     → positions_of rows f (least rows) (suc n) place st
     ≡ step_of b o [] (here place st ∷ positions_of rows f (least rows) n (suc place) st) (λ r. here place st
     ∷ positions_of rows f (least rows) n (place - least rows r) (rewrite f r place st))
-positions-step rows f n place st b o e found = step-is (ltb place (length st.scraps))
-    (first_of rows (drop place (cats_of st.scraps))) b o [] _ _ e found
+positions-step rows f n place st b o e found = grind (arith, nat_tests, step-is)
 
 positions-same : (rows : List Row) (f : Flags) (n m place : ℕ) (st : State) → list_all row_is_sound rows ≡ true
     → list_all is_fine st.scraps ≡ true → NoneBelow rows st place → walk_left place st < n → walk_left place st < m
@@ -70,20 +67,10 @@ positions-same rows f (suc n) (suc m) place st all fine below a b = go (ltb plac
 pub turns-end : (rows : List Row) (f : Flags) (place : ℕ) (st : State) → length st.scraps ≤ place
     → turns rows f (least rows) place st ≡ 0
 unfolding positions
-turns-end rows f place st past = go (ltb place (length st.scraps)) refl
-  where
-    go : (b : Bool) → ltb place (length st.scraps) ≡ b
-        → length (positions_of rows f (least rows) (suc (walk_left place st)) place st) ≡ 0
-    go false e = ap length (positions-step rows f (walk_left place st) place st false
-        (first_of rows (drop place (cats_of st.scraps))) e refl)
-    go true e = absurd (omega (arith, ltb-true _ _ e))
+turns-end rows f place st past = grind (arith, nat_tests, positions-step, ltb-true)
 
 inside-is : (place n : ℕ) → place < n → ltb place n ≡ true
-inside-is place n less = go (ltb place n) refl
-  where
-    go : (b : Bool) → ltb place n ≡ b → ltb place n ≡ true
-    go true e = e
-    go false e = absurd (omega (arith, ltb-false _ _ e))
+inside-is place n less = grind (arith, nat_tests, ltb-false)
 
 pub turns-past : (rows : List Row) (f : Flags) (place : ℕ) (st : State) → list_all row_is_sound rows ≡ true
     → list_all is_fine st.scraps ≡ true → NoneBelow rows st place → place < length st.scraps
@@ -91,21 +78,13 @@ pub turns-past : (rows : List Row) (f : Flags) (place : ℕ) (st : State) → li
     ≡ 1 + turns rows f (least rows) (suc place) st
 unfolding positions
 turns-past rows f place st all fine below inside found =
-    ap length (positions-step rows f (walk_left place st) place st true None (inside-is _ _ inside) found
-    ∙ ap (λ ps. here place st ∷ ps) (positions-same rows f (walk_left place st) (suc (walk_left (suc place) st))
-    (suc place) st all fine (none-below-next rows st place below found) (omega arith) (omega arith)))
-    ∙ omega arith
+    grind (arith, nat_tests, positions-step, inside-is, positions-same, none-below-next)
 
 pub turns-taken : (rows : List Row) (f : Flags) (place : ℕ) (st : State) (r : Row) → list_all row_is_sound rows ≡ true
     → place < length st.scraps → Turns rows f st place r → turns rows f (least rows) place st
     ≡ 1 + turns rows f (least rows) (place - least rows r) (rewrite f r place st)
 unfolding positions
-turns-taken rows f place st r all inside t =
-    ap length (positions-step rows f (walk_left place st) place st true (Some r) (inside-is _ _ inside) t.takes.found
-    ∙ ap (λ ps. here place st ∷ ps) (positions-same rows f (walk_left place st)
-    (suc (walk_left (place - least rows r) (rewrite f r place st))) (place - least rows r) (rewrite f r place st)
-    all t.takes.falls.fine t.below (omega (arith, t.less)) (omega arith)))
-    ∙ omega arith
+turns-taken rows f place st r all inside t = grind (arith, nat_tests, positions-step, inside-is, positions-same)
 
 -- each turn lowers what is left of the walk
 turns-short : (rows : List Row) (f : Flags) (n place : ℕ) (st : State) → list_all row_is_sound rows ≡ true
@@ -179,25 +158,15 @@ walk-leftmost rows f st all fine = leftmost-of rows f (suc (walk_left 0 st)) 0 s
 -- What is summed over the productions.
 none-looks : (rows : List Row) (f : Flags) (n : ℕ) (st : State) → next_place rows st ≡ Nowhere → looks_of rows f n st
     ≡ 0
-none-looks rows f zero st e = refl
-none-looks rows f (suc n) st e = ap (λ (p : Place). elim p [
-  | Nowhere ↦ 0
-  | At i r ↦ right_of_new f r i st + looks_of rows f n (rewrite f r i st)
-]) e
+none-looks rows f x3 st e = grind (arith, nat_tests, nat_tests)
 
 one-looks : (rows : List Row) (f : Flags) (n i : ℕ) (r : Row) (st : State) → next_place rows st ≡ At i r
     → looks_of rows f (suc n) st ≡ right_of_new f r i st + looks_of rows f n (rewrite f r i st)
-one-looks rows f n i r st e = ap (λ (p : Place). elim p [
-  | Nowhere ↦ 0
-  | At j q ↦ right_of_new f q j st + looks_of rows f n (rewrite f q j st)
-]) e
+one-looks rows f n i r st e = grind (arith, nat_tests)
 
 one-reservings : (rows : List Row) (f : Flags) (n i : ℕ) (r : Row) (st : State) → next_place rows st ≡ At i r
     → reservings_of rows f (suc n) st ≡ where_reserving r.action.reserve 1 + reservings_of rows f n (rewrite f r i st)
-one-reservings rows f n i r st e = ap (λ (p : Place). elim p [
-  | Nowhere ↦ 0
-  | At j q ↦ where_reserving q.action.reserve 1 + reservings_of rows f n (rewrite f q j st)
-]) e
+one-reservings rows f n i r st e = grind (arith, nat_tests)
 
 looks-same : (rows : List Row) (f : Flags) (n m : ℕ) (st : State) → list_all row_is_sound rows ≡ true
     → list_all is_fine st.scraps ≡ true → weight st.scraps ≤ n → weight st.scraps ≤ m → looks_of rows f n st
@@ -222,8 +191,7 @@ looks-step rows f st i r all fine e =
 
 sum-most : (o : Option ℕ) (right more v most : ℕ) → right ≤ most → more ≤ most * v
     → where_reserving o right + more ≤ most * (where_reserving o 1 + v)
-sum-most None right more v most a b = omega arith
-sum-most (Some k) right more v most a b = omega arith
+sum-most x1 right more v most a b = grind (arith, nat_tests)
 
 looks-most-of : (rows : List Row) (f : Flags) (n most : ℕ) (st : State) → list_all row_is_sound rows ≡ true
     → list_all is_fine st.scraps ≡ true → length st.scraps ≤ most
@@ -254,31 +222,19 @@ looks-most rows f st all fine = looks-most-of rows f (weight st.scraps) (length 
 -- the scraps to the right of the new one where the row reserves.
 pub ticks-end : (rows : List Row) (f : Flags) (place : ℕ) (st : State) → NoneBelow rows st place
     → length st.scraps ≤ place → ticks_from rows f place st ≡ 0
-ticks-end rows f place st below past =
-    let long = cats-length st.scraps in
-    omega (
-      arith,
-      turns-end rows f place st past,
-      looks-none rows f st
-          (next-nowhere rows 0 (cats_of st.scraps) (λ k less. below k (omega arith))),
-    )
+ticks-end rows f place st below past = grind (arith, nat_tests, cats-length, turns-end, looks-none, next-nowhere)
 
 pub ticks-past : (rows : List Row) (f : Flags) (place : ℕ) (st : State) → list_all row_is_sound rows ≡ true
     → list_all is_fine st.scraps ≡ true → NoneBelow rows st place → place < length st.scraps
     → first_of rows (drop place (cats_of st.scraps)) ≡ None → ticks_from rows f place st
     ≡ 4 + ticks_from rows f (suc place) st
-ticks-past rows f place st all fine below inside found =
-    omega (arith, turns-past rows f place st all fine below inside found)
+ticks-past rows f place st all fine below inside found = grind (arith, nat_tests, turns-past)
 
 pub ticks-taken : (rows : List Row) (f : Flags) (place : ℕ) (st : State) (r : Row) → list_all row_is_sound rows ≡ true
     → list_all is_fine st.scraps ≡ true → place < length st.scraps → Turns rows f st place r
     → ticks_from rows f place st ≡ 4 + (right_of_new f r place st + ticks_from rows f (place - least rows r)
     (rewrite f r place st))
-ticks-taken rows f place st r all fine inside t = omega (
-  arith,
-  turns-taken rows f place st r all inside t,
-  looks-step rows f st place r all fine t.next,
-)
+ticks-taken rows f place st r all fine inside t = grind (arith, nat_tests, turns-taken, looks-step)
 
 -- At most 132 steps for each scrap, and as many more as there are scraps for each production by a row that reserves.
 pub ticks-most : (rows : List Row) (f : Flags) (st : State) → list_all row_is_sound rows ≡ true

@@ -4,6 +4,7 @@ use Rattle.std.proofs.Common.{None, List, [], ◌∷◌, map, length, get_or, ta
 use Rattle.std.proofs.Common.{true≢false, leb-true, leb-false, length-append, length-drop, drop-drop, ◌&&◌}
 use Rattle.std.proofs.lemmas.List.{length-take-le, get_or_past}
 use Rattle.std.specs.List.{list_all}
+use Rattle.std.proofs.lemmas.Bool.Decides.{nat_tests}
 use Rattle.cw_base.proofs.TestLaws.{both}
 use Rattle.cw_base.specs.declared.category.Cat.{Cat}
 use Rattle.cw_base.specs.declared.category.Cat.TheVariants.{Exp, FnDecl, Stmt, End}
@@ -18,16 +19,16 @@ use Rattle.cw_table.specs.declared.types.Piece.TheVariants as piece
 use Rattle.cw_table.specs.declared.types.Row.{Row}
 use Rattle.cw_table.specs.declared.types.RowResult.{RowResult}
 use Rattle.cw_table.specs.declared.types.RowResult.TheVariants.{Is, SameAs}
-use Rattle.cw_table.specs.Rows.{empty, tests_of, test, pieces_for, result_at}
+use Rattle.cw_table.specs.Rows.{empty, tests_of, test, result_at}
 use Rattle.cw_table.specs.Fitting.{all_hold, row_fits}
 use Rattle.cw_table.specs.Sound.{scraps_in, numbers_from, result_from, IsLowering, IsSound}
-use Rattle.cw_table.specs.Rewriting.{cats_of, takes_other, row_pieces, joined_of, alone, with_cat, new_scrap, search_in}
-use Rattle.cw_table.specs.Rewriting.{reserved_at, named_right, rewrite_from, State, rewrite}
+use Rattle.cw_table.specs.Rewriting.{cats_of, row_pieces, joined_of, alone, with_cat, new_scrap, reserved_at}
+use Rattle.cw_table.specs.Rewriting.{rewrite_from, State, rewrite}
 use Rattle.cw_table.specs.Normal.{rank_with, weight_of, weight, fine_with, is_fine}
-use Rattle.cw_table.proofs.ScrapFacts.{all-append, all-take, all-drop, all-get, rank_with-none}
-use Rattle.cw_table.proofs.ScrapFacts.{rank_with-least, rank-most, joined-bare, weight-append, weight-split}
-use Rattle.cw_table.proofs.ScrapFacts.{weight-least, weight-one, cats-get, cats-length, cats-drop, at-cats, at-weight}
-use Rattle.cw_table.proofs.ScrapFacts.{at-fine, at-length, right-weight, right-fine, right-length}
+use Rattle.cw_table.proofs.ScrapFacts.{all-append, all-take, all-drop, all-get, rank_with-none, rank_with-least}
+use Rattle.cw_table.proofs.ScrapFacts.{rank-most, joined-bare, weight-append, weight-split, weight-least, weight-one}
+use Rattle.cw_table.proofs.ScrapFacts.{cats-get, cats-length, cats-drop, at-cats, at-weight, at-fine, at-length}
+use Rattle.cw_table.proofs.ScrapFacts.{right-weight, right-fine, right-length}
 
 -- a row that fits admits what stands at each of its places
 pub hold-at : (ts : List CatSet) (cs : List Cat) (q : ℕ) → all_hold ts cs ≡ true → q < length ts
@@ -76,11 +77,7 @@ room r cs s fits = go (leb (r.offset + r.replaced) (length cs)) refl
 -- the pieces hold what is replaced
 pub pieces-whole : (f : Flags) (r : Row) (cs : List Cat) → IsSound r → scraps_in (row_pieces f r cs)
     ≡ numbers_from r.offset r.replaced
-pieces-whole f r cs s = go (takes_other f r.action.choice cs)
-  where
-    go : (b : Bool) → scraps_in (pieces_for b r) ≡ numbers_from r.offset r.replaced
-    go true = s.other_whole
-    go false = s.usual_whole
+pieces-whole f r cs s = grind (arith, nat_tests)
 
 pub alone-is : (k : ℕ) (ps : List Piece) (n : ℕ) → alone k ps ≡ Some n → (k ≡ 1) × (scraps_in ps ≡ n ∷ [])
 alone-is (suc zero) (piece.Scrap k ∷ []) n h = (refl, cc)
@@ -89,12 +86,7 @@ alone-is _ _ n h = cc
 -- the scrap that is kept is the one at the row's offset, and no other is replaced
 pub alone-at : (f : Flags) (r : Row) (cs : List Cat) (n : ℕ) → IsSound r → alone r.replaced (row_pieces f r cs) ≡ Some n
     → (r.replaced ≡ 1) × (n ≡ r.offset)
-alone-at f r cs n s e =
-    let p = alone-is r.replaced (row_pieces f r cs) n e in
-    let q : n ∷ [] ≡ numbers_from r.offset r.replaced = sym p.1 ∙ pieces-whole f r cs s in
-    let o : numbers_from r.offset r.replaced ≡ r.offset ∷ [] = ap (λ k. numbers_from r.offset k) p.0 in
-    let both : n ∷ [] ≡ r.offset ∷ [] = q ∙ o in
-    (p.0, cc)
+alone-at f r cs n s e = grind (arith, nat_tests, alone-is, pieces-whole, both)
 
 -- where one scrap is replaced its rank falls
 one-lowers : (r : Row) (xs : List Scrap) → IsSound r → row_fits r (cats_of xs) ≡ true → r.replaced ≡ 1
@@ -247,48 +239,17 @@ parts-weight o k qs = omega (arith, weight-split o qs, weight-split k (drop o qs
 pub from-weight : (f : Flags) (r : Row) (ps : List Scrap) → IsSound r → row_fits r (cats_of ps) ≡ true
     → list_all is_fine ps ≡ true → weight (rewrite_from f r ps) < weight ps
 from-weight f r ps s fits fine =
-    let w = new-weight f r (reserved_at r.action.reserve ps) s (at-fits r ps fits) (at-fine r.action.reserve ps fine) in
-    omega (
-      arith,
-      w,
-      weight-append (take r.offset (reserved_at r.action.reserve ps))
-          (new_scrap f r (reserved_at r.action.reserve ps) ∷ named_right (search_in r.action.reserve ps)
-          (drop (r.offset + r.replaced) (reserved_at r.action.reserve ps))),
-      right-weight (search_in r.action.reserve ps)
-          (drop (r.offset + r.replaced) (reserved_at r.action.reserve ps)),
-      parts-weight r.offset r.replaced
-          (reserved_at r.action.reserve ps),
-      at-weight r.action.reserve ps,
-    )
+    grind (arith, nat_tests, new-weight, at-fits, at-fine, weight-append, right-weight, parts-weight, at-weight)
 
 pub from-fine : (f : Flags) (r : Row) (ps : List Scrap) → IsSound r → row_fits r (cats_of ps) ≡ true
     → list_all is_fine ps ≡ true → list_all is_fine (rewrite_from f r ps) ≡ true
 from-fine f r ps s fits fine =
-    let all = at-fine r.action.reserve ps fine in
-    all-append is_fine (take r.offset (reserved_at r.action.reserve ps)) _ (all-take is_fine r.offset _ all)
-    (both _ _ (new-fine f r (reserved_at r.action.reserve ps) s (at-fits r ps fits) all)
-    (right-fine (search_in r.action.reserve ps) (drop (r.offset + r.replaced) (reserved_at r.action.reserve ps))
-    (all-drop is_fine (r.offset + r.replaced) _ all)))
+    grind (arith, nat_tests, at-fine, all-append, all-take, both, new-fine, at-fits, right-fine, all-drop)
 
 pub from-length : (f : Flags) (r : Row) (ps : List Scrap) → IsSound r → row_fits r (cats_of ps) ≡ true
     → length (rewrite_from f r ps) + r.replaced ≡ length ps + 1
 from-length f r ps s fits =
-    let there : r.offset + r.replaced ≤ length (cats_of ps) = room r (cats_of ps) s fits in
-    let same = cats-length ps in
-    let long = at-length r.action.reserve ps in
-    let front : length (take r.offset (reserved_at r.action.reserve ps)) ≡ r.offset =
-    length-take-le r.offset (reserved_at r.action.reserve ps) (omega arith) in
-    omega (
-      arith,
-      front,
-      length-append (take r.offset (reserved_at r.action.reserve ps))
-          (new_scrap f r (reserved_at r.action.reserve ps) ∷ named_right (search_in r.action.reserve ps)
-          (drop (r.offset + r.replaced) (reserved_at r.action.reserve ps))),
-      right-length (search_in r.action.reserve ps)
-          (drop (r.offset + r.replaced) (reserved_at r.action.reserve ps)),
-      length-drop (r.offset + r.replaced)
-          (reserved_at r.action.reserve ps),
-    )
+    grind (arith, nat_tests, room, cats-length, at-length, length-take-le, length-append, right-length, length-drop)
 
 -- What one production gives.
 pub record Falls (f : Flags) (r : Row) (i : ℕ) (st : State) : Type 0 where
@@ -299,28 +260,19 @@ pub record Falls (f : Flags) (r : Row) (i : ℕ) (st : State) : Type 0 where
 
 pub falls : (f : Flags) (r : Row) (i : ℕ) (st : State) → IsSound r → row_fits r (drop i (cats_of st.scraps)) ≡ true
     → list_all is_fine st.scraps ≡ true → i ≤ length st.scraps → Falls f r i st
-falls f r i st s fits fine inside =
-    let here : row_fits r (cats_of (drop i st.scraps)) ≡ true = ap (λ cs. row_fits r cs) (cats-drop i st.scraps)
-    ∙ fits in
-    let rest = all-drop is_fine i st.scraps fine in
-    let front : length (take i st.scraps) ≡ i = length-take-le i st.scraps inside in
-    record {
-      lighter = omega (
-        arith,
-        from-weight f r (drop i st.scraps) s here rest,
-        weight-append (take i st.scraps)
-            (rewrite_from f r (drop i st.scraps)),
-        weight-split i st.scraps,
-      );
-      fine = all-append is_fine (take i st.scraps) _ (all-take is_fine i st.scraps fine)
-          (from-fine f r (drop i st.scraps) s here rest);
-      shorter = omega (
-        arith,
-        front,
-        from-length f r (drop i st.scraps) s here,
-        length-append (take i st.scraps)
-            (rewrite_from f r (drop i st.scraps)),
-        length-drop i st.scraps,
-      );
-      some = s.some_replaced;
-    }
+falls f r i st s fits fine inside = grind (
+  arith,
+  nat_tests,
+  cats-drop,
+  all-drop,
+  length-take-le,
+  from-weight,
+  weight-append,
+  weight-split,
+  all-append,
+  all-take,
+  from-fine,
+  from-length,
+  length-append,
+  length-drop,
+)

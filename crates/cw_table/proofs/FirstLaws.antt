@@ -1,11 +1,10 @@
 -- Laws of the first row that fits.
-use Rattle.std.proofs.Common.{◌≡◌, ◌≤◌, ◌∙◌, sym, ap, ℕ, zero, suc, Bool, true, false, List, [], ◌∷◌, length, Some}
-use Rattle.std.proofs.Common.{refl, arith, length-take-le, ◌&&◌}
+use Rattle.std.proofs.Common.{◌≡◌, ◌≤◌, ◌∙◌, sym, ℕ, zero, suc, Bool, true, false, List, [], ◌∷◌, length, Some, refl}
+use Rattle.std.proofs.Common.{arith, length-take-le}
 use Rattle.std.specs.List.{list_all}
+use Rattle.std.proofs.lemmas.Bool.Decides.{nat_tests}
 use Rattle.cw_base.specs.declared.category.Cat.{Cat}
-use Rattle.cw_base.specs.declared.category.Cat.TheVariants.{End}
 use Rattle.cw_base.specs.declared.category.CatSet.{CatSet}
-use Rattle.cw_base.specs.Category.{in_set}
 use Rattle.cw_base.proofs.TestLaws.{both-left, both-right}
 use Rattle.cw_table.specs.declared.types.Row.{Row}
 use Rattle.cw_table.specs.Fitting.{all_hold, first_of, row_fits, seen, window_of}
@@ -26,10 +25,8 @@ hold-seen : (tests : List CatSet) (count : ℕ) (cats : List Cat) → length tes
     → all_hold tests (seen count cats) ≡ all_hold tests cats
 hold-seen [] count cats h = refl
 hold-seen (test ∷ tests) zero cats h = absurd (omega arith)
-hold-seen (test ∷ tests) (suc count) [] h =
-    ap (λ b. in_set test End && b) (hold-seen tests count [] (omega arith))
-hold-seen (test ∷ tests) (suc count) (cat ∷ cats) h =
-    ap (λ b. in_set test cat && b) (hold-seen tests count cats (omega arith))
+hold-seen (test ∷ tests) (suc count) [] h = grind (arith, nat_tests, hold-seen tests count)
+hold-seen (test ∷ tests) (suc count) (cat ∷ cats) h = grind (arith, nat_tests, hold-seen tests count cats (omega arith))
 
 pub length-tests_of : (row : Row) → IsSound row → length (tests_of row) ≡ row.test_count
 length-tests_of row sound = length-take-le row.test_count row.tests sound.counted_tests

@@ -1,15 +1,15 @@
 -- What the program's data has of a production is what its row has.
-use Rattle.std.proofs.Common.{◌≡◌, ◌<◌, ◌≤◌, ◌+◌, ◌-◌, ◌∙◌, sym, ap, ℕ, List, [], length, get_or, take, unwrap_or}
-use Rattle.std.proofs.Common.{Option, Some, None, Bool, true, false, eqb, refl, arith, eqb-true}
+use Rattle.std.proofs.Common.{Option, Some, None, Bool, true, false, eqb, refl, arith, eqb-true, map, option_map, ◌≡◌}
+use Rattle.std.proofs.Common.{◌<◌, ◌≤◌, ◌+◌, ◌-◌, ◌∙◌, sym, ap, ℕ, List, [], length, get_or, take, unwrap_or}
 use Rattle.std.specs.Prelude.{slice_get}
-use Rattle.std.proofs.Common.{map, option_map}
 use Rattle.std.proofs.lemmas.List.{get_or-map, get_or-take, length-take, length-take-le}
 use Rattle.std.proofs.lemmas.Option.{slice_get-get_or}
+use Rattle.std.proofs.lemmas.Bool.Decides.{nat_tests}
 use Rattle.cw_base.specs.declared.category.Cat.TheVariants.{RawInt}
 use Rattle.cw_base.proofs.CategoryLaws.{each-of}
 use Rattle.cw_table.specs.declared.productions.Head.{Head}
-use Rattle.cw_table.specs.declared.productions.TheConstants.{TESTS, USUAL, OTHER, HEADS, ROW_COUNT}
-use Rattle.cw_table.specs.declared.productions.TheConstants.{USUAL_INSERTIONS, OTHER_INSERTIONS}
+use Rattle.cw_table.specs.declared.productions.TheConstants.{TESTS, USUAL, OTHER, HEADS, ROW_COUNT, USUAL_INSERTIONS}
+use Rattle.cw_table.specs.declared.productions.TheConstants.{OTHER_INSERTIONS}
 use Rattle.cw_table.specs.declared.types.Choice.TheVariants.{Always}
 use Rattle.cw_table.specs.declared.types.Insertion.{Insertion}
 use Rattle.cw_table.specs.declared.types.Piece.{Piece}
@@ -77,9 +77,7 @@ other-places i lt =
 -- a counted piece is one of the places
 taken : (ps : List Piece) (count i : ℕ) (d : Piece) → i < length (take count ps) → slice_get (take count ps) i
     ≡ Some (get_or ps i d)
-taken ps count i d inside =
-    let low : i < count = omega (arith, length-take count ps) in
-    slice_get-get_or (take count ps) i d inside ∙ ap Some (get_or-take count ps i d low)
+taken ps count i d inside = grind (arith, nat_tests, length-take, slice_get-get_or, get_or-take)
 
 -- the pieces of a row, by the data at its place
 pub record HasPieces (other : Bool) (ps : List Piece) (count : ℕ) (row : Row) : Type 0 where
@@ -91,15 +89,7 @@ pub record HasPieces (other : Bool) (ps : List Piece) (count : ℕ) (row : Row) 
 
 has : (other : Bool) (ps : List Piece) (count : ℕ) (row : Row) → pieces_for other row ≡ take count ps → count ≤ 12
     → length ps ≡ 12 → HasPieces other ps count row
-has other ps count row is few twelve =
-    let long : length (take count ps) ≡ count = length-take-le count ps (omega arith) in
-    let same : length (pieces_for other row) ≡ length (take count ps) = ap length is in
-    record {
-      count_is = sym (same ∙ long);
-      twelve = few;
-      piece = λ i inside. ap (λ xs. slice_get xs i) is ∙ taken ps count i (Scrap 0) (omega arith);
-      below = λ i inside. omega arith;
-    }
+has other ps count row is few twelve = grind (arith, nat_tests, length-take-le, taken)
 
 pub usual-pieces : (i : ℕ) (other : Bool) (row : Row) → i < ROW_COUNT → other ≡ false → row_of productions (i + 1) ≡ row
     → HasPieces other (get_or USUAL i []) (get_or HEADS i no_head).usual_count row
@@ -130,9 +120,7 @@ other-inserted = refl
 inserted-at : (rows : List (List Piece)) (i j : ℕ) (d : List Insertion) (e : Insertion) → i < length rows
     → j < length (get_or rows i []) → get_or (get_or (map inserted rows) i d) j e
     ≡ insertion_of (get_or (get_or rows i []) j (Scrap 0))
-inserted-at rows i j d e row place =
-    ap (λ ins. get_or ins j e) (get_or-map inserted rows i [] d row)
-    ∙ get_or-map insertion_of (get_or rows i []) j (Scrap 0) e place
+inserted-at rows i j d e row place = grind (arith, nat_tests, get_or-map)
 
 pub usual-insertion : (i j : ℕ) (d : List Insertion) (e : Insertion) (other : Bool) (row : Row) → i < ROW_COUNT
     → other ≡ false → row_of productions (i + 1) ≡ row → j < length (pieces_for other row)

@@ -4,6 +4,7 @@ use Rattle.std.proofs.Common.{take, Some, Bool, true, refl, arith, take_all}
 use Rattle.std.proofs.lemmas.List.{take_more, take_more_set}
 use Rattle.std.specs.Prelude.{slice_get}
 use Rattle.std.proofs.lemmas.Option.{get_or_from_slice_get}
+use Rattle.std.proofs.lemmas.Bool.Decides.{nat_tests}
 use Rattle.cw_table.specs.declared.types.Row.{Row}
 use Rattle.cw_base.specs.declared.category.CatSet.{CatSet}
 use Rattle.cw_table.specs.declared.productions.Head.{Head}
@@ -42,8 +43,7 @@ joins-more rows i r len below same at =
 
 pub joins-all : (rows : List Row) (i : ℕ) → length rows ≡ ROW_COUNT → ROW_COUNT ≤ i → take i rows ≡ take i productions
     → rows ≡ productions
-joins-all rows i len past same =
-    sym (take_all i rows (omega arith)) ∙ same ∙ take_all i productions (omega (arith, productions-length))
+joins-all rows i len past same = grind (arith, nat_tests, take_all, productions-length)
 
 pub joined-test : (p : List Row → Bool) (rows : List Row) → p productions ≡ true → rows ≡ productions → p rows ≡ true
 joined-test p rows h e = ap p e ∙ h

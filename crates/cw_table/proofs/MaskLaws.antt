@@ -1,7 +1,7 @@
 -- The masks of the code are those of the productions, and their meeting is the first row that fits.
-use Rattle.std.proofs.Common.{◌≡◌, ◌<◌, ◌≤◌, ◌+◌, ◌*◌, ◌^◌, ◌∙◌, sym, ap, subst, ℕ, zero, suc, Bool, true, false, not}
-use Rattle.std.proofs.Common.{cond, eqb, eq-eqb, List, [], ◌∷◌, length, map, get_or, Some, None, refl, arith, add-zero}
-use Rattle.std.proofs.Common.{◌&&◌, ◌||◌, leb}
+use Rattle.std.proofs.Common.{◌≡◌, ◌<◌, ◌≤◌, ◌+◌, ◌*◌, ◌∙◌, sym, ap, subst, ℕ, suc, Bool, true, false, not, cond, eqb}
+use Rattle.std.proofs.Common.{eq-eqb, List, [], ◌∷◌, length, map, get_or, Some, None, refl, arith, add-zero, ◌&&◌, ◌||◌}
+use Rattle.std.proofs.Common.{leb}
 use Rattle.std.specs.Int.Bits.{and_zero_l}
 use Rattle.std.specs.Int.Count.{count_trailing_zeros}
 use Rattle.std.specs.List.{list_all, list_any, prefix_len}
@@ -13,7 +13,6 @@ use Rattle.std.proofs.lemmas.List.{get_or-map}
 use Rattle.std.proofs.lemmas.Nat.{and_block}
 use Rattle.std.proofs.lemmas.Option.{get_or_from_slice_get, slice_get_within}
 use Rattle.cw_base.specs.declared.category.Cat.{Cat}
-use Rattle.cw_base.specs.declared.category.Cat.TheVariants.{End}
 use Rattle.cw_base.specs.declared.category.CatSet.{CatSet}
 use Rattle.cw_base.specs.Category.{all_cats, in_set, number_of}
 use Rattle.cw_base.proofs.CategoryLaws.{place-of}
@@ -24,9 +23,11 @@ use Rattle.cw_table.specs.declared.types.Row.{Row}
 use Rattle.cw_table.specs.Fitting.{all_hold, first_of, row_fits}
 use Rattle.cw_table.specs.Masks.{admits, mask_of}
 use Rattle.cw_table.specs.Productions.{productions}
-use Rattle.cw_table.specs.Rows.{empty, tests_of}
+use Rattle.cw_table.specs.Rows.{empty}
 use Rattle.cw_table.specs.Sound.{IsSound, are_numbered, row_is_sound}
 use Rattle.std.proofs.lemmas.Simd.{trailing_mask_l}
+use Rattle.std.proofs.lemmas.Bool.Decides.{nat_tests}
+use Rattle.std.proofs.lemmas.Grind.{common_steps}
 use Rattle.cw_table.proofs.Examples.{productions-numbered, productions-sound}
 use Rattle.cw_table.proofs.Joining.{productions-length}
 use Rattle.cw_table.proofs.FirstLaws.{first-behind, first-here, length-tests_of}
@@ -40,44 +41,25 @@ unfolding productions
 masks-are = refl
 
 four-get : (f : ℕ → ℕ) (q d : ℕ) → q < 4 → get_or (map f (0 ∷ 1 ∷ 2 ∷ 3 ∷ [])) q d ≡ f q
-four-get f zero d h = refl
-four-get f (suc zero) d h = refl
-four-get f (suc (suc zero)) d h = refl
-four-get f (suc (suc (suc zero))) d h = refl
-four-get f (suc (suc (suc (suc q)))) d h = absurd (omega arith)
+four-get f x2 d h = grind (arith, nat_tests)
 
 pub mask-is : (cat : Cat) (n q : ℕ) (d : List ℕ) (e : ℕ) → n ≡ number_of cat → q < 4 → get_or (get_or MASKS n d) q e
     ≡ mask_of productions q cat
 mask-is cat n q d e is h =
-    ap (λ k. get_or (get_or MASKS k d) q e) is
-    ∙ ap (λ ms. get_or (get_or ms (number_of cat) d) q e) masks-are
-    ∙ ap (λ ms. get_or ms q e) (get_or-map masks_at all_cats (number_of cat) End d
-    (slice_get_within all_cats (number_of cat) cat (place-of cat)))
-    ∙ ap (λ c. get_or (masks_at c) q e) (get_or_from_slice_get all_cats (number_of cat) cat End (place-of cat))
-    ∙ four-get (λ p. mask_of productions p cat) q e h
+    grind (arith, nat_tests, masks-are, get_or-map, slice_get_within, place-of, get_or_from_slice_get, four-get)
 
 -- the meeting of two numbers, bit by bit
 and-step : (r s m n : ℕ) → r < 2 → s < 2 → bit_and (r + 2 * m) (s + 2 * n) ≡ bit_and r s + 2 * bit_and m n
-and-step r s m n h k =
-    let left : r + 2 * m ≡ m * 2 ^ 1 + r = omega arith in
-    let right : s + 2 * n ≡ n * 2 ^ 1 + s = omega arith in
-    ap (λ x. bit_and x (s + 2 * n)) left
-    ∙ ap (λ x. bit_and (m * 2 ^ 1 + r) x) right
-    ∙ and_block 1 m n r s h k
-    ∙ omega arith
+and-step r s m n h k = grind (arith, nat_tests, common_steps, and_block 1 m n r s h k, and_block)
 
 and-bits : (a b : Bool) (m n : ℕ) → bit_and (cond a 1 0 + 2 * m) (cond b 1 0 + 2 * n)
     ≡ cond (a && b) 1 0 + 2 * bit_and m n
-and-bits true true m n = and-step 1 1 m n (omega arith) (omega arith)
-and-bits true false m n = and-step 1 0 m n (omega arith) (omega arith)
-and-bits false true m n = and-step 0 1 m n (omega arith) (omega arith)
-and-bits false false m n = and-step 0 0 m n (omega arith) (omega arith)
+and-bits x1 x2 m n = grind (arith, nat_tests, and-step)
 
 and-masks : (p q : Row → Bool) (rows : List Row) → bit_and (mask_l (map p rows)) (mask_l (map q rows))
     ≡ mask_l (map (λ r. p r && q r) rows)
 and-masks p q [] = refl
-and-masks p q (r ∷ rows) =
-    and-bits (p r) (q r) _ _ ∙ ap (λ m. cond (p r && q r) 1 0 + 2 * m) (and-masks p q rows)
+and-masks p q (r ∷ rows) = grind (arith, nat_tests, and-masks p q rows, and-bits)
 
 -- what one row's bits in the four masks say together
 four-tests : (tests : List CatSet) (a b c e : Cat) → length tests ≤ 4 → all_hold tests (a ∷ b ∷ c ∷ e ∷ [])
@@ -86,46 +68,17 @@ four-tests : (tests : List CatSet) (a b c e : Cat) → length tests ≤ 4 → al
     && (leb (length tests) 2 || in_set (get_or tests 2 empty) c))
     && (leb (length tests) 3 || in_set (get_or tests 3 empty) e))
 four-tests [] a b c e h = refl
-four-tests (t ∷ []) a b c e h = one (in_set t a)
-  where
-    one : (x : Bool) → (x && true) ≡ (((x && true) && true) && true)
-    one true = refl
-    one false = refl
-four-tests (t ∷ u ∷ []) a b c e h = two (in_set t a) (in_set u b)
-  where
-    two : (x y : Bool) → (x && (y && true))
-        ≡ (((x && y) && true) && true)
-    two true true = refl
-    two true false = refl
-    two false y = refl
-four-tests (t ∷ u ∷ v ∷ []) a b c e h = three (in_set t a) (in_set u b) (in_set v c)
-  where
-    three : (x y z : Bool) → (x && (y && (z && true))) ≡ (((x && y) && z) && true)
-    three true true true = refl
-    three true true false = refl
-    three true false z = refl
-    three false y z = refl
-four-tests (t ∷ u ∷ v ∷ w ∷ []) a b c e h = four (in_set t a) (in_set u b) (in_set v c) (in_set w e)
-  where
-    four : (x y z s : Bool) → (x && (y && (z && (s && true)))) ≡ (((x && y) && z) && s)
-    four true true true true = refl
-    four true true true false = refl
-    four true true false s = refl
-    four true false z s = refl
-    four false y z s = refl
+four-tests (t ∷ []) a b c e h = grind (arith, nat_tests)
+four-tests (t ∷ u ∷ []) a b c e h = grind (arith, nat_tests)
+four-tests (t ∷ u ∷ v ∷ []) a b c e h = grind (arith, nat_tests)
+four-tests (t ∷ u ∷ v ∷ w ∷ []) a b c e h = grind (arith, nat_tests)
 four-tests (t ∷ u ∷ v ∷ w ∷ x ∷ tests) a b c e h = absurd (omega arith)
 
 abbrev all_admit : Cat → Cat → Cat → Cat → Row → Bool
 all_admit a b c e row = ((admits 0 a row && admits 1 b row) && admits 2 c row) && admits 3 e row
 
 admit-fits : (row : Row) (a b c e : Cat) → IsSound row → all_admit a b c e row ≡ row_fits row (a ∷ b ∷ c ∷ e ∷ [])
-admit-fits row a b c e sound =
-    let count : length (tests_of row) ≡ row.test_count = length-tests_of row sound in
-    ap (λ n. (((leb n 0 || in_set (get_or (tests_of row) 0 empty) a)
-    && (leb n 1 || in_set (get_or (tests_of row) 1 empty) b))
-    && (leb n 2 || in_set (get_or (tests_of row) 2 empty) c))
-    && (leb n 3 || in_set (get_or (tests_of row) 3 empty) e)) (sym count)
-    ∙ sym (four-tests (tests_of row) a b c e (omega (arith, count, sound.four_tests)))
+admit-fits row a b c e sound = grind (arith, nat_tests, length-tests_of, four-tests)
 
 map-fits : (rows : List Row) (a b c e : Cat) → list_all row_is_sound rows ≡ true → map (all_admit a b c e) rows
     ≡ map (λ row. row_fits row (a ∷ b ∷ c ∷ e ∷ [])) rows
@@ -149,18 +102,7 @@ masks-fit rows a b c e h =
 no-mask : (rows : List Row) (cats : List Cat) → mask_l (map (λ row. row_fits row cats) rows) ≡ 0 → first_of rows cats
     ≡ None
 no-mask [] cats h = refl
-no-mask (row ∷ rows) cats h = go (row_fits row cats) refl (no-mask rows cats)
-  where
-    go : (b : Bool) → row_fits row cats ≡ b → (mask_l (map (λ r. row_fits r cats) rows) ≡ 0 → first_of rows cats ≡ None)
-        → first_of (row ∷ rows) cats ≡ None
-    go true e rest =
-        let m : cond true 1 0 + 2 * mask_l (map (λ r. row_fits r cats) rows) ≡ 0 =
-        ap (λ b. cond b 1 0 + 2 * mask_l (map (λ r. row_fits r cats) rows)) (sym e) ∙ h in
-        absurd (omega arith)
-    go false e rest =
-        let m : cond false 1 0 + 2 * mask_l (map (λ r. row_fits r cats) rows) ≡ 0 =
-        ap (λ b. cond b 1 0 + 2 * mask_l (map (λ r. row_fits r cats) rows)) (sym e) ∙ h in
-        first-behind row rows cats e ∙ rest (omega arith)
+no-mask (row ∷ rows) cats h = grind (arith, nat_tests, no-mask rows cats, first-behind)
 
 abbrev fit_mask : List Row → List Cat → ℕ
 fit_mask rows cats = mask_l (map (λ row. row_fits row cats) rows)
@@ -208,17 +150,13 @@ met-is (a ∷ b ∷ c ∷ e ∷ f ∷ w) d len = absurd (omega arith)
 met-by : (w : List Cat) (d : Cat) (m0 m1 m2 m3 : ℕ) → length w ≡ 4 → m0 ≡ mask_of productions 0 (get_or w 0 d)
     → m1 ≡ mask_of productions 1 (get_or w 1 d) → m2 ≡ mask_of productions 2 (get_or w 2 d)
     → m3 ≡ mask_of productions 3 (get_or w 3 d) → bit_and (bit_and (bit_and m0 m1) m2) m3 ≡ fit_mask productions w
-met-by w d m0 m1 m2 m3 len e0 e1 e2 e3 =
-    let is : bit_and (bit_and (bit_and m0 m1) m2) m3 ≡ met w d = cc in
-    is ∙ met-is w d len
+met-by w d m0 m1 m2 m3 len e0 e1 e2 e3 = grind (arith, nat_tests, met-is)
 
 pub none-met : (w : List Cat) (d : Cat) (m0 m1 m2 m3 : ℕ) → length w ≡ 4 → m0 ≡ mask_of productions 0 (get_or w 0 d)
     → m1 ≡ mask_of productions 1 (get_or w 1 d) → m2 ≡ mask_of productions 2 (get_or w 2 d)
     → m3 ≡ mask_of productions 3 (get_or w 3 d) → bit_and (bit_and (bit_and m0 m1) m2) m3 ≡ 0
     → None ≡ option_map (λ row. row.number) (first_of productions w)
-none-met w d m0 m1 m2 m3 len e0 e1 e2 e3 none =
-    sym (ap (option_map (λ row. row.number)) (no-mask productions w (sym (met-by w d m0 m1 m2 m3 len e0 e1 e2 e3)
-    ∙ none)))
+none-met w d m0 m1 m2 m3 len e0 e1 e2 e3 none = grind (arith, nat_tests, no-mask, met-by)
 
 pub first-met : (w : List Cat) (d : Cat) (m0 m1 m2 m3 : ℕ) → length w ≡ 4 → m0 ≡ mask_of productions 0 (get_or w 0 d)
     → m1 ≡ mask_of productions 1 (get_or w 1 d) → m2 ≡ mask_of productions 2 (get_or w 2 d)
@@ -226,41 +164,19 @@ pub first-met : (w : List Cat) (d : Cat) (m0 m1 m2 m3 : ℕ) → length w ≡ 4 
     → Some (record { number = count_trailing_zeros 128 (bit_and (bit_and (bit_and m0 m1) m2) m3) + 1 })
     ≡ option_map (λ row. row.number) (first_of productions w)
 first-met w d m0 m1 m2 m3 len e0 e1 e2 e3 some =
-    let mask : bit_and (bit_and (bit_and m0 m1) m2) m3 ≡ fit_mask productions w =
-    met-by w d m0 m1 m2 m3 len e0 e1 e2 e3 in
-    let positive : 0 < fit_mask productions w = subst (λ k. 0 < k) mask (omega (arith, some)) in
-    let lowest : count_trailing_zeros 128 (bit_and (bit_and (bit_and m0 m1) m2) m3) ≡ misfits productions w =
-    ap (count_trailing_zeros 128) mask
-    ∙ trailing_mask_l (λ row. row_fits row w) 128 productions (omega (arith, productions-length)) positive in
-    sym (lowest-mask productions 1 w productions-numbered positive
-    ∙ ap (λ n. Some (record { number = n })) (omega arith))
+    grind (arith, nat_tests, met-by, trailing_mask_l, productions-length, lowest-mask, productions-numbered)
 
 -- some bit of the masks of two places: some row admits the two categories there
 any-mask : (p : Row → Bool) (rows : List Row) → not (eqb (mask_l (map p rows)) 0) ≡ list_any p rows
 any-mask p [] = refl
-any-mask p (row ∷ rows) = go (p row) (eqb (mask_l (map p rows)) 0) refl (any-mask p rows)
-  where
-    go : (b z : Bool) → eqb (mask_l (map p rows)) 0 ≡ z → not (eqb (mask_l (map p rows)) 0) ≡ list_any p rows
-        → not (eqb (cond b 1 0 + 2 * mask_l (map p rows)) 0) ≡ (b || list_any p rows)
-    go true z e rest = ap not (ne_eqb _ _ (omega arith))
-    go false true e rest =
-        let none : mask_l (map p rows) ≡ 0 = eqb-true _ _ e in
-        let all : cond false 1 0 + 2 * mask_l (map p rows) ≡ 0 = omega arith in
-        ap not (eq-eqb _ _ all ∙ sym e) ∙ rest
-    go false false e rest =
-        let some : mask_l (map p rows) ≡ 0 → ⊥ = eqb-false _ _ e in
-        let all : cond false 1 0 + 2 * mask_l (map p rows) ≡ 0 → ⊥ = λ h. some (omega arith) in
-        ap not (ne_eqb _ _ all ∙ sym e) ∙ rest
+any-mask p (row ∷ rows) = grind (arith, nat_tests, any-mask p rows, ne_eqb, eqb-true, eq-eqb, eqb-false)
 
 abbrev pub two_admit : Cat → Cat → Row → Bool
 two_admit a b row = admits 0 a row && admits 1 b row
 
 pub two-met : (a b : Cat) (m0 m1 : ℕ) → m0 ≡ mask_of productions 0 a → m1 ≡ mask_of productions 1 b
     → not (eqb (bit_and m0 m1) 0) ≡ list_any (two_admit a b) productions
-two-met a b m0 m1 e0 e1 =
-    let is : bit_and m0 m1 ≡ bit_and (mask_of productions 0 a) (mask_of productions 1 b) = cc in
-    ap (λ m. not (eqb m 0)) (is ∙ and-masks (admits 0 a) (admits 1 b) productions)
-    ∙ any-mask (two_admit a b) productions
+two-met a b m0 m1 e0 e1 = grind (arith, nat_tests, and-masks, any-mask)
 
 -- no row admits the two: none fits
 pub two-none : (a b : Cat) → list_any (two_admit a b) productions ≡ false → (c e : Cat)
@@ -279,16 +195,7 @@ two-none a b none c e = no-mask productions (a ∷ b ∷ c ∷ e ∷ []) (sym (m
 -- the number of the first row that fits is that of a row
 misfits-below : (rows : List Row) (cats : List Cat) → 0 < fit_mask rows cats → misfits rows cats < length rows
 misfits-below [] cats h = absurd (omega arith)
-misfits-below (row ∷ rows) cats h = go (row_fits row cats) refl (misfits-below rows cats)
-  where
-    go : (b : Bool) → row_fits row cats ≡ b → (0 < fit_mask rows cats → misfits rows cats < length rows)
-        → misfits (row ∷ rows) cats < length (row ∷ rows)
-    go true e rest = subst (λ b. cond (not b) (1 + misfits rows cats) 0 < suc (length rows)) (sym e) (omega arith)
-    go false e rest =
-        let m : 0 < cond false 1 0 + 2 * fit_mask rows cats = subst (λ b. 0 < cond b 1 0 + 2 * fit_mask rows cats) e
-        h in
-        let below = rest (omega arith) in
-        subst (λ b. cond (not b) (1 + misfits rows cats) 0 < suc (length rows)) (sym e) (omega arith)
+misfits-below (row ∷ rows) cats h = grind (arith, nat_tests, misfits-below rows cats)
 
 pub first-bound : (w : List Cat) (d : Cat) (m0 m1 m2 m3 : ℕ) → length w ≡ 4 → m0 ≡ mask_of productions 0 (get_or w 0 d)
     → m1 ≡ mask_of productions 1 (get_or w 1 d) → m2 ≡ mask_of productions 2 (get_or w 2 d)

@@ -2,6 +2,7 @@
 use Rattle.std.proofs.Common.{◌≡◌, ℕ, zero, suc, ◌+◌, ◌*◌, ◌<◌, ◌≤◌, Bool, true, false, Option, Some, None, List, []}
 use Rattle.std.proofs.Common.{◌∷◌, length, drop, refl, sym, ◌∙◌, ap, arith, if◌then◌else◌}
 use Rattle.std.specs.List.{list_all}
+use Rattle.std.proofs.lemmas.Bool.Decides.{nat_tests}
 use Rattle.cw_base.proofs.TestLaws.{both-left, both-right}
 use Rattle.cw_base.specs.declared.category.Cat.{Cat}
 use Rattle.cw_base.specs.declared.flags.Flags.{Flags}
@@ -112,32 +113,20 @@ takes rows f st i r all fine h =
 pub steps-none : (rows : List Row) (f : Flags) (n : ℕ) (st : State) → next_place rows st ≡ Nowhere → steps rows f n st
     ≡ st
 steps-none rows f zero st e = refl
-steps-none rows f (suc n) st e = ap (λ (p : Place). elim p [
-  | Nowhere ↦ st
-  | At i r ↦ steps rows f n (rewrite f r i st)
-]) e
+steps-none rows f (suc n) st e = grind (arith, nat_tests)
 
 pub steps-turn : (rows : List Row) (f : Flags) (n i : ℕ) (r : Row) (st : State) → next_place rows st ≡ At i r
     → steps rows f (suc n) st ≡ steps rows f n (rewrite f r i st)
-steps-turn rows f n i r st e = ap (λ (p : Place). elim p [ Nowhere ↦ st | At j q ↦ steps rows f n (rewrite f q j st) ])
-    e
+steps-turn rows f n i r st e = grind (arith, nat_tests)
 
 pub log-none-of : (rows : List Row) (f : Flags) (n : ℕ) (st : State) → next_place rows st ≡ Nowhere
     → log_of rows f n st ≡ []
 log-none-of rows f zero st e = refl
-log-none-of rows f (suc n) st e = ap (λ (p : Place). elim p [
-  | Nowhere ↦ []
-  | At i r ↦
-      record { number = r.number.number; place = i } ∷ log_of rows f n (rewrite f r i st)
-]) e
+log-none-of rows f (suc n) st e = grind (arith, nat_tests)
 
 pub log-turn-of : (rows : List Row) (f : Flags) (n i : ℕ) (r : Row) (st : State) → next_place rows st ≡ At i r
     → log_of rows f (suc n) st ≡ record { number = r.number.number; place = i } ∷ log_of rows f n (rewrite f r i st)
-log-turn-of rows f n i r st e = ap (λ (p : Place). elim p [
-  | Nowhere ↦ []
-  | At j q ↦
-      record { number = q.number.number; place = j } ∷ log_of rows f n (rewrite f q j st)
-]) e
+log-turn-of rows f n i r st e = grind (arith, nat_tests)
 
 -- a function of a number of productions that counts them down: more than the weight change nothing
 pub more-same : (A : Type 0) (rows : List Row) (f : Flags) (g : ℕ → State → A) (next : State → ℕ → Row → A

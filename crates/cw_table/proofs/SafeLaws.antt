@@ -5,10 +5,11 @@ use Rattle.std.proofs.Common.{eqb, leb, ltb, length-take-le, length-drop, take-a
 use Rattle.std.specs.List.{flat_map, list_all, list_any}
 use Rattle.std.specs.Prelude.{filter}
 use Rattle.std.proofs.lemmas.Bool.{eqb-true, ltb-true, lt-ltb}
-use Rattle.std.proofs.lemmas.Bool.Decides.{eqb_tells, leb_tells}
+use Rattle.std.proofs.lemmas.Bool.Decides.{eqb_tells, leb_tells, nat_tests}
 use Rattle.std.proofs.lemmas.List.{drop-append-le, get_or_past, get_or-append-add, get_or-append_right, get_or-drop}
 use Rattle.std.proofs.lemmas.List.{get_or-take, get_or_append_left}
 use Rattle.std.proofs.Math.Seq.{get_or-append_seam}
+use Rattle.std.proofs.lemmas.Grind.{common_steps}
 use Rattle.cw_base.specs.declared.category.Cat.{Cat}
 use Rattle.cw_base.specs.declared.category.Cat.TheVariants.{End}
 use Rattle.cw_base.specs.declared.category.CatSet.{CatSet}
@@ -49,24 +50,13 @@ any-append p (x ∷ xs) ys h = one-right _ _ (any-append p xs ys h)
 
 any-append-left : {X : Type 0} (p : X → Bool) (xs ys : List X) → list_any p xs ≡ true → list_any p (xs ++ ys) ≡ true
 any-append-left p [] ys h = absurd cc
-any-append-left p (x ∷ xs) ys h = go (p x) refl (any-append-left p xs ys)
-  where
-    go : (b : Bool) → p x ≡ b → (list_any p xs ≡ true → list_any p (xs ++ ys) ≡ true) → list_any p ((x ∷ xs) ++ ys)
-        ≡ true
-    go true e rest = one-left _ _ e
-    go false e rest = one-right _ _ (rest (ap (λ b. b || list_any p xs) (sym e) ∙ h))
+any-append-left p (x ∷ xs) ys h = grind (arith, nat_tests, any-append-left p xs ys, one-left, one-right)
 
 -- an element of a list gives its piece of the flat list
 any-flat : {X Y : Type 0} (p : Y → Bool) (f : X → List Y) (xs : List X) → list_any (λ x. list_any p (f x)) xs ≡ true
     → list_any p (flat_map f xs) ≡ true
 any-flat p f [] h = absurd cc
-any-flat p f (x ∷ xs) h = go (list_any p (f x)) refl (any-flat p f xs)
-  where
-    go : (b : Bool) → list_any p (f x) ≡ b → (list_any (λ y. list_any p (f y)) xs ≡ true → list_any p (flat_map f xs)
-        ≡ true) → list_any p (flat_map f (x ∷ xs)) ≡ true
-    go true e rest = any-append-left p (f x) (flat_map f xs) e
-    go false e rest = any-append p (f x) (flat_map f xs)
-        (rest (ap (λ b. b || list_any (λ y. list_any p (f y)) xs) (sym e) ∙ h))
+any-flat p f (x ∷ xs) h = grind (arith, nat_tests, any-flat p f xs, any-append-left, any-append)
 
 pub filter-yes : {X : Type 0} (q : X → Bool) (x : X) (xs : List X) → q x ≡ true → filter q (x ∷ xs) ≡ x ∷ filter q xs
 filter-yes {X} q x xs e = rw e refl
@@ -77,19 +67,7 @@ filter-no {X} q x xs e = rw e refl
 any-filter : {X : Type 0} (p q : X → Bool) (xs : List X) → list_any (λ x. q x && p x) xs ≡ true
     → list_any p (filter q xs) ≡ true
 any-filter p q [] h = h
-any-filter p q (x ∷ xs) h = go (q x) (p x) refl refl (any-filter p q xs)
-  where
-    go : (b c : Bool) → q x ≡ b → p x ≡ c → (list_any (λ y. q y && p y) xs ≡ true → list_any p (filter q xs) ≡ true)
-        → list_any p (filter q (x ∷ xs)) ≡ true
-    go true true e f rest = ap (list_any p) (filter-yes q x xs e) ∙ one-left _ _ f
-    go true false e f rest =
-        let more : list_any (λ y. q y && p y) xs ≡ true = ap (λ b. (b && false) || list_any (λ y. q y && p y) xs)
-        (sym e) ∙ ap (λ c. (q x && c) || list_any (λ y. q y && p y) xs) (sym f) ∙ h in
-        ap (list_any p) (filter-yes q x xs e) ∙ one-right _ _ (rest more)
-    go false c e f rest =
-        let more : list_any (λ y. q y && p y) xs ≡ true = ap (λ b. (b && p x) || list_any (λ y. q y && p y) xs) (sym e)
-        ∙ h in
-        ap (list_any p) (filter-no q x xs e) ∙ rest more
+any-filter p q (x ∷ xs) h = grind (arith, nat_tests, any-filter p q xs, filter-yes, one-left, one-right, filter-no)
 
 any-member : (p : Cat → Bool) (s : CatSet) (c : Cat) → in_set s c ≡ true → p c ≡ true → list_any p (members s) ≡ true
 any-member p s c h k =
@@ -160,17 +138,16 @@ fit-at row w sound fits k lt = hold-at (tests_of row) w k fits (omega (arith, le
 
 -- what is replaced stands in the list
 pub begins-inside : (row : Row) (w : List Cat) → IsSound row → row_fits row w ≡ true → row.offset < length w
-begins-inside row w sound fits = elim (leb_tells (length w) row.offset) [
-  | inl past ↦ absurd (
-      let none : in_set (test row row.offset) End ≡ false =
-      sound.replaced_not_end row.offset (omega arith) (omega (arith, sound.some_replaced)) in
-      let some : in_set (test row row.offset) (get_or w row.offset End) ≡ true =
-      fit-at row w sound fits row.offset (omega (arith, sound.replaced_tested, sound.some_replaced)) in
-      let is : get_or w row.offset End ≡ End = get_or_past w row.offset End past.1 in
-      let there : in_set (test row row.offset) End ≡ true = ap (in_set (test row row.offset)) (sym is) ∙ some in
-      cc)
-  | inr inside ↦ inside.1
-]
+begins-inside row w sound fits = grind (
+  arith,
+  nat_tests,
+  common_steps,
+  leb_tells (length w) row.offset,
+  fit-at row w sound fits row.offset (omega (arith, sound.replaced_tested, sound.some_replaced)),
+  leb_tells,
+  fit-at,
+  get_or_past,
+)
 
 -- One row before another: `pre` are the categories between the places of the two, `w` those from the place of
 -- the row that is applied on, and `rest` what stands to the right of the new scrap.
@@ -204,10 +181,7 @@ module _ (r t : Row) (pre w rest : List Cat) (sr : IsSound r) (st : IsSound t) (
   at-old = get_or-append-add pre w r.offset End
 
   at-new : get_or (pre ++ after) q End ≡ result_at r.result w
-  at-new =
-      get_or-append-add pre after r.offset End
-      ∙ ap (λ n. get_or after n End) (sym length-front)
-      ∙ get_or-append_seam (take r.offset w) (result_at r.result w) rest End
+  at-new = grind (arith, nat_tests, get_or-append-add, length-front, get_or-append_seam)
 
   at-after : (j : ℕ) → get_or (pre ++ after) (q + suc j) End ≡ get_or rest j End
   at-after j =
@@ -330,19 +304,11 @@ first-fits (r ∷ rows) cats row e h = go (row_fits r cats) refl (λ f. first-fi
 
 pub none-fits : (row : Row) (rows : List Row) (cats : List Cat) → first_of (row ∷ rows) cats ≡ None
     → (row_fits row cats ≡ false) × (first_of rows cats ≡ None)
-none-fits row rows cats e = go (row_fits row cats) refl
-  where
-    go : (b : Bool) → row_fits row cats ≡ b → (row_fits row cats ≡ false) × (first_of rows cats ≡ None)
-    go true f = absurd (let one : Some row ≡ None = sym (first-here row rows cats f) ∙ e in cc)
-    go false f = (f, sym (first-behind row rows cats f) ∙ e)
+none-fits row rows cats e = grind (arith, nat_tests, first-here, first-behind)
 
 -- a row sees four scraps: from further before it never sees the new one
 far-harmless : (r t : Row) (e : ℕ) → IsSound t → 3 < e → is_hazard r t e ≡ false
-far-harmless r t e st far = go (ltb (e + r.offset) t.test_count) refl
-  where
-    go : (b : Bool) → ltb (e + r.offset) t.test_count ≡ b → is_hazard r t e ≡ false
-    go true h = absurd (omega (arith, ltb-true _ _ h, st.four_tests))
-    go false h = rw (h, is_hazard) refl
+far-harmless r t e st far = grind (arith, nat_tests, ltb-true)
 
 -- no row fits where none is brought to fit and none fitted
 none-after : (rows : List Row) (r : Row) (pre w rest : List Cat) → IsSound r → row_fits r w ≡ true
@@ -378,15 +344,11 @@ none-after (t ∷ rows) r pre w rest sr fr keep h safe_from none =
 -- none of the rows is in danger further before than a safe distance
 beyond : (rows : List Row) (r : Row) (d e : ℕ) → (leb e d || not (endangers rows r e)) ≡ true → d < e
     → endangers rows r e ≡ false
-beyond rows r d e h lt = elim (leb_tells e d) [
-  | inl low ↦ absurd (omega (arith, low.1))
-  | inr high ↦ not-true _ (other-one _ _ h high.0)
-]
+beyond rows r d e h lt = grind (arith, nat_tests, leb_tells, not-true, other-one)
 
 drop-front : (lower place : ℕ) (cats more : List Cat) → place ≤ length cats → lower ≤ place
     → drop lower (take place cats ++ more) ≡ drop lower (take place cats) ++ more
-drop-front lower place cats more h k = drop-append-le lower (take place cats) more
-    (omega (arith, length-take-le place cats h))
+drop-front lower place cats more h k = grind (arith, nat_tests, drop-append-le, length-take-le)
 
 whole-front : (lower place : ℕ) (cats : List Cat) → place ≤ length cats → lower ≤ place
     → drop lower (take place cats) ++ drop place cats ≡ drop lower cats
@@ -397,12 +359,9 @@ safe-beyond : (rows : List Row) (r : Row) (d e : ℕ) → safe rows r d ≡ true
     → list_any (λ t. is_hazard r t e) rows ≡ false
 unfolding endangers
 safe-beyond rows r d zero h lt near = absurd (omega arith)
-safe-beyond rows r d (suc zero) h lt near = beyond rows r d 1
-    (each-of (λ places. leb places d || not (endangers rows r places)) (1 ∷ 2 ∷ 3 ∷ []) 0 1 h refl) lt
-safe-beyond rows r d (suc (suc zero)) h lt near = beyond rows r d 2
-    (each-of (λ places. leb places d || not (endangers rows r places)) (1 ∷ 2 ∷ 3 ∷ []) 1 2 h refl) lt
-safe-beyond rows r d (suc (suc (suc zero))) h lt near = beyond rows r d 3
-    (each-of (λ places. leb places d || not (endangers rows r places)) (1 ∷ 2 ∷ 3 ∷ []) 2 3 h refl) lt
+safe-beyond rows r d (suc zero) h lt near = grind (arith, nat_tests, beyond, each-of)
+safe-beyond rows r d (suc (suc zero)) h lt near = grind (arith, nat_tests, beyond, each-of)
+safe-beyond rows r d (suc (suc (suc zero))) h lt near = grind (arith, nat_tests, beyond, each-of)
 safe-beyond rows r d (suc (suc (suc (suc e)))) h lt near = absurd (omega arith)
 
 pub safe-sound : (rows : List Row) (r : Row) → list_all row_is_sound rows ≡ true → SafeIsSound rows r
@@ -426,20 +385,7 @@ safe-sound rows r sound d place lower cats rest h least keep lt =
 
 -- the least safe distance is safe
 pub least-safe : (rows : List Row) (r : Row) → safe rows r (least rows r) ≡ true
-least-safe rows r = go (safe rows r 0) (safe rows r 1) (safe rows r 2) refl refl refl
-  where
-    go : (a b c : Bool) → safe rows r 0 ≡ a → safe rows r 1 ≡ b → safe rows r 2 ≡ c → safe rows r (least rows r) ≡ true
-    go true b c ea eb ec = let is : least rows r ≡ 0 = rw (ea, least) refl in ap (safe rows r) is ∙ ea
-    go false true c ea eb ec = let is : least rows r ≡ 1 = rw (ea, eb, least) refl in ap (safe rows r) is ∙ eb
-    go false false true ea eb ec = let is : least rows r ≡ 2 = rw (ea, eb, ec, least) refl in ap (safe rows r) is ∙ ec
-    go false false false ea eb ec = let is : least rows r ≡ 3 = rw (ea, eb, ec, least) refl in ap (safe rows r) is
-        ∙ refl
+least-safe rows r = grind (arith, nat_tests)
 
 pub least-at-most : (rows : List Row) (r : Row) → least rows r ≤ 3
-least-at-most rows r = go (safe rows r 0) (safe rows r 1) (safe rows r 2) refl refl refl
-  where
-    go : (a b c : Bool) → safe rows r 0 ≡ a → safe rows r 1 ≡ b → safe rows r 2 ≡ c → least rows r ≤ 3
-    go true b c ea eb ec = let is : least rows r ≡ 0 = rw (ea, least) refl in omega arith
-    go false true c ea eb ec = let is : least rows r ≡ 1 = rw (ea, eb, least) refl in omega arith
-    go false false true ea eb ec = let is : least rows r ≡ 2 = rw (ea, eb, ec, least) refl in omega arith
-    go false false false ea eb ec = let is : least rows r ≡ 3 = rw (ea, eb, ec, least) refl in omega arith
+least-at-most rows r = grind (arith, nat_tests)

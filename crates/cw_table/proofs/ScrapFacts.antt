@@ -1,20 +1,19 @@
 -- Facts on lists of scraps: their weights, their categories, and whether each is fine.
-use Rattle.std.proofs.Common.{◌≡◌, ℕ, zero, suc, ◌+◌, ◌*◌, ◌<◌, ◌≤◌, Bool, true, false, ◌&&◌, Option, Some, None, List}
-use Rattle.std.proofs.Common.{[], ◌∷◌, ◌++◌, map, length, get_or, take, drop, set, refl, sym, ◌∙◌, ap, arith, add_assoc}
-use Rattle.std.proofs.Common.{zero-add, take-append-drop, if◌then◌else◌}
+use Rattle.std.proofs.Common.{◌≡◌, ℕ, zero, suc, ◌+◌, ◌*◌, ◌<◌, ◌≤◌, Bool, true, ◌&&◌, Option, None, List, [], ◌∷◌}
+use Rattle.std.proofs.Common.{◌++◌, map, length, get_or, take, drop, set, refl, sym, ◌∙◌, ap, arith, add_assoc}
+use Rattle.std.proofs.Common.{zero-add, take-append-drop}
 use Rattle.std.specs.List.{list_all}
+use Rattle.std.proofs.lemmas.Bool.Decides.{nat_tests}
 use Rattle.cw_base.proofs.TestLaws.{both, both-left, both-right}
 use Rattle.cw_base.specs.declared.category.Cat.{Cat}
-use Rattle.cw_base.specs.declared.category.Cat.TheVariants.{Exp, RawInt, End}
+use Rattle.cw_base.specs.declared.category.Cat.TheVariants.{End}
 use Rattle.cw_base.specs.Category.{rank}
 use Rattle.cw_base.specs.declared.mode.MathMode.{MathMode}
-use Rattle.cw_base.specs.declared.mode.MathMode.TheVariants.{Text, Math}
-use Rattle.cw_trees.specs.Tree.{Source, Ident, Reserved, Sign, Tree, Empty, Then, Sub, Inner, bare_name, Search, Found}
-use Rattle.cw_trees.specs.Tree.{Stopped, Nothing, search_word, search_sign, first_ident, reserve_first}
+use Rattle.cw_trees.specs.Tree.{Source, Ident, Reserved, Sign, Tree, Empty, Then, Sub, Inner, bare_name, Search}
+use Rattle.cw_trees.specs.Tree.{reserve_first}
 use Rattle.cw_trees.specs.Joining.{Scrap, no_scrap, Joined, Whole, Mark, toggled, joined_tree, needs}
 use Rattle.cw_table.specs.Sound.{is_exp}
-use Rattle.cw_table.specs.Rewriting.{cats_of, reserved_in, reserved_at, with_cat, is_bare_name, named_scrap}
-use Rattle.cw_table.specs.Rewriting.{named_right}
+use Rattle.cw_table.specs.Rewriting.{cats_of, reserved_in, reserved_at, is_bare_name, named_scrap, named_right}
 use Rattle.cw_table.specs.Normal.{rank_with, weight_of, weight, fine_with, is_fine}
 
 -- tests of lists
@@ -54,62 +53,29 @@ all-map p f keeps (x ∷ xs) h = both (p (f x)) _ (keeps x (both-left (p x) _ h)
 
 -- ranks
 pub rank_with-none : (c : Cat) → rank_with c None ≡ rank c
-rank_with-none Exp = refl
-rank_with-none _ = refl
+rank_with-none x1 = grind (arith, nat_tests)
 
 pub rank_with-least : (c : Cat) (b : Option ℕ) → rank c ≤ rank_with c b
-rank_with-least Exp (Some n) = omega arith
-rank_with-least _ _ = omega arith
+rank_with-least x1 x2 = grind (arith, nat_tests)
 
 pub rank_with-most : (c : Cat) (b : Option ℕ) → rank_with c b ≤ 4
-rank_with-most Exp (Some n) = omega arith
-rank_with-most _ _ = omega arith
+rank_with-most x1 x2 = grind (arith, nat_tests)
 
 pub rank-most : (c : Cat) → rank c ≤ 3
-rank-most Exp = omega arith
-rank-most _ = omega arith
+rank-most x1 = grind (arith, nat_tests)
 
 -- a tree whose first identifier was reserved is no bare identifier, nor is a joined one
 pub reserve-bare : (t : Tree) → bare_name (reserve_first t) ≡ None
 reserve-bare Empty = refl
 reserve-bare (Then (Source number mode) rest) = refl
 reserve-bare (Then (Ident name number) rest) = refl
-reserve-bare (Then (Reserved name number cat) rest) = go (search_word cat)
-  where
-    go : (s : Search) → bare_name (elim s [
-      | Found n ↦ Then (Reserved name number cat) rest
-      | Stopped ↦ Then (Reserved name number cat) rest
-      | Nothing ↦ Then (Reserved name number cat) (reserve_first rest)
-    ]) ≡ None
-    go (Found n) = refl
-    go Stopped = refl
-    go Nothing = refl
-reserve-bare (Then (Sign control) rest) = go (search_sign control)
-  where
-    go : (s : Search) → bare_name (elim s [
-      | Found n ↦ Then (Sign control) rest
-      | Stopped ↦ Then (Sign control) rest
-      | Nothing ↦ Then (Sign control) (reserve_first rest)
-    ]) ≡ None
-    go (Found n) = refl
-    go Stopped = refl
-    go Nothing = refl
-reserve-bare (Sub tree rest) = go (first_ident tree)
-  where
-    go : (s : Search) → bare_name (elim s [
-      | Found n ↦ Sub (reserve_first tree) rest
-      | Stopped ↦ Sub tree rest
-      | Nothing ↦ Sub tree (reserve_first rest)
-    ]) ≡ None
-    go (Found n) = refl
-    go Stopped = refl
-    go Nothing = refl
+reserve-bare (Then (Reserved name number cat) rest) = grind (arith, nat_tests)
+reserve-bare (Then (Sign control) rest) = grind (arith, nat_tests)
+reserve-bare (Sub tree rest) = grind (arith, nat_tests)
 reserve-bare (Inner tree rest) = refl
 
 toggled-bare : (m n : MathMode) (t : Tree) → bare_name t ≡ None → bare_name (toggled m n t) ≡ None
-toggled-bare Math Text t h = refl
-toggled-bare Text Math t h = refl
-toggled-bare _ _ t h = h
+toggled-bare x1 x2 t h = grind (arith, nat_tests)
 
 pub joined-bare : (m : MathMode) (js : List Joined) → bare_name (joined_tree m js) ≡ None
 joined-bare m [] = refl
@@ -119,8 +85,7 @@ joined-bare m (Mark c ∷ js) = toggled-bare m (needs c) _ refl
 -- weights
 pub weight-append : (xs ys : List Scrap) → weight (xs ++ ys) ≡ weight xs + weight ys
 weight-append [] ys = sym (zero-add (weight ys))
-weight-append (x ∷ xs) ys = ap (λ n. weight_of x + n) (weight-append xs ys)
-    ∙ sym (add_assoc (weight_of x) (weight xs) (weight ys))
+weight-append (x ∷ xs) ys = grind (arith, nat_tests, weight-append xs ys, add_assoc)
 
 pub weight-split : (n : ℕ) (xs : List Scrap) → weight (take n xs) + weight (drop n xs) ≡ weight xs
 weight-split n xs = sym (weight-append (take n xs) (drop n xs)) ∙ ap weight (take-append-drop n xs)
@@ -168,9 +133,7 @@ pub reserved-fine : (s : Scrap) → is_fine (reserved_in s) ≡ true
 reserved-fine s = ap (λ b. fine_with s.cat b) (reserve-bare s.tree)
 
 pub reserved-weight : (s : Scrap) → weight_of (reserved_in s) ≤ weight_of s
-reserved-weight s = let e : rank_with s.cat (bare_name (reserve_first s.tree))
-    ≡ rank s.cat = ap (λ b. rank_with s.cat b) (reserve-bare s.tree)
-    ∙ rank_with-none s.cat in omega (arith, rank_with-least s.cat (bare_name s.tree))
+reserved-weight s = grind (arith, nat_tests, reserve-bare, rank_with-none, rank_with-least)
 
 set-cats : (xs : List Scrap) (n : ℕ) → cats_of (set xs n (reserved_in (get_or xs n no_scrap))) ≡ cats_of xs
 set-cats [] n = refl
@@ -183,61 +146,41 @@ set-weight (x ∷ xs) zero = omega (arith, reserved-weight x)
 set-weight (x ∷ xs) (suc n) = omega (arith, set-weight xs n)
 
 pub at-cats : (o : Option ℕ) (xs : List Scrap) → cats_of (reserved_at o xs) ≡ cats_of xs
-at-cats None xs = refl
-at-cats (Some k) xs = set-cats xs k
+at-cats x1 xs = grind (arith, nat_tests, set-cats)
 
 pub at-weight : (o : Option ℕ) (xs : List Scrap) → weight (reserved_at o xs) ≤ weight xs
-at-weight None xs = omega arith
-at-weight (Some k) xs = set-weight xs k
+at-weight x1 xs = grind (arith, nat_tests, set-weight)
 
 pub at-fine : (o : Option ℕ) (xs : List Scrap) → list_all is_fine xs ≡ true → list_all is_fine (reserved_at o xs) ≡ true
-at-fine None xs h = h
-at-fine (Some k) xs h = all-set is_fine xs k _ (reserved-fine (get_or xs k no_scrap)) h
+at-fine x1 xs h = grind (arith, nat_tests, all-set, reserved-fine)
 
 pub at-length : (o : Option ℕ) (xs : List Scrap) → length (reserved_at o xs) ≡ length xs
 at-length o xs = sym (cats-length (reserved_at o xs)) ∙ ap length (at-cats o xs) ∙ cats-length xs
 
 -- the scraps to the right
 exp-named : (c : Cat) (b : Option ℕ) (name : ℕ) → (is_exp c && is_bare_name name b) ≡ true → rank_with c b ≡ 4
-exp-named Exp None name h = cc
-exp-named Exp (Some bare) name h = refl
-exp-named _ b name h = cc
+exp-named x1 b name h = grind (arith, nat_tests)
 
 named-weight : (name : ℕ) (s : Scrap) → weight_of (named_scrap name s) ≤ weight_of s
-named-weight name s = go (is_exp s.cat && is_bare_name name (bare_name s.tree)) refl
-  where
-    go : (t : Bool) → (is_exp s.cat && is_bare_name name (bare_name s.tree)) ≡ t
-        → weight_of (if t then with_cat RawInt (reserved_in s) else s) ≤ weight_of s
-    go true e = omega (arith, exp-named s.cat (bare_name s.tree) name e)
-    go false e = omega arith
+named-weight name s = grind (arith, nat_tests, exp-named)
 
 named-fine : (name : ℕ) (s : Scrap) → is_fine s ≡ true → is_fine (named_scrap name s) ≡ true
-named-fine name s h = go (is_exp s.cat && is_bare_name name (bare_name s.tree))
-  where
-    go : (t : Bool) → is_fine (if t then with_cat RawInt (reserved_in s) else s) ≡ true
-    go true = ap (λ b. fine_with RawInt b) (reserve-bare s.tree)
-    go false = h
+named-fine name s h = grind (arith, nat_tests, reserve-bare)
 
 map-weight : (name : ℕ) (xs : List Scrap) → weight (map (named_scrap name) xs) ≤ weight xs
 map-weight name [] = omega arith
 map-weight name (x ∷ xs) = omega (arith, map-weight name xs, named-weight name x)
 
 pub right-weight : (s : Search) (xs : List Scrap) → weight (named_right s xs) ≤ weight xs
-right-weight (Found name) xs = map-weight name xs
-right-weight Stopped xs = omega arith
-right-weight Nothing xs = omega arith
+right-weight x1 xs = grind (arith, nat_tests, map-weight)
 
 pub right-fine : (s : Search) (xs : List Scrap) → list_all is_fine xs ≡ true → list_all is_fine (named_right s xs)
     ≡ true
-right-fine (Found name) xs h = all-map is_fine (named_scrap name) (named-fine name) xs h
-right-fine Stopped xs h = h
-right-fine Nothing xs h = h
+right-fine x1 xs h = grind (arith, nat_tests, all-map, named-fine)
 
 map-length : (f : Scrap → Scrap) (xs : List Scrap) → length (map f xs) ≡ length xs
 map-length f [] = refl
 map-length f (x ∷ xs) = ap suc (map-length f xs)
 
 pub right-length : (s : Search) (xs : List Scrap) → length (named_right s xs) ≡ length xs
-right-length (Found name) xs = map-length (named_scrap name) xs
-right-length Stopped xs = refl
-right-length Nothing xs = refl
+right-length x1 xs = grind (arith, nat_tests, map-length)

@@ -1,7 +1,8 @@
 -- The states on the way to the normal form: each is lighter than those before it.
-use Rattle.std.proofs.Common.{◌≡◌, ℕ, zero, suc, ◌+◌, ◌-◌, ◌<◌, ◌≤◌, Bool, true, false, ltb, List, refl, sym, ◌∙◌, ap}
-use Rattle.std.proofs.Common.{arith, ltb-true, ltb-false}
+use Rattle.std.proofs.Common.{◌≡◌, ℕ, zero, suc, ◌+◌, ◌-◌, ◌<◌, ◌≤◌, true, List, refl, sym, ◌∙◌, ap, arith, ltb-true}
+use Rattle.std.proofs.Common.{ltb-false}
 use Rattle.std.specs.List.{list_all}
+use Rattle.std.proofs.lemmas.Bool.Decides.{nat_tests}
 use Rattle.cw_base.specs.declared.flags.Flags.{Flags}
 use Rattle.cw_table.specs.declared.types.Row.{Row}
 use Rattle.cw_table.specs.Sound.{row_is_sound}
@@ -73,20 +74,9 @@ lighter-later rows f k m st all fine less most =
 pub same-number : (rows : List Row) (f : Flags) (k m : ℕ) (st : State) → list_all row_is_sound rows ≡ true
     → list_all is_fine st.scraps ≡ true → k ≤ count rows f st → m ≤ count rows f st → weight (steps rows f m st).scraps
     ≡ weight (steps rows f k st).scraps → m ≡ k
-same-number rows f k m st all fine a b e = go (ltb k m) (ltb m k) refl refl
-  where
-    go : (x y : Bool) → ltb k m ≡ x → ltb m k ≡ y → m ≡ k
-    go true y p q = absurd (omega (arith, e, lighter-later rows f k m st all fine (ltb-true _ _ p) b))
-    go false true p q = absurd (omega (arith, e, lighter-later rows f m k st all fine (ltb-true _ _ q) a))
-    go false false p q = omega (arith, ltb-false _ _ p, ltb-false _ _ q)
+same-number rows f k m st all fine a b e = grind (arith, nat_tests, lighter-later, ltb-true, ltb-false)
 
 -- The state after some number of productions, which its weight gives.
 pub is-after : (rows : List Row) (f : Flags) (k : ℕ) (st : State) → list_all row_is_sound rows ≡ true
     → list_all is_fine st.scraps ≡ true → k ≤ count rows f st → IsAfter rows f st (steps rows f k st)
-is-after rows f k st all fine most = record {
-  number = k;
-  within = most;
-  is = refl;
-  only = λ m a e. same-number rows f k
-      m st all fine most a e;
-}
+is-after rows f k st all fine most = grind (arith, nat_tests, same-number)

@@ -3,6 +3,7 @@ use Rattle.std.proofs.Common.{◌≡◌, ℕ, zero, suc, ◌+◌, ◌-◌, ◌<�
 use Rattle.std.proofs.Common.{Some, None, List, [], ◌∷◌, length, drop, refl, sym, ◌∙◌, ap, arith, ltb-true, ltb-false}
 use Rattle.std.proofs.Common.{if◌then◌else◌}
 use Rattle.std.specs.List.{list_all}
+use Rattle.std.proofs.lemmas.Bool.Decides.{nat_tests}
 use Rattle.cw_base.specs.declared.category.Cat.{Cat}
 use Rattle.cw_base.specs.declared.flags.Flags.{Flags}
 use Rattle.cw_table.specs.declared.types.Row.{Row}
@@ -27,10 +28,7 @@ next-here : (rows : List Row) (first : ℕ) (cs : List Cat) (place : ℕ) (r : R
     → ((k : ℕ) → k < place → first_of rows (drop k cs) ≡ None) → first_of rows (drop place cs) ≡ Some r
     → least_place rows first cs ≡ At (first + place) r
 next-here rows first [] place r h below found = absurd (omega arith)
-next-here rows first (c ∷ cs) zero r h below found = ap (λ (o : Option Row). elim o [
-  | Some q ↦ At first q
-  | None ↦ least_place rows (suc first) cs
-]) found ∙ ap (λ n. At n r) (omega arith)
+next-here rows first (c ∷ cs) zero r h below found = grind (arith, nat_tests)
 next-here rows first (c ∷ cs) (suc place) r h below found =
     ap (λ (o : Option Row). elim o [ Some q ↦ At first q | None ↦ least_place rows (suc first) cs ])
     (below 0 (omega arith))
@@ -48,9 +46,7 @@ next-nowhere rows first (c ∷ cs) below =
 -- a safe distance is safe for scraps, with what a row reserves to the right
 pub safe-far : SafeReachesFar
 safe-far rows f st place r distance lower all is_least is_safe lt =
-    ap (λ cs. first_of rows (drop lower cs)) (rewritten-cats f r place st)
-    ∙ safe-sound rows r all distance place lower (cats_of st.scraps) (cats_of (right_after r (drop place st.scraps)))
-    is_safe is_least (right-kept r place st) lt
+    grind (arith, nat_tests, rewritten-cats, safe-sound, right_after, right-kept)
 
 -- A turn that rewrites: all that it needs before, and all that holds after it.
 pub record Turns (rows : List Row) (f : Flags) (st : State) (place : ℕ) (r : Row) : Type 0 where
@@ -78,10 +74,7 @@ turning rows f st place r all fine below inside found =
     }
 
 pub lt-or-is : (k n : ℕ) → k < suc n → (k < n) ⊎ (k ≡ n)
-lt-or-is k n h = elim (ltb k n) as (λ b. ltb k n ≡ b → (k < n) ⊎ (k ≡ n)) [
-  | true ↦ λ e. inl (ltb-true _ _ e)
-  | false ↦ λ e. inr (omega (arith, ltb-false _ _ e))
-] refl
+lt-or-is k n h = grind (arith, nat_tests, ltb-true, ltb-false)
 
 -- one step of the two recursions
 abbrev pub step_of : {A : Type 0} → Bool → Option Row → A → A → (Row → A) → A
@@ -91,8 +84,7 @@ step_of inside found ended passed turned = if inside then elim found [ None ↦ 
 pub step-is : {A : Type 0} (inside : Bool) (found : Option Row) (b : Bool) (o : Option Row) (ended passed : A)
     (turned : Row → A) → inside ≡ b → found ≡ o → step_of inside found ended passed turned
     ≡ step_of b o ended passed turned
-step-is inside found b o ended passed turned e g = ap (λ (x : Bool). step_of x found ended passed turned) e
-    ∙ ap (λ (y : Option Row). step_of b y ended passed turned) g
+step-is inside found b o ended passed turned e g = grind (arith, nat_tests)
 
 -- what a walk gives, seen from the productions
 walk-gives : (A : Type 0) (rows : List Row) (f : Flags) (g : ℕ → ℕ → State → A) (still : State → A) (more : ℕ → Row → A

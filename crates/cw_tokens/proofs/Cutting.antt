@@ -1,5 +1,5 @@
 -- The lists that the ends cut out of one vector of tokens.
-use Rattle.std.proofs.Common.{◌≡◌, ℕ, zero, suc, ◌+◌, ◌-◌, ◌<◌, ◌≤◌, List, [], ◌∷◌, ◌++◌, length, take, drop, set, min}
+use Rattle.std.proofs.Common.{◌≡◌, ℕ, zero, suc, ◌+◌, ◌-◌, ◌<◌, ◌≤◌, List, [], ◌∷◌, ◌++◌, length, take, drop, set}
 use Rattle.std.proofs.Common.{get_or, refl, sym, ap, ◌∙◌, arith}
 use Rattle.std.proofs.lemmas.List.{take-append-le, drop-append-le, drop-drop, drop-set-lt, drop-set-add, take-set-le}
 use Rattle.std.proofs.lemmas.List.{length-take, length-drop, take_all}
@@ -12,8 +12,7 @@ length-cut start (e ∷ es) ts = ap suc (length-cut e es (drop (e - start) ts))
 
 pub last_end-le : (start : ℕ) (es : List ℕ) → IsAscending start es → start ≤ last_end start es
 last_end-le start [] a = omega arith
-last_end-le start (e ∷ es) a = let h : e ≤ last_end e es = last_end-le e es a.1 in let k : start ≤ e =
-    a.0 in omega arith
+last_end-le start (e ∷ es) a = grind (arith, last_end-le e es a.1)
 
 cons : {A : Type 0} (x y : A) (xs ys : List A) → x ≡ y → xs ≡ ys → ◌≡◌ {A = List A} (x ∷ xs) (y ∷ ys)
 cons x y xs ys e f = cc
@@ -32,18 +31,13 @@ cut-push start (e ∷ es) ts t a w =
     ∙ cut-push e es (drop (e - start) ts) t a.1 rest)
 
 drop-two : (s m n : ℕ) (us : List Token) → s ≤ m → m ≤ n → drop (n - m) (drop (m - s) us) ≡ drop (n - s) us
-drop-two s m n us h k =
-    let e : (m - s) + (n - m) ≡ n - s = omega arith in
-    drop-drop (n - m) (m - s) us ∙ ap (λ i. drop i us) e
+drop-two s m n us h k = grind (arith, drop-drop)
 
 -- one end more cuts off what was behind the last one
 pub cut-finish : (start : ℕ) (es : List ℕ) (ts : List Token) (e : ℕ) → IsAscending start es
     → last_end start es ≤ start + length ts → e ≡ start + length ts → cut start (es ++ e ∷ []) ts
     ≡ cut start es ts ++ drop (last_end start es - start) ts ∷ []
-cut-finish start [] ts e a w h =
-    let none : start - start ≡ 0 = omega arith in
-    let all : e - start ≡ length ts = omega arith in
-    cons _ _ _ _ (take_all (e - start) ts (omega arith) ∙ rw none refl) refl
+cut-finish start [] ts e a w h = grind (arith, cons, take_all)
 cut-finish start (x ∷ es) ts e a w h =
     let low : start ≤ x = a.0 in
     let high : x ≤ last_end x es = last_end-le x es a.1 in
@@ -81,65 +75,38 @@ pub record Spans (start : ℕ) (es : List ℕ) (i : ℕ) : Type 0 where
 
 pub spans : (start : ℕ) (es : List ℕ) (i : ℕ) → IsAscending start es → i < length es → Spans start es i
 spans start [] i a h = absurd (omega arith)
-spans start (e ∷ es) zero a h =
-    let low : start ≤ e = a.0 in
-    let high : e ≤ last_end e es = last_end-le e es a.1 in
-    record { low = omega arith; order = a.0; high = high }
-spans start (e ∷ es) (suc i) a h =
-    let s : Spans e es i = spans e es i a.1 (omega arith) in
-    let low : start ≤ e = a.0 in
-    let up : e ≤ start_of e es i = s.low in
-    record { low = omega arith; order = s.order; high = s.high }
+spans start (e ∷ es) zero a h = grind (arith, last_end-le)
+spans start (e ∷ es) (suc i) a h = grind (arith, spans e es i a.1 (omega arith))
 
 -- the tokens of a list
 pub get_or-cut : (start : ℕ) (es : List ℕ) (ts : List Token) (i : ℕ) → IsAscending start es → i < length es
     → get_or (cut start es ts) i [] ≡ take (get_or es i 0 - start_of start es i) (drop (start_of start es i - start) ts)
 get_or-cut start [] ts i a h = absurd (omega arith)
-get_or-cut start (e ∷ es) ts zero a h =
-    let z : start - start ≡ 0 = omega arith in
-    rw z refl
+get_or-cut start (e ∷ es) ts zero a h = grind arith
 get_or-cut start (e ∷ es) ts (suc i) a h =
-    let s : Spans e es i = spans e es i a.1 (omega arith) in
-    let low : start ≤ e = a.0 in
-    let up : e ≤ start_of e es i = s.low in
-    get_or-cut e es (drop (e - start) ts) i a.1 (omega arith)
-    ∙ ap (λ us. take (get_or es i 0 - start_of e es i) us) (drop-two start e (start_of e es i) ts low up)
+    grind (arith, get_or-cut e es (drop (e - start) ts) i a.1 (omega arith), spans, drop-two)
 
 pub start_of-first : (es : List ℕ) (i : ℕ) → i ≡ 0 → 0 ≡ start_of 0 es i
 start_of-first es i e = sym (ap (start_of 0 es) e ∙ start_of-zero 0 es)
 
 pub start_of-later : (es : List ℕ) (i : ℕ) → (i ≡ 0 → ⊥) → i < length es → get_or es (i - 1) 0 ≡ start_of 0 es i
 start_of-later es zero h lt = absurd (h refl)
-start_of-later es (suc i) h lt = let e : suc i - 1 ≡ i = omega arith in ap (λ n. get_or es n 0) e
-    ∙ sym (start_of-suc 0 es i lt)
+start_of-later es (suc i) h lt = grind (arith, start_of-suc)
 
 pub list-is : (es : List ℕ) (ts : List Token) (i start : ℕ) → IsAscending 0 es → i < length es → start ≡ start_of 0 es i
     → take (get_or es i 0 - start) (drop start ts) ≡ get_or (cut 0 es ts) i []
-list-is es ts i start a lt e =
-    let z : start_of 0 es i - 0 ≡ start_of 0 es i = omega arith in
-    ap (λ n. take (get_or es i 0 - n) (drop n ts)) e
-    ∙ sym (get_or-cut 0 es ts i a lt ∙ ap (λ n. take (get_or es i 0 - start_of 0 es i) (drop n ts)) z)
+list-is es ts i start a lt e = grind (arith, get_or-cut)
 
 take-set-in : (n : ℕ) (ts : List Token) (p : ℕ) (u : Token) → take n (set ts p u) ≡ set (take n ts) p u
-take-set-in zero [] p u = refl
-take-set-in zero (t ∷ ts) p u = refl
-take-set-in (suc n) [] p u = refl
-take-set-in (suc n) (t ∷ ts) zero u = refl
 take-set-in (suc n) (t ∷ ts) (suc p) u = ap (λ us. t ∷ us) (take-set-in n ts p u)
+take-set-in _ _ _ _ = refl
 
 -- a token that is written in the vector is written in its list
 pub cut-set : (start : ℕ) (es : List ℕ) (ts : List Token) (i p k : ℕ) (u : Token) → IsAscending start es → i < length es
     → p < length (get_or (cut start es ts) i []) → k + start ≡ start_of start es i + p
     → cut start es (set ts k u) ≡ set (cut start es ts) i (set (get_or (cut start es ts) i []) p u)
 cut-set start [] ts i p k u a h lt e = absurd (omega arith)
-cut-set start (x ∷ es) ts zero p k u a h lt e =
-    let low : start ≤ x = a.0 in
-    let m : p < min (x - start) (length ts) = rw (length-take (x - start) ts) at lt in
-    let n : p < x - start = omega arith in
-    let q : k ≡ p = omega arith in
-    let r : k < x - start = omega arith in
-    cons _ _ _ _ (take-set-in (x - start) ts k u ∙ ap (λ j. set (take (x - start) ts) j u) q)
-    (ap (cut x es) (drop-set-lt (x - start) ts k u r))
+cut-set start (x ∷ es) ts zero p k u a h lt e = grind (arith, length-take, cons, take-set-in, drop-set-lt)
 cut-set start (x ∷ es) ts (suc i) p k u a h lt e =
     let s : Spans x es i = spans x es i a.1 (omega arith) in
     let low : start ≤ x = a.0 in

@@ -1,6 +1,6 @@
 -- The walk that lays a tree flat.
-use Rattle.std.proofs.Common.{◌≡◌, ℕ, zero, suc, ◌+◌, ◌-◌, ◌<◌, ◌≤◌, List, [], ◌∷◌, ◌++◌, length, Option, Some, None}
-use Rattle.std.proofs.Common.{drop, get_or, refl, sym, ap, ◌∙◌, subst, add-one, arith}
+use Rattle.std.proofs.Common.{◌≡◌, ℕ, zero, suc, ◌+◌, ◌-◌, ◌<◌, ◌≤◌, List, [], ◌∷◌, ◌++◌, length, Some, drop, get_or}
+use Rattle.std.proofs.Common.{refl, sym, ap, ◌∙◌, arith}
 use Rattle.std.specs.List.{slice_get}
 use Rattle.std.proofs.lemmas.List.{drop_all, append_assoc, append-nil, map_push}
 use Rattle.std.proofs.lemmas.Option.{slice_get_within}
@@ -10,8 +10,7 @@ use Rattle.cw_tokens.specs.declared.flat.FlatItem.{FlatItem}
 use Rattle.cw_tokens.specs.declared.store.Link.{Link}
 use Rattle.cw_tokens.specs.declared.walk.Part.TheVariants.{Leaf as leaf_part, Below as below_part}
 use Rattle.cw_tokens.specs.declared.walk.Part.TheVariants.{InnerBelow as inner_part}
-use Rattle.cw_tokens.specs.Shapes.{Shape, Plain, Below, InnerBelow, shape, ref_of, item_of, tree_in, trees_from}
-use Rattle.cw_tokens.specs.Shapes.{unfolded}
+use Rattle.cw_tokens.specs.Shapes.{Shape, Below, InnerBelow, shape, ref_of, item_of, tree_in, trees_from, unfolded}
 use Rattle.cw_tokens.specs.References.{token_ref, refers, IsTied, Reach, here, next}
 use Rattle.cw_tokens.specs.Stored.{no_link, IsLinked}
 use Rattle.cw_tokens.specs.FlatItems.{item_is, items_are, IsPart, closing, closing_at, flat_from, to_come, Flattens}
@@ -27,9 +26,7 @@ pub record ReadsFlat (lists : List (List Token)) (root list place : ℕ) (items 
 
 flat-at : (ls : List (List Token)) (l p : ℕ) (t : Token) → slice_get (get_or ls l []) p ≡ Some t → flat_from ls l p
     ≡ flat (item_of (trees_from [] ls) (shape t) (tree_in (trees_from [] ls) (drop (p + 1) (get_or ls l []))))
-flat-at ls l p t e = ap (λ us. flat (tree_in (trees_from [] ls) us)) (drop-at (get_or ls l []) p t e)
-    ∙ ap (λ i. flat (item_of (trees_from [] ls) (shape t) (tree_in (trees_from [] ls) (drop i (get_or ls l [])))))
-    (sym (add-one p))
+flat-at ls l p t e = grind (arith, drop-at)
 
 flat-end : (ls : List (List Token)) (l p : ℕ) → length (get_or ls l []) ≤ p → flat_from ls l p ≡ []
 flat-end ls l p h = ap (λ us. flat (tree_in (trees_from [] ls) us)) (drop_all p (get_or ls l []) h)
@@ -54,34 +51,21 @@ flattens-start ls root given tied lt = record {
 }
 
 pub below-ref : (s : Shape) (x : ℕ) → IsPart s (below_part x) → s ≡ Below x
-below-ref (Plain leaf) x e = absurd e
-below-ref (Below y) x e = ap Below e
-below-ref (InnerBelow y) x e = absurd e
+below-ref s x e = grind arith
 
 pub inner-ref : (s : Shape) (x : ℕ) → IsPart s (inner_part x) → s ≡ InnerBelow x
-inner-ref (Plain leaf) x e = absurd e
-inner-ref (Below y) x e = absurd e
-inner-ref (InnerBelow y) x e = ap InnerBelow e
+inner-ref s x e = grind arith
 
 module _ (ls : List (List Token)) (root l p : ℕ) (all : List Item) (t : Token) (at : slice_get (get_or ls l []) p
     ≡ Some t) where
   pub flattens-leaf : (given : List Item) (item : FlatItem) → Flattens ls root l p given all
       → IsPart (shape t) (leaf_part item) → Flattens ls root l (p + 1) (given ++ item_is item ∷ []) all
-  flattens-leaf given item f is = record {
-    way = f.way;
-    is = append-cons given (flat_from ls l (p + 1) ++ to_come ls root l f.way) (item_is item)
-        ∙ (ap (λ xs. given ++ (xs ++ to_come ls root l f.way)) (sym (flat-at ls l p t at ∙ first (shape t) is))
-        ∙ f.is);
-    inside = f.inside;
-    within = let lt : p < length (get_or ls l []) = slice_get_within (get_or ls l []) p t at in omega arith;
-  }
-    where
-      first : (s : Shape) → IsPart s (leaf_part item)
-          → flat (item_of (trees_from [] ls) s (tree_in (trees_from [] ls) (drop (p + 1) (get_or ls l []))))
-          ≡ item_is item ∷ flat_from ls l (p + 1)
-      first (Plain leaf) e = ap (λ x. x ∷ flat_from ls l (p + 1)) e
-      first (Below x) e = absurd e
-      first (InnerBelow x) e = absurd e
+  flattens-leaf given item f is = grind (
+    arith,
+    append-cons given (flat_from ls l (p + 1) ++ to_come ls root l f.way) (item_is item),
+    flat-at ls l p t at,
+    slice_get_within (get_or ls l []) p t at,
+  )
 
   pub flattens-below : (given : List Item) (x : ℕ) → IsTied ls → Flattens ls root l p given all
       → IsPart (shape t) (below_part x) → Flattens ls root x 0 given all
@@ -150,10 +134,7 @@ pub record Ups (ls : List (List Token)) (links : List Link) (root x : ℕ) (give
   pub rest : Flattens ls root list (place + 1) (given ++ closing (shape token)) all
 
 ref-token : (ts : List Token) (p x : ℕ) → token_ref (slice_get ts p) ≡ Some x → (t : Token) × (slice_get ts p ≡ Some t)
-ref-token [] p x e = absurd (none e)
-  where
-    none : ◌≡◌ {A = Option ℕ} None (Some x) → ⊥
-    none k = cc
+ref-token [] p x e = grind arith
 ref-token (t ∷ ts) zero x e = (t, refl)
 ref-token (t ∷ ts) (suc p) x e = ref-token ts p x e
 
@@ -210,25 +191,10 @@ pub record UpStep (ls : List (List Token)) (k : Link) : Type 0 where
 
 pub up-step : (ls : List (List Token)) (links : List Link) (root x : ℕ) (given all : List Item) (k : Link)
     → Ups ls links root x given all → k ≡ get_or links x no_link → UpStep ls k
-up-step ls links root x given all k u e = subst (λ (j : Link). UpStep ls j) (sym (e ∙ u.link)) (record {
-  inside = u.inside;
-  some = omega arith;
-  within = let lt : u.place < length (get_or ls u.list []) = u.below in omega arith;
-})
+up-step ls links root x given all k u e = grind arith
 
 pub up-flattens : (ls : List (List Token)) (links : List Link) (root x : ℕ) (given all new : List Item) (k : Link)
     (b : Token) → Ups ls links root x given all → k ≡ get_or links x no_link
     → slice_get (get_or ls k.list []) (k.place - 1) ≡ Some b → new ≡ given ++ closing (shape b)
     → Flattens ls root k.list k.place new all
-up-flattens ls links root x given all new k b u e at is =
-    let same : k ≡ record { list = u.list; place = u.place + 1 } = e ∙ u.link in
-    let read : slice_get (get_or ls u.list []) ((u.place + 1) - 1)
-    ≡ Some b = subst (λ (j : Link). slice_get (get_or ls j.list []) (j.place - 1) ≡ Some b) same at in
-    let n : (u.place + 1) - 1 ≡ u.place = omega arith in
-    let token : b ≡ u.token = some-is b u.token (sym read ∙ (ap (slice_get (get_or ls u.list [])) n ∙ u.at)) in
-    subst (λ (j : Link). Flattens ls root j.list j.place new all) (sym same)
-    (subst (λ (xs : List Item). Flattens ls root u.list (u.place + 1) xs all)
-    (sym (is ∙ ap (λ t. given ++ closing (shape t)) token)) u.rest)
-  where
-    some-is : (a c : Token) → Some a ≡ Some c → a ≡ c
-    some-is a c g = cc
+up-flattens ls links root x given all new k b u e at is = grind arith

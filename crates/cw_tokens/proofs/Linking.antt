@@ -1,8 +1,10 @@
 -- Each list is linked to the one token that refers to it.
 use Rattle.std.proofs.Common.{◌≡◌, ℕ, zero, suc, ◌+◌, ◌<◌, List, [], ◌∷◌, ◌++◌, length, Option, Some, None, ◌⊎◌, inl}
-use Rattle.std.proofs.Common.{inr, set, get_or, refl, sym, ap, ◌∙◌, arith}
+use Rattle.std.proofs.Common.{inr, get_or, refl, sym, ap, ◌∙◌, arith}
 use Rattle.std.specs.List.{slice_get}
 use Rattle.std.proofs.lemmas.List.{get_or_append_left, get_or-set_same, get_or-set_other}
+use Rattle.std.proofs.lemmas.Bool.Decides.{nat_tests}
+use Rattle.std.proofs.lemmas.Grind.{common_steps}
 use Rattle.cw_tokens.specs.declared.token.Token.{Token}
 use Rattle.cw_tokens.specs.declared.store.Link.{Link}
 use Rattle.cw_tokens.specs.Shapes.{shape, ref_of}
@@ -21,10 +23,7 @@ pub refers-more : (ls : List (List Token)) (ts : List Token) (l p x : ℕ) → r
 refers-more [] ts zero p x h = inr (refl, h)
 refers-more [] ts (suc l) p x h = cc
 refers-more (us ∷ ls) ts zero p x h = inl h
-refers-more (us ∷ ls) ts (suc l) p x h = elim (refers-more ls ts l p x h) [
-  | inl k ↦ inl k
-  | inr k ↦ inr (ap suc k.0, k.1)
-]
+refers-more (us ∷ ls) ts (suc l) p x h = grind (arith, refers-more ls ts l p x h)
 
 pub refers-old : (ls : List (List Token)) (ts : List Token) (l p : ℕ) → l < length ls → refers (ls ++ ts ∷ []) l p
     ≡ refers ls l p
@@ -36,10 +35,7 @@ token_ref-push : (ts : List Token) (t : Token) (p x : ℕ) → token_ref (slice_
 token_ref-push [] t zero x h = inr (refl, h)
 token_ref-push [] t (suc p) x h = cc
 token_ref-push (u ∷ ts) t zero x h = inl h
-token_ref-push (u ∷ ts) t (suc p) x h = elim (token_ref-push ts t p x h) [
-  | inl k ↦ inl k
-  | inr k ↦ inr (ap suc k.0, k.1)
-]
+token_ref-push (u ∷ ts) t (suc p) x h = grind (arith, token_ref-push ts t p x h)
 
 last-list : (ls : List (List Token)) (ts : List Token) (p : ℕ) → refers (ls ++ ts ∷ []) (length ls) p
     ≡ token_ref (slice_get ts p)
@@ -69,51 +65,21 @@ module _ (ls : List (List Token)) (ts : List Token) (t : Token) (links : List Li
 
   still : (r : Option ℕ) → ref_of (shape t) ≡ r → (l p x : ℕ) → refers (ls ++ ts ∷ []) l p ≡ Some x
       → get_or (linked r up-here links) x no_link ≡ record { list = l; place = p + 1 }
-  still None e l p x h = old.up l p x h
-  still (Some y) e l p x h =
-      let apart : x ≡ y → ⊥ = λ d. (may y e).1 l p (ap (λ i. refers (ls ++ ts ∷ []) l p) d ∙ (h ∙ ap Some d)) in
-      get_or-set_other links y x up-here no_link apart ∙ old.up l p x h
+  still r e l p x h = grind (arith, get_or-set_other)
 
   fresh : (r : Option ℕ) → ref_of (shape t) ≡ r → (x : ℕ) → ref_of (shape t) ≡ Some x
       → get_or (linked r up-here links) x no_link ≡ up-here
-  fresh None e x h = absurd (none x (sym e ∙ h))
-    where
-      none : (y : ℕ) → ◌≡◌ {A = Option ℕ} None (Some y) → ⊥
-      none y k = cc
-  fresh (Some y) e x h =
-      let d : x ≡ y = some-is x y (sym h ∙ e) in
-      let lt : y < length links = let m : y < length ls = (may y e).0 in omega arith in
-      ap (λ i. get_or (set links y up-here) i no_link) d ∙ get_or-set_same links y up-here no_link lt
-    where
-      some-is : (a b : ℕ) → ◌≡◌ {A = Option ℕ} (Some a) (Some b) → a ≡ b
-      some-is a b k = cc
+  fresh r e x h = grind (arith, get_or-set_same)
 
   at-here : (l p : ℕ) → l ≡ length ls → p ≡ length ts → ◌≡◌ {A = Link} up-here (record { list = l; place = p + 1 })
   at-here l p e f = cc
 
   pub linked-push : IsLinked new (linked (ref_of (shape t)) up-here links)
-  linked-push = record {
-    earlier = λ l p x h. elim (pushed-ref ls ts t l p x h) [
-      | inl k ↦ old.earlier l p x k
-      | inr k ↦ (let m : x < length ls = (may x k.2).0 in let e : l ≡ length ls = k.0 in omega arith)
-    ];
-    up = λ l p x h. elim (pushed-ref ls ts t l p x h) [
-      | inl k ↦ still _ refl l p x k
-      | inr k ↦ fresh _ refl x k.2
-          ∙ at-here l p k.0 k.1
-    ];
-  }
+  linked-push = grind (arith, pushed-ref, still, fresh, at-here)
 
 pub linked-finish : (ls : List (List Token)) (links : List Link) → length ls ≡ length links + 1 → IsLinked ls links
     → IsLinked ls (links ++ no_link ∷ [])
-linked-finish ls links e old = record {
-  earlier = old.earlier;
-  up = λ l p x h.
-      let a : x < l = old.earlier l p x h in
-      let b : l < length ls = refers-within ls l p x h in
-      let lt : x < length links = omega arith in
-      get_or_append_left links (no_link ∷ []) no_link x lt ∙ old.up l p x h;
-}
+linked-finish ls links e old = grind (arith, refers-within, get_or_append_left)
 
 pub linked-tied : (ls : List (List Token)) (links : List Link) → IsLinked ls links → IsTied ls
 linked-tied ls links old = record {
@@ -132,22 +98,12 @@ linked-tied ls links old = record {
 -- the finished lists alone
 pub linked-lists : (ls : List (List Token)) (b : Option (List Token)) (links : List Link)
     → IsLinked (with_built ls b) links → IsLinked ls links
-linked-lists ls None links old = old
-linked-lists ls (Some ts) links old = record {
-  earlier = λ l p x h. old.earlier l p x (more l p x h);
-  up = λ l p x h. old.up l p x (more l p x h);
-}
-  where
-    more : (l p x : ℕ) → refers ls l p ≡ Some x → refers (ls ++ ts ∷ []) l p ≡ Some x
-    more l p x h = refers-old ls ts l p (refers-within ls l p x h) ∙ h
+linked-lists ls b links old = grind (arith, nat_tests, common_steps, refers-old, refers-within)
 
 -- references alone decide
 pub linked-same : (old new : List (List Token)) (links : List Link) → ((l p : ℕ) → refers new l p ≡ refers old l p)
     → IsLinked old links → IsLinked new links
-linked-same old new links same k = record {
-  earlier = λ l p x h. k.earlier l p x (sym (same l p) ∙ h);
-  up = λ l p x h. k.up l p x (sym (same l p) ∙ h);
-}
+linked-same old new links same k = grind arith
 
 pub refers-with : (old new : List (List Token)) (b : Option (List Token)) → length new ≡ length old
     → ((l p : ℕ) → refers new l p ≡ refers old l p) → (l p : ℕ) → refers (with_built new b) l p

@@ -1,13 +1,12 @@
 -- How much of a walk through a tree is still to come.
-use Rattle.std.proofs.Common.{◌≡◌, ℕ, zero, suc, ◌+◌, ◌<◌, ◌≤◌, Bool, true, false, eqb, List, [], length, Some, drop}
-use Rattle.std.proofs.Common.{get_or, refl, sym, ap, ◌∙◌, subst, add-one, arith}
+use Rattle.std.proofs.Common.{◌≡◌, ℕ, zero, suc, ◌+◌, ◌<◌, ◌≤◌, false, eqb, List, [], length, Some, drop, get_or, sym}
+use Rattle.std.proofs.Common.{ap, ◌∙◌, arith}
 use Rattle.std.specs.List.{slice_get}
 use Rattle.std.proofs.lemmas.Bool.{eq-eqb, eqb-true}
 use Rattle.cw_trees.specs.Tree.{Tree}
 use Rattle.cw_tokens.specs.declared.token.Token.{Token}
 use Rattle.cw_tokens.specs.declared.store.Link.{Link}
-use Rattle.cw_tokens.specs.Shapes.{Shape, Plain, Below, InnerBelow, shape, ref_of, item_of, tree_in, trees_from}
-use Rattle.cw_tokens.specs.Shapes.{unfolded}
+use Rattle.cw_tokens.specs.Shapes.{Shape, shape, ref_of, item_of, tree_in, trees_from, unfolded}
 use Rattle.cw_tokens.specs.References.{token_ref, refers, Reach, here, next}
 use Rattle.cw_tokens.specs.Stored.{no_link, IsLinked}
 use Rattle.cw_tokens.specs.Walking.{Path, top, down, size, size_from, size_above}
@@ -20,39 +19,24 @@ reach-of ls root l top = here
 reach-of ls root l (down m p x t e h n w) = next m p l (ap token_ref e ∙ ap ref_of h) (reach-of ls root m w)
 
 neq-eqb : (a b : ℕ) → (a ≡ b → ⊥) → eqb a b ≡ false
-neq-eqb a b h = go (eqb a b) refl
-  where
-    go : (x : Bool) → eqb a b ≡ x → eqb a b ≡ false
-    go true e = absurd (h (eqb-true a b e))
-    go false e = e
+neq-eqb a b h = grind (arith, eqb-true)
 
 module _ (ls : List (List Token)) (links : List Link) (root : ℕ) (linked : IsLinked ls links) where
   -- what stands above the root is nothing
   above-root : (n : ℕ) → size_above ls links root n root ≡ 0
-  above-root zero = refl
-  above-root (suc n) = rw (eq-eqb root root refl, size_above) refl
+  above-root n = grind (arith, eq-eqb)
 
   -- and above another list, what follows the token that refers to it
   above-next : (n l p x : ℕ) → refers ls l p ≡ Some x → x < root → size_above ls links root (suc n) x
       ≡ 1 + (size_from ls l (p + 1) + size_above ls links root n l)
-  above-next n l p x e lt =
-      let apart : eqb x root ≡ false = neq-eqb x root (λ d. omega arith) in
-      let up : get_or links x no_link ≡ record { list = l; place = p + 1 } = linked.up l p x e in
-      rw (apart, size_above) (ap (λ (k : Link). 1 + (size_from ls k.list k.place + size_above ls links root n k.list))
-      up)
+  above-next n l p x e lt = grind (arith, neq-eqb)
 
   -- fuel that reaches the root is enough
   above-more : (l : ℕ) → Reach ls root l → (f g : ℕ) → root ≤ l + f → root ≤ l + g → size_above ls links root f l
       ≡ size_above ls links root g l
   above-more l here f g a b = above-root f ∙ sym (above-root g)
-  above-more l (next m p n e w) zero g a b =
-      let low : l < m = linked.earlier m p l e in
-      let up : m ≤ root = reach-le ls root m (linked-tied ls links linked) w in
-      absurd (omega arith)
-  above-more l (next m p n e w) (suc f) zero a b =
-      let low : l < m = linked.earlier m p l e in
-      let up : m ≤ root = reach-le ls root m (linked-tied ls links linked) w in
-      absurd (omega arith)
+  above-more l (next m p n e w) zero g a b = grind (arith, reach-le, linked-tied)
+  above-more l (next m p n e w) (suc f) zero a b = grind (arith, reach-le, linked-tied)
   above-more l (next m p n e w) (suc f) (suc g) a b =
       let low : l < m = linked.earlier m p l e in
       let up : m ≤ root = reach-le ls root m (linked-tied ls links linked) w in
@@ -66,49 +50,22 @@ module _ (ls : List (List Token)) (links : List Link) (root : ℕ) (linked : IsL
 
   left-next : (l p x : ℕ) → root < length ls → Reach ls root l → refers ls l p ≡ Some x
       → size_above ls links root (length ls) x ≡ 1 + (size_from ls l (p + 1) + size_above ls links root (length ls) l)
-  left-next l p x lt w e = go (length ls) lt
-    where
-      go : (n : ℕ) → root < n → size_above ls links root n x
-          ≡ 1 + (size_from ls l (p + 1) + size_above ls links root n l)
-      go zero h = absurd (omega arith)
-      go (suc n) h =
-          let low : x < l = linked.earlier l p x e in
-          let up : l ≤ root = reach-le ls root l (linked-tied ls links linked) w in
-          above-next n l p x e (omega arith) ∙ ap (λ m. 1 + (size_from ls l (p + 1) + m))
-          (above-more l w n (suc n) (omega arith) (omega arith))
+  left-next l p x lt w e = grind (arith, reach-le, linked-tied, above-next, above-more)
 
   size-item : (s : Shape) (rest : Tree) → size rest < size (item_of (trees_from [] ls) s rest)
-  size-item (Plain leaf) rest = omega arith
-  size-item (Below x) rest = omega arith
-  size-item (InnerBelow x) rest = omega arith
+  size-item s rest = grind arith
 
   size-at : (l p : ℕ) (t : Token) → slice_get (get_or ls l []) p ≡ Some t → size_from ls l p
       ≡ size (item_of (trees_from [] ls) (shape t) (tree_in (trees_from [] ls) (drop (p + 1) (get_or ls l []))))
-  size-at l p t e = ap (λ us. size (tree_in (trees_from [] ls) us)) (drop-at (get_or ls l []) p t e)
-      ∙ ap (λ i. size (item_of (trees_from [] ls) (shape t) (tree_in (trees_from [] ls) (drop i (get_or ls l [])))))
-      (sym (add-one p))
+  size-at l p t e = grind (arith, drop-at)
 
   pub less-past : (l p : ℕ) (t : Token) → slice_get (get_or ls l []) p ≡ Some t → left l (p + 1) < left l p
   less-past l p t e =
-      let a : size_from ls l (p + 1) < size (item_of (trees_from [] ls) (shape t)
-      (tree_in (trees_from [] ls) (drop (p + 1) (get_or ls l [])))) = size-item (shape t)
-      (tree_in (trees_from [] ls) (drop (p + 1) (get_or ls l []))) in
-      let b : size_from ls l p
-      ≡ size (item_of (trees_from [] ls) (shape t) (tree_in (trees_from [] ls) (drop (p + 1) (get_or ls l [])))) =
-      size-at l p t e in
-      omega arith
+      grind (arith, size-item (shape t) (tree_in (trees_from [] ls) (drop (p + 1) (get_or ls l []))), size-at l p t e)
 
   size-below : (s : Shape) (x : ℕ) (rest : Tree) → ref_of s ≡ Some x → size (item_of (trees_from [] ls) s rest)
       ≡ 2 + (size (unfolded ls x) + size rest)
-  size-below (Plain leaf) x rest e = cc
-  size-below (Below y) x rest e = ap (λ n. 2 + (size (unfolded ls n) + size rest)) (same y x e)
-    where
-      same : (a b : ℕ) → Some a ≡ Some b → a ≡ b
-      same a b k = cc
-  size-below (InnerBelow y) x rest e = ap (λ n. 2 + (size (unfolded ls n) + size rest)) (same y x e)
-    where
-      same : (a b : ℕ) → Some a ≡ Some b → a ≡ b
-      same a b k = cc
+  size-below s x rest e = grind arith
 
   pub less-down : (l p x : ℕ) (t : Token) → root < length ls → Reach ls root l → slice_get (get_or ls l []) p ≡ Some t
       → ref_of (shape t) ≡ Some x → left x 0 < left l p
@@ -126,13 +83,4 @@ module _ (ls : List (List Token)) (links : List Link) (root : ℕ) (linked : IsL
 
   pub less-up : (x p : ℕ) → root < length ls → Reach ls root x → (x ≡ root → ⊥) → length (get_or ls x []) ≤ p
       → left (get_or links x no_link).list (get_or links x no_link).place < left x p
-  less-up x p lt w apart end = go x w apart end
-    where
-      go : (y : ℕ) → Reach ls root y → (y ≡ root → ⊥) → length (get_or ls y []) ≤ p
-          → left (get_or links y no_link).list (get_or links y no_link).place < left y p
-      go y here a h = absurd (a refl)
-      go y (next l q m e v) a h =
-          let up : get_or links y no_link ≡ record { list = l; place = q + 1 } = linked.up l q y e in
-          let d : size_above ls links root (length ls) y
-          ≡ 1 + (size_from ls l (q + 1) + size_above ls links root (length ls) l) = left-next l q y lt v e in
-          subst (λ (k : Link). left k.list k.place < left y p) (sym up) (omega arith)
+  less-up x p lt w apart end = grind (arith, left-next)

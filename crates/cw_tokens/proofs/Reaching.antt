@@ -1,5 +1,5 @@
 -- Which lists stand in the tree of another.
-use Rattle.std.proofs.Common.{◌≡◌, ℕ, ◌<◌, ◌≤◌, List, Some, ◌⊎◌, inl, inr, refl, sym, subst, arith}
+use Rattle.std.proofs.Common.{◌≡◌, ℕ, List, Some, ◌⊎◌, inl, inr, refl, sym, subst, arith}
 use Rattle.cw_tokens.specs.declared.token.Token.{Token}
 use Rattle.cw_tokens.specs.References.{refers, IsUnreferred, IsTied, Reach, here, next}
 use Rattle.cw_tokens.proofs.Unfolding.{reach-le}
@@ -24,17 +24,9 @@ module _ (ls : List (List Token)) (tied : IsTied ls) where
 
   child-reach : (m q r x y : ℕ) → refers ls m q ≡ Some x → refers ls m r ≡ Some y → Reach ls x y → q ≡ r
   child-reach m q r x y e f here = (tied.once m q m r x e f).1
-  child-reach m q r x y e f (next l p n g w) =
-      let same : l ≡ m = (tied.once l p m r y g f).0 in
-      let up : Reach ls x m = subst (λ i. Reach ls x i) same w in
-      let high : m ≤ x = reach-le ls x m tied up in
-      let low : x < m = tied.earlier m q x e in
-      absurd (omega arith)
+  child-reach m q r x y e f (next l p n g w) = grind (arith, reach-le)
 
   -- of the tokens of one list at most one leads to a list
   pub siblings : (m q r x y n : ℕ) → refers ls m q ≡ Some x → refers ls m r ≡ Some y → Reach ls x n → Reach ls y n
       → q ≡ r
-  siblings m q r x y n e f a b = elim (comparable x y n a b) [
-    | inl w ↦ child-reach m q r x y e f w
-    | inr w ↦ sym (child-reach m r q y x f e w)
-  ]
+  siblings m q r x y n e f a b = grind (arith, comparable, child-reach)

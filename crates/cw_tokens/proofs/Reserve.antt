@@ -1,18 +1,17 @@
 -- One token is written, and the tree of the root is the one whose first identifier is reserved.
-use Rattle.std.proofs.Common.{◌≡◌, ℕ, zero, suc, ◌+◌, ◌<◌, ◌≤◌, List, [], ◌∷◌, length, Some, None, inl, inr, take, set}
+use Rattle.std.proofs.Common.{◌≡◌, ℕ, zero, suc, ◌<◌, ◌≤◌, List, [], ◌∷◌, length, Some, None, inl, inr, take, set}
 use Rattle.std.proofs.Common.{get_or, refl, sym, ap, ◌∙◌, subst, arith}
-use Rattle.std.specs.List.{slice_get, sum_by}
+use Rattle.std.specs.List.{slice_get}
 use Rattle.std.proofs.lemmas.List.Sums.{sum_by-set}
 use Rattle.std.proofs.lemmas.List.{get_or-set_same, get_or-set_other, length-set}
 use Rattle.std.proofs.lemmas.Bool.{cases_eq}
 use Rattle.cw_base.specs.declared.category.Cat.TheVariants.{RawInt}
-use Rattle.cw_trees.specs.Tree.{Leaf, Tree, Empty, Then, Sub, Inner, Search, Found, Stopped, Nothing, or_else}
-use Rattle.cw_trees.specs.Tree.{search_leaf, first_ident, reserve_first}
+use Rattle.cw_trees.specs.Tree.{Leaf, Tree, Empty, Then, Sub, Inner, Search, Found, Nothing, or_else, search_leaf}
+use Rattle.cw_trees.specs.Tree.{first_ident, reserve_first}
 use Rattle.cw_tokens.specs.declared.token.Token.{Token}
 use Rattle.cw_tokens.specs.declared.token.Token.TheVariants.{Ident, Reserved}
 use Rattle.cw_tokens.specs.declared.walk.Spot.{Spot}
-use Rattle.cw_tokens.specs.Shapes.{Shape, Plain, Below, InnerBelow, shape, ref_of, item_of, tree_in, trees_from}
-use Rattle.cw_tokens.specs.Shapes.{unfolded}
+use Rattle.cw_tokens.specs.Shapes.{Shape, Below, shape, ref_of, item_of, tree_in, trees_from, unfolded}
 use Rattle.cw_tokens.specs.References.{token_ref, refers, IsTied, Reach, here, next}
 use Rattle.cw_tokens.specs.Walking.{before, Path, top, down, Finds, found_name}
 use Rattle.cw_tokens.specs.Counting.{token_count}
@@ -30,15 +29,11 @@ some-none n s e h = absurd (let k : found_name (Found n) ≡ None = sym (ap foun
 reserve-then : (s : Search) (leaf : Leaf) (rest : Tree) → search_leaf leaf ≡ s
     → found_name (or_else s (first_ident rest)) ≡ None → (found_name (first_ident rest) ≡ None → reserve_first rest
     ≡ rest) → reserve_first (Then leaf rest) ≡ Then leaf rest
-reserve-then (Found name) leaf rest e h rec = absurd (some-none name (Found name) refl h)
-reserve-then Stopped leaf rest e h rec = rw (e, reserve_first) refl
-reserve-then Nothing leaf rest e h rec = rw (e, reserve_first) (ap (Then leaf) (rec h))
+reserve-then s leaf rest e h rec = grind (arith, some-none)
 
 reserve-sub : (s : Search) (tree rest : Tree) → first_ident tree ≡ s → found_name (or_else s (first_ident rest)) ≡ None
     → (found_name (first_ident rest) ≡ None → reserve_first rest ≡ rest) → reserve_first (Sub tree rest) ≡ Sub tree rest
-reserve-sub (Found name) tree rest e h rec = absurd (some-none name (Found name) refl h)
-reserve-sub Stopped tree rest e h rec = rw (e, reserve_first) refl
-reserve-sub Nothing tree rest e h rec = rw (e, reserve_first) (ap (Sub tree) (rec h))
+reserve-sub s tree rest e h rec = grind (arith, some-none)
 
 pub reserve-none : (t : Tree) → found_name (first_ident t) ≡ None → reserve_first t ≡ t
 reserve-none Empty h = refl
@@ -48,17 +43,11 @@ reserve-none (Inner tree rest) h = ap (Inner tree) (reserve-none rest h)
 
 -- an item in which nothing is found is passed over
 or_else-none : (s t : Search) → or_else s t ≡ Nothing → (s ≡ Nothing) × (t ≡ Nothing)
-or_else-none (Found name) t h = absurd (let k : Found name ≡ Nothing = h in cc)
-or_else-none Stopped t h = absurd (let k : Stopped ≡ Nothing = h in cc)
-or_else-none Nothing t h = (refl, h)
+or_else-none s t h = grind arith
 
 skip-item : (trees : List Tree) (s : Shape) (rest : Tree) → item_search trees s ≡ Nothing
     → item_of trees s (reserve_first rest) ≡ reserve_first (item_of trees s rest)
-skip-item trees (Plain leaf) rest h = let e : search_leaf leaf ≡ Nothing =
-    (or_else-none (search_leaf leaf) Nothing h).0 in rw (e, reserve_first) refl
-skip-item trees (Below x) rest h = let e : first_ident (get_or trees x Empty) ≡ Nothing =
-    (or_else-none (first_ident (get_or trees x Empty)) Nothing h).0 in rw (e, reserve_first) refl
-skip-item trees (InnerBelow x) rest h = refl
+skip-item trees s rest h = grind (arith, or_else-none)
 
 -- a list whose token p is changed to one whose item is the reserved one
 reserve-at : (old new : List Tree) (ts : List Token) (p : ℕ) (t u : Token) → slice_get ts p ≡ Some t
@@ -101,46 +90,29 @@ module _ (old : List (List Token)) (l p : ℕ) (t u : Token) (tied : IsTied old)
   ref-written : (ts : List Token) (i q : ℕ) → slice_get ts i ≡ Some t → token_ref (slice_get (set ts i u) q)
       ≡ token_ref (slice_get ts q)
   ref-written [] i q e = refl
-  ref-written (v ∷ ts) zero zero e = is ∙ (sym was ∙ ap (λ w. ref_of (shape w)) (sym (some-is v t e)))
-    where
-      some-is : (a b : Token) → Some a ≡ Some b → a ≡ b
-      some-is a b k = cc
+  ref-written (v ∷ ts) zero zero e = grind arith
   ref-written (v ∷ ts) zero (suc q) e = refl
   ref-written (v ∷ ts) (suc i) zero e = refl
   ref-written (v ∷ ts) (suc i) (suc q) e = ref-written ts i q e
 
   pub written-refs : (k q : ℕ) → refers new k q ≡ refers old k q
-  written-refs k q = elim (cases_eq k l) [
-    | inl e ↦ ap (λ i. refers new i q) e ∙ (ap (λ ts. token_ref (slice_get ts q)) this-list
-        ∙ (ref-written (get_or old l []) p q at ∙ ap (λ i. refers old i q) (sym e)))
-    | inr e ↦ ap (λ ts. token_ref (slice_get ts q)) (other-list k e)
-  ]
+  written-refs k q = grind (arith, cases_eq, this-list, ref-written, other-list)
 
   pub written-tied : IsTied new
-  written-tied = record {
-    earlier = λ k q x e. tied.earlier k q x (sym (written-refs k q) ∙ e);
-    once = λ k q m r x e f. tied.once k q m r x (sym (written-refs k q) ∙ e) (sym (written-refs m r) ∙ f);
-  }
+  written-tied = grind (arith, written-refs)
 
   pub written-length : length new ≡ length old
   written-length = length-set old l (set (get_or old l []) p u)
 
   -- a tree in which the list does not stand is as it was
   pub unaffected : (k : ℕ) → (Reach old k l → ⊥) → unfolded old k ≡ unfolded new k
-  unaffected k h = unfolded-same old new k tied written-tied (sym written-length)
-      (λ j r. sym (other-list j (λ e. h (subst (λ i. Reach old k i) e r))))
+  unaffected k h = grind (arith, unfolded-same, written-tied, written-length, other-list)
 
   -- the list itself
   this-tree : first_ident (before old l p) ≡ Nothing → ((rest : Tree) → item_of (trees_from [] new) (shape u) rest
       ≡ reserve_first (item_of (trees_from [] old) (shape t) rest)) → unfolded new l ≡ reserve_first (unfolded old l)
   this-tree none item =
-      let lt : l < length new = let e : length new ≡ length old = written-length in omega arith in
-      unfold-is new l written-tied lt
-      ∙ (ap (tree_in (trees_from [] new)) this-list
-      ∙ (reserve-at (trees_from [] old) (trees_from [] new) (get_or old l []) p t u at none (λ q x ne k.
-      let low : x < l = tied.earlier l q x k in
-      unaffected x (λ r. let high : l ≤ x = reach-le old x l tied r in absurd (omega arith))) item
-      ∙ ap reserve_first (sym (unfold-is old l tied inside))))
+      grind (arith, written-length, unfold-is, written-tied, this-list, reserve-at, unaffected, reach-le)
 
   -- a list on the way down to it
   upper-tree : (m q x : ℕ) (v : Token) → slice_get (get_or old m []) q ≡ Some v → shape v ≡ Below x
@@ -192,12 +164,7 @@ module _ (old : List (List Token)) (l p : ℕ) (t u : Token) (tied : IsTied old)
 -- a token that is written over another leaves the number of tokens as it is
 count-written : (lists : List (List Token)) (l p : ℕ) (t : Token) → l < length lists
     → token_count (set lists l (set (get_or lists l []) p t)) ≡ token_count lists
-count-written lists l p t inside =
-    let same : length (set (get_or lists l []) p t) ≡ length (get_or lists l []) = length-set (get_or lists l []) p t in
-    let sums : sum_by length (set lists l (set (get_or lists l []) p t)) + length (get_or lists l [])
-    ≡ sum_by length lists + length (set (get_or lists l []) p t) =
-    sum_by-set length lists l (set (get_or lists l []) p t) [] inside in
-    omega arith
+count-written lists l p t inside = grind (arith, length-set, sum_by-set)
 
 -- the spot of the first identifier is written
 module _ (old : List (List Token)) (root : ℕ) (spot : Spot) (tied : IsTied old) (lt : root < length old)
@@ -237,11 +204,4 @@ module _ (old : List (List Token)) (root : ℕ) (spot : Spot) (tied : IsTied old
 
 pub none-reserves : (old : List (List Token)) (root : ℕ) → found_name (first_ident (unfolded old root)) ≡ None
     → Reserves old old root
-none-reserves old root h = record {
-  tree = sym (reserve-none (unfolded old root) h);
-  other_lists = λ k up down. refl;
-  other_trees = λ k up down. refl;
-  same_length = refl;
-  same_refs = λ l p. refl;
-  same_count = refl;
-}
+none-reserves old root h = grind (arith, reserve-none)

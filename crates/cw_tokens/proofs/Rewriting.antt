@@ -1,6 +1,5 @@
 -- A token of the vector is written over.
-use Rattle.std.proofs.Common.{◌≡◌, ℕ, ◌+◌, ◌-◌, ◌<◌, ◌≤◌, Bool, true, false, List, [], length, Some, drop, set, get_or}
-use Rattle.std.proofs.Common.{refl, sym, ap, ◌∙◌, subst, arith}
+use Rattle.std.proofs.Common.{◌≡◌, ℕ, ◌+◌, ◌<◌, ◌≤◌, Bool, List, [], length, set, get_or, sym, ◌∙◌, subst, arith}
 use Rattle.std.proofs.lemmas.List.{drop-set-lt, length-set, length-take}
 use Rattle.std.proofs.lemmas.Option.{slice_get_within}
 use Rattle.cw_base.specs.declared.category.Cat.TheVariants.{RawInt}
@@ -11,7 +10,7 @@ use Rattle.cw_tokens.specs.declared.walk.Spot.{Spot}
 use Rattle.cw_tokens.specs.Stored.{StoredLists, cut, built, last_end, start_of, with_built, IsLinked, IsStored}
 use Rattle.cw_tokens.specs.Walking.{Finds}
 use Rattle.cw_tokens.specs.Reserving.{Reserves, ReservesToken}
-use Rattle.cw_tokens.proofs.Cutting.{Spans, spans, get_or-cut, cut-set, length-cut}
+use Rattle.cw_tokens.proofs.Cutting.{spans, get_or-cut, cut-set, length-cut}
 use Rattle.cw_tokens.proofs.Linking.{linked-tied, linked-lists, linked-same, refers-with}
 use Rattle.cw_tokens.proofs.Storing.{view_of}
 use Rattle.cw_tokens.proofs.Reserve.{finds-reserves, finds-token, written}
@@ -39,26 +38,14 @@ module _ (b : Bool) (from : ℕ) (es : List ℕ) (ts : List Token) (ks : List Li
   in-cut = slice_get_within _ _ _ f.token
 
   below-end : place < last_end 0 es
-  below-end =
-      let sp : Spans 0 es spot.list = spans 0 es spot.list old.ascending in-list in
-      let o : start_of 0 es spot.list ≤ get_or es spot.list 0 = sp.order in
-      let h : get_or es spot.list 0 ≤ last_end 0 es = sp.high in
-      let len : length (get_or (cut 0 es ts) spot.list []) ≤ get_or es spot.list 0 - start_of 0 es spot.list =
-      omega (
-        arith,
-        ap length (get_or-cut 0 es ts spot.list old.ascending in-list),
-        length-take (get_or es spot.list 0 - start_of 0 es spot.list) (drop (start_of 0 es spot.list - 0) ts),
-      ) in
-      let p : spot.place < length (get_or (cut 0 es ts) spot.list []) = in-cut in
-      omega arith
+  below-end = grind (arith, spans, in-list, get_or-cut, length-take, in-cut)
 
   new-lists : cut 0 es (set ts place word) ≡ written (cut 0 es ts) root spot
       (linked-tied (cut 0 es ts) ks (linked-lists (cut 0 es ts) (built b es ts) ks old.linked)) lt f
   new-lists = cut-set 0 es ts spot.list spot.place place word old.ascending in-list in-cut (omega arith)
 
   same-built : (c : Bool) → built c es (set ts place word) ≡ built c es ts
-  same-built true = ap Some (drop-set-lt (last_end 0 es) ts place word below-end)
-  same-built false = refl
+  same-built c = grind (arith, drop-set-lt, below-end)
 
   reserves-here : Reserves (cut 0 es ts) (cut 0 es (set ts place word)) root
   reserves-here = rw new-lists (finds-reserves (cut 0 es ts) root spot
@@ -93,5 +80,4 @@ pub rewrites-view : (b : Bool) (from : ℕ) (es : List ℕ) (ts : List Token) (k
     → root < length (cut 0 es ts) → Finds (cut 0 es ts) root spot → place ≡ start_of 0 es spot.list + spot.place
     → Rewrites b from es ts ks s t e k root spot place v
 rewrites-view b from es ts ks s t e k root spot place v old q lt f at =
-    subst (λ (w : StoredLists). Rewrites b from es ts ks s t e k root spot place w) q
-    (rewrites-own b from es ts ks s t e k root spot place old lt f at)
+    grind (arith, rewrites-own b from es ts ks s t e k root spot place old lt f at)

@@ -1,10 +1,10 @@
 -- The walk that looks for the first identifier of a tree.
 use Rattle.std.proofs.Common.{◌≡◌, ℕ, zero, suc, ◌+◌, ◌<◌, ◌≤◌, List, [], ◌∷◌, length, Some, None, take, drop, get_or}
-use Rattle.std.proofs.Common.{refl, sym, ap, ◌∙◌, subst, add-one, arith}
+use Rattle.std.proofs.Common.{refl, sym, ap, ◌∙◌, subst, arith}
 use Rattle.std.specs.List.{slice_get}
 use Rattle.std.proofs.lemmas.List.{take_all, take-take}
 use Rattle.std.proofs.lemmas.Option.{slice_get_within}
-use Rattle.cw_trees.specs.Tree.{Tree, Empty, Search, Found, Stopped, Nothing, or_else, search_leaf, first_ident}
+use Rattle.cw_trees.specs.Tree.{Tree, Empty, Search, Found, Stopped, Nothing, or_else, first_ident}
 use Rattle.cw_tokens.specs.declared.token.Token.{Token}
 use Rattle.cw_tokens.specs.declared.token.Token.TheVariants.{Ident}
 use Rattle.cw_tokens.specs.declared.store.Link.{Link}
@@ -19,9 +19,7 @@ use Rattle.cw_tokens.proofs.Unfolding.{unfold-is}
 
 -- a list in which nothing stands before a place
 or_else-first : (s t u : Search) → or_else (or_else s t) u ≡ or_else s (or_else t u)
-or_else-first (Found name) t u = refl
-or_else-first Stopped t u = refl
-or_else-first Nothing t u = refl
+or_else-first s t u = grind arith
 
 -- the search of an item, without what follows
 abbrev pub item_search : List Tree → Shape → Search
@@ -29,26 +27,11 @@ item_search trees s = first_ident (item_of trees s Empty)
 
 pub first-item : (trees : List Tree) (s : Shape) (rest : Tree) → first_ident (item_of trees s rest)
     ≡ or_else (item_search trees s) (first_ident rest)
-first-item trees (Plain leaf) rest = go (search_leaf leaf)
-  where
-    go : (x : Search) → or_else x (first_ident rest) ≡ or_else (or_else x Nothing) (first_ident rest)
-    go (Found name) = refl
-    go Stopped = refl
-    go Nothing = refl
-first-item trees (Below x) rest = go (first_ident (get_or trees x Empty))
-  where
-    go : (x : Search) → or_else x (first_ident rest) ≡ or_else (or_else x Nothing) (first_ident rest)
-    go (Found name) = refl
-    go Stopped = refl
-    go Nothing = refl
-first-item trees (InnerBelow x) rest = refl
+first-item trees s rest = grind arith
 
 pub drop-at : (ts : List Token) (p : ℕ) (t : Token) → slice_get ts p ≡ Some t → drop p ts ≡ t ∷ drop (suc p) ts
 drop-at [] p t e = cc
-drop-at (u ∷ ts) zero t e = ap (λ v. v ∷ ts) (some-is u t e)
-  where
-    some-is : (a b : Token) → Some a ≡ Some b → a ≡ b
-    some-is a b k = cc
+drop-at (u ∷ ts) zero t e = grind arith
 drop-at (u ∷ ts) (suc p) t e = drop-at ts p t e
 
 -- what a list holds is what stands before a place, and then what stands from there on
@@ -56,23 +39,14 @@ first-split : (trees : List Tree) (ts : List Token) (p : ℕ) → first_ident (t
     ≡ or_else (first_ident (tree_in trees (take p ts))) (first_ident (tree_in trees (drop p ts)))
 first-split trees ts zero = refl
 first-split trees [] (suc p) = refl
-first-split trees (t ∷ ts) (suc p) =
-    first-item trees (shape t) (tree_in trees ts)
-    ∙ (ap (or_else (item_search trees (shape t))) (first-split trees ts p)
-    ∙ (sym (or_else-first (item_search trees (shape t)) (first_ident (tree_in trees (take p ts)))
-    (first_ident (tree_in trees (drop p ts))))
-    ∙ ap (λ s. or_else s (first_ident (tree_in trees (drop p ts))))
-    (sym (first-item trees (shape t) (tree_in trees (take p ts))))))
+first-split trees (t ∷ ts) (suc p) = grind (arith, first-split trees ts p, first-item, or_else-first)
 
 take-at : (ts : List Token) (p : ℕ) (t : Token) → slice_get ts p ≡ Some t → take p (take (suc p) ts) ≡ take p ts
 take-at ts p t e = take-take p (suc p) ts (omega arith)
 
 drop-take-at : (ts : List Token) (p : ℕ) (t : Token) → slice_get ts p ≡ Some t → drop p (take (suc p) ts) ≡ t ∷ []
 drop-take-at [] p t e = cc
-drop-take-at (u ∷ ts) zero t e = ap (λ v. v ∷ []) (some-is u t e)
-  where
-    some-is : (a b : Token) → Some a ≡ Some b → a ≡ b
-    some-is a b k = cc
+drop-take-at (u ∷ ts) zero t e = grind arith
 drop-take-at (u ∷ ts) (suc p) t e = drop-take-at ts p t e
 
 -- nothing stands before p, so the list's search is that of token p and what follows
@@ -87,22 +61,13 @@ pub first-before : (trees : List Tree) (ts : List Token) (p : ℕ) (t : Token) �
     → first_ident (tree_in trees (take p ts)) ≡ Nothing
     → first_ident (tree_in trees (take (p + 1) ts)) ≡ item_search trees (shape t)
 first-before trees ts p t e n =
-    ap (λ i. first_ident (tree_in trees (take i ts))) (add-one p)
-    ∙ (first-split trees (take (suc p) ts) p
-    ∙ (ap (λ us. or_else (first_ident (tree_in trees us)) (first_ident (tree_in trees (drop p (take (suc p) ts)))))
-    (take-at ts p t e)
-    ∙ (ap (λ s. or_else s (first_ident (tree_in trees (drop p (take (suc p) ts))))) n
-    ∙ ap (λ us. first_ident (tree_in trees us)) (drop-take-at ts p t e))))
+    grind (arith, first-split trees (take (suc p) ts) p, take-at ts p t e, drop-take-at ts p t e)
 
 pub passed-none : (trees : List Tree) (s : Shape) → IsPassed s → item_search trees s ≡ Nothing
-passed-none trees (Plain leaf) h = ap (λ x. or_else x Nothing) h
-passed-none trees (Below x) h = absurd h
-passed-none trees (InnerBelow x) h = refl
+passed-none trees s h = grind arith
 
 or_else-stays : (s t : Search) → (s ≡ Nothing → ⊥) → or_else s t ≡ s
-or_else-stays (Found name) t h = refl
-or_else-stays Stopped t h = refl
-or_else-stays Nothing t h = absurd (h refl)
+or_else-stays s t h = grind arith
 
 module _ (ls : List (List Token)) (root : ℕ) (tied : IsTied ls) where
   abbrev trees : List Tree
@@ -168,9 +133,7 @@ module _ (ls : List (List Token)) (root : ℕ) (tied : IsTied ls) where
 
   pub walks-ended : (p : ℕ) → Walks ls root root p → length (get_or ls root []) ≤ p
       → found_name (first_ident (unfolded ls root)) ≡ None
-  walks-ended p w h =
-      ap found_name (ap first_ident (unfold-is ls root tied w.inside)
-      ∙ (ap (λ us. first_ident (tree_in trees us)) (sym (take_all p (get_or ls root []) h)) ∙ w.none))
+  walks-ended p w h = grind (arith, unfold-is, take_all)
 
   pub walks-start : root < length ls → Walks ls root root 0
   walks-start lt = record { path = top; none = refl; inside = lt; within = omega arith }

@@ -5,10 +5,9 @@ use Rattle.std.proofs.lemmas.List.{append_assoc, append-nil, map-append, map_pus
 use Rattle.std.proofs.lemmas.List.{take-append-le, take_all, drop_all, drop-set-lt, length-append}
 use Rattle.std.proofs.lemmas.Bool.{eq-eqb, eqb-true}
 use Rattle.cw_trees.specs.declared.Control.{Control}
-use Rattle.cw_trees.specs.declared.Control.TheVariants as controls
-use Rattle.cw_trees.specs.Flat.{Item, SourceItem, IdentItem, ReservedItem, SignItem, Open, Close, is_break}
-use Rattle.cw_trees.specs.Flat.{is_break_sign, is_run_sign, is_wall_sign, is_gap, is_inserted, begins_after, ends_text}
-use Rattle.cw_trees.specs.Flat.{trim_back, trim_front, trimmed_items, without_inserted}
+use Rattle.cw_trees.specs.Flat.{Item, SignItem, is_break, is_break_sign, is_run_sign, is_wall_sign, is_gap}
+use Rattle.cw_trees.specs.Flat.{is_inserted, begins_after, ends_text, trim_back, trim_front, trimmed_items}
+use Rattle.cw_trees.specs.Flat.{without_inserted}
 use Rattle.cw_tokens.specs.declared.flat.FlatItem.{FlatItem}
 use Rattle.cw_tokens.specs.declared.flat.FlatItem.TheVariants as FlatItems
 use Rattle.cw_tokens.specs.FlatItems.{item_is, items_are}
@@ -18,105 +17,37 @@ use Rattle.cw_tokens.proofs.Trimming.{rest-more, item-and-rest, stored, front_st
 -- what is in no gap is no break
 sign-in-none : (control : Control) → (is_run_sign control || is_wall_sign control) ≡ false → is_break_sign control
     ≡ false
-sign-in-none controls.Blank e = e
-sign-in-none controls.OptionalBreak e = e
-sign-in-none controls.Break e = e
-sign-in-none controls.BigBreak e = e
-sign-in-none controls.Cancel e = refl
-sign-in-none controls.Backup e = refl
-sign-in-none controls.Wall e = refl
-sign-in-none controls.Indent e = refl
-sign-in-none controls.Outdent e = refl
-sign-in-none controls.OptionalLineBreak0 e = refl
-sign-in-none controls.OptionalLineBreak9 e = refl
-sign-in-none controls.ThinSpace e = refl
-sign-in-none controls.OpenBrace e = refl
-sign-in-none controls.CloseBrace e = refl
-sign-in-none controls.OpenRelation e = refl
-sign-in-none controls.Inserted e = refl
-sign-in-none controls.ToMath e = refl
-sign-in-none controls.ToText e = refl
-sign-in-none controls.Dollar e = refl
-sign-in-none controls.CommentEnd e = refl
-sign-in-none controls.NameText e = refl
-sign-in-none controls.NameEnd e = refl
+sign-in-none control e = grind arith
 
 -- what is in a gap prints something
 sign-in-gap : (control : Control) → (is_run_sign control || is_wall_sign control) ≡ true
     → is_inserted (SignItem control) ≡ false
-sign-in-gap controls.Blank e = refl
-sign-in-gap controls.OptionalBreak e = refl
-sign-in-gap controls.Break e = refl
-sign-in-gap controls.BigBreak e = refl
-sign-in-gap controls.Cancel e = refl
-sign-in-gap controls.Backup e = refl
-sign-in-gap controls.Wall e = refl
-sign-in-gap controls.Indent e = refl
-sign-in-gap controls.Outdent e = refl
-sign-in-gap controls.OptionalLineBreak0 e = refl
-sign-in-gap controls.OptionalLineBreak9 e = refl
-sign-in-gap controls.ThinSpace e = refl
-sign-in-gap controls.OpenBrace e = refl
-sign-in-gap controls.CloseBrace e = refl
-sign-in-gap controls.OpenRelation e = refl
-sign-in-gap controls.Inserted e = cc
-sign-in-gap controls.ToMath e = refl
-sign-in-gap controls.ToText e = refl
-sign-in-gap controls.Dollar e = refl
-sign-in-gap controls.CommentEnd e = refl
-sign-in-gap controls.NameText e = refl
-sign-in-gap controls.NameEnd e = refl
+sign-in-gap control e = grind arith
 
 neither : (a b : Bool) → a ≡ false → b ≡ false → (a || b) ≡ false
-neither true b p q = p
-neither false b p q = q
+neither a b p q = grind arith
 
 pub not-both : (a b : Bool) → b ≡ false → (a && b) ≡ false
-not-both true b q = q
-not-both false b q = refl
+not-both a b q = grind arith
 
 -- which items stay
 stays-in-gap : (begins : Bool) (item : Item) → is_gap item ≡ true → (begins && is_break item) ≡ false
     → (is_inserted item || (begins && is_break item)) ≡ false
-stays-in-gap begins item e none = neither (is_inserted item) (begins && is_break item) (go item e) none
-  where
-    go : (item : Item) → is_gap item ≡ true → is_inserted item ≡ false
-    go Close e = refl
-    go Open e = refl
-    go (SourceItem number) e = refl
-    go (IdentItem name number) e = refl
-    go (ReservedItem name number) e = refl
-    go (SignItem control) e = sign-in-gap control e
+stays-in-gap begins item e none = grind (arith, neither, sign-in-gap)
 
 stays-in-none : (begins : Bool) (item : Item) → is_gap item ≡ false → is_inserted item ≡ false
     → (is_inserted item || (begins && is_break item)) ≡ false
-stays-in-none begins item e none =
-    neither (is_inserted item) (begins && is_break item) none (not-both begins (is_break item) (go item e))
-  where
-    go : (item : Item) → is_gap item ≡ false → is_break item ≡ false
-    go Close e = refl
-    go Open e = refl
-    go (SourceItem number) e = refl
-    go (IdentItem name number) e = refl
-    go (ReservedItem name number) e = refl
-    go (SignItem control) e = sign-in-none control e
+stays-in-none begins item e none = grind (arith, neither, not-both, sign-in-none)
 
 pub no-beginning : (begins b : Bool) → begins ≡ false → (begins && b) ≡ false
-no-beginning true b e = cc
-no-beginning false b e = refl
+no-beginning begins b e = grind arith
 
 -- a text that only has gaps still does behind one more
 both-true : (a b : Bool) → b ≡ true → (a && b) ≡ a
-both-true true b e = e
-both-true false b e = refl
+both-true a b e = grind arith
 
 begins-in-gap : (begins : Bool) (item : Item) → is_gap item ≡ true → begins_after begins item ≡ begins
-begins-in-gap begins Close e = cc
-begins-in-gap begins Open e = cc
-begins-in-gap begins (SourceItem number) e = cc
-begins-in-gap begins (IdentItem name number) e = cc
-begins-in-gap begins (ReservedItem name number) e = cc
-begins-in-gap begins (SignItem control) e = both-true begins (is_gap (SignItem control)) e
+begins-in-gap begins item e = grind (arith, both-true)
 
 -- a text begins behind the bracket that opens it, and behind no other item than gaps
 after-open : (begins : Bool) (item : FlatItem) → item ≡ FlatItems.Open → begins_after begins (item_is item) ≡ true
@@ -124,28 +55,14 @@ after-open begins item is = ap (λ i. begins_after begins (item_is i)) is
 
 after-other : (begins : Bool) (item : FlatItem) → is_gap (item_is item) ≡ false → (item ≡ FlatItems.Open → ⊥)
     → begins_after begins (item_is item) ≡ false
-after-other begins FlatItems.Open e other = absurd (other refl)
-after-other begins FlatItems.Close e other = not-both begins false refl
-after-other begins (FlatItems.Source number) e other = not-both begins false refl
-after-other begins (FlatItems.Ident name number) e other = not-both begins false refl
-after-other begins (FlatItems.Reserved name number) e other = not-both begins false refl
-after-other begins (FlatItems.Control control) e other = not-both begins (is_gap (SignItem control)) e
+after-other begins item e other = grind (arith, not-both)
 
 pub not-same : (a b : ℕ) → (a ≡ b → ⊥) → eqb a b ≡ false
-not-same a b other = go (eqb a b) refl
-  where
-    go : (c : Bool) → eqb a b ≡ c → c ≡ false
-    go true e = absurd (other (eqb-true a b e))
-    go false e = refl
+not-same a b other = grind (arith, eqb-true)
 
 -- a gap ends a text where what stands behind it does
 ends-gap : (gap : Item) (items : List Item) → is_gap gap ≡ true → ends_text (gap ∷ items) ≡ ends_text items
-ends-gap Close items e = cc
-ends-gap Open items e = cc
-ends-gap (SourceItem number) items e = cc
-ends-gap (IdentItem name number) items e = cc
-ends-gap (ReservedItem name number) items e = cc
-ends-gap (SignItem control) items e = ap (λ (b : Bool). b && ends_text items) e
+ends-gap gap items e = grind arith
 
 ends-gaps : (gaps items : List Item) → AllGaps gaps → ends_text (gaps ++ items) ≡ ends_text items
 ends-gaps [] items all = refl
@@ -155,46 +72,17 @@ ends-gaps (gap ∷ gaps) items all = ends-gap gap (gaps ++ items) all.0 ∙ ends
 gaps-end : (gaps items : List Item) → AllGaps gaps → ends_text items ≡ true → trim_back (gaps ++ items)
     ≡ unbroken gaps ++ trim_back items
 gaps-end [] items all ends = refl
-gaps-end (gap ∷ gaps) items all ends =
-    ap (λ (b : Bool). if is_break gap && b then trim_back (gaps ++ items)
-    else gap ∷ trim_back (gaps ++ items)) (ends-gaps gaps items all.1 ∙ ends)
-    ∙ ap (λ (l : List Item). if is_break gap && true then l else gap ∷ l)
-    (gaps-end gaps items all.1 ends)
-    ∙ go (is_break gap)
-  where
-    go : (b : Bool) → (if b && true then unbroken gaps ++ trim_back items
-        else gap ∷ (unbroken gaps ++ trim_back items))
-        ≡ (if b then unbroken gaps else gap ∷ unbroken gaps) ++ trim_back items
-    go true = refl
-    go false = refl
+gaps-end (gap ∷ gaps) items all ends = grind (arith, gaps-end gaps items all.1 ends, ends-gaps)
 
 gaps-stay : (gaps items : List Item) → AllGaps gaps → ends_text items ≡ false → trim_back (gaps ++ items)
     ≡ gaps ++ trim_back items
 gaps-stay [] items all ends = refl
-gaps-stay (gap ∷ gaps) items all ends =
-    ap (λ (b : Bool). if is_break gap && b then trim_back (gaps ++ items)
-    else gap ∷ trim_back (gaps ++ items)) (ends-gaps gaps items all.1 ∙ ends)
-    ∙ go (is_break gap)
-    ∙ ap (λ (l : List Item). gap ∷ l) (gaps-stay gaps items all.1 ends)
-  where
-    go : (b : Bool) → (if b && false then trim_back (gaps ++ items) else gap ∷ trim_back (gaps ++ items))
-        ≡ gap ∷ trim_back (gaps ++ items)
-    go true = refl
-    go false = refl
+gaps-stay (gap ∷ gaps) items all ends = grind (arith, gaps-stay gaps items all.1 ends, ends-gaps)
 
 -- what stays of a gap and the item behind it, which is in none
 gap-and-item : (gaps : List Item) (item : Item) (items : List Item) → AllGaps gaps → is_gap item ≡ false
     → trim_back (gaps ++ item ∷ items) ≡ gap_before item gaps ++ item ∷ trim_back items
-gap-and-item gaps Close items all e = gaps-end gaps (Close ∷ items) all refl
-gap-and-item gaps Open items all e = gaps-stay gaps (Open ∷ items) all refl
-gap-and-item gaps (SourceItem number) items all e = gaps-stay gaps (SourceItem number ∷ items) all refl
-gap-and-item gaps (IdentItem name number) items all e = gaps-stay gaps (IdentItem name number ∷ items) all refl
-gap-and-item gaps (ReservedItem name number) items all e = gaps-stay gaps (ReservedItem name number ∷ items) all refl
-gap-and-item gaps (SignItem control) items all e =
-    gaps-stay gaps (SignItem control ∷ items) all (ap (λ (b : Bool). b && ends_text items)
-    e)
-    ∙ ap (λ (b : Bool). gaps ++ (if b && ends_text items then trim_back items
-    else SignItem control ∷ trim_back items)) (sign-in-none control e)
+gap-and-item gaps item items all e = grind (arith, gaps-end, gaps-stay, sign-in-none)
 
 all-push : (gaps : List Item) (item : Item) → AllGaps gaps → is_gap item ≡ true → AllGaps (gaps ++ item ∷ [])
 all-push [] item all e = (e, tt)
@@ -212,33 +100,16 @@ module _ (gap : ℕ) (items : List FlatItem) (begins : Bool) (item : FlatItem) (
   one-more : (is_inserted came || (begins && is_break came)) ≡ false → (more : List Item)
       → trimmed_items ((given ++ came ∷ []) ++ more) ≡ items_are (take gap items)
       ++ trim_back (items_are (drop gap items) ++ came ∷ front more)
-  one-more stays more =
-      ap trimmed_items (append_assoc given (came ∷ []) more)
-      ∙ stands.stays (came ∷ more)
-      ∙ ap (λ (l : List Item). items_are (take gap items) ++ trim_back (items_are (drop gap items) ++ l))
-      (front_step begins came more false stays)
+  one-more stays more = grind (arith, append_assoc, front_step)
 
   -- an item of a gap
   stands-gap : (is_inserted came || (begins && is_break came)) ≡ false → is_gap came ≡ true
       → StandsFor (parted gap (items ++ item ∷ []) (begins_after begins came)) (given ++ came ∷ [])
-  stands-gap stays in_gap =
-      let longer : items_are (drop gap (items ++ item ∷ [])) ≡ items_are (drop gap items) ++ came ∷ [] =
-      ap items_are (drop-append-le gap items (item ∷ []) within) ∙ map_push item_is (drop gap items) item in
-      record {
-        gaps = subst AllGaps (sym longer) (all-push (items_are (drop gap items)) came stands.gaps in_gap);
-        stays = λ more.
-            one-more stays more
-            ∙ ap (λ (l : List Item). items_are (take gap items) ++ trim_back l)
-            (sym (append_assoc (items_are (drop gap items)) (came ∷ []) (front more)))
-            ∙ ap (λ (l : List Item). items_are (take gap items) ++ trim_back (l ++ front more)) (sym longer)
-            ∙ ap (λ (l : List FlatItem). items_are l ++ trim_back (items_are (drop gap (items ++ item ∷ []))
-            ++ front more)) (sym (take-append-le gap items (item ∷ []) within));
-      }
+  stands-gap stays in_gap = grind (arith, drop-append-le, map_push, all-push, one-more, append_assoc, take-append-le)
 
   pub stands-longer : is_gap came ≡ true → (begins && is_break came) ≡ false
       → StandsFor (parted gap (items ++ item ∷ []) begins) (given ++ came ∷ [])
-  stands-longer in_gap none = subst (λ b. StandsFor (parted gap (items ++ item ∷ []) b) (given ++ came ∷ []))
-      (begins-in-gap begins came in_gap) (stands-gap (stays-in-gap begins came in_gap none) in_gap)
+  stands-longer in_gap none = grind (arith, begins-in-gap, stands-gap, stays-in-gap)
 
   -- an item that is in no gap: the gap before it is settled too
   stands-settled : (kept : List FlatItem) → (is_inserted came || (begins && is_break came)) ≡ false → is_gap came
@@ -278,28 +149,17 @@ module _ (gap : ℕ) (items : List FlatItem) (begins : Bool) (item : FlatItem) (
 
     pub stands-opened : item ≡ FlatItems.Open
         → StandsFor (parted (length all) all (eqb (length all) (length all))) (given ++ came ∷ [])
-    stands-opened opens = subst (λ b. StandsFor (parted (length all) all b) (given ++ came ∷ []))
-        (after-open begins item opens ∙ sym (eq-eqb (length all) (length all) refl)) settled
+    stands-opened opens = grind (arith, after-open, eq-eqb, settled)
 
     pub stands-other : (text : ℕ) → text ≤ length kept → (item ≡ FlatItems.Open → ⊥)
         → StandsFor (parted (length all) all (eqb (length all) text)) (given ++ came ∷ [])
-    stands-other text before other =
-        subst (λ b. StandsFor (parted (length all) all b) (given ++ came ∷ []))
-        (after-other begins item in_none other
-        ∙ sym (not-same (length all) text longer)) settled
-      where
-        longer : length (kept ++ item ∷ []) ≡ text → ⊥
-        longer e = omega (arith, e, before, length-append kept (item ∷ []))
+    stands-other text before other = grind (arith, after-other, not-same, settled, length-append)
 
 -- at the end
 pub stands-end : (trims : Trims) (given kept : List Item) → StandsFor trims given
     → kept ≡ items_are trims.settled ++ unbroken (items_are trims.gap) → kept ≡ trimmed_items given
 stands-end trims given kept stands is =
-    is
-    ∙ ap (λ (l : List Item). items_are trims.settled ++ l) (sym (append-nil (unbroken (items_are trims.gap))))
-    ∙ ap (λ (l : List Item). items_are trims.settled ++ l) (sym (gaps-end (items_are trims.gap) [] stands.gaps refl))
-    ∙ sym (stands.stays [])
-    ∙ ap trimmed_items (append-nil given)
+    grind (arith, append-nil (unbroken (items_are trims.gap)), append-nil given, gaps-end (items_are trims.gap))
 
 -- a gap stays as it is before an item that ends no text
 pub gap-untouched : (items : List FlatItem) (gap : ℕ) (next : FlatItem) → (next ≡ FlatItems.Close → ⊥) → items_are items
@@ -335,10 +195,7 @@ module _ (old items : List FlatItem) (gap i kept : ℕ) (d : FlatItem) (within :
 
   next : (b : Bool) → is_break here ≡ b → unbroken (items_are (drop i old))
       ≡ (if b then unbroken (items_are (drop (i + 1) old)) else here ∷ unbroken (items_are (drop (i + 1) old)))
-  next b is =
-      ap unbroken (item-and-rest old items i d within k.rest)
-      ∙ ap (λ (c : Bool). if c then unbroken (items_are (drop (i + 1) old))
-      else here ∷ unbroken (items_are (drop (i + 1) old))) is
+  next b is = grind (arith, item-and-rest)
 
   pub unbroken-kept : is_break here ≡ false → KeepsUnbroken old (set items kept (get_or items i d)) gap (i + 1)
       (kept + 1)
@@ -357,11 +214,4 @@ module _ (old items : List FlatItem) (gap i kept : ℕ) (d : FlatItem) (within :
       }
 
   pub unbroken-dropped : is_break here ≡ true → KeepsUnbroken old items gap (i + 1) kept
-  unbroken-dropped is =
-      let low : kept ≤ i = k.low in
-      record {
-        low = omega arith;
-        behind = k.behind;
-        rest = rest-more old items i d within k.rest;
-        front = ap (λ (l : List Item). items_are (take kept items) ++ l) (sym (next true is)) ∙ k.front;
-      }
+  unbroken-dropped is = grind (arith, rest-more old items i d within k.rest, next true is)

@@ -1,14 +1,13 @@
 -- What the fields of a store keep, from one call to the next.
 use Rattle.std.proofs.Common.{◌≡◌, ℕ, ◌+◌, ◌-◌, ◌<◌, ◌≤◌, Bool, true, false, List, [], ◌∷◌, ◌++◌, length, Option, Some}
-use Rattle.std.proofs.Common.{None, drop, refl, sym, ap, ◌∙◌, subst, IsSome, arith}
+use Rattle.std.proofs.Common.{drop, IsSome, arith}
 use Rattle.std.specs.Option.{option_to_list}
 use Rattle.std.proofs.lemmas.List.{drop-append-le, length-drop, length-set, length_push}
 use Rattle.cw_tokens.specs.declared.token.Token.{Token}
 use Rattle.cw_tokens.specs.declared.store.Link.{Link}
 use Rattle.cw_tokens.specs.Shapes.{shape, ref_of}
 use Rattle.cw_tokens.specs.References.{IsTied}
-use Rattle.cw_tokens.specs.Stored.{StoredLists, MayBePushed, all_lists, cut, built, last_end, with_built, linked}
-use Rattle.cw_tokens.specs.Stored.{no_link, IsStored}
+use Rattle.cw_tokens.specs.Stored.{StoredLists, MayBePushed, all_lists, cut, built, last_end, linked, no_link, IsStored}
 use Rattle.cw_tokens.proofs.Cutting.{length-cut, cut-push, cut-finish, ascending-finish, last_end-finish}
 use Rattle.cw_tokens.proofs.Linking.{linked-push, linked-finish, linked-tied}
 
@@ -27,52 +26,17 @@ abbrev pub up_here : ℕ → List ℕ → List Token → Link
 up_here f es ts = record { list = length es; place = (length ts - f) + 1 }
 
 length-linked : (r : Option ℕ) (up : Link) (links : List Link) → length (linked r up links) ≡ length links
-length-linked None up links = refl
-length-linked (Some x) up links = length-set links x up
+length-linked r up links = grind (arith, length-set)
 
 pub push-stored : (f : ℕ) (es : List ℕ) (ts : List Token) (ks : List Link) (s t e k : ℕ) (token : Token) → 0 < s
     → MayBePushed (view_of true es ts s) token → IsStored true f es ts ks s t e k
     → IsStored true f es (ts ++ token ∷ []) (linked (ref_of (shape token)) (up_here f es ts) ks) (s - 1) t e k
-push-stored f es ts ks s t e k token h may old = record {
-  for_tokens = let a : length ts + s ≤ t = old.for_tokens in omega (arith, length_push ts token);
-  for_ends = let a : length es + 1 + s ≤ e = old.for_ends in omega arith;
-  for_links = let a : length ks + 1 + s ≤ k = old.for_links in
-      omega (arith, length-linked (ref_of (shape token)) (up_here f es ts) ks);
-  ascending = old.ascending;
-  within = let a : last_end 0 es ≤ length ts = old.within in omega (arith, length_push ts token);
-  begun = old.begun;
-  all = λ n. absurd (true-false n);
-  as_many = length-linked (ref_of (shape token)) (up_here f es ts) ks ∙ old.as_many;
-  linked = rw (
-    old.begun refl,
-    cut-push 0 es ts token old.ascending zero-within,
-    drop-append-le (last_end 0 es) ts
-        (token ∷ []) old.within,
-    ← number,
-    ← length-drop (last_end 0 es) ts,
-  )
-      (linked-push (cut 0 es ts) (drop (last_end 0 es) ts) token ks old.linked (old.as_many ∙ sym number) may);
-}
-  where
-    true-false : ◌≡◌ {A = Bool} true false → ⊥
-    true-false n = cc
-
-    number : length (cut 0 es ts) ≡ length es
-    number = length-cut 0 es ts
-
-    zero-within : last_end 0 es ≤ 0 + length ts
-    zero-within = let a : last_end 0 es ≤ length ts = old.within in omega arith
+push-stored f es ts ks s t e k token h may old =
+    grind (arith, length_push, length-linked, cut-push, drop-append-le, length-drop, linked-push, length-cut)
 
 pub finish-lists : (f : ℕ) (es : List ℕ) (ts : List Token) (ks : List Link) (s t e k : ℕ)
     → IsStored true f es ts ks s t e k → cut 0 (es ++ length ts ∷ []) ts ≡ cut 0 es ts ++ drop (last_end 0 es) ts ∷ []
-finish-lists f es ts ks s t e k old =
-    let within : last_end 0 es ≤ 0 + length ts = let a : last_end 0 es ≤ length ts = old.within in omega arith in
-    let all : length ts ≡ 0 + length ts = omega arith in
-    cut-finish 0 es ts (length ts) old.ascending within all
-    ∙ ap (λ n. cut 0 es ts ++ drop n ts ∷ []) (sub-zero (last_end 0 es))
-  where
-    sub-zero : (n : ℕ) → n - 0 ≡ n
-    sub-zero n = omega arith
+finish-lists f es ts ks s t e k old = grind (arith, cut-finish)
 
 pub finish-stored : (f : ℕ) (es : List ℕ) (ts : List Token) (ks : List Link) (s t e k : ℕ)
     → IsStored true f es ts ks s t e k → IsStored false f (es ++ length ts ∷ []) ts (ks ++ no_link ∷ []) s t e k
@@ -116,9 +80,7 @@ push-own false f es ts ks s t e k token old some room may = cc
 pub push-view : (b : Bool) (f : ℕ) (es : List ℕ) (ts : List Token) (ks : List Link) (s t e k : ℕ) (token : Token)
     (v : StoredLists) → IsStored b f es ts ks s t e k → view_of b es ts s ≡ v
     → IsSome v.building → 0 < v.spare → MayBePushed v token → Pushes b f es ts ks s t e k token v
-push-view b f es ts ks s t e k token v old q =
-    subst (λ (w : StoredLists). IsSome w.building → 0 < w.spare → MayBePushed w token
-    → Pushes b f es ts ks s t e k token w) q (push-own b f es ts ks s t e k token old)
+push-view b f es ts ks s t e k token v old q = grind (arith, push-own b f es ts ks s t e k token old)
 
 -- the fields after the end of a list, where the ones before were seen as v
 pub record Finishes (f : ℕ) (es : List ℕ) (ts : List Token) (ks : List Link) (s t e k : ℕ) (v : StoredLists) : Type 0
@@ -129,24 +91,18 @@ pub record Finishes (f : ℕ) (es : List ℕ) (ts : List Token) (ks : List Link)
 
 finish-own : (b : Bool) (f : ℕ) (es : List ℕ) (ts : List Token) (ks : List Link) (s t e k : ℕ)
     → IsStored b f es ts ks s t e k → IsSome (built b es ts) → Finishes f es ts ks s t e k (view_of b es ts s)
-finish-own true f es ts ks s t e k old some = record {
-  stored = finish-stored f es ts ks s t e k old;
-  lists = finish-lists f es ts ks s t e k old;
-  number = sym (length-cut 0 es ts);
-}
+finish-own true f es ts ks s t e k old some =
+    grind (arith, finish-stored f es ts ks s t e k old, finish-lists f es ts ks s t e k old, length-cut 0 es ts)
 finish-own false f es ts ks s t e k old some = cc
 
 pub finish-view : (b : Bool) (f : ℕ) (es : List ℕ) (ts : List Token) (ks : List Link) (s t e k : ℕ) (v : StoredLists)
     → IsStored b f es ts ks s t e k → view_of b es ts s ≡ v
     → IsSome v.building → Finishes f es ts ks s t e k v
-finish-view b f es ts ks s t e k v old q =
-    subst (λ (w : StoredLists). IsSome w.building → Finishes f es ts ks s t e k w) q
-    (finish-own b f es ts ks s t e k old)
+finish-view b f es ts ks s t e k v old q = grind (arith, finish-own b f es ts ks s t e k old)
 
 pub tied-view : (b : Bool) (f : ℕ) (es : List ℕ) (ts : List Token) (ks : List Link) (s t e k : ℕ) (v : StoredLists)
     → IsStored b f es ts ks s t e k → view_of b es ts s ≡ v → IsTied (all_lists v)
-tied-view b f es ts ks s t e k v old q = subst (λ (w : StoredLists). IsTied (all_lists w)) q
-    (linked-tied (with_built (cut 0 es ts) (built b es ts)) ks old.linked)
+tied-view b f es ts ks s t e k v old q = grind (arith, linked-tied)
 
 -- a list that contracts see is one of the fields
 pub record IsKept (es : List ℕ) (ts : List Token) (i : ℕ) : Type 0 where
@@ -155,6 +111,4 @@ pub record IsKept (es : List ℕ) (ts : List Token) (i : ℕ) : Type 0 where
 
 pub kept-view : (b : Bool) (es : List ℕ) (ts : List Token) (s i : ℕ) (v : StoredLists) → view_of b es ts s ≡ v
     → i < length v.lists → IsKept es ts i
-kept-view b es ts s i v q h =
-    let k : i < length (cut 0 es ts) = subst (λ (w : StoredLists). i < length w.lists) (sym q) h in
-    record { in_cut = k; in_ends = omega (arith, length-cut 0 es ts) }
+kept-view b es ts s i v q h = grind (arith, length-cut)

@@ -1,7 +1,6 @@
 -- The walk that lays a tree flat and trims it.
 use Rattle.std.proofs.Common.{◌≡◌, ℕ, zero, suc, ◌+◌, ◌-◌, ◌<◌, ◌≤◌, List, [], ◌∷◌, ◌++◌, length, reverse}
-use Rattle.std.proofs.Common.{slice_index_or, take, drop, Some, Result, OnOk, get_or, refl, sym, ap, ◌∙◌}
-use Rattle.std.proofs.Common.{subst, arith}
+use Rattle.std.proofs.Common.{slice_index_or, take, drop, Some, Result, OnOk, get_or, refl, sym, ap, ◌∙◌, subst, arith}
 use Rattle.std.specs.List.{slice_get}
 use Rattle.std.proofs.lemmas.List.{append_assoc, append-nil, reverse-append, take_all}
 use Rattle.cw_trees.specs.Flat.{Item, Open as open_item, Close as close_item, flat, trimmed_items}
@@ -14,8 +13,8 @@ use Rattle.cw_tokens.specs.declared.walk.Part.TheVariants.{InnerBelow as inner_p
 use Rattle.cw_tokens.specs.Shapes.{Shape, Plain, Below, InnerBelow, shape, ref_of, item_of, tree_in, trees_from}
 use Rattle.cw_tokens.specs.Shapes.{unfolded}
 use Rattle.cw_tokens.specs.References.{token_ref, IsTied}
-use Rattle.cw_tokens.specs.Ahead.{GoesAbove, IsLoneWord, MayStandFor, ReferWithin, RefersWithin, closing_of}
-use Rattle.cw_tokens.specs.Ahead.{flat_above, size_of, Lays, TrimsAhead}
+use Rattle.cw_tokens.specs.Ahead.{GoesAbove, IsLoneWord, MayStandFor, ReferWithin, RefersWithin, closing_of, flat_above}
+use Rattle.cw_tokens.specs.Ahead.{size_of, Lays, TrimsAhead}
 use Rattle.cw_tokens.specs.FlatItems.{item_is, IsPart}
 use Rattle.cw_tokens.specs.Trimming.{Trims, StandsFor}
 use Rattle.cw_tokens.specs.Walking.{size}
@@ -25,8 +24,7 @@ use Rattle.cw_tokens.proofs.Unfolding.{unfold-is}
 -- the first of some tokens, and those behind it
 pub first-is : (ts : List Token) (d : Token) → 1 ≤ length ts → ts
     ≡ slice_index_or ts 0 d ∷ take (length ts - 1) (drop 1 ts)
-first-is [] d h = absurd (omega arith)
-first-is (t ∷ ts) d h = ap (λ us. t ∷ us) (sym (take_all (length (t ∷ ts) - 1) ts (omega arith)))
+first-is ts d h = grind (arith, take_all)
 
 pub last-first : (ups old : List Above) (up : Above) → old ≡ ups ++ up ∷ [] → reverse old ≡ up ∷ reverse ups
 last-first ups old up e = ap reverse e ∙ reverse-append ups (up ∷ [])
@@ -34,16 +32,11 @@ last-first ups old up e = ap reverse e ∙ reverse-append ups (up ∷ [])
 -- a token laid flat before others
 item-joined : (trees : List Tree) (s : Shape) (rest : Tree) → flat (item_of trees s rest) ≡ flat (item_of trees s Empty)
     ++ flat rest
-item-joined trees (Plain leaf) rest = refl
-item-joined trees (Below x) rest = ap (λ xs. xs ++ flat rest) (sym (append-nil (flat (get_or trees x Empty))))
-item-joined trees (InnerBelow x) rest =
-    ap (λ xs. open_item ∷ xs) (sym (append_assoc (flat (get_or trees x Empty)) (close_item ∷ []) (flat rest)))
+item-joined trees s rest = grind (arith, append-nil, append_assoc)
 
 item-size : (trees : List Tree) (s : Shape) (rest : Tree)
     → size (item_of trees s rest) ≤ size (item_of trees s Empty) + size rest
-item-size trees (Plain leaf) rest = omega arith
-item-size trees (Below x) rest = omega arith
-item-size trees (InnerBelow x) rest = omega arith
+item-size trees s rest = grind arith
 
 pub stands-itself : (ls : List (List Token)) (token : Token) → RefersWithin (length ls) token
     → MayStandFor ls token token
@@ -59,20 +52,7 @@ module _ (ls : List (List Token)) (tied : IsTied ls) where
     only-tree = unfold-is ls x tied lt ∙ ap (tree_in (trees_from [] ls)) (sym one)
 
     pub only-stands : (token at : Token) → MayStandFor ls token at → shape at ≡ Below x → MayStandFor ls token only
-    only-stands token at m e = record {
-      same = λ rest.
-          item-joined (trees_from [] ls) (shape only) rest
-          ∙ (ap (λ (t : Tree). flat t ++ flat rest) (sym only-tree)
-          ∙ (ap (λ (s : Shape). flat (item_of (trees_from [] ls) s rest)) (sym e)
-          ∙ m.same rest));
-      smaller = λ rest.
-          let a : size (get_or (trees_from [] ls) x Empty) ≡ size (item_of (trees_from [] ls) (shape only) Empty) =
-          ap size only-tree in
-          let b : size (item_of (trees_from [] ls) (shape at) rest) ≡ size (item_of (trees_from [] ls) (Below x) rest) =
-          ap (λ (s : Shape). size (item_of (trees_from [] ls) s rest)) e in
-          omega (arith, a, b, item-size (trees_from [] ls) (shape only) rest, m.smaller rest);
-      within = λ y r. let low : y < x = only-earlier y r in omega arith;
-    }
+    only-stands token at m e = grind (arith, item-joined, only-tree, item-size, only-earlier)
 
   refer-within : (count : ℕ) (ts : List Token) → ((q x : ℕ) → token_ref (slice_get ts q) ≡ Some x → x < count)
       → ReferWithin count ts
@@ -80,8 +60,7 @@ module _ (ls : List (List Token)) (tied : IsTied ls) where
   refer-within count (t ∷ ts) h = (λ x e. h 0 x e, refer-within count ts (λ q x e. h (suc q) x e))
 
   list-within : (x : ℕ) (ts : List Token) → x < length ls → ts ≡ get_or ls x [] → ReferWithin (length ls) ts
-  list-within x ts lt e = refer-within (length ls) ts (λ q y r.
-      let low : y < x = tied.earlier x q y (ap (λ us. token_ref (slice_get us q)) (sym e) ∙ r) in omega arith)
+  list-within x ts lt e = grind (arith, refer-within)
 
   list-tree : (x : ℕ) (ts : List Token) → x < length ls → ts ≡ get_or ls x [] → get_or (trees_from [] ls) x Empty
       ≡ tree_in (trees_from [] ls) ts
@@ -90,13 +69,7 @@ module _ (ls : List (List Token)) (tied : IsTied ls) where
 pub ahead-start : (ls : List (List Token)) (root : ℕ) (items : List Token) (trims : Trims) → IsTied ls
     → root < length ls → StandsFor trims [] → items ≡ get_or ls root []
     → TrimsAhead ls items [] trims (flat (unfolded ls root))
-ahead-start ls root items trims tied lt stands e = record {
-  given = [];
-  is = append-nil (flat (tree_in (trees_from [] ls) items)) ∙ ap flat (sym (list-tree ls tied root items lt e));
-  stands = stands;
-  within = list-within ls tied root items lt e;
-  others = tt {0};
-}
+ahead-start ls root items trims tied lt stands e = grind (arith, append-nil, list-tree, list-within)
 
 append-cons : (xs ys : List Item) (x : Item) → (xs ++ x ∷ []) ++ ys ≡ xs ++ x ∷ ys
 append-cons xs ys x = append_assoc xs (x ∷ []) ys
@@ -114,14 +87,7 @@ module _ (ls : List (List Token)) (t : Token) (behind : List Token) (above : Lis
   leaf-less : (item : FlatItem) → IsPart (shape u) (leaf_part item)
       → size (tree_in (trees_from [] ls) behind) + size_of ls above < size
       (item_of (trees_from [] ls) (shape t) (tree_in (trees_from [] ls) behind)) + size_of ls above
-  leaf-less item is = omega (arith, less (shape u) is, m.smaller (tree_in (trees_from [] ls) behind))
-    where
-      less : (s : Shape) → IsPart s (leaf_part item)
-          → size (tree_in (trees_from [] ls) behind) < size
-          (item_of (trees_from [] ls) s (tree_in (trees_from [] ls) behind))
-      less (Plain leaf) e = omega arith
-      less (Below x) e = absurd e
-      less (InnerBelow x) e = absurd e
+  leaf-less item is = grind arith
 
   module _ (x : ℕ) (below : List Token) (tied : IsTied ls) (read : below ≡ get_or ls x []) (new : List Above) where
     below-less-of : x < length ls → (s : Shape) (closes : ℕ)
@@ -130,25 +96,17 @@ module _ (ls : List (List Token)) (t : Token) (behind : List Token) (above : Lis
         → GoesAbove behind closes above new
         → size (tree_in (trees_from [] ls) below) + size_of ls new < size
         (item_of (trees_from [] ls) (shape t) (tree_in (trees_from [] ls) behind)) + size_of ls above
-    below-less-of inside s closes e same up =
-        let a : size (unfolded ls x) ≡ size (tree_in (trees_from [] ls) below) =
-        ap size (list-tree ls tied x below inside read) in
-        let b : size (item_of (trees_from [] ls) s (tree_in (trees_from [] ls) behind))
-        ≡ size (item_of (trees_from [] ls) (shape u) (tree_in (trees_from [] ls) behind)) =
-        ap (λ (s : Shape). size (item_of (trees_from [] ls) s (tree_in (trees_from [] ls) behind))) same in
-        omega (arith, a, b, e, up.larger ls, m.smaller (tree_in (trees_from [] ls) behind))
+    below-less-of inside s closes e same up = grind (arith, list-tree)
 
     below-smaller : IsPart (shape u) (below_part x) → GoesAbove behind 0 above new
         → size (tree_in (trees_from [] ls) below) + size_of ls new < size
         (item_of (trees_from [] ls) (shape t) (tree_in (trees_from [] ls) behind)) + size_of ls above
-    below-smaller is up =
-        below-less-of (below-inside ls t u m x is) (Below x) 0 refl (sym (below-ref (shape u) x is)) up
+    below-smaller is up = grind (arith, below-less-of, below-inside, below-ref)
 
     inner-smaller : IsPart (shape u) (inner_part x) → GoesAbove behind 1 above new
         → size (tree_in (trees_from [] ls) below) + size_of ls new < size
         (item_of (trees_from [] ls) (shape t) (tree_in (trees_from [] ls) behind)) + size_of ls above
-    inner-smaller is up =
-        below-less-of (inner-inside ls t u m x is) (InnerBelow x) 1 refl (sym (inner-ref (shape u) x is)) up
+    inner-smaller is up = grind (arith, below-less-of, inner-inside, inner-ref)
 
 module _ (ls : List (List Token)) (t : Token) (behind : List Token) (above : List Above) (trims : Trims)
     (all : List Item) (w : TrimsAhead ls (t ∷ behind) above trims all) (u : Token) (m : MayStandFor ls t u) where
@@ -179,20 +137,7 @@ module _ (ls : List (List Token)) (t : Token) (behind : List Token) (above : Lis
 
   module _ (x : ℕ) (below : List Token) (tied : IsTied ls) (read : below ≡ get_or ls x []) (new : List Above) where
     pub ahead-below : IsPart (shape u) (below_part x) → GoesAbove behind 0 above new → TrimsAhead ls below new trims all
-    ahead-below is up = record {
-      given = w.given;
-      is = ap (λ xs. w.given ++ (flat (tree_in (trees_from [] ls) below) ++ xs)) (up.items ls)
-          ∙ (ap (λ (t : Tree). w.given ++ (flat t ++ (flat (tree_in (trees_from [] ls) behind) ++ flat_above ls above)))
-          (sym (list-tree ls tied x below (below-inside ls t u m x is) read))
-          ∙ (ap (λ xs. w.given ++ xs) (sym
-          (append_assoc (flat (unfolded ls x)) (flat (tree_in (trees_from [] ls) behind)) (flat_above ls above)))
-          ∙ (ap (λ (s : Shape). w.given ++ (flat (item_of (trees_from [] ls) s (tree_in (trees_from [] ls) behind))
-          ++ flat_above ls above)) (sym (below-ref (shape u) x is))
-          ∙ by-other)));
-      stands = w.stands;
-      within = list-within ls tied x below (below-inside ls t u m x is) read;
-      others = up.within (length ls) w.within.1 w.others;
-    }
+    ahead-below is up = grind (arith, list-tree, below-inside, append_assoc, below-ref, by-other, list-within)
 
     pub ahead-inner : (after : Trims) → IsPart (shape u) (inner_part x) → GoesAbove behind 1 above new
         → ((given : List Item) → StandsFor trims given → StandsFor after (given ++ open_item ∷ []))
@@ -224,9 +169,7 @@ first-within count (t ∷ ts) d w some = w.0
 -- the first token, as it is read, may stand for itself
 pub first-itself : (ls : List (List Token)) (rest : List Token) (d u : Token) → slice_index_or rest 0 d ≡ u
     → ReferWithin (length ls) rest → 1 ≤ length rest → MayStandFor ls (slice_index_or rest 0 d) u
-first-itself ls rest d u e within some =
-    subst (λ (t : Token). MayStandFor ls (slice_index_or rest 0 d) t) e
-    (stands-itself ls (slice_index_or rest 0 d) (first-within (length ls) rest d within some))
+first-itself ls rest d u e within some = grind (arith, slice_index_or, stands-itself, first-within)
 
 -- a walk goes on by one token
 module _ (ls : List (List Token)) (tied : IsTied ls) (first : List Token) (old : List Above) (before : Trims)
@@ -262,16 +205,12 @@ module _ (ls : List (List Token)) (tied : IsTied ls) (first : List Token) (old :
     pub list-less : IsPart (shape u) (below_part x) → GoesAbove behind 0 above new
         → size (tree_in (trees_from [] ls) below) + size_of ls new
         < size (tree_in (trees_from [] ls) rest) + size_of ls above
-    list-less is up = subst (λ ts. size (tree_in (trees_from [] ls) below) + size_of ls new
-        < size (tree_in (trees_from [] ls) ts) + size_of ls above) (sym (first-is rest d some))
-        (below-smaller ls t behind above u m x below tied read new is up)
+    list-less is up = grind (arith, first-is, below-smaller)
 
     pub inner-less : IsPart (shape u) (inner_part x) → GoesAbove behind 1 above new
         → size (tree_in (trees_from [] ls) below) + size_of ls new
         < size (tree_in (trees_from [] ls) rest) + size_of ls above
-    inner-less is up = subst (λ ts. size (tree_in (trees_from [] ls) below) + size_of ls new
-        < size (tree_in (trees_from [] ls) ts) + size_of ls above) (sym (first-is rest d some))
-        (inner-smaller ls t behind above u m x below tied read new is up)
+    inner-less is up = grind (arith, first-is, inner-smaller)
 
   pub lays-inner : (x : ℕ) (below : List Token) → below ≡ get_or ls x [] → (new : List Above) (after : Trims)
       → IsPart (shape u) (inner_part x) → GoesAbove behind 1 above new
@@ -314,16 +253,13 @@ pub ahead-popped : (ls : List (List Token)) (old ups : List Above) (up : Above) 
     → TrimsAhead ls [] (reverse old) trims all → old ≡ ups ++ up ∷ []
     → ((given : List Item) → StandsFor trims given → StandsFor new (given ++ closing_of up.closes))
     → TrimsAhead ls up.rest.now (reverse ups) new all
-ahead-popped ls old ups up trims new all w last push =
-    ahead-up ls up (reverse ups) trims new all
-    (subst (λ above. TrimsAhead ls [] above trims all) (last-first ups old up last) w) push
+ahead-popped ls old ups up trims new all w last push = grind (arith, ahead-up, reverse, last-first)
 
 -- all have ended
 pub ahead-end : (ls : List (List Token)) (above : List Above) (trims : Trims) (all kept : List Item)
     → TrimsAhead ls [] (reverse above) trims all → length above ≡ 0
     → ((given : List Item) → StandsFor trims given → kept ≡ trimmed_items given) → kept ≡ trimmed_items all
-ahead-end ls [] trims all kept w none done =
-    done w.given w.stands ∙ ap trimmed_items (sym (append-nil w.given) ∙ w.is)
+ahead-end ls [] trims all kept w none done = grind (arith, append-nil)
 ahead-end ls (up ∷ ups) trims all kept w none done = absurd (omega (arith, none))
 
 -- a bracket closes

@@ -3,9 +3,8 @@ use Rattle.std.proofs.Common.{◌≡◌, ℕ, ◌+◌, ◌<◌, ◌≤◌, Bool,
 use Rattle.std.proofs.Common.{set, take, drop, reverse, refl, sym, ap, ◌∙◌, arith, length-drop, if◌then◌else◌}
 use Rattle.std.proofs.lemmas.List.{append_assoc, drop_more, drop-set-lt, map_push, reverse-append, reverse-reverse}
 use Rattle.std.proofs.lemmas.List.{take_more, take_more_set, take_all, drop_all, append-nil}
-use Rattle.cw_trees.specs.Flat.{Item, SourceItem, IdentItem, ReservedItem, SignItem, Open, Close, is_break, is_gap}
-use Rattle.cw_trees.specs.Flat.{is_inserted, begins_after, ends_text, trim_back, trim_front, trimmed_items}
-use Rattle.cw_trees.specs.Flat.{without_inserted}
+use Rattle.cw_trees.specs.Flat.{Item, is_break, is_inserted, begins_after, ends_text, trim_back, trim_front}
+use Rattle.cw_trees.specs.Flat.{trimmed_items, without_inserted}
 use Rattle.cw_tokens.specs.declared.flat.FlatItem.{FlatItem}
 use Rattle.cw_tokens.specs.FlatItems.{item_is, items_are}
 use Rattle.cw_tokens.specs.Trimming.{ends_before}
@@ -40,8 +39,7 @@ module _ (old items : List FlatItem) (i : ℕ) (d : FlatItem) (within : i < leng
   rest-more = cc (parts)
 
   pub item-and-rest : items_are (drop i old) ≡ item_is (get_or items i d) ∷ items_are (drop (i + 1) old)
-  item-and-rest = ap items_are (drop_more old i d within-old)
-      ∙ ap (λ x. item_is x ∷ items_are (drop (i + 1) old)) (sym same-item)
+  item-and-rest = grind (arith, drop_more, within-old, same-item)
 
   item-and-front : reverse (items_are (take (i + 1) old))
       ≡ item_is (get_or items i d) ∷ reverse (items_are (take i old))
@@ -61,15 +59,7 @@ pub front_step : (begins : Bool) (item : Item) (items : List Item) (b : Bool)
     → trim_front begins (without_inserted (item ∷ items)) ≡ (if b then
     trim_front begins (without_inserted items)
     else item ∷ trim_front (begins_after begins item) (without_inserted items))
-front_step begins item items b is =
-    go (is_inserted item) ∙ ap (λ (c : Bool). if c then trim_front begins (without_inserted items)
-    else item ∷ trim_front (begins_after begins item) (without_inserted items)) is
-  where
-    go : (c : Bool) → trim_front begins (if c then without_inserted items else item ∷ without_inserted items)
-        ≡ (if c || (begins && is_break item) then trim_front begins (without_inserted items)
-        else item ∷ trim_front (begins_after begins item) (without_inserted items))
-    go true = refl
-    go false = refl
+front_step begins item items b is = grind arith
 
 module _ (old items : List FlatItem) (i kept : ℕ) (begins : Bool) (d : FlatItem) (within : i < length items)
     (k : KeepsFront old items i kept begins) where
@@ -80,9 +70,7 @@ module _ (old items : List FlatItem) (i kept : ℕ) (begins : Bool) (d : FlatIte
       → trim_front begins (without_inserted (items_are (drop i old))) ≡ (if b then
       trim_front begins (without_inserted (items_are (drop (i + 1) old)))
       else item ∷ trim_front (begins_after begins item) (without_inserted (items_are (drop (i + 1) old))))
-  next-front b is =
-      ap (λ l. trim_front begins (without_inserted l)) (item-and-rest old items i d within k.rest)
-      ∙ front_step begins item (items_are (drop (i + 1) old)) b is
+  next-front b is = grind (arith, item-and-rest, front_step)
 
   pub front-kept : (is_inserted item || (begins && is_break item)) ≡ false
       → KeepsFront old (set items kept (get_or items i d)) (i + 1) (kept + 1) (begins_after begins item)
@@ -99,27 +87,14 @@ module _ (old items : List FlatItem) (i kept : ℕ) (begins : Bool) (d : FlatIte
       }
 
   pub front-dropped : (is_inserted item || (begins && is_break item)) ≡ true → KeepsFront old items (i + 1) kept begins
-  front-dropped is =
-      let low : kept ≤ i = k.low in
-      record {
-        low = omega arith;
-        rest = rest-more old items i d within k.rest;
-        front = ap (λ (l : List Item). items_are (take kept items) ++ l) (sym (next-front true is)) ∙ k.front;
-      }
+  front-dropped is = grind (arith, rest-more old items i d within k.rest, next-front true is)
 
 and-elim : (b e : Bool) → (b && e) ≡ (b && e)
-and-elim true e = refl
-and-elim false e = refl
+and-elim b e = grind arith
 
 ends-more : (ends : Bool) (item : Item) (items : List Item) → ends ≡ ends_text items → ends_before ends item
     ≡ ends_text (item ∷ items)
-ends-more ends Close items is = refl
-ends-more ends Open items is = refl
-ends-more ends (SourceItem number) items is = refl
-ends-more ends (IdentItem name number) items is = refl
-ends-more ends (ReservedItem name number) items is = refl
-ends-more ends (SignItem control) items is = ap (λ (e : Bool). is_gap (SignItem control) && e) is
-    ∙ and-elim (is_gap (SignItem control)) (ends_text items)
+ends-more ends item items is = grind (arith, and-elim)
 
 module _ (old items : List FlatItem) (i kept : ℕ) (ends : Bool) (d : FlatItem) (within : i < length items)
     (k : KeepsBack old items i kept ends) where
@@ -131,10 +106,7 @@ module _ (old items : List FlatItem) (i kept : ℕ) (ends : Bool) (d : FlatItem)
 
   next-back : (b : Bool) → (is_break here && ends) ≡ b → trim_back (reverse (items_are (take (i + 1) old)))
       ≡ (if b then trim_back before else here ∷ trim_back before)
-  next-back b is =
-      ap trim_back (item-and-front old items i d within k.rest)
-      ∙ ap (λ (c : Bool). if c then trim_back before else here ∷ trim_back before)
-      (sym (ap (λ (e : Bool). is_break here && e) k.ending) ∙ is)
+  next-back b is = grind (arith, item-and-front)
 
   next-ending : ends_before ends here ≡ ends_text (reverse (items_are (take (i + 1) old)))
   next-ending = ends-more ends here before k.ending ∙ ap ends_text (sym (item-and-front old items i d within k.rest))
@@ -166,9 +138,7 @@ module _ (old items : List FlatItem) (i kept : ℕ) (ends : Bool) (d : FlatItem)
 -- a list that was changed through a reference is the changed part alone
 pub whole : {X : Type 0} (n : ℕ) (xs ys : List X) → length xs ≡ n → length ys ≤ length xs
     → take n (xs ++ drop (length xs) ys) ≡ xs
-whole n xs ys is less =
-    ap (λ l. take n (xs ++ l)) (drop_all (length xs) ys less) ∙ ap (take n) (append-nil xs)
-    ∙ take_all n xs (omega arith)
+whole n xs ys is less = grind (arith, drop_all, append-nil, take_all)
 
 pub items-reversed : (items : List FlatItem) → items_are (reverse items) ≡ reverse (items_are items)
 items-reversed [] = refl
@@ -181,5 +151,4 @@ items-reversed (item ∷ items) =
 -- both walks together
 pub trims : (old front turned back : List Item) → front ≡ trim_front true (without_inserted old)
     → turned ≡ reverse front → reverse back ≡ trim_back (reverse turned) → reverse back ≡ trimmed_items old
-trims old front turned back begins turns ends =
-    ends ∙ ap (λ l. trim_back (reverse l)) turns ∙ ap trim_back (reverse-reverse front ∙ begins)
+trims old front turned back begins turns ends = grind (arith, reverse, reverse-reverse)

@@ -4,19 +4,14 @@ use Rattle.std.proofs.Common.{refl, sym, ap, ◌∙◌, arith}
 use Rattle.std.specs.List.{slice_get}
 use Rattle.std.proofs.lemmas.List.{get_or_append_left, get_or_at, get_or_past, length_push}
 use Rattle.std.proofs.lemmas.Bool.{cases_lt}
-use Rattle.cw_trees.specs.Tree.{Tree, Empty, Then, Sub, Inner}
+use Rattle.cw_trees.specs.Tree.{Tree, Empty}
 use Rattle.cw_tokens.specs.declared.token.Token.{Token}
-use Rattle.cw_tokens.specs.Shapes.{Shape, Plain, Below, InnerBelow, shape, ref_of, item_of, tree_in, trees_from}
-use Rattle.cw_tokens.specs.Shapes.{unfolded}
+use Rattle.cw_tokens.specs.Shapes.{Shape, shape, ref_of, item_of, tree_in, trees_from, unfolded}
 use Rattle.cw_tokens.specs.References.{token_ref, refers, IsTied, Reach, here, next}
 
 pub length-trees : (done : List Tree) (ls : List (List Token)) → length (trees_from done ls) ≡ length done + length ls
 length-trees done [] = omega arith
-length-trees done (ts ∷ ls) = omega (
-  arith,
-  length-trees (done ++ tree_in done ts ∷ []) ls,
-  length_push done (tree_in done ts),
-)
+length-trees done (ts ∷ ls) = grind (arith, length-trees (done ++ tree_in done ts ∷ []) ls, length_push)
 
 pub trees-front : (done : List Tree) (ls : List (List Token)) (i : ℕ) → i < length done
     → get_or (trees_from done ls) i Empty ≡ get_or done i Empty
@@ -29,11 +24,7 @@ trees-front done (ts ∷ ls) i h =
 pub item_of-same : (old new : List Tree) (s : Shape) (a b : Tree)
     → ((x : ℕ) → ref_of s ≡ Some x → get_or old x Empty ≡ get_or new x Empty) → a ≡ b → item_of old s a
     ≡ item_of new s b
-item_of-same old new (Plain leaf) a b h e = ap (Then leaf) e
-item_of-same old new (Below x) a b h e = let k : get_or old x Empty ≡ get_or new x Empty =
-    h x refl in ap (λ t. Sub t a) k ∙ ap (Sub (get_or new x Empty)) e
-item_of-same old new (InnerBelow x) a b h e = let k : get_or old x Empty ≡ get_or new x Empty =
-    h x refl in ap (λ t. Inner t a) k ∙ ap (Inner (get_or new x Empty)) e
+item_of-same old new s a b h e = grind arith
 
 pub tree_in-same : (old new : List Tree) (ts : List Token) → ((q x : ℕ) → token_ref (slice_get ts q) ≡ Some x
     → get_or old x Empty ≡ get_or new x Empty) → tree_in old ts ≡ tree_in new ts
@@ -85,13 +76,11 @@ trees-more done (us ∷ ls) ts = trees-more (done ++ tree_in done us ∷ []) ls 
 
 pub unfolded-old : (ls : List (List Token)) (ts : List Token) (i : ℕ) → i < length ls → unfolded (ls ++ ts ∷ []) i
     ≡ unfolded ls i
-unfolded-old ls ts i h = rw (trees-more [] ls ts) (get_or_append_left (trees_from [] ls) (tree_in (trees_from [] ls) ts
-    ∷ []) Empty i (omega (arith, length-trees [] ls)))
+unfolded-old ls ts i h = grind (arith, trees-more, get_or_append_left, length-trees)
 
 pub unfolded-new : (ls : List (List Token)) (ts : List Token) → unfolded (ls ++ ts ∷ []) (length ls)
     ≡ tree_in (trees_from [] ls) ts
-unfolded-new ls ts = rw (trees-more [] ls ts) (get_or_at (trees_from [] ls) (tree_in (trees_from [] ls) ts) [] Empty
-    (length ls) (length-trees [] ls ∙ (omega arith)))
+unfolded-new ls ts = grind (arith, trees-more, get_or_at, length-trees)
 
 -- Reaching
 pub reach-trans : (ls : List (List Token)) (a b d : ℕ) → Reach ls a b → Reach ls b d → Reach ls a d
@@ -100,10 +89,7 @@ reach-trans ls a b d r (next l p n e s) = next l p n e (reach-trans ls a b l r s
 
 pub reach-le : (ls : List (List Token)) (a b : ℕ) → IsTied ls → Reach ls a b → b ≤ a
 reach-le ls a b tied here = omega arith
-reach-le ls a b tied (next l p n e s) =
-    let low : n < l = tied.earlier l p n e in
-    let up : l ≤ a = reach-le ls a l tied s in
-    omega arith
+reach-le ls a b tied (next l p n e s) = grind (arith, reach-le ls a l tied s)
 
 -- a tree depends only on the lists that its root reaches
 same-below : (old new : List (List Token)) (n k : ℕ) → k < n → IsTied old → IsTied new → length old ≡ length new

@@ -1,12 +1,11 @@
 -- What each answer of the scanner does, as one relation: a token, a beginning and a note.
-use Rattle.cw_translator.proofs.Terms.{◌≡◌, ℕ, List, [], ◌∷◌, length, ◌⊎◌, inl, inr, refl, sym, ap, ◌∙◌, subst, Option}
-use Rattle.cw_translator.proofs.Terms.{None, arith, append-nil, Result, Ok, Err, OnOk, All, All-cons, on_ok_weaker}
-use Rattle.cw_translator.proofs.Terms.{Flags, Memory, Begin, Note, Seen, TokKind, State, Token as StoredToken, Entry}
-use Rattle.cw_translator.proofs.Terms.{Told, Keeps, names_with, MarkList, Open, Translator, Work, IsSoundFrame}
-use Rattle.cw_translator.proofs.Terms.{IsTranslating, all_roots, answers_in, begun_by, frames_of, progress_of, Progress}
-use Rattle.cw_translator.proofs.Terms.{Frame, CText as CTextFrame, Comment as CommentFrame, frames_begun, after_answers}
-use Rattle.cw_translator.proofs.Terms.{after_token, with_names, Known, NamesOnTheWay, NamesAmong, here, later}
-use Rattle.cw_translator.proofs.Terms.{IsSameWork, Advances, over, progress_over}
+use Rattle.cw_translator.proofs.Terms.{◌≡◌, ℕ, List, [], ◌∷◌, length, ◌⊎◌, inl, inr, refl, sym, ap, subst, Option, None}
+use Rattle.cw_translator.proofs.Terms.{arith, append-nil, Result, Ok, OnOk, All, on_ok_weaker, Flags, Memory, Begin}
+use Rattle.cw_translator.proofs.Terms.{Note, Seen, TokKind, State, Token as StoredToken, Entry, Told, Keeps, names_with}
+use Rattle.cw_translator.proofs.Terms.{MarkList, Open, Translator, Work, IsSoundFrame, IsTranslating, all_roots}
+use Rattle.cw_translator.proofs.Terms.{answers_in, begun_by, frames_of, progress_of, Progress, Frame}
+use Rattle.cw_translator.proofs.Terms.{Comment as CommentFrame, frames_begun, after_answers, after_token, with_names}
+use Rattle.cw_translator.proofs.Terms.{Known, NamesAmong, here, later, IsSameWork, Advances, over, progress_over}
 use Rattle.cw_base.specs.declared.notes.NoteKind.{NoteKind}
 use Rattle.cw_rules.specs.Answers.{Token}
 use Rattle.cw_rules.specs.declared.codes.Code.{Code}
@@ -14,33 +13,26 @@ use Rattle.cw_rules.specs.declared.tokens.TokKind.TheVariants as kind
 use Rattle.cw_rules.specs.declared.tokens.Lexed.{Lexed}
 use Rattle.cw_rules.specs.declared.tokens.Lexed.TheVariants as lexed
 use Rattle.cw_translator.specs.declared.holders.Holder.{Holder}
-use Rattle.cw_translator.specs.declared.holders.Holder.TheVariants as holder
 use Rattle.cw_translator.specs.declared.nesting.Open.TheVariants.{Comment}
-pub use Rattle.cw_translator.proofs.Routes.{unchanged}
 use Rattle.cw_translator.proofs.Routes.{Quiet, on-err, advances-as, advances-none, advances-quiet}
 use Rattle.cw_translator.proofs.FinishSteps.{same-names}
 use Rattle.cw_translator.proofs.LeafSteps.{Same, stay-steps}
+pub use Rattle.cw_translator.proofs.Routes.{unchanged}
 
 -- ## A token
 
 -- it changes the names alone
 known-after : (k : TokKind) (token : Seen) (p : Progress)
     → (after_token k token p).known ≡ with_names (names_with k token.text p.known.names) p.known
-known-after kind.Text token p = refl
-known-after _ token p = refl
+known-after k token p = grind arith
 
 token-names : (flags : Flags) (token : Seen) (p : Progress) (new : List Entry)
     → (new ≡ p.known.names) ⊎ (new ≡ names_with token.kind token.text p.known.names)
     → NamesAmong flags (Token token ∷ []) p new
-token-names flags token p new (inl e) = λ rest. rw e (here (Token token ∷ rest) p)
-token-names flags token p new (inr e) = λ rest. later (Token token) rest p new
-    (subst (NamesOnTheWay flags rest (after_token token.kind token p))
-    (ap (λ (known : Known). known.names) (known-after token.kind token p) ∙ sym e)
-    (here rest (after_token token.kind token p)))
+token-names flags token p new h = grind (arith, here, later, after_token, known-after)
 
 all-ok : {T E : Type 0} (r : Result T E) (A B C : Type 0) → OnOk r A → OnOk r B → OnOk r C → OnOk r (A × B × C)
-all-ok (Ok x) A B C a b c = (a, b, c)
-all-ok (Err e) A B C a b c = tt
+all-ok r A B C a b c = grind arith
 
 pub token-advances : {L R T : Type 0} {told : R → Option Told} (flags : Flags) (token : Seen) {t t' : Translator}
     {old new : Work L R} {result : Result T Memory} → OnOk result (IsTranslating new.store.now new.names.now t')
@@ -65,11 +57,7 @@ token-advances flags token {t = t} {old = old} {new = new} {result = result} tra
 
 pub begun-other : (k : TokKind) (number : ℕ) (all : List Open) → (k ≡ kind.InnerText → ⊥) → (k ≡ kind.LongComment → ⊥)
     → (k ≡ kind.ShortComment → ⊥) → ((c : Code) → k ≡ kind.Code c → ⊥) → all ≡ begun_by k number all
-begun-other kind.InnerText number all a b d f = absurd (a refl)
-begun-other kind.LongComment number all a b d f = absurd (b refl)
-begun-other kind.ShortComment number all a b d f = absurd (d refl)
-begun-other (kind.Code c) number all a b d f = absurd (f c refl)
-begun-other _ number all a b d f = refl
+begun-other k number all a b d f = grind arith
 
 -- what begins has no list yet, and is sound
 record Begun (count : ℕ) (lists : List (List StoredToken)) (all after : List Open) (frames : List Frame) : Type 0 where
@@ -80,28 +68,11 @@ record Begun (count : ℕ) (lists : List (List StoredToken)) (all after : List O
 module _ (count : ℕ) (lists : List (List StoredToken)) where
   held-begun : (held_by : Holder) (all : List Open) → Begun count lists all (Comment held_by [] ∷ all)
       (CommentFrame held_by [] ∷ frames_of lists all)
-  held-begun held_by all = record {
-    roots = append-nil (all_roots all);
-    sound = All-cons (IsSoundFrame count) (CommentFrame held_by []) (frames_of lists all)
-        (λ i d b. absurd (omega arith));
-    is = refl;
-  }
+  held-begun held_by all = grind (arith, append-nil, all_roots, frames_of)
 
   begun : (k : TokKind) (number : ℕ) (all : List Open) → Begun count lists all (begun_by k number all)
       (frames_begun k number (frames_of lists all))
-  begun kind.InnerText number all = record {
-    roots = append-nil (all_roots all);
-    sound = All-cons (IsSoundFrame count) (CTextFrame []) (frames_of lists all) (record {
-      named = λ i d b. absurd (omega arith);
-      modes = λ i d b. absurd (omega arith);
-      fine = refl;
-    });
-    is = refl;
-  }
-  begun kind.LongComment number all = held-begun (holder.Comment number) all
-  begun kind.ShortComment number all = held-begun (holder.Comment number) all
-  begun (kind.Code c) number all = held-begun (holder.Name number) all
-  begun _ number all = record { roots = refl; sound = λ h. h; is = refl }
+  begun k number all = grind (arith, append-nil, all_roots, frames_of, held-begun)
 
 pub begin-advances : {L R T : Type 0} {told : R → Option Told} (flags : Flags) (token : Seen) {t t' : Translator}
     {work : Work L R} {result : Result T Memory} → IsTranslating work.store.now work.names.now t

@@ -1,4 +1,5 @@
 -- What holds of the tree of a comment and of a section name: which names it has, and how it begins and ends.
+use Rattle.std.proofs.Common.{arith}
 use Rattle.cw_translator.proofs.Terms.{◌≡◌, ℕ, true, List, [], ◌∷◌, Some, refl, All, All-head, All-tail, Text, reads}
 use Rattle.cw_translator.proofs.Terms.{scrap_agrees, Tree, Empty, is_fine, IsNamedBelow, IsNamedItem, CommentItem}
 use Rattle.cw_translator.proofs.Terms.{Piece, InnerText, comment_rest, comment_scrap, Holder, held_scrap, held_tree}
@@ -27,9 +28,7 @@ module _ (count : ℕ) where
 
   pub held-named : (held_by : Holder) (items : List CommentItem) → All (IsNamedItem count) items
       → IsNamedBelow count (held_tree held_by items)
-  held-named (holder.Comment number) items all = (tt, (tt, rest-named items all))
-  held-named (holder.Name number) items all = (tt, name-named items Empty tt all)
-  held-named (holder.Head number sign) items all = (tt, name-named items (sign_behind sign) (tt, (tt, tt)) all)
+  held-named held_by items all = grind (arith, rest-named, name-named, sign_behind)
 
 -- a comment begins and ends in text
 rest-reads : (items : List CommentItem) → reads (comment_rest items) Text ≡ Some Text
@@ -52,6 +51,4 @@ held-agrees (holder.Name number) items = λ mode. name-reads items Empty mode
 held-agrees (holder.Head number sign) items = name-reads items (sign_behind sign) Text
 
 pub held-fine : (held_by : Holder) (items : List CommentItem) → is_fine (held_scrap held_by items) ≡ true
-held-fine (holder.Comment number) items = refl
-held-fine (holder.Name number) items = refl
-held-fine (holder.Head number sign) items = refl
+held-fine held_by items = grind arith

@@ -1,6 +1,6 @@
 -- A text or a comment ends, and its list becomes a part of what is open around it; or it is the whole text.
 use Rattle.cw_translator.proofs.Terms.{◌≡◌, ℕ, ◌+◌, ◌*◌, ◌≤◌, true, List, [], ◌∷◌, ◌++◌, length, map, None, refl, sym}
-use Rattle.cw_translator.proofs.Terms.{ap, ◌∙◌, subst, Option, Result, Ok, IsErrAnd, OnOk, arith, All, append-nil}
+use Rattle.cw_translator.proofs.Terms.{ap, subst, Option, Result, Ok, IsErrAnd, OnOk, arith, All, append-nil}
 use Rattle.cw_translator.proofs.Terms.{on_ok_weaker, length-map, All-head, All-tail, All-cons, Flags, Memory, Answer}
 use Rattle.cw_translator.proofs.Terms.{Finish, Seen, Entry, is_fine, productions, State, reservings}
 use Rattle.cw_translator.proofs.Terms.{Token as StoredToken, unfolded, StoredLists, IsTied, scrap_agrees, Told}
@@ -11,8 +11,8 @@ use Rattle.cw_translator.proofs.Terms.{LineDone, limit_in, with_entry, with_part
 use Rattle.cw_translator.proofs.Terms.{open_roots, all_roots, AreSoundScraps, IsSoundFrame, IsTranslating, words_of}
 use Rattle.cw_translator.proofs.Terms.{HasRecorded, Retypes, NamesOnTheWay, NamesAmong, here, at_finish, at_end}
 use Rattle.cw_translator.proofs.Terms.{Progress, with_scrap, with_item, after_answers, last_scraps, state_in, end_from}
-use Rattle.cw_translator.proofs.Terms.{CommentItem, InnerText, Work, IsSameWork, Advances, EndsIn, progress_of}
-use Rattle.cw_translator.proofs.Terms.{Target, over, progress_over, to_end, gathers-roots, gathers-keeps, Scrap}
+use Rattle.cw_translator.proofs.Terms.{CommentItem, InnerText, Work, IsSameWork, Advances, EndsIn, progress_of, Target}
+use Rattle.cw_translator.proofs.Terms.{over, progress_over, to_end, gathers-roots, gathers-keeps, Scrap}
 use Rattle.cw_base.proofs.TestLaws.{both}
 use Rattle.cw_tokens.specs.declared.token.ListId.{ListId}
 use Rattle.cw_translator.specs.declared.comments.CommentPart.TheVariants as part
@@ -103,15 +103,10 @@ line-bound : {L R : Type 0} {told : R → Option Told} {flags : Flags} {line : L
     {result : Result Translated Memory} → Reduced told flags line old new result
     → new.steps.now ≤ old.steps.now + limit_in flags (state_over old line ∷ [])
 line-bound {flags = flags} {line = line} {old = old} r =
-    let size = ap (λ n. 132 * n + n * reservings productions flags (state_over old line)) (length-map line
-    (seen old.store.now.lists)) in
-    omega (arith, size, limit-one flags (state_over old line))
+    grind (arith, reservings, productions, length-map, seen, limit-one)
 
 words-length : (new old : List Entry) → words_of new ≡ words_of old → length old ≤ length new
-words-length new old e =
-    let a : length (words_of new) ≡ length new = length-map new (λ entry. (entry.kind, entry.text)) in
-    let b : length (words_of old) ≡ length old = length-map old (λ entry. (entry.kind, entry.text)) in
-    omega (arith, a, b, ap length e)
+words-length new old e = grind (arith, words_of, length-map)
 
 -- ## A C text ends with it
 
@@ -173,13 +168,7 @@ module _ {L R : Type 0} {flags : Flags} {line : List LineEntry} {outer : List Op
 pub none-quiet : {L R : Type 0} (flags : Flags) (token : Seen) (t t' : Translator) (work : Work L R) → Same t t'
     → IsTranslating work.store.now work.names.now t → t.nesting ≡ [] → t'.nesting ≡ []
     → Quiet t work t' work (finished flags token work t)
-none-quiet flags token t t' work counts is none none' = record {
-  steps = stay-steps work.store.now work.names.now t t' is (ap all_roots (none' ∙ sym none))
-      (rw none' (rw none at is.sound)) counts;
-  counts = counts;
-  is = rw none' (sym (finished-as flags token work t none));
-  none = ap (λ (p : Progress). p.known.ended) (finished-as flags token work t none);
-}
+none-quiet flags token t t' work counts is none none' = grind (arith, stay-steps, all_roots, finished-as)
 
 module _ {L R : Type 0} (flags : Flags) (token : Seen) (t t' : Translator) (old new : Work L R) (counts : Same t t')
     {held_by : Holder} {parts : List CommentPart} {outer : List Open} (list : ListId)
@@ -234,9 +223,7 @@ last-sound store names t _ is e = empty-line store names is.idle
 
 last-outside : (lists : List (List StoredToken)) (all : List Open) (k : ℕ) → IsOutside lists (all_roots all) k
     → IsOutside lists (roots_of (last_line all)) k
-last-outside lists (CText line ∷ []) k o = o
-last-outside lists _ k o =
-    record { there = o.there; above = λ i h r. absurd (omega arith); below = λ i h r. absurd (omega arith) }
+last-outside lists all k o = grind arith
 
 last-keeps : (old new : List (List StoredToken)) (ss : List ℕ) (all : List Open)
     → Keeps old new (roots_of (last_line all)) ss → Keeps old new (all_roots all) ss
@@ -250,8 +237,7 @@ last-keeps old new ss all keeps = record {
 -- its scraps are all that are left
 last-scraps-are : (lists : List (List StoredToken)) (all : List Open)
     → scraps_of lists (last_line all) ≡ last_scraps (frames_of lists all)
-last-scraps-are lists (CText line ∷ []) = refl
-last-scraps-are lists _ = refl
+last-scraps-are lists all = grind arith
 
 abbrev ends_from : {L R : Type 0} → Flags → Translator → Work L R → State → Target
 ends_from flags t old begun = record {
@@ -262,8 +248,7 @@ ends_from flags t old begun = record {
 
 left-is : {L R : Type 0} (old : Work L R) (t : Translator) (line : List LineEntry) → line ≡ last_line t.nesting
     → state_over old line ≡ state_in (last_scraps (frames_of old.store.now.lists t.nesting)) (progress_over old t).known
-left-is old t line line_is = ap (λ scraps. state_in scraps (progress_over old t).known)
-    (ap (scraps_of old.store.now.lists) line_is ∙ last-scraps-are old.store.now.lists t.nesting)
+left-is old t line line_is = grind (arith, state_in, progress_over, scraps_of, last-scraps-are)
 
 pub line-refused : {L R : Type 0} {told : R → Option Told} {flags : Flags} {t : Translator} {line : List LineEntry}
     {old new : Work L R} {first result : Result Translated Memory} {error : Memory} → line ≡ last_line t.nesting
@@ -282,25 +267,4 @@ pub line-ends : {L R : Type 0} {told : R → Option Told} {flags : Flags} {t : T
     → applied ≡ t.productions + done.productions → EndsIn told (to_end flags [] (progress_over old t)) t old new
     (Ok (record { list = done.list; scraps = scraps; productions = applied }))
 line-ends {told = told} {flags} {t} {line} {old} {new} line_is done scraps applied r d is scraps_are applied_are =
-    let ended : Result Translated Memory = Ok (record { list = done.list; scraps = scraps; productions = applied }) in
-    subst (λ s. EndsIn told (ends_from flags t old s) t old new ended) (left-is old t line line_is) (record {
-      text = record {
-        tree = d.tree;
-        names_are = d.names_are;
-        marks_are = d.marks_are;
-        scraps = omega (arith, length-map line (seen old.store.now.lists), scraps-one (state_over old line));
-        productions_are = omega (arith, applied_are, d.productions_are, productions-one flags (state_over old line));
-        steps_are = omega (arith, d.steps_are, ticks-one flags (state_over old line));
-      };
-      few = omega (arith, is.light, d.few, scraps_are, applied_are);
-      named = d.named;
-      root = d.root;
-      keeps = last-keeps old.store.now.lists new.store.now.lists (done.list.index ∷ []) t.nesting
-          (subst (λ l. Keeps old.store.now.lists new.store.now.lists (roots_of l) (done.list.index ∷ [])) line_is
-          d.keeps);
-      refused = tt;
-      recorded = recorded-whole _ r.recorded;
-      bound = line-bound r;
-      same = r.same;
-      idle = d.idle;
-    })
+    grind (arith, length-map, last-keeps)

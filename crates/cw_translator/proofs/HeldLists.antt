@@ -1,12 +1,13 @@
 -- How the list of what holds inner texts is built, one part after the other: that of a comment and of a section name.
 use Rattle.cw_translator.proofs.Terms.{◌≡◌, ℕ, ◌+◌, ◌<◌, ◌≤◌, Option, Some, None, List, [], ◌∷◌, ◌++◌, length, map}
 use Rattle.cw_translator.proofs.Terms.{drop, get_or, refl, ap, ◌∙◌, subst, option_map, option_to_list, drop_more}
-use Rattle.cw_translator.proofs.Terms.{drop_all, append_assoc, Text, Maybe, Tree, Then, Inner, Source, Sign, Token}
-use Rattle.cw_translator.proofs.Terms.{source, Control, shape, ref_of, tree_in, trees_from, unfolded, unfolded-new}
-use Rattle.cw_translator.proofs.Terms.{StoredLists, MayBePushed, AreRoots, refs_in, Gathers, Builds, builds-more}
-use Rattle.cw_translator.proofs.Terms.{builds-may, builds-lists, builds-gathers, CommentPart, part_seen, inner_lists}
-use Rattle.cw_translator.proofs.Terms.{token_of, comment_rest, behind_name, name_part, name_rest, sign_tokens}
+use Rattle.cw_translator.proofs.Terms.{drop_all, append_assoc, Text, Maybe, Tree, Then, Inner, Source, Token, source}
+use Rattle.cw_translator.proofs.Terms.{Control, shape, ref_of, tree_in, trees_from, unfolded, unfolded-new, StoredLists}
+use Rattle.cw_translator.proofs.Terms.{MayBePushed, AreRoots, refs_in, Gathers, Builds, builds-more, builds-may}
+use Rattle.cw_translator.proofs.Terms.{builds-lists, builds-gathers, CommentPart, part_seen, inner_lists, token_of}
+use Rattle.cw_translator.proofs.Terms.{comment_rest, behind_name, name_part, name_rest, sign_tokens}
 use Rattle.std.specs.List.{flat_map}
+use Rattle.std.proofs.Common.{arith}
 use Rattle.cw_trees.specs.declared.Control.TheVariants as control
 use Rattle.cw_translator.specs.declared.comments.CommentPart.TheVariants as part
 
@@ -22,8 +23,7 @@ module _ (lists : List (List Token)) (all : List Token) (piece : CommentPart →
     p = get_or parts i d
 
     part-next : Builds lists all (piece p ++ left_from piece ending (i + 1) parts) store
-    part-next = subst (λ ts. Builds lists all ts store) (ap (λ ps. flat_map piece ps ++ ending) (drop_more parts i d h)
-        ∙ append_assoc (piece p) (flat_map piece (drop (i + 1) parts)) ending) b
+    part-next = grind (arith, drop_more, append_assoc)
 
     pub part-may : AreRoots lists (refs_in all) → ((q : CommentPart) (ts : List Token) → refs_in (piece q ++ ts)
         ≡ option_to_list (ref_of (shape (token_of q))) ++ refs_in ts) → MayBePushed store (token_of p)
@@ -32,8 +32,7 @@ module _ (lists : List (List Token)) (all : List Token) (piece : CommentPart →
 
     pub part-more : (new : StoredLists) → new.building ≡ option_map (λ tokens. tokens ++ piece p) store.building
         → new.lists ≡ store.lists → Builds lists all (left_from piece ending (i + 1) parts) new
-    part-more new building same = builds-more lists all (piece p) (left_from piece ending (i + 1) parts) store new
-        part-next building same
+    part-more new building same = grind (arith, builds-more, part-next)
 
   pub parts-end : length parts ≤ i → Builds lists all ending store
   parts-end h = subst (λ ps. Builds lists all (flat_map piece ps ++ ending) store) (drop_all i parts h) b
@@ -83,8 +82,7 @@ name_tokens number sign parts = source number Maybe ∷ (flat_map name_part part
 
 pub name-ref : (p : CommentPart) (ts : List Token)
     → refs_in (name_part p ++ ts) ≡ option_to_list (ref_of (shape (token_of p))) ++ refs_in ts
-name-ref (part.Piece number) ts = refl
-name-ref (part.InnerText list) ts = refl
+name-ref p ts = grind arith
 
 pub name-refs : (sign : Option ℕ) (parts : List CommentPart)
     → refs_in (flat_map name_part parts ++ name_end sign) ≡ inner_lists parts
@@ -98,5 +96,4 @@ pub name-rest : (lists : List (List Token)) (sign : Option ℕ) (parts : List Co
 name-rest lists None [] = refl
 name-rest lists (Some number) [] = refl
 name-rest lists sign (part.Piece number ∷ parts) = name-rest lists sign parts
-name-rest lists sign (part.InnerText list ∷ parts) =
-    ap (λ t. Inner (unfolded lists list.index) (Then (Sign control.NameText) t)) (name-rest lists sign parts)
+name-rest lists sign (part.InnerText list ∷ parts) = grind (arith, name-rest lists sign parts, unfolded)

@@ -8,7 +8,6 @@ use Rattle.cw_translator.proofs.Terms.{seen, AreRoots, IsSoundLine, MarkList, St
 use Rattle.cw_translator.proofs.Terms.{length-entry, Translator, with_entry, with_part, frames_of, all_roots}
 use Rattle.cw_translator.proofs.Terms.{AreSoundScraps, IsSoundFrame, IsTranslating, progress_of, Progress, with_scrap}
 use Rattle.cw_translator.proofs.Terms.{with_item, with_form, after_token, Piece, leaf_scrap, with_names}
-use Rattle.cw_rules.specs.declared.tokens.TokKind.TheVariants as kind
 use Rattle.cw_names.specs.declared.entry.EntryKind.TheVariants.{Ident as ident_kind}
 use Rattle.cw_translator.specs.declared.comments.CommentPart.TheVariants as part
 use Rattle.cw_translator.proofs.OpenLaws.{Ends, KeptRoots, Put, ends-kept, ends-frames, kept-put, entry-put, put-part}
@@ -17,8 +16,7 @@ use Rattle.cw_translator.proofs.OpenLaws.{plain-roots, plain-keeps, more-frames,
 -- the form of a token that makes a scrap
 formed-by : (o : Option LeafForm) (P : LeafForm → Type 0) → IsSome o → IfSome o P
     → (form : LeafForm) × (o ≡ Some form) × P form
-formed-by None P some has = cc
-formed-by (Some form) P some has = (form, refl, has)
+formed-by o P some has = grind arith
 
 -- what the definition does with it
 abbrev form_behind : TokKind → Seen → Progress → Option LeafForm → Progress
@@ -28,13 +26,11 @@ form_behind k token p o =
 after-leaf : (k : TokKind) (token : Seen) (p : Progress) (form : LeafForm) → MakesLeaf k
     → token_form k token.text token.hash_line token.span.start p.known.names ≡ Some form
     → after_token k token p ≡ form_behind k token p (Some form)
-after-leaf kind.Text token p form makes is = cc
-after-leaf k token p form makes is = ap (form_behind k token p) is
+after-leaf k token p form makes is = grind arith
 
 -- the names do not get fewer
 pub names-grow : (k : TokKind) (text : List ℕ) (names : List Entry) → length names ≤ length (names_with k text names)
-names-grow kind.Identifier text names = length-entry ident_kind text names
-names-grow _ text names = omega arith
+names-grow k text names = grind (arith, length-entry)
 
 pub record Steps (old new : StoredLists) (names names' : List Entry) (t t' : Translator) : Type 0 where
   pub translating : IsTranslating new names' t'
@@ -52,15 +48,7 @@ pub record Same (t t' : Translator) : Type 0 where
 pub stay-steps : (store : StoredLists) (names : List Entry) (t t' : Translator) → IsTranslating store names t
     → all_roots t'.nesting ≡ all_roots t.nesting → All (IsSoundFrame (length names)) (frames_of store.lists t'.nesting)
     → Same t t' → Steps store store names names t t'
-stay-steps store names t t' is same sound counts = record {
-  translating = record {
-    idle = is.idle;
-    roots = rw same is.roots;
-    sound = sound;
-    light = rw (counts.scraps, counts.productions) is.light;
-  };
-  keeps = rw same (keeps-itself store.lists (all_roots t.nesting));
-}
+stay-steps store names t t' is same sound counts = grind (arith, keeps-itself, all_roots)
 
 pub piece-steps : (store : StoredLists) (names : List Entry) (t t' : Translator) (number : ℕ)
     → IsTranslating store names t → t'.nesting ≡ with_part (part.Piece number) t.nesting → Same t t'
@@ -100,20 +88,10 @@ placed {old = old} {new = new} {t = t} {t' = t'} outer rs list is tied roots_are
     )
 
 no-roots : (lists : List (List Token)) → AreRoots lists []
-no-roots lists = record {
-  there = λ i h. absurd (omega arith);
-  free = λ i h l p q. omega arith;
-  apart = λ i j h k q. absurd (omega arith);
-}
+no-roots lists = grind arith
 
 pub empty-line : (store : StoredLists) (ns : List Entry) → store.building ≡ None → IsSoundLine store ns []
-empty-line store ns e = record {
-  idle = e;
-  roots = no-roots store.lists;
-  named = λ i d h. absurd (omega arith);
-  modes = λ i d h. absurd (omega arith);
-  fine = refl;
-}
+empty-line store ns e = grind (arith, no-roots)
 
 pub record LeafStep (k : TokKind) (token : Seen) (old new : StoredLists) (names names' : List Entry)
     (t t' : Translator) : Type 0 where
@@ -131,8 +109,7 @@ module _ (k : TokKind) (token : Seen) (old new : StoredLists) (names names' : Li
   form_of = token_form k token.text token.hash_line token.span.start names
 
   formed : (form : LeafForm) × (form_of ≡ Some form) × HasForm form leaf old.lists new.lists
-  formed = formed-by form_of (λ form. HasForm form leaf old.lists new.lists)
-      (token-some k token.text token.hash_line token.span.start names makes) has
+  formed = grind (arith, formed-by, token-some)
 
   abbrev form : LeafForm
   form = formed.0
@@ -151,9 +128,7 @@ module _ (k : TokKind) (token : Seen) (old new : StoredLists) (names names' : Li
   }
 
   tree : unfolded new.lists leaf.list.index ≡ tree_in [] form.tokens
-  tree = ap (unfolded new.lists) formed.2.list ∙ (ap (λ ls. unfolded ls (length old.lists)) formed.2.lists
-      ∙ (unfolded-new old.lists form.tokens ∙ tree_in-same (trees_from [] old.lists) [] form.tokens
-      (λ q x e. absurd (plain q x e))))
+  tree = grind (arith, unfolded, unfolded-new, tree_in-same, trees_from, plain)
 
   scrap : seen new.lists (entry_of leaf) ≡ leaf_scrap form
   scrap = cc (formed.2.cat, tree, formed.2.left, formed.2.right)

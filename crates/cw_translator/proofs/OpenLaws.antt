@@ -1,22 +1,20 @@
 -- What is open while a C text is read: its lists beside the others of the store, its scraps, and a new list among them.
-use Rattle.cw_translator.proofs.Terms.{◌≡◌, ℕ, suc, ◌+◌, ◌≤◌, List, [], ◌∷◌, ◌++◌, length, map, get_or, drop, Some, ◌⊎◌}
-use Rattle.cw_translator.proofs.Terms.{inl, inr, None, refl, sym, ap, ◌∙◌, subst, arith, All, slice_get}
-use Rattle.cw_translator.proofs.Terms.{get_or_append_left, map-append, take_all, drop_all, All-append, All-cons}
-use Rattle.cw_translator.proofs.Terms.{All-head, All-tail, is_fine, Token, unfolded, token_ref, IsTied, unfolded-old}
-use Rattle.cw_translator.proofs.Terms.{Scrap, scrap_agrees, LineEntry, seen, scraps_of, roots_of, AreRoots, IsOutside}
-use Rattle.cw_translator.proofs.Terms.{IsNamedBelow, Keeps, more-named, CommentPart, Open, part_seen, inner_lists}
-use Rattle.cw_translator.proofs.Terms.{with_entry, with_part, frame_of, frames_of, open_roots, all_roots, IsNamedItem}
-use Rattle.cw_translator.proofs.Terms.{AreSoundScraps, IsSoundFrame, Frame, with_scrap, with_item, CommentItem, Piece}
-use Rattle.cw_translator.proofs.Terms.{InnerText, CText as CTextFrame, StoredLists, Comment as CommentFrame}
-use Rattle.cw_translator.proofs.Terms.{append_assoc, ◌-◌, ◌<◌, get_or-append-add, length-append, refers, IsUnreferred}
-use Rattle.cw_translator.proofs.Terms.{Reach, next}
+use Rattle.cw_translator.proofs.Terms.{◌≡◌, ℕ, suc, ◌+◌, ◌≤◌, List, [], ◌∷◌, ◌++◌, length, map, get_or, Some, ◌⊎◌, inl}
+use Rattle.cw_translator.proofs.Terms.{inr, None, refl, sym, ap, subst, arith, All, slice_get, get_or_append_left}
+use Rattle.cw_translator.proofs.Terms.{map-append, take_all, drop_all, All-append, All-cons, All-head, All-tail}
+use Rattle.cw_translator.proofs.Terms.{is_fine, Token, unfolded, token_ref, IsTied, unfolded-old, Scrap, scrap_agrees}
+use Rattle.cw_translator.proofs.Terms.{LineEntry, seen, scraps_of, roots_of, AreRoots, IsOutside, IsNamedBelow, Keeps}
+use Rattle.cw_translator.proofs.Terms.{more-named, CommentPart, Open, part_seen, inner_lists, with_entry, with_part}
+use Rattle.cw_translator.proofs.Terms.{frame_of, frames_of, open_roots, all_roots, IsNamedItem, AreSoundScraps}
+use Rattle.cw_translator.proofs.Terms.{IsSoundFrame, Frame, with_scrap, with_item, CommentItem}
+use Rattle.cw_translator.proofs.Terms.{CText as CTextFrame, StoredLists, Comment as CommentFrame, append_assoc, ◌-◌}
+use Rattle.cw_translator.proofs.Terms.{◌<◌, get_or-append-add, length-append, refers, IsUnreferred, Reach, next}
 use Rattle.std.proofs.lemmas.Bool.{cases_lt}
 use Rattle.cw_table.proofs.ScrapFacts.{all-append}
 use Rattle.cw_tokens.proofs.Linking.{refers-more}
 use Rattle.cw_scraps.proofs.Growing.{grown-roots, grown-outside}
 use Rattle.cw_scraps.proofs.Splices.{spliced}
 use Rattle.cw_translator.specs.declared.comments.CommentPart.TheVariants as part
-use Rattle.cw_translator.specs.declared.nesting.Open.TheVariants.{CText, Comment}
 use Rattle.cw_tokens.specs.References.{here}
 
 -- ## A step of one line beside the others that stand in the same store
@@ -123,11 +121,7 @@ reach-before lists a l p x tied e free (next m q n f s) = subst (Reach lists a) 
 
 outside-below : (lists : List (List Token)) (rs : List ℕ) → IsTied lists → AreRoots lists rs → (l p n : ℕ)
     → IsOutside lists rs l → refers lists l p ≡ Some n → IsOutside lists rs n
-outside-below lists rs tied roots l p n o e = record {
-  there = omega (arith, tied.earlier l p n e, o.there);
-  above = λ i h r. roots.free i h l p (e ∙ ap Some (unreferred-reach lists n (get_or rs i 0) (roots.free i h) r));
-  below = λ i h r. o.below i h (reach-before lists (get_or rs i 0) l p n tied e (roots.free i h) r);
-}
+outside-below lists rs tied roots l p n o e = grind (arith, unreferred-reach, reach-before)
 
 module _ (old new : List (List Token)) (others rs ss : List ℕ) (tied : IsTied old) (roots : AreRoots old (others ++ rs))
     (keeps : Keeps old new rs ss) (made : AreRoots new ss) where
@@ -135,9 +129,7 @@ module _ (old new : List (List Token)) (others rs ss : List ℕ) (tied : IsTied 
   reach-back : (a x : ℕ) → IsOutside old rs a → Reach new a x → Reach old a x × IsOutside old rs x
   reach-back a x o here = (here, o)
   reach-back a x o (next l p n e r) =
-      let back = reach-back a l o r in
-      let before : refers old l p ≡ Some n = ap (λ ts. token_ref (slice_get ts p)) (sym (keeps.lists l back.1)) ∙ e in
-      (next l p n before back.0, outside-below old rs tied (right-roots old others rs roots) l p n back.1 before)
+      grind (arith, reach-back a l o r, refers, token_ref, slice_get, next, outside-below, right-roots)
 
   outer-out : Each (λ i. IsOutside old rs) others
   outer-out = outside-group old others rs roots
@@ -187,8 +179,7 @@ module _ (old new : List (List Token)) where
       cc (all 0 (omega arith), parts-same parts (λ i h. all (suc i) (omega arith)))
 
   frame-same : (inner : Open) → Each IsSame (open_roots inner) → frame_of new inner ≡ frame_of old inner
-  frame-same (CText line) all = ap CTextFrame (line-same line all)
-  frame-same (Comment number parts) all = ap (CommentFrame number) (parts-same parts all)
+  frame-same inner all = grind (arith, line-same, parts-same)
 
   frames-same : (all : List Open) → Each IsSame (all_roots all) → frames_of new all ≡ frames_of old all
   frames-same [] same = refl
@@ -201,12 +192,10 @@ module _ (old new : List (List Token)) where
 module _ (old : List (List Token)) (ts : List Token) (rs : List ℕ) (tied : IsTied old) (roots : AreRoots old rs)
     (plain : (p x : ℕ) → token_ref (slice_get ts p) ≡ Some x → ⊥) where
   behind : spliced rs (length rs) (length rs) (length old) ≡ rs ++ length old ∷ []
-  behind = ap (λ xs. xs ++ length old ∷ drop (length rs) rs) (take_all (length rs) rs (omega arith))
-      ∙ ap (λ xs. rs ++ length old ∷ xs) (drop_all (length rs) rs (omega arith))
+  behind = grind (arith, take_all, drop_all)
 
   pub plain-roots : AreRoots (old ++ ts ∷ []) (rs ++ length old ∷ [])
-  plain-roots = subst (AreRoots (old ++ ts ∷ [])) behind (grown-roots old ts rs (length rs) (length rs) (omega arith)
-      (omega arith) tied roots (λ p x e. absurd (plain p x e)))
+  plain-roots = grind (arith, behind, grown-roots)
 
   pub plain-keeps : Keeps old (old ++ ts ∷ []) rs (rs ++ length old ∷ [])
   plain-keeps = record {
@@ -232,10 +221,7 @@ module _ (old new : StoredLists) (outer : List Open) (rs : List ℕ) (list : ℕ
     (roots : AreRoots old.lists (all_roots outer ++ rs)) (ends : Ends old new rs list) where
   -- it stands behind the roots around it
   pub ends-kept : KeptRoots old.lists new.lists (all_roots outer ++ rs) (all_roots outer ++ list ∷ [])
-  ends-kept = record {
-    roots = beside-roots old.lists new.lists (all_roots outer) rs (list ∷ []) tied roots ends.keeps ends.root;
-    keeps = beside-keeps old.lists new.lists (all_roots outer) rs (list ∷ []) tied roots ends.keeps ends.root;
-  }
+  ends-kept = grind (arith, beside-roots, all_roots, beside-keeps)
 
   -- what is open around it stays
   pub ends-frames : frames_of new.lists outer ≡ frames_of old.lists outer
@@ -249,13 +235,7 @@ pub record Put (lists : List (List Token)) (put : List ℕ) (outer after : List 
 
 put-entry : (lists : List (List Token)) (entry : LineEntry) (all : List Open)
     → Put lists (entry.list.index ∷ []) all (with_entry entry all) (with_scrap (seen lists entry) (frames_of lists all))
-put-entry lists entry [] = record { roots = inr refl; is = refl }
-put-entry lists entry (CText line ∷ outer) = record {
-  roots = inl (ap (λ xs. all_roots outer ++ xs) (map-append (λ e. e.list.index) line (entry ∷ []))
-      ∙ sym (append_assoc (all_roots outer) (roots_of line) (entry.list.index ∷ [])));
-  is = ap (λ scraps. CTextFrame scraps ∷ frames_of lists outer) (map-append (seen lists) line (entry ∷ []));
-}
-put-entry lists entry (Comment number parts ∷ outer) = record { roots = inr refl; is = refl }
+put-entry lists entry all = grind (arith, all_roots, map-append, append_assoc, roots_of, frames_of, seen)
 
 -- where its scrap is known
 pub entry-put : (lists : List (List Token)) (entry : LineEntry) (outer after : List Open) (scrap : Scrap)
@@ -272,13 +252,8 @@ inner-append (part.InnerText list ∷ xs) ys = ap (λ ls. list.index ∷ ls) (in
 pub put-part : (lists : List (List Token)) (part : CommentPart) (all : List Open)
     → Put lists (inner_lists (part ∷ [])) all (with_part part all)
     (with_item (part_seen lists part) (frames_of lists all))
-put-part lists part [] = record { roots = inr refl; is = refl }
-put-part lists part (CText line ∷ outer) = record { roots = inr refl; is = refl }
-put-part lists part (Comment number parts ∷ outer) = record {
-  roots = inl (ap (λ xs. all_roots outer ++ xs) (inner-append parts (part ∷ []))
-      ∙ sym (append_assoc (all_roots outer) (inner_lists parts) (inner_lists (part ∷ []))));
-  is = ap (λ items. CommentFrame number items ∷ frames_of lists outer) (map-append (part_seen lists) parts (part ∷ []));
-}
+put-part lists part all =
+    grind (arith, all_roots, inner-append, append_assoc, inner_lists, frames_of, map-append, part_seen)
 
 pub kept-put : (old new : List (List Token)) (before put : List ℕ) (outer after : List Open)
     → (all_roots after ≡ all_roots outer ++ put) ⊎ (all_roots after ≡ all_roots outer)
@@ -296,16 +271,10 @@ kept-put old new before put outer after (inr e) kept = rw e (record {
 
 -- sound frames
 more-item : (m n : ℕ) (item : CommentItem) → m ≤ n → IsNamedItem m item → IsNamedItem n item
-more-item m n (Piece number) le h = h
-more-item m n (InnerText tree) le h = more-named m n tree le h
+more-item m n item le h = grind (arith, more-named)
 
 more-frame : (m n : ℕ) (frame : Frame) → m ≤ n → IsSoundFrame m frame → IsSoundFrame n frame
-more-frame m n (CTextFrame scraps) le h = record {
-  named = λ k d b. more-named m n (get_or scraps k d).tree le (h.named k d b);
-  modes = h.modes;
-  fine = h.fine;
-}
-more-frame m n (CommentFrame number items) le h = λ k d b. more-item m n (get_or items k d) le (h k d b)
+more-frame m n frame le h = grind (arith, more-named, more-item)
 
 pub more-frames : (m n : ℕ) (frames : List Frame) → m ≤ n → All (IsSoundFrame m) frames → All (IsSoundFrame n) frames
 more-frames m n frames le all k d h = more-frame m n (get_or frames k d) le (all k d h)
@@ -318,20 +287,18 @@ sound-inner count old new frames on all = All-cons (IsSoundFrame count) new fram
 
 pub scrap-sound : (count : ℕ) (scrap : Scrap) (frames : List Frame) → AreSoundScraps count (scrap ∷ [])
     → All (IsSoundFrame count) frames → All (IsSoundFrame count) (with_scrap scrap frames)
-scrap-sound count scrap [] new all = all
-scrap-sound count scrap (CommentFrame number items ∷ frames) new all = all
 scrap-sound count scrap (CTextFrame scraps ∷ frames) new all =
     sound-inner count (CTextFrame scraps) (CTextFrame (scraps ++ scrap ∷ [])) frames (λ h. record {
       named = All-append (λ s. IsNamedBelow count s.tree) scraps (scrap ∷ []) h.named new.named;
       modes = All-append scrap_agrees scraps (scrap ∷ []) h.modes new.modes;
       fine = all-append is_fine scraps (scrap ∷ []) h.fine new.fine;
     }) all
+scrap-sound _ _ _ _ all = all
 
 pub item-sound : (count : ℕ) (item : CommentItem) (frames : List Frame) → IsNamedItem count item
     → All (IsSoundFrame count) frames → All (IsSoundFrame count) (with_item item frames)
-item-sound count item [] new all = all
-item-sound count item (CTextFrame scraps ∷ frames) new all = all
 item-sound count item (CommentFrame number items ∷ frames) new all =
     sound-inner count (CommentFrame number items) (CommentFrame number (items ++ item ∷ [])) frames
     (λ h. All-append (IsNamedItem count) items (item ∷ []) h (All-cons (IsNamedItem count) item [] new
     (λ k d h. absurd (omega arith)))) all
+item-sound _ _ _ _ all = all

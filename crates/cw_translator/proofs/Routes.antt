@@ -1,24 +1,20 @@
 -- Calls that read, and a call that ends a text: none, one then another, and a stop.
-use Rattle.cw_translator.proofs.Terms.{◌≡◌, ◌+◌, ◌≤◌, List, [], ◌∷◌, ◌++◌, ◌⊎◌, inl, inr, refl, sym, ap, ◌∙◌, subst}
-use Rattle.cw_translator.proofs.Terms.{None, Option, arith, Result, Ok, Err, IsErrAnd, OnOk, append-nil, IfOk-weaker}
-use Rattle.cw_translator.proofs.Terms.{on_err_weaker, on_ok_weaker, Flags, Memory, Answer, Seen, Begin, Finish, Note}
-use Rattle.cw_translator.proofs.Terms.{TokKind, Entry, State, Told, Keeps, keeps-trans, Translated}
-use Rattle.cw_translator.proofs.Terms.{Translator, Work, scraps_in, productions_in, ticks_in, limit_in, all_roots}
-use Rattle.cw_translator.proofs.Terms.{progress_of, IsTranslating, HasRecorded, NamesOnTheWay, NamesAmong, here}
-use Rattle.cw_translator.proofs.Terms.{at_finish, at_end, later, Frame, Progress, after_token, after_finish}
-use Rattle.cw_translator.proofs.Terms.{after_answer, after_answers, all_ended, last_scraps, CText as CTextFrame}
-use Rattle.cw_translator.proofs.Terms.{Comment as CommentFrame, Ended, Known, state_in, Route, IsSameWork, Target}
-use Rattle.cw_translator.proofs.Terms.{Advances, EndsIn, HasComeOver, over, progress_over, prolonged, to_end}
-use Rattle.cw_translator.proofs.Terms.{append_assoc, length, texts_told}
+use Rattle.cw_translator.proofs.Terms.{◌≡◌, ◌+◌, ◌≤◌, List, [], ◌∷◌, ◌++◌, ◌⊎◌, inr, refl, sym, ap, ◌∙◌, subst, None}
+use Rattle.cw_translator.proofs.Terms.{Option, arith, Result, Ok, Err, IsErrAnd, OnOk, append-nil, IfOk-weaker}
+use Rattle.cw_translator.proofs.Terms.{on_err_weaker, on_ok_weaker, Flags, Memory, Answer, Seen, Finish, TokKind, Entry}
+use Rattle.cw_translator.proofs.Terms.{State, Told, Keeps, keeps-trans, Translated, Translator, Work, limit_in}
+use Rattle.cw_translator.proofs.Terms.{all_roots, progress_of, IsTranslating, HasRecorded, NamesOnTheWay, NamesAmong}
+use Rattle.cw_translator.proofs.Terms.{here, at_finish, at_end, later, Frame, Progress, after_token, after_finish}
+use Rattle.cw_translator.proofs.Terms.{after_answer, after_answers, all_ended, last_scraps, Ended, Known, state_in}
+use Rattle.cw_translator.proofs.Terms.{Route, IsSameWork, Target, Advances, EndsIn, HasComeOver, over, progress_over}
+use Rattle.cw_translator.proofs.Terms.{prolonged, to_end, append_assoc}
 use Rattle.std.specs.Prelude.{OnErr}
 use Rattle.std.proofs.lemmas.List.Sums.{sum_by-append}
-use Rattle.cw_rules.specs.Answers.{Token}
-use Rattle.cw_rules.specs.declared.tokens.TokKind.TheVariants as kind
-pub use Rattle.cw_rewrite.proofs.LogSteps.{on-err}
 use Rattle.cw_translator.proofs.LeafSteps.{Same, Steps, keeps-itself}
-pub use Rattle.cw_translator.proofs.Recorded.{err-if, err-ok}
 use Rattle.cw_translator.proofs.Recorded.{recorded-none, recorded-refused, recorded-stopped, recorded-then}
 use Rattle.cw_translator.proofs.Sums.{limits-more}
+pub use Rattle.cw_rewrite.proofs.LogSteps.{on-err}
+pub use Rattle.cw_translator.proofs.Recorded.{err-if, err-ok}
 
 -- ## Answers
 
@@ -33,23 +29,16 @@ behind done p = record p { known = record p.known { ended = done ++ p.known.ende
 
 behind-token : (done : List State) (k : TokKind) (token : Seen) (p : Progress)
     → after_token k token (behind done p) ≡ behind done (after_token k token p)
-behind-token done kind.Text token p = refl
-behind-token done _ token p = refl
+behind-token done k token p = grind arith
 
 behind-finish : (flags : Flags) (done : List State) (frames : List Frame) (known : Known)
     → after_finish flags frames (behind done (record { frames = frames; known = known })).known
     ≡ behind done (after_finish flags frames known)
-behind-finish flags done [] known = refl
-behind-finish flags done (CommentFrame held_by items ∷ frames) known = refl
-behind-finish flags done (CTextFrame scraps ∷ frames) known =
-    cc (append_assoc done known.ended (state_in scraps known ∷ []))
+behind-finish flags done frames known = grind (arith, append_assoc, state_in)
 
 behind-answer : (flags : Flags) (done : List State) (answer : Answer) (p : Progress)
     → after_answer flags answer (behind done p) ≡ behind done (after_answer flags answer p)
-behind-answer flags done (Token token) p = behind-token done token.kind token p
-behind-answer flags done (Begin token) p = refl
-behind-answer flags done (Finish token) p = behind-finish flags done p.frames p.known
-behind-answer flags done (Note note place) p = refl
+behind-answer flags done answer p = grind (arith, behind-token, behind-finish)
 
 behind-answers : (flags : Flags) (done : List State) (answers : List Answer) (p : Progress)
     → after_answers flags answers (behind done p) ≡ behind done (after_answers flags answers p)
@@ -78,8 +67,7 @@ recorded-further : {T U : Type 0} (flags : Flags) (answers : List Answer) (p : P
     {first : Result T Memory} {result : Result U Memory} {error : Memory} → IsErrAnd result (λ found. found ≡ error)
     → HasRecorded flags p.known.ended before told first
     → HasRecorded flags (after_answers flags answers p).known.ended before told result
-recorded-further flags answers p is r = rw ended-more (recorded-stopped flags p.known.ended
-    (after_answers flags answers (fresh_of p)).known.ended is r)
+recorded-further flags answers p is r = grind (arith, ended-more, recorded-stopped, after_answers)
 
 later-all : (flags : Flags) (xs ys : List Answer) (p : Progress) (new : List Entry)
     → NamesOnTheWay flags ys (after_answers flags xs p) new → NamesOnTheWay flags (xs ++ ys) p new
@@ -88,9 +76,7 @@ later-all flags (x ∷ xs) ys p new h = later x (xs ++ ys) p new (later-all flag
 
 among-joined : (flags : Flags) (xs ys : List Answer) (p : Progress) (new : List Entry)
     → NamesAmong flags xs p new ⊎ NamesAmong flags ys (after_answers flags xs p) new → NamesAmong flags (xs ++ ys) p new
-among-joined flags xs ys p new (inl h) = λ coming. rw append_assoc (h (ys ++ coming))
-among-joined flags xs ys p new (inr h) = λ coming.
-    rw append_assoc (later-all flags xs (ys ++ coming) p new (h coming))
+among-joined flags xs ys p new h = grind (arith, append_assoc, later-all)
 
 -- names on the way don't depend on what has ended before
 way-behind : (flags : Flags) (done : List State) (answers : List Answer) (p : Progress) (new : List Entry)
@@ -108,8 +94,7 @@ text_behind done text = record text { known = record text.known { ended = done +
 
 all-ended-behind : (flags : Flags) (done : List State) (p : Progress)
     → all_ended flags (behind done p) ≡ text_behind done (all_ended flags p)
-all-ended-behind flags done p =
-    cc (append_assoc done p.known.ended (state_in (last_scraps p.frames) p.known ∷ []))
+all-ended-behind flags done p = grind (arith, append_assoc, state_in, last_scraps)
 
 pub way-end : (flags : Flags) (answers : List Answer) (p q : Progress) (new : List Entry)
     → q ≡ after_answers flags answers p → NamesOnTheWay flags [] q new → NamesOnTheWay flags answers p new
@@ -120,18 +105,12 @@ way-end flags (answer ∷ answers) p q new e h = later answer answers p new
 -- from where a translation has come it goes on as from where nothing has ended
 come-behind : {L R : Type 0} (flags : Flags) (t0 t1 : Translator) (old mid : Work L R) (p : Progress)
     → HasComeOver flags t0 old t1 mid p → p ≡ behind p.known.ended (progress_over mid t1)
-come-behind flags t0 t1 old mid p come = sym come.is
-    ∙ ap (progress_of mid.store.now.lists mid.names.now mid.marks.now t1) (sym (append-nil p.known.ended))
+come-behind flags t0 t1 old mid p come = grind (arith, progress_of, append-nil)
 
 -- ## A call that reads
 
 pub same-work : {L R : Type 0} {a b d : Work L R} → IsSameWork a b → IsSameWork b d → IsSameWork a d
-same-work x y = record {
-  names = y.names ∙ x.names;
-  store = y.store ∙ x.store;
-  marks = y.marks ∙ x.marks;
-  steps = y.steps ∙ x.steps;
-}
+same-work x y = grind arith
 
 -- what a call has done in which no text ends
 pub record Quiet {L R : Type 0} (t : Translator) (old : Work L R) (t' : Translator) (new : Work L R) (ends : Progress)
@@ -150,22 +129,7 @@ module _ {L R : Type 0} {told : R → Option Told} {t : Translator} {old : Work 
       → new.recorder ≡ old.recorder → IsSameWork old new → new.store.now.building ≡ None
       → Advances told c t old t' new result
   advances-quiet {c = c} {t' = t'} {new = new} {result = result} quiet names ticks recorder
-      same idle = record {
-        translating = on_ok_weaker result (λ q. q.steps.translating) quiet;
-        come = on_ok_weaker result (λ q. record {
-          is = ap (progress_of new.store.now.lists new.names.now new.marks.now t') q.none ∙ q.is;
-          scraps = omega (arith, q.counts.scraps, ap scraps_in q.none);
-          productions_are = omega (arith, q.counts.productions, ap (productions_in c.flags) q.none);
-          steps_are = omega (arith, ticks, ap (ticks_in c.flags) q.none);
-        }) quiet;
-        keeps = on_ok_weaker result (λ q. q.steps.keeps) quiet;
-        names = names;
-        recorded = recorded-none c.flags c.ends.known.ended (ap (λ x. texts_told (told x)) recorder)
-            (on_ok_weaker result (λ q. omega (arith, ap length q.none)) quiet);
-        bound = omega (arith, ticks);
-        same = same;
-        idle = idle;
-      }
+      same idle = grind (arith, recorded-none)
 
   -- nothing is read
   pub advances-none : {T : Type 0} (flags : Flags) {value : T} → IsTranslating old.store.now old.names.now t
@@ -183,25 +147,15 @@ module _ {L R : Type 0} {told : R → Option Told} {t : Translator} {old : Work 
       → HasRecorded c.flags c.ends.known.ended (told old.recorder) (told new.recorder) result
       → new.steps.now ≤ old.steps.now + limit_in c.flags c.ends.known.ended → IsSameWork old new
       → new.store.now.building ≡ None → Advances told c t old t' new result
-  advances-refused {error = error} {result = result} is names recorded bound same idle = record {
-    translating = err-ok result error _ is;
-    come = err-ok result error _ is;
-    keeps = err-ok result error _ is;
-    names = on-err result _ names;
-    recorded = recorded;
-    bound = bound;
-    same = same;
-    idle = idle;
-  }
+  advances-refused {error = error} {result = result} is names recorded bound same idle = grind (arith, err-ok, on-err)
 
   -- before anything is changed
   pub advances-unread : {T : Type 0} (flags : Flags) (answers : List Answer) (p : Progress) {t' : Translator}
       {error : Memory} {result : Result T Memory} → IsErrAnd result (λ found. found ≡ error)
       → old.names.now ≡ p.known.names → old.store.now.building ≡ None
       → Advances told (over flags answers p) t old t' old result
-  advances-unread flags answers p is names idle = advances-refused is
-      (λ coming. rw names (here (answers ++ coming) p))
-      (recorded-refused flags (after_answers flags answers p).known.ended is) (omega arith) unchanged idle
+  advances-unread flags answers p is names idle =
+      grind (arith, advances-refused, here, recorded-refused, after_answers, unchanged)
 
   -- the same route and result, said otherwise
   advances-named : {T U : Type 0} {c : Route} {ends : Progress} {leaves : List Entry → Type 0} {t' : Translator}
@@ -209,30 +163,13 @@ module _ {L R : Type 0} {told : R → Option Told} {t : Translator} {old : Work 
       → ((P : Type 0) → OnOk result P → OnOk other P) → OnErr other (leaves new.names.now)
       → Advances told c t old t' new result
       → Advances told (record { flags = c.flags; ends = ends; leaves = leaves }) t old t' new other
-  advances-named {c = c} {leaves = leaves} {t' = t'} {new = new} {other = other} is on named r =
-      subst (λ (p : Progress). Advances told (record { flags = c.flags; ends = p; leaves = leaves }) t old t' new other)
-      is (record {
-        translating = on _ r.translating;
-        come = on _ r.come;
-        keeps = on _ r.keeps;
-        names = named;
-        recorded = record {
-          number = r.recorded.number;
-          within = r.recorded.within;
-          is = r.recorded.is;
-          all = on _ r.recorded.all;
-        };
-        bound = r.bound;
-        same = r.same;
-        idle = r.idle;
-      })
+  advances-named {c = c} {leaves = leaves} {t' = t'} {new = new} {other = other} is on named r = grind arith
 
   pub advances-as : {T : Type 0} {c : Route} {ends : Progress} {leaves : List Entry → Type 0} {t' : Translator}
       {new : Work L R} {result : Result T Memory} → c.ends ≡ ends
       → ((names : List Entry) → c.leaves names → leaves names) → Advances told c t old t' new result
       → Advances told (record { flags = c.flags; ends = ends; leaves = leaves }) t old t' new result
-  advances-as {new = new} {result = result} is among r =
-      advances-named is (λ P h. h) (on_err_weaker result (among new.names.now) r.names) r
+  advances-as {new = new} {result = result} is among r = grind (arith, advances-named, on_err_weaker)
 
   -- The same for a call that was not refused: then nothing is said of names.
   pub advances-done : {T : Type 0} {c : Route} {ends : Progress} {leaves : List Entry → Type 0} {t' : Translator}
@@ -274,9 +211,7 @@ module _ {L R : Type 0} {told : R → Option Told} {t : Translator} {old : Work 
   pub advances-stopped : {T U : Type 0} {c : Route} (ys : List Answer) {t1 t2 : Translator} {new : Work L R}
       {error : Memory} {result : Result U Memory} → Advances {T = T} told c t old t1 new (Err error)
       → IsErrAnd result (λ found. found ≡ error) → Advances told (prolonged c ys) t old t2 new result
-  advances-stopped {c = c} ys r is = advances-refused is (inl r.names)
-      (recorded-further c.flags ys c.ends is r.recorded)
-      (omega (arith, r.bound, limit-more c.flags ys c.ends)) r.same r.idle
+  advances-stopped {c = c} ys r is = grind (arith, advances-refused, recorded-further, limit-more)
 
   -- ## Answers, and then others
 
@@ -349,8 +284,7 @@ module _ {L R : Type 0} {told : R → Option Told} {flags : Flags} {all rest : L
 
   pub advancing-ended : {T : Type 0} (value : T) → Advancing told flags all rest p t old t1 mid → rest ≡ []
       → Advances told (over flags all p) t old t1 mid (Ok value)
-  advancing-ended value r none = answers-as flags p
-      (sym (append-nil r.done) ∙ (ap (λ list. r.done ++ list) (sym none) ∙ r.goes)) (valued value r.reads)
+  advancing-ended value r none = grind (arith, answers-as, append-nil, valued)
 
 -- ## A call that ends a text
 
@@ -395,18 +329,7 @@ module _ {L R : Type 0} {told : R → Option Told} {t0 : Translator} {old : Work
       → HasRecorded o.flags o.text.known.ended (told old.recorder) (told new.recorder) result
       → new.steps.now ≤ old.steps.now + limit_in o.flags o.text.known.ended → IsSameWork old new
       → new.store.now.building ≡ None → EndsIn told o t0 old new result
-  ends-refused {error = error} {result = result} is names recorded bound same idle = record {
-    text = err-if result error _ is;
-    few = err-if result error _ is;
-    named = err-if result error _ is;
-    root = err-if result error _ is;
-    keeps = err-if result error _ is;
-    refused = on-err result _ names;
-    recorded = recorded;
-    bound = bound;
-    same = same;
-    idle = idle;
-  }
+  ends-refused {error = error} {result = result} is names recorded bound same idle = grind (arith, err-if, on-err)
 
   -- a call that reads is refused, before the text ends
   pub ends-stopped : {T : Type 0} {c : Route} (ys : List Answer) {leaves : List Entry → Type 0} {t : Translator}
@@ -425,20 +348,7 @@ module _ {L R : Type 0} {told : R → Option Told} {t0 : Translator} {old : Work
       {result : Result Translated Memory} → o.text ≡ text → ((names : List Entry) → o.leaves names → leaves names)
       → EndsIn told o t0 old new result
       → EndsIn told (record { flags = o.flags; text = text; leaves = leaves }) t0 old new result
-  ends-as {o = o} {leaves = leaves} {new = new} {result = result} is among r =
-      subst (λ (x : Ended). EndsIn told (record { flags = o.flags; text = x; leaves = leaves }) t0 old new result) is
-      (record {
-        text = r.text;
-        few = r.few;
-        named = r.named;
-        root = r.root;
-        keeps = r.keeps;
-        refused = on_err_weaker result (among new.names.now) r.refused;
-        recorded = r.recorded;
-        bound = r.bound;
-        same = r.same;
-        idle = r.idle;
-      })
+  ends-as {o = o} {leaves = leaves} {new = new} {result = result} is among r = grind (arith, on_err_weaker)
 
   -- answers to the end of a text
   pub ends-answers : {T : Type 0} (flags : Flags) (xs : List Answer) (p : Progress) {t : Translator}
@@ -463,23 +373,4 @@ module _ {L R : Type 0} {told : R → Option Told} {t0 : Translator} {old : Work
       → mid.recorder ≡ old.recorder → IsSameWork old mid → EndsIn told o t mid new result
       → EndsIn told o t0 old new result
   ends-behind {o = o} {t = t} {mid = mid} {new = new} {result = result} keeps
-      scraps productions_are steps recorder same r = record {
-        text = IfOk-weaker result _ _ (λ done h. record {
-          tree = h.tree;
-          names_are = h.names_are;
-          marks_are = h.marks_are;
-          scraps = omega (arith, h.scraps, scraps);
-          productions_are = omega (arith, h.productions_are, productions_are);
-          steps_are = omega (arith, h.steps_are, steps);
-        }) r.text;
-        few = r.few;
-        named = r.named;
-        root = r.root;
-        keeps = IfOk-weaker result _ _ (λ done k. keeps-trans old.store.now.lists mid.store.now.lists
-            new.store.now.lists (all_roots t0.nesting) (all_roots t.nesting) (done.list.index ∷ []) keeps k) r.keeps;
-        refused = r.refused;
-        recorded = rw recorder at r.recorded;
-        bound = omega (arith, r.bound, steps);
-        same = same-work same r.same;
-        idle = r.idle;
-      }
+      scraps productions_are steps recorder same r = grind (arith, keeps-trans, all_roots, same-work)

@@ -1,5 +1,5 @@
 -- A line's end finishes a short comment and isn't taken: what it ends around the comment comes next.
-use Rattle.std.proofs.Common.{ℕ, ◌≡◌, List, [], ◌∷◌, true, length, drop, refl, sym, ap, ◌∙◌, arith}
+use Rattle.std.proofs.Common.{ℕ, ◌≡◌, List, [], ◌∷◌, true, drop, refl, sym, ap, ◌∙◌, arith}
 use Rattle.cw_lex.specs.declared.state.State.{State}
 use Rattle.cw_rules.specs.Answers.{seen, before, Finish, note_answers, token_of}
 use Rattle.cw_rules.specs.Pending.{pending_notes}
@@ -38,7 +38,4 @@ returns-clause-gives c =
     ∙ ap (λ cs. found_at text (record { part = s.part; comments = cs }) s.at) (sym c.pop.ensures.rest)))
 
 pub returns-clause-ready : goal.returns-clause-ready
-returns-clause-ready c = ready-pop c.args.text.now c.args.state.now c.args.comment c.pop.new.self
-    c.braces_note-state.result c.args.state.now.at
-    c.requires.step.ready (c.requires.top ∙ ap (λ l. c.args.comment ∷ l) (sym c.pop.ensures.rest)) (omega arith)
-    (omega arith) (one-inside (length c.args.text.now) c.braces_note-state.result _ c.braces_note-state.ensures)
+returns-clause-ready c = grind (arith, ready-pop, one-inside)

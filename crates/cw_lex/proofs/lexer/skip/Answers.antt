@@ -1,5 +1,5 @@
 -- The blanks behind a head give no answer, and the scanner then stands at no blank.
-use Rattle.std.proofs.Common.{◌≡◌, ◌+◌, true, slice_index, drop, sym, ap, ◌∙◌}
+use Rattle.std.proofs.Common.{◌≡◌, ◌+◌, true, slice_index, drop, sym, ap, ◌∙◌, arith}
 use Rattle.cw_rules.specs.declared.classes.Class.TheVariants.{Blank}
 use Rattle.cw_rules.specs.Bytes.{run}
 use Rattle.cw_lex.specs.Lexing.{last_at}
@@ -8,11 +8,7 @@ use Rattle.cw_lex.proofs.HeadSpaces.{head-coming, head-is, head-skipped, run-beh
 use Rattle.cw_lex.proofs.lexer.skip.Goals as goal
 
 pub returns-then-is_head-clause-same : goal.returns-then-is_head-clause-same
-returns-then-is_head-clause-same c =
-    let s = c.args.state.now in
-    let head : is_head_part s.part s.comments ≡ true = sym c.if-is_head.ensures in
-    let both = head-is s.part s.comments head in
-    head-coming c.args.text.now s c.run.result both.0 both.1 (c.run.ensures.value ∙ ap (run Blank) c.from.ensures.value)
+returns-then-is_head-clause-same c = grind (arith, head-is, head-coming)
 
 pub returns-then-is_head-clause-skipped : goal.returns-then-is_head-clause-skipped
 returns-then-is_head-clause-skipped c =

@@ -1,5 +1,5 @@
 -- White space before a name that a format definition wants gives no answer: the name comes first.
-use Rattle.std.proofs.Common.{◌≡◌, List, true, drop, subst}
+use Rattle.std.proofs.Common.{◌≡◌, List, true, drop, subst, arith}
 use Rattle.cw_rules.specs.Bytes.{begins_by, is_letter}
 use Rattle.cw_rules.specs.Answers.{Answer, Gives}
 use Rattle.cw_lex.specs.Coming.{coming}
@@ -7,10 +7,7 @@ use Rattle.cw_lex.proofs.HeadSpaces.{format-here, format-coming}
 use Rattle.cw_lex.proofs.lexer.want_format_name.Goals as goal
 
 pub format_name-requires-clause-found : goal.format_name-requires-clause-found
-format_name-requires-clause-found c =
-    let follows : begins_by is_letter (drop c.behind_white-at.result c.args.text.now) ≡ true = cc in
-    format-here c.args.text.now c.args.state.now c.args.code c.args.second c.args.limbo c.behind_white-at.result
-    c.requires.part c.requires.comments c.behind_white-at.ensures.value follows
+format_name-requires-clause-found c = grind (arith, format-here)
 
 pub returns-clause-gives : goal.returns-clause-gives
 returns-clause-gives c =

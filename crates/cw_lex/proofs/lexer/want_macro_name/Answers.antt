@@ -1,5 +1,5 @@
 -- White space before the name of a macro gives no answer: the name comes first.
-use Rattle.std.proofs.Common.{◌≡◌, List, true, drop, subst}
+use Rattle.std.proofs.Common.{◌≡◌, List, true, drop, subst, arith}
 use Rattle.cw_rules.specs.Bytes.{begins_by, is_letter}
 use Rattle.cw_rules.specs.Answers.{Answer, Gives}
 use Rattle.cw_lex.specs.Coming.{coming}
@@ -7,10 +7,7 @@ use Rattle.cw_lex.proofs.HeadSpaces.{macro-here, macro-coming}
 use Rattle.cw_lex.proofs.lexer.want_macro_name.Goals as goal
 
 pub macro_name-requires-clause-found : goal.macro_name-requires-clause-found
-macro_name-requires-clause-found c =
-    let follows : begins_by is_letter (drop c.behind_white-at.result c.args.text.now) ≡ true = cc in
-    macro-here c.args.text.now c.args.state.now c.args.code c.behind_white-at.result c.requires.part c.requires.comments
-    c.behind_white-at.ensures.value follows
+macro_name-requires-clause-found c = grind (arith, macro-here)
 
 pub returns-clause-gives : goal.returns-clause-gives
 returns-clause-gives c =

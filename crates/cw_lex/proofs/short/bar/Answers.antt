@@ -7,11 +7,7 @@ use Rattle.cw_lex.proofs.ShortTokens.{inner-ends, bar-short}
 use Rattle.cw_lex.proofs.short.bar.Goals as goal
 
 pub returns-then-ends_inner : goal.returns-then-ends_inner
-returns-then-ends_inner c =
-    let s = c.args.state.now in
-    inner-ends c.args.text.now s.part s.comments s.at c.requires.calm c.requires.place c.requires.bar
-    (ap (λ bytes. ends_at_bar s.part s.comments && not (begins 124 bytes)) (sym c.from-rest.ensures.value)
-    ∙ sym c.if-ends_inner.ensures)
+returns-then-ends_inner c = grind (arith, inner-ends)
 
 pub returns-in-Some : goal.returns-in-Some
 returns-in-Some c =

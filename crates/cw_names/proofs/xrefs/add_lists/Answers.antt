@@ -1,11 +1,8 @@
 -- One empty list more changes the sections of no name.
-use Rattle.std.proofs.Common.{ap, ◌∙◌}
-use Rattle.cw_names.specs.Noted.{sections_at}
+use Rattle.std.proofs.Common.{arith}
 use Rattle.cw_names.proofs.Mentions.{at-pushed}
+use Rattle.std.proofs.lemmas.Bool.Decides.{nat_tests}
 use Rattle.cw_names.proofs.xrefs.add_lists.Goals as goal
 
 pub names-preserved : goal.names-preserved
-names-preserved c =
-    λ other. ap (sections_at other) c.in_ok-push.ensures.items
-    ∙ at-pushed c.names.lists.items c.new.result other c.new.ensures.items
-    ∙ c.names.invariant other
+names-preserved c = grind (arith, nat_tests, at-pushed)

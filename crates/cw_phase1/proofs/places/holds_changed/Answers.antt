@@ -2,8 +2,8 @@
 use Rattle.std.proofs.Common.{◌≡◌, ◌+◌, ◌≤◌, ◌<◌, ◌∙◌, sym, ap, arith, false, [], length, get_or, drop, zero-add}
 use Rattle.cw_base.specs.Web.{MergedLine}
 use Rattle.cw_phase1.specs.Places.{nowhere}
-use Rattle.cw_phase1.specs.LinePlaces.{offset}
 use Rattle.cw_phase1.specs.Places.{holds_changed}
+use Rattle.cw_phase1.specs.LinePlaces.{offset}
 use Rattle.cw_phase1.proofs.PlaceLaws.{changed-skip, changed-behind, changed-hit, changed-plain, changed-before}
 use Rattle.cw_phase1.proofs.places.holds_changed.Goals as goal
 use Rattle.cw_phase1.proofs.places.holds_changed.Goals.{else-line-via-then-line+else-start-line}

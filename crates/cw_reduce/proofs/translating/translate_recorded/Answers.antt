@@ -1,11 +1,11 @@
 -- The answers of the scan are nested, and stand in the text; what the tree shows, and how it is read, are laws.
 use Rattle.cw_reduce.proofs.Terms.{◌∙◌, arith, ap, tokens_of, marked_names, struck, texts_in, tokens-within}
+use Rattle.cw_reduce.proofs.Terms.{is_some, Result, IsNested, Translated, Translator, HasEnded, shown}
 use Rattle.std.proofs.Common.{IfOk}
 use Rattle.std.proofs.lemmas.Result.{IfOk-weaker}
 use Rattle.cw_reduce.proofs.HeadsShown.{stands-in-text, translated-shown}
 use Rattle.cw_reduce.proofs.ReadSteps.{within-starts}
 use Rattle.cw_translator.proofs.Terms.{◌≡◌, ℕ, List, Flags, Memory, Answer, Entry, MarkList, unfolded, Token}
-use Rattle.cw_reduce.proofs.Terms.{is_some, Result, IsNested, Translated, Translator, HasEnded, shown}
 use Rattle.cw_translator.specs.Translating.{translated, NameTexts}
 use Rattle.cw_reduce.proofs.translating.translate_recorded.Goals as goal
 use Rattle.cw_lex.proofs.Nesting.{c-texts-nested}

@@ -1,5 +1,6 @@
 -- Two masks share a bit where some production admits both categories; where none does, no window fits.
-use Rattle.std.proofs.Common.{sym, ◌∙◌}
+use Rattle.std.proofs.Common.{arith}
+use Rattle.std.proofs.lemmas.Bool.Decides.{nat_tests}
 use Rattle.cw_table.proofs.MaskLaws.{two-met, two-none}
 use Rattle.cw_table.proofs.masks.may_fit.Goals as goal
 
@@ -7,5 +8,4 @@ pub returns-clause-some : goal.returns-clause-some
 returns-clause-some c = two-met c.args.first c.args.second _ _ c.mask.ensures c.mask-2.ensures
 
 pub returns-clause-none : goal.returns-clause-none
-returns-clause-none c = λ no. two-none c.args.first c.args.second
-    (sym (two-met c.args.first c.args.second _ _ c.mask.ensures c.mask-2.ensures) ∙ no)
+returns-clause-none c = grind (arith, nat_tests, two-none, two-met)

@@ -1,19 +1,11 @@
 -- The answers stand on the scanned bytes, one behind another, with only white space between them.
-use Rattle.std.proofs.Common.{List, sym, subst}
-use Rattle.cw_rules.specs.Answers.{Answer}
-use Rattle.cw_rules.specs.Order.{Covers, AreWithin}
+use Rattle.std.proofs.Common.{arith}
 use Rattle.cw_lex.proofs.Covering.{tokens-cover}
 use Rattle.cw_lex.proofs.TokensWithin.{tokens-within}
 use Rattle.cw_lex.proofs.lexer.Lexer.over.Goals as goal
 
 pub returns-clause-covers : goal.returns-clause-covers
-returns-clause-covers c =
-    let P : List Answer → Type 0 = Covers c.args.text.now c.args.start c.args.end in
-    subst P (sym c.starting.ensures) (tokens-cover c.args.text.now c.args.start c.args.end c.args.mode c.requires.order
-    c.requires.within)
+returns-clause-covers c = grind (arith, tokens-cover)
 
 pub returns-clause-within : goal.returns-clause-within
-returns-clause-within c =
-    let P : List Answer → Type 0 = λ answers. AreWithin c.args.start c.args.end answers in
-    subst P (sym c.starting.ensures) (tokens-within c.args.text.now c.args.start c.args.end c.args.mode c.requires.order
-    c.requires.within)
+returns-clause-within c = grind (arith, tokens-within)

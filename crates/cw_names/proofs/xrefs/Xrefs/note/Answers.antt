@@ -3,15 +3,14 @@
 use Rattle.std.proofs.Common.{◌≡◌, [], ◌∷◌, ◌++◌, sym, subst, ◌∙◌, arith}
 use Rattle.std.proofs.lemmas.Grind.{common_steps}
 use Rattle.cw_names.specs.declared.xrefs.Occurrence.{Occurrence}
-use Rattle.cw_names.specs.Mentions.{AreAscending, mentions}
+use Rattle.cw_names.specs.Mentions.{mentions}
 use Rattle.cw_names.specs.Noted.{sections_at}
 use Rattle.cw_names.proofs.Mentions.{mentions-ascending, noted-more}
+use Rattle.std.proofs.lemmas.Bool.Decides.{nat_tests}
 use Rattle.cw_names.proofs.xrefs.Xrefs.note.Goals as goal
 
 pub mention-requires-clause-ascending : goal.mention-requires-clause-ascending
-mention-requires-clause-ascending c =
-    subst AreAscending (sym (c.grow.ensures.same c.args.id.index ∙ c.self.invariant c.args.id.index))
-    (mentions-ascending c.args.id.index c.self.inside.noted.items)
+mention-requires-clause-ascending c = grind (arith, nat_tests, mentions-ascending)
 
 pub invariant_of-self-2 : goal.invariant_of-self-2
 invariant_of-self-2 c =

@@ -1,16 +1,13 @@
 -- One test behind the new scrap that doesn't suit decides; behind the last of them, all suit.
 use Rattle.std.proofs.Common.{◌≡◌, ◌+◌, ◌-◌, ap, sym, suc, ◌∙◌, arith}
+use Rattle.std.proofs.lemmas.Bool.Decides.{nat_tests}
 use Rattle.cw_table.specs.Safe.{suits_at}
 use Rattle.cw_table.proofs.HazardLaws.{not-all-numbers}
 use Rattle.cw_table.proofs.SafeLaws.{all-numbers}
 use Rattle.cw_table.proofs.types.Row.suits_after.Goals as goal
 
 pub returns : goal.returns
-returns c =
-    sym (all-numbers (suits_at c.args.self.now c.args.other.now c.args.places)
-    (suc (c.args.places + c.args.self.now.offset)) (c.args.other.now.test_count
-    - suc (c.args.places + c.args.self.now.offset))
-    (λ i below. c.loop-s.invariant _ (omega arith) (omega (arith, c.loop-s-test.false))))
+returns c = grind (arith, nat_tests, all-numbers)
 
 pub returns-then-not-suits_at : goal.returns-then-not-suits_at
 returns-then-not-suits_at c =

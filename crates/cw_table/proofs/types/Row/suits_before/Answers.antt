@@ -1,5 +1,6 @@
 -- One scrap before the new one that doesn't suit both rows decides; at the new one, all before it suit.
 use Rattle.std.proofs.Common.{◌≡◌, ◌+◌, ap, sym, ◌∙◌, arith, false, zero-add}
+use Rattle.std.proofs.lemmas.Bool.Decides.{nat_tests}
 use Rattle.cw_base.specs.Category.{meet}
 use Rattle.cw_table.specs.Rows.{test}
 use Rattle.cw_table.proofs.HazardLaws.{not-all-numbers}
@@ -7,11 +8,7 @@ use Rattle.cw_table.proofs.SafeLaws.{all-numbers}
 use Rattle.cw_table.proofs.types.Row.suits_before.Goals as goal
 
 pub returns : goal.returns
-returns c =
-    sym (all-numbers (λ a. meet (test c.args.other.now (c.args.places + a)) (test c.args.self.now a)) 0
-    c.args.self.now.offset (λ i below.
-    ap (λ a. meet (test c.args.other.now (c.args.places + a)) (test c.args.self.now a)) (zero-add i)
-    ∙ c.loop-a.invariant i (omega (arith, c.loop-a-test.false))))
+returns c = grind (arith, nat_tests, all-numbers, zero-add)
 
 pub returns-then-not-meets : goal.returns-then-not-meets
 returns-then-not-meets c =

@@ -1,13 +1,11 @@
 -- One row to which this one is a hazard decides; behind the last row, it is a hazard to none.
-use Rattle.std.proofs.Common.{sym, ◌∙◌, arith}
+use Rattle.std.proofs.Common.{arith}
+use Rattle.std.proofs.lemmas.Bool.Decides.{nat_tests}
 use Rattle.cw_table.proofs.HazardLaws.{endangered-none, endangered-some, none-more}
 use Rattle.cw_table.proofs.types.Table.endangered.Goals as goal
 
 pub returns-then-is_hazard : goal.returns-then-is_hazard
-returns-then-is_hazard g c =
-    endangered-some c.self.inside.rows c.args.self.now c.args.row.now c.args.places c.loop-other.other-index _
-    c.self.view_is (omega (arith, c.loop-other-test.true, c.self.told)) (sym c.is_hazard.ensures
-    ∙ c.if-is_hazard.true)
+returns-then-is_hazard g c = grind (arith, nat_tests, endangered-some)
 
 pub returns : goal.returns
 returns g c =
@@ -15,7 +13,4 @@ returns g c =
     c.self.view_is (omega (arith, c.loop-other-test.false, c.self.told)) c.loop-other.invariant
 
 pub loop-other-preserved : goal.loop-other-preserved
-loop-other-preserved g c =
-    none-more c.self.inside.rows c.args.row.now c.args.places c.loop-other.other-index _
-    (omega (arith, c.loop-other-test.true, c.self.told)) c.loop-other.invariant (sym c.is_hazard.ensures
-    ∙ c.if-is_hazard.false)
+loop-other-preserved g c = grind (arith, nat_tests, none-more)
