@@ -7,7 +7,7 @@
 # make gate     every proof, must-fail edit, test and program
 # make bench    instructions per input byte and peak memory for webs of stated sizes, and of the other programs beside cweave
 # make hostile  refused memory, failing devices, and large webs that no one would write
-# make outside  failing calls of the system with what is told of each, names, folders of CWEBINPUTS, and links
+# make outside  failing calls of the system with what is printed of each, names, folders of CWEBINPUTS, and links
 # make picture  makes docs/hello.png anew
 PREFIX ?= /usr/local
 PROGRAMS = cweave cwlog cwplain cwmini
