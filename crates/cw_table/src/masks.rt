@@ -1,5 +1,5 @@
 //! The first production that fits four categories, found by masks of bits.
-ghost use Rattle.std.specs.Prelude.{◌≡◌, ◌≤◌, ◌<◌, ◌&&◌, [], ◌∷◌, false, IfSome, None};
+ghost use Rattle.std.specs.Prelude.{◌≡◌, ◌≤◌, ◌<◌, ◌&&◌, [], ◌∷◌, false, drop, take, IfSome, None};
 ghost use Rattle.std.specs.List.{list_any};
 ghost use Rattle.cw_base.specs.declared.category.Cat.{Cat};
 ghost use Rattle.std.specs.Option.{option_map};
@@ -12,6 +12,9 @@ use crate::types::RowNo;
 use cw_base::Cat;
 
 const CATS: usize = Cat::End as usize + 1;
+
+// The productions that the first word of a mask has, one for each of its bits. The second word has those behind them.
+const EARLY: u8 = 128;
 
 /// The first production whose tests all admit the categories of the window; None exactly where no
 /// production fits. Past the last scrap the window holds `End`.
@@ -33,10 +36,31 @@ pub fn first_of_four(first: Cat, second: Cat, third: Cat, fourth: Cat) -> Option
 {
     let fitting = mask(first, 0) & mask(second, 1) & mask(third, 2) & mask(fourth, 3);
     if fitting == 0 {
-        None
+        first_late(first, second, third, fourth)
     } else {
         Some(RowNo {
             number: fitting.trailing_zeros() as u8 + 1,
+        })
+    }
+}
+
+// The first that fits of the productions of the second word.
+#[inline(always)]
+fn first_late(first: Cat, second: Cat, third: Cat, fourth: Cat) -> Option<RowNo>
+    ensures first { result ≡ option_map (λ row. row.number) (first_of (drop EARLY productions) (first ∷ second ∷ third ∷
+        fourth ∷ [])) }
+    ensures from_one { IfSome result (λ row. 1 ≤ row.number) }
+    ensures to_last { IfSome result (λ row. row.number ≤ ROW_COUNT) }
+{
+    let fitting = late_mask(first, 0)
+        & late_mask(second, 1)
+        & late_mask(third, 2)
+        & late_mask(fourth, 3);
+    if fitting == 0 {
+        None
+    } else {
+        Some(RowNo {
+            number: fitting.trailing_zeros() as u8 + 1 + EARLY,
         })
     }
 }
@@ -49,15 +73,25 @@ pub fn may_fit(first: Cat, second: Cat) -> bool
     ensures none { result ≡ false → (third fourth : Cat) → first_of productions (first ∷ second ∷ third ∷ fourth ∷ []) ≡
         None }
 {
-    mask(first, 0) & mask(second, 1) != 0
+    let early = mask(first, 0) & mask(second, 1);
+    let late = late_mask(first, 0) & late_mask(second, 1);
+    (early != 0) | (late != 0)
 }
 
-// The productions that admit this category at this place of the window.
+// The productions of the first word that admit this category at this place of the window.
 fn mask(cat: Cat, place: usize) -> u128
     requires { place < 4 }
-    ensures { result ≡ mask_of productions place cat }
+    ensures { result ≡ mask_of (take EARLY productions) place cat }
 {
     MASKS[cat.number()][place]
+}
+
+// The productions of the second word that do.
+fn late_mask(cat: Cat, place: usize) -> u64
+    requires { place < 4 }
+    ensures { result ≡ mask_of (drop EARLY productions) place cat }
+{
+    LATE_MASKS[cat.number()][place]
 }
 
 // For each category, in order, and each of the four places: bit i is set where production i + 1 has no
@@ -434,4 +468,114 @@ static MASKS: [[u128; 4]; CATS] = [
         0x7efde5370f3dcdff49f1f4fdf7fd979f,
         0xfefdf5bf5fffdfff6df7ffffffffffff,
     ],
+];
+
+// The same of the productions of the second word, the first of them in the lowest bit.
+static LATE_MASKS: [[u64; 4]; CATS] = [
+    // RawInt
+    [0x0, 0x0, 0x0, 0x0],
+    // ConstLike
+    [0x0, 0x0, 0x0, 0x0],
+    // Cast
+    [0x0, 0x0, 0x0, 0x0],
+    // IntLike
+    [0x0, 0x0, 0x0, 0x0],
+    // IfClause
+    [0x0, 0x0, 0x0, 0x0],
+    // SectionScrap
+    [0x0, 0x0, 0x0, 0x0],
+    // Exp
+    [0x0, 0x0, 0x0, 0x0],
+    // DeclHead
+    [0x0, 0x0, 0x0, 0x0],
+    // ElseLike
+    [0x0, 0x0, 0x0, 0x0],
+    // IfHead
+    [0x0, 0x0, 0x0, 0x0],
+    // Semi
+    [0x0, 0x0, 0x0, 0x0],
+    // RawUbin
+    [0x0, 0x0, 0x0, 0x0],
+    // Unop
+    [0x0, 0x0, 0x0, 0x0],
+    // Binop
+    [0x0, 0x0, 0x0, 0x0],
+    // Ubinop
+    [0x0, 0x0, 0x0, 0x0],
+    // Question
+    [0x0, 0x0, 0x0, 0x0],
+    // Lpar
+    [0x0, 0x0, 0x0, 0x0],
+    // Rpar
+    [0x0, 0x0, 0x0, 0x0],
+    // Lbrace
+    [0x0, 0x0, 0x0, 0x0],
+    // Rbrace
+    [0x0, 0x0, 0x0, 0x0],
+    // Comma
+    [0x0, 0x0, 0x0, 0x0],
+    // Colon
+    [0x0, 0x0, 0x0, 0x0],
+    // StructLike
+    [0x0, 0x0, 0x0, 0x0],
+    // CaseLike
+    [0x0, 0x0, 0x0, 0x0],
+    // ForLike
+    [0x0, 0x0, 0x0, 0x0],
+    // DoLike
+    [0x0, 0x0, 0x0, 0x0],
+    // IfLike
+    [0x0, 0x0, 0x0, 0x0],
+    // DefineLike
+    [0x0, 0x0, 0x0, 0x0],
+    // SizeofLike
+    [0x0, 0x0, 0x0, 0x0],
+    // TypedefLike
+    [0x0, 0x0, 0x0, 0x0],
+    // Decl
+    [0x0, 0x0, 0x0, 0x0],
+    // FnDecl
+    [0x0, 0x0, 0x0, 0x0],
+    // Function
+    [0x0, 0x0, 0x0, 0x0],
+    // Stmt
+    [0x0, 0x0, 0x0, 0x0],
+    // Tag
+    [0x0, 0x0, 0x0, 0x0],
+    // StructHead
+    [0x0, 0x0, 0x0, 0x0],
+    // ElseHead
+    [0x0, 0x0, 0x0, 0x0],
+    // Lproc
+    [0x0, 0x0, 0x0, 0x0],
+    // Rproc
+    [0x0, 0x0, 0x0, 0x0],
+    // Insert
+    [0x0, 0x0, 0x0, 0x0],
+    // BeginArg
+    [0x0, 0x0, 0x0, 0x0],
+    // EndArg
+    [0x0, 0x0, 0x0, 0x0],
+    // Dead
+    [0x0, 0x0, 0x0, 0x0],
+    // Dot
+    [0x0, 0x0, 0x0, 0x0],
+    // Dots
+    [0x0, 0x0, 0x0, 0x0],
+    // Box
+    [0x0, 0x0, 0x0, 0x0],
+    // TypeofLike
+    [0x0, 0x0, 0x0, 0x0],
+    // TexLike
+    [0x0, 0x0, 0x0, 0x0],
+    // Colcol
+    [0x0, 0x0, 0x0, 0x0],
+    // AttrHead
+    [0x0, 0x0, 0x0, 0x0],
+    // Attr
+    [0x0, 0x0, 0x0, 0x0],
+    // AlignasLike
+    [0x0, 0x0, 0x0, 0x0],
+    // End
+    [0x0, 0x0, 0x0, 0x0],
 ];
