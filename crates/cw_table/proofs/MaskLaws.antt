@@ -18,7 +18,8 @@ use Rattle.cw_base.specs.Category.{all_cats, in_set, number_of}
 use Rattle.cw_base.proofs.CategoryLaws.{place-of}
 use Rattle.cw_base.proofs.TestLaws.{both, both-left, both-right, not-false}
 use Rattle.cw_table.specs.declared.productions.TheConstants.{ROW_COUNT}
-use Rattle.cw_table.specs.declared.masks.TheConstants.{EARLY, LATE_MASKS, MASKS}
+use Rattle.cw_table.specs.declared.masks.TheConstants.{EARLY, MASKS}
+use Rattle.cw_table.specs.declared.masks.RowSet.{RowSet}
 use Rattle.cw_table.specs.declared.types.Row.{Row}
 use Rattle.cw_table.specs.declared.types.RowNo.{RowNo}
 use Rattle.cw_table.specs.Fitting.{all_hold, first_of, row_fits}
@@ -34,38 +35,32 @@ use Rattle.cw_table.proofs.Joining.{productions-length}
 use Rattle.cw_table.proofs.FirstLaws.{first-behind, first-here, length-tests_of}
 use Rattle.cw_table.proofs.Soundness.{sound-row}
 
-abbrev masks_at : List Row → Cat → List ℕ
-masks_at rows cat = map (λ q. mask_of rows q cat) (0 ∷ 1 ∷ 2 ∷ 3 ∷ [])
+-- the two words of a set
+abbrev set_at : Cat → ℕ → RowSet
+set_at cat q = record {
+  early = mask_of (take EARLY productions) q cat;
+  late = mask_of (drop EARLY productions) q cat;
+}
 
-masks-are : MASKS ≡ map (masks_at (take EARLY productions)) all_cats
+abbrev sets_at : Cat → List RowSet
+sets_at cat = map (set_at cat) (0 ∷ 1 ∷ 2 ∷ 3 ∷ [])
+
+masks-are : MASKS ≡ map sets_at all_cats
 unfolding productions
 masks-are = refl
 
-late-masks-are : LATE_MASKS ≡ map (masks_at (drop EARLY productions)) all_cats
-unfolding productions
-late-masks-are = refl
-
-four-get : (f : ℕ → ℕ) (q d : ℕ) → q < 4 → get_or (map f (0 ∷ 1 ∷ 2 ∷ 3 ∷ [])) q d ≡ f q
+four-get : (f : ℕ → RowSet) (q : ℕ) (d : RowSet) → q < 4 → get_or (map f (0 ∷ 1 ∷ 2 ∷ 3 ∷ [])) q d ≡ f q
 four-get f x2 d h = grind (arith, nat_tests)
 
-listed-is : (rows : List Row) (masks : List (List ℕ)) (cat : Cat) (n q : ℕ) (d : List ℕ) (e : ℕ)
-    → masks ≡ map (masks_at rows) all_cats → n ≡ number_of cat → q < 4 → get_or (get_or masks n d) q e
-    ≡ mask_of rows q cat
-listed-is rows masks cat n q d e are is h =
-    ap (λ ms. get_or (get_or ms n d) q e) are
-    ∙ ap (λ k. get_or (get_or (map (masks_at rows) all_cats) k d) q e) is
-    ∙ ap (λ four. get_or four q e) (get_or-map (masks_at rows) all_cats (number_of cat) cat d
+pub mask-is : (cat : Cat) (n q : ℕ) (d : List RowSet) (e : RowSet) → n ≡ number_of cat → q < 4
+    → get_or (get_or MASKS n d) q e ≡ set_at cat q
+mask-is cat n q d e is h =
+    ap (λ sets. get_or (get_or sets n d) q e) masks-are
+    ∙ ap (λ k. get_or (get_or (map sets_at all_cats) k d) q e) is
+    ∙ ap (λ four. get_or four q e) (get_or-map sets_at all_cats (number_of cat) cat d
     (slice_get_within all_cats (number_of cat) cat (place-of cat)))
-    ∙ ap (λ c. get_or (masks_at rows c) q e) (get_or_from_slice_get all_cats (number_of cat) cat cat (place-of cat))
-    ∙ four-get (λ k. mask_of rows k cat) q e h
-
-pub mask-is : (cat : Cat) (n q : ℕ) (d : List ℕ) (e : ℕ) → n ≡ number_of cat → q < 4 → get_or (get_or MASKS n d) q e
-    ≡ mask_of (take EARLY productions) q cat
-mask-is cat n q d e is h = listed-is (take EARLY productions) MASKS cat n q d e masks-are is h
-
-pub late-mask-is : (cat : Cat) (n q : ℕ) (d : List ℕ) (e : ℕ) → n ≡ number_of cat → q < 4
-    → get_or (get_or LATE_MASKS n d) q e ≡ mask_of (drop EARLY productions) q cat
-late-mask-is cat n q d e is h = listed-is (drop EARLY productions) LATE_MASKS cat n q d e late-masks-are is h
+    ∙ ap (λ c. get_or (sets_at c) q e) (get_or_from_slice_get all_cats (number_of cat) cat cat (place-of cat))
+    ∙ four-get (set_at cat) q e h
 
 -- the meeting of two numbers, bit by bit
 and-step : (r s m n : ℕ) → r < 2 → s < 2 → bit_and (r + 2 * m) (s + 2 * n) ≡ bit_and r s + 2 * bit_and m n
