@@ -4,6 +4,7 @@ pub mod Batch
 pub mod BatchLaws
 pub mod Calls
 pub mod Count
+pub mod Drafts
 pub mod File
 pub mod Journal
 pub mod JournalLaws
