@@ -1,0 +1,17 @@
+-- Where the file of a name is looked for, and where its draft stands.
+use Rattle.std.specs.Prelude.{ℕ, Bool, ◌||◌, ◌++◌, List, codes}
+use Rattle.std.specs.List.{starts_with}
+use Rattle.std.specs.Prelude.{nat_eq}
+
+-- A name from the root on, or from this folder or the one above it on, says where its file is.
+abbrev pub says_where : List ℕ → Bool
+says_where name =
+    starts_with nat_eq name (codes "/") || (starts_with nat_eq name (codes "./") || starts_with nat_eq name (codes "../"))
+
+-- the place of a name in a folder
+abbrev pub place_in : List ℕ → List ℕ → List ℕ
+place_in folder name = folder ++ (codes "/" ++ name)
+
+-- the place of the draft of a file
+abbrev pub draft_place : List ℕ → List ℕ
+draft_place place = place ++ codes ".new"
