@@ -13,9 +13,11 @@ pub mod Meaning
 pub mod MeaningLaws
 pub mod Mem
 pub mod Open
+pub mod Places
 pub mod Put
 pub mod Quiet
 pub mod Read
+pub mod Reader
 pub mod System
 pub mod Told
 pub mod Trail

@@ -1,6 +1,7 @@
 //! Where the file of a name is: at its own place, in a folder in which files are looked for, or behind a link.
-ghost use Rattle.std.specs.Prelude.{◌≡◌, IfOk};
+ghost use Rattle.std.specs.Prelude.{◌≡◌, [], true, IfOk, IfSome};
 ghost use Rattle.cw_desk.specs.Drafts.{draft_name};
+ghost use Rattle.cw_desk.specs.Places.{place_in, says_where};
 
 use crate::environment::variable;
 use cw_base::{Bytes, Memory};
@@ -13,6 +14,13 @@ const FOLDERS: &str = "CWEBINPUTS";
 
 /// How many links are followed, one to the next. More of them are taken for a circle.
 const MOST_LINKS: u8 = 40;
+
+// Whether a name says where its file is: from the root on, or from this folder or the one above it on.
+fn says_where(name: &[u8]) -> bool
+    ensures { result ≡ says_where name.now }
+{
+    name.starts_with(b"/") || name.starts_with(b"./") || name.starts_with(b"../")
+}
 
 /// The folders in which files are looked for that aren't at their own places: those of the variable, or of a list.
 #[derive(Drop)]
@@ -29,9 +37,10 @@ impl Folders {
         env: &E,
         alloc: Global,
         name: &[u8],
-    ) -> Result<Vec<Bytes>, Memory> {
-        let says_where = [b"/".as_slice(), b"./".as_slice(), b"../".as_slice()];
-        if says_where.iter().any(|start| name.starts_with(start)) {
+    ) -> Result<Vec<Bytes>, Memory>
+        ensures { says_where name.now ≡ true → IfOk result (λ folders. folders.items ≡ []) }
+    {
+        if says_where(name) {
             return Ok(Vec::new(alloc));
         }
         if let Folders::Listed(list) = self {
@@ -56,7 +65,9 @@ fn folders_in(alloc: Global, list: &[u8]) -> Result<Vec<Bytes>, Memory> {
 }
 
 /// The place of a name in a folder.
-pub(crate) fn place_in(alloc: Global, folder: &[u8], name: &[u8]) -> Result<Bytes, Memory> {
+pub(crate) fn place_in(alloc: Global, folder: &[u8], name: &[u8]) -> Result<Bytes, Memory>
+    ensures { IfOk result (λ place. place ≡ place_in folder.now name.now) }
+{
     let mut place = Bytes::from_slice(alloc, folder)?;
     place.push(b'/')?;
     place.append(name)?;
@@ -64,7 +75,9 @@ pub(crate) fn place_in(alloc: Global, folder: &[u8], name: &[u8]) -> Result<Byte
 }
 
 /// The path of a place. The system's calls take paths that are text, so a name that isn't UTF-8 has none.
-pub(crate) fn path_of(place: &[u8]) -> Option<&str> {
+pub(crate) fn path_of(place: &[u8]) -> Option<&str>
+    ensures { IfSome result (λ path. path.now ≡ place.now) }
+{
     str::from_utf8(place).ok()
 }
 
