@@ -1,9 +1,8 @@
 -- What a quiet desk tells is what the desk in memory that it holds tells.
-use Rattle.std.proofs.Common.{◌≡◌, ℕ, ◌==◌, List, [], if◌then◌else◌, sym, ap, subst, ◌∙◌}
+use Rattle.cw_desk.proofs.Terms.{◌≡◌, ℕ, ◌==◌, List, [], if◌then◌else◌, sym, ap, subst, ◌∙◌, MemState, called, counted}
+use Rattle.cw_desk.proofs.Terms.{tell as tell_mem, Told}
 use Rattle.std.specs.List.{list_any}
-use Rattle.cw_desk.specs.Mem.{MemState, called, counted, tell as tell_mem}
 use Rattle.cw_desk.specs.Quiet.{QuietState, as_mem, as_quiet, tell}
-use Rattle.cw_desk.specs.Told.{Told}
 
 -- No call on it is to fail, and none has failed.
 pub record IsQuiet (d : MemState) : Type 0 where
@@ -11,8 +10,7 @@ pub record IsQuiet (d : MemState) : Type 0 where
   pub faults : d.faults ≡ 0
 
 pub as_mem-quiet : (d : MemState) → IsQuiet d → as_mem (as_quiet d) ≡ d
-as_mem-quiet d quiet =
-    ap (λ (failing : List ℕ). record d { failing = failing; faults = 0 }) (sym quiet.failing)
+as_mem-quiet d quiet = ap (λ (failing : List ℕ). record d { failing = failing; faults = 0 }) (sym quiet.failing)
     ∙ ap (λ (faults : ℕ). record d { faults = faults }) (sym quiet.faults)
 
 pub called-quiet : (d : MemState) → IsQuiet d → IsQuiet (called d)
@@ -31,7 +29,6 @@ quiet-after {d = d} quiet failing faults = let still = called-quiet d quiet in r
 
 pub tells-quiet : (R : Told → Told → Type 0) (d e : MemState) (q : QuietState) → as_quiet d ≡ q → IsQuiet d → IsQuiet e
     → R (tell_mem d) (tell_mem e) → R (tell q) (tell (as_quiet e))
-tells-quiet R d e q is before after done =
-    subst (λ (s : QuietState). R (tell s) (tell (as_quiet e))) is
+tells-quiet R d e q is before after done = subst (λ (s : QuietState). R (tell s) (tell (as_quiet e))) is
     (subst (λ (m : MemState). R (tell_mem m) (tell_mem (as_mem (as_quiet e)))) (sym (as_mem-quiet d before))
     (subst (λ (m : MemState). R (tell_mem d) (tell_mem m)) (sym (as_mem-quiet e after)) done))

@@ -1,15 +1,8 @@
 -- The pieces of a name.
-use Rattle.std.proofs.Common.{◌≡◌, ◌≢◌, ℕ, suc, ◌+◌, ◌<◌, eqb, Bool, true, false, not, cond, codes, List, [], ◌∷◌, ◌++◌}
-use Rattle.std.proofs.Common.{length, take, drop, refl, sym, ap, subst, ◌∙◌, arith, if◌then◌else◌}
-use Rattle.std.specs.List.{list_any, position_or_len}
-use Rattle.std.proofs.lemmas.Bool.{eqb-true}
-use Rattle.std.proofs.lemmas.List.{append_assoc}
-use Rattle.std.specs.Prelude.{Ok, ⊤}
-use Rattle.cw_desk.specs.Told.{Told}
-use Rattle.cw_lines.specs.Sheets.{Prints}
-use Rattle.cw_lines.specs.declared.sheet.Sheet.{Sheet}
-use Rattle.cw_trees.specs.Printing.{ident_bytes, is_lower, long_ident_bytes, name_bytes}
-use Rattle.cw_join.specs.Tokens.{BeginsMarked, font_bytes, is_marked}
+use Rattle.cw_join.proofs.Terms.{◌≡◌, ◌≢◌, ℕ, suc, ◌+◌, ◌<◌, eqb, Bool, true, false, not, cond, codes, List, [], ◌∷◌}
+use Rattle.cw_join.proofs.Terms.{◌++◌, length, take, drop, refl, sym, ap, subst, ◌∙◌, arith, if◌then◌else◌, list_any}
+use Rattle.cw_join.proofs.Terms.{position_or_len, eqb-true, append_assoc, Ok, ⊤, Told, Prints, Sheet, ident_bytes}
+use Rattle.cw_join.proofs.Terms.{is_lower, long_ident_bytes, name_bytes, BeginsMarked, font_bytes, is_marked}
 
 -- what the walk over a name holds: what is put already, and that a byte with a backslash or the end comes next
 pub record PiecesPut {D : Type 0} (told : D → Told) (bytes rest : List ℕ) (old new : Sheet D) : Type 0 where
@@ -33,14 +26,11 @@ one-add : (n : ℕ) → 1 + n ≡ suc n
 one-add n = omega arith
 
 plain-by : (x : ℕ) (xs : List ℕ) (b : Bool) → is_marked x ≡ b → take (plain xs) xs ++ name_bytes (drop (plain xs) xs)
-    ≡ name_bytes xs
-    → take (cond (not b) (1 + plain xs) 0) (x ∷ xs) ++ name_bytes (drop (cond (not b) (1 + plain xs) 0) (x ∷ xs))
-    ≡ name_bytes (x ∷ xs)
+    ≡ name_bytes xs → take (cond (not b) (1 + plain xs) 0) (x ∷ xs)
+    ++ name_bytes (drop (cond (not b) (1 + plain xs) 0) (x ∷ xs)) ≡ name_bytes (x ∷ xs)
 plain-by x xs true is rest = refl
-plain-by x xs false is rest =
-    ap (λ (n : ℕ). take n (x ∷ xs) ++ name_bytes (drop n (x ∷ xs))) (one-add (plain xs))
-    ∙ ap (λ (l : List ℕ). x ∷ l) rest
-    ∙ ap (λ (b : Bool). (if b then 92 ∷ x ∷ [] else x ∷ []) ++ name_bytes xs) (sym is)
+plain-by x xs false is rest = ap (λ (n : ℕ). take n (x ∷ xs) ++ name_bytes (drop n (x ∷ xs))) (one-add (plain xs))
+    ∙ ap (λ (l : List ℕ). x ∷ l) rest ∙ ap (λ (b : Bool). (if b then 92 ∷ x ∷ [] else x ∷ []) ++ name_bytes xs) (sym is)
 
 -- the bytes before the first one with a backslash print as they are
 plain-front : (xs : List ℕ) → take (plain xs) xs ++ name_bytes (drop (plain xs) xs) ≡ name_bytes xs
@@ -58,25 +48,20 @@ plain-begins (x ∷ xs) = begins-by x xs (is_marked x) refl (plain-begins xs)
 
 -- the first part of a name and its rest
 pub name-parts : (name first rest : List ℕ) (size : ℕ) → size ≡ position_or_len is_marked name → first ≡ take size name
-    → rest ≡ drop size name
-    → first ++ name_bytes rest ≡ name_bytes name
-name-parts name first rest size is front back =
-    (λ i. front i ++ name_bytes (back i)) ∙ ap (λ (n : ℕ). take n name ++ name_bytes (drop n name)) is
-    ∙ plain-front name
+    → rest ≡ drop size name → first ++ name_bytes rest ≡ name_bytes name
+name-parts name first rest size is front back = (λ i. front i ++ name_bytes (back i))
+    ∙ ap (λ (n : ℕ). take n name ++ name_bytes (drop n name)) is ∙ plain-front name
 
 pub name-begins : (name rest : List ℕ) (size : ℕ) → size ≡ position_or_len is_marked name → rest ≡ drop size name
     → BeginsMarked rest
-name-begins name rest size is back = subst BeginsMarked (sym (back ∙ ap (λ (n : ℕ). drop n name) is))
-    (plain-begins name)
+name-begins name rest size is back = rw ((back ∙ ap (λ (n : ℕ). drop n name) is)) (plain-begins name)
 
 -- a byte with a backslash, and the bytes before the next one
-piece-is : (rest : List ℕ) (size : ℕ) → BeginsMarked rest → 0 < length rest
-    → size ≡ 1 + position_or_len is_marked (drop 1 rest)
-    → (92 ∷ take size rest) ++ name_bytes (drop size rest) ≡ name_bytes rest
+piece-is : (rest : List ℕ) (size : ℕ) → BeginsMarked rest → 0 < length rest → size ≡ 1 + position_or_len is_marked
+    (drop 1 rest) → (92 ∷ take size rest) ++ name_bytes (drop size rest) ≡ name_bytes rest
 piece-is [] size begins some is = absurd (omega arith)
-piece-is (x ∷ xs) size begins some is =
-    ap (λ (n : ℕ). (92 ∷ take n (x ∷ xs)) ++ name_bytes (drop n (x ∷ xs))) (is ∙ one-add (plain xs))
-    ∙ ap (λ (l : List ℕ). 92 ∷ x ∷ l) (plain-front xs)
+piece-is (x ∷ xs) size begins some is = ap (λ (n : ℕ). (92 ∷ take n (x ∷ xs)) ++ name_bytes (drop n (x ∷ xs))) (is
+    ∙ one-add (plain xs)) ∙ ap (λ (l : List ℕ). 92 ∷ x ∷ l) (plain-front xs)
     ∙ ap (λ (b : Bool). (if b then 92 ∷ x ∷ [] else x ∷ []) ++ name_bytes xs) (sym begins)
 
 pub piece-begins : (rest behind : List ℕ) (size : ℕ) → 0 < length rest
@@ -87,21 +72,16 @@ piece-begins (x ∷ xs) behind size some is back =
 
 -- one piece more
 pub pieces-more : (done bytes rest piece behind : List ℕ) (size : ℕ) → done ++ name_bytes rest ≡ name_bytes bytes
-    → BeginsMarked rest → 0 < length rest
-    → size ≡ 1 + position_or_len is_marked (drop 1 rest) → piece ≡ take size rest → behind ≡ drop size rest
-    → (done ++ (92 ∷ piece)) ++ name_bytes behind ≡ name_bytes bytes
+    → BeginsMarked rest → 0 < length rest → size ≡ 1 + position_or_len is_marked (drop 1 rest) → piece ≡ take size rest
+    → behind ≡ drop size rest → (done ++ (92 ∷ piece)) ++ name_bytes behind ≡ name_bytes bytes
 pieces-more done bytes rest piece behind size put begins some is front back =
-    (λ i. (done ++ (92 ∷ front i)) ++ name_bytes (back i))
-    ∙ append_assoc done (92 ∷ take size rest) (name_bytes (drop size rest))
-    ∙ ap (λ (l : List ℕ). done ++ l) (piece-is rest size begins some is)
-    ∙ put
+    (λ i. (done ++ (92 ∷ front i)) ++ name_bytes (back i)) ∙ append_assoc done (92 ∷ take size rest)
+    (name_bytes (drop size rest)) ∙ ap (λ (l : List ℕ). done ++ l) (piece-is rest size begins some is) ∙ put
 
 -- the fonts of longer identifiers
-long-by : (b : Bool) (name : List ℕ)
-    → (if b then codes "\\\\{" ++ name_bytes name ++ codes "}"
-    else codes "\\.{" ++ name_bytes name ++ codes "}") ≡ font_bytes b ++ name_bytes name ++ codes "}"
-long-by true name = refl
-long-by false name = refl
+long-by : (b : Bool) (name : List ℕ) → (if b then codes "\\\\{" ++ name_bytes name ++ codes "}" else codes "\\.{"
+    ++ name_bytes name ++ codes "}") ≡ font_bytes b ++ name_bytes name ++ codes "}"
+long-by b name = grind arith
 
 pub ident-long : (name : List ℕ) → length name ≢ 1 → ident_bytes name ≡ font_bytes (list_any is_lower name)
     ++ name_bytes name ++ codes "}"

@@ -1,8 +1,7 @@
 -- A list printed by its longest runs prints as it does item by item.
-use Rattle.std.proofs.Common.{◌≡◌, ℕ, Bool, ap, sym, ◌∙◌, List, [], ◌∷◌, ◌++◌, Option, Some, None}
-use Rattle.cw_trees.specs.declared.Control.{Control}
-use Rattle.cw_trees.specs.Printing.{Printable, printed, printed_from, run_sign, run_bytes, opened}
-use Rattle.cw_join.specs.Stretches.{Other, with_control, stretches, stretch_bytes, printed_list, is_inner}
+use Rattle.cw_join.proofs.Terms.{◌≡◌, ℕ, Bool, ap, sym, ◌∙◌, List, [], ◌∷◌, ◌++◌, Option, Some, None, Control}
+use Rattle.cw_join.proofs.Terms.{Printable, printed, printed_from, run_sign, run_bytes, opened, Other, with_control}
+use Rattle.cw_join.proofs.Terms.{stretches, stretch_bytes, printed_list, is_inner}
 use Rattle.cw_join.proofs.RunLaws.{run_before, one-more, all-ends, all-goes_on}
 
 module _ (inner : Bool) where
@@ -13,18 +12,15 @@ module _ (inner : Bool) where
   step : (p : Printable) (ps : List Printable) (sign : Option Control) → Same ps → (depth : ℕ) (run : List Control)
       → (elim sign [
         | Some control ↦ printed_from inner depth (run ++ control ∷ []) ps
-        | None ↦ run_bytes (is_inner inner depth) run ++ (p.bytes ++ printed_from inner (opened depth p.item) [] ps)
+        | None ↦ run_bytes
+            (is_inner inner depth) run ++ (p.bytes ++ printed_from inner (opened depth p.item) [] ps)
       ])
-      ≡ stretch_bytes inner depth (run_before run (elim sign [
-        | Some control ↦ with_control control (stretches ps)
-        | None ↦ Other p ∷ stretches ps
-      ]))
+      ≡ stretch_bytes inner depth (run_before run
+      (elim sign [ Some control ↦ with_control control (stretches ps) | None ↦ Other p ∷ stretches ps ]))
   step p ps (Some control) rest depth run = rest depth (run ++ control ∷ [])
       ∙ ap (stretch_bytes inner depth) (one-more run control (stretches ps))
-  step p ps None rest depth run =
-      ap (λ (later : List ℕ). run_bytes (is_inner inner depth) run ++ (p.bytes ++ later))
-      (rest (opened depth p.item) [])
-      ∙ sym (all-goes_on inner depth run p (stretches ps))
+  step p ps None rest depth run = ap (λ (later : List ℕ). run_bytes (is_inner inner depth) run ++ (p.bytes ++ later))
+      (rest (opened depth p.item) []) ∙ sym (all-goes_on inner depth run p (stretches ps))
 
   same : (ps : List Printable) → Same ps
   same [] depth run = sym (all-ends inner depth run)

@@ -1,17 +1,12 @@
 -- Worked rows: small lists, cut into runs and printed, early and late.
-use Rattle.std.proofs.Common.{◌≡◌, ℕ, true, false, [], ◌∷◌, List, map, codes, refl}
+use Rattle.cw_join.proofs.Terms.{◌≡◌, ℕ, true, false, [], ◌∷◌, List, map, codes, refl, Control, Item, IdentItem}
+use Rattle.cw_join.proofs.Terms.{SignItem, Open, Close, Printable, sign_bytes, ident_bytes, reserved_bytes, Run, Other}
+use Rattle.cw_join.proofs.Terms.{stretches, printed_list, early, late, added, last_run, word_at}
 use Rattle.cw_base.specs.declared.category.Cat.{Cat}
 use Rattle.cw_base.specs.declared.category.Cat.TheVariants.{RawInt, TexLike}
-use Rattle.cw_names.specs.Names.{Entry}
-use Rattle.cw_names.specs.declared.entry.EntryKind.TheVariants.{Ident}
-use Rattle.cw_trees.specs.declared.Control.{Control}
+use Rattle.cw_names.specs.{Names.Entry, declared.entry.EntryKind.TheVariants.Ident}
 use Rattle.cw_trees.specs.declared.Control.TheVariants.{Blank, OptionalBreak, Break, BigBreak, Cancel, Backup, Wall}
 use Rattle.cw_trees.specs.declared.Control.TheVariants.{Indent, Outdent, ToMath, ToText}
-use Rattle.cw_trees.specs.Flat.{Item, IdentItem, SignItem, Open, Close}
-use Rattle.cw_trees.specs.Printing.{Printable, sign_bytes, ident_bytes, reserved_bytes}
-use Rattle.cw_join.specs.Stretches.{Run, Other, stretches, printed_list}
-use Rattle.cw_join.specs.Early.{early, late, added, last_run}
-use Rattle.cw_join.specs.Tokens.{word_at}
 
 abbrev shown : Item → Printable
 shown (SignItem control) = record { item = SignItem control; bytes = sign_bytes control }
@@ -33,20 +28,13 @@ cut_into_runs : stretches (list (x ∷ sign Blank ∷ sign Break ∷ sign Wall �
 cut_into_runs = refl
 
 -- a run prints its indents at once, and its strongest break and its backup when it has ended
-indents_come_early : early false (list (x ∷ sign Blank ∷ sign Outdent ∷ sign Break ∷ sign Backup ∷ []))
-    ≡ codes "\\|x\\2"
-indents_come_early = refl
-
-break_comes_late : late false (list (x ∷ sign Blank ∷ sign Outdent ∷ sign Break ∷ sign Backup ∷ [])) ≡ codes "\\6\n\\4"
-break_comes_late = refl
-
-item_ends_a_run : added false (list (x ∷ sign Blank ∷ sign Outdent ∷ sign Break ∷ sign Backup ∷ [])) (shown x)
-    ≡ codes "\\6\n\\4\\|x"
-item_ends_a_run = refl
-
-whole_list : printed_list false (list (x ∷ sign Blank ∷ sign Outdent ∷ sign Break ∷ sign Backup ∷ x ∷ []))
-    ≡ codes "\\|x\\2\\6\n\\4\\|x"
-whole_list = refl
+ended_run : (early false (list (x ∷ sign Blank ∷ sign Outdent ∷ sign Break ∷ sign Backup ∷ [])) ≡ codes "\\|x\\2")
+    × (late false (list (x ∷ sign Blank ∷ sign Outdent ∷ sign Break ∷ sign Backup ∷ [])) ≡ codes "\\6\n\\4")
+    × (added false (list (x ∷ sign Blank ∷ sign Outdent ∷ sign Break ∷ sign Backup ∷ [])) (shown x)
+    ≡ codes "\\6\n\\4\\|x")
+    × (printed_list false (list (x ∷ sign Blank ∷ sign Outdent ∷ sign Break ∷ sign Backup ∷ x ∷ []))
+    ≡ codes "\\|x\\2\\6\n\\4\\|x")
+ended_run = (refl, refl, refl, refl)
 
 -- a run with a Cancel prints its indents alone
 cancelled_run : printed_list false (list (x ∷ sign Break ∷ sign Indent ∷ sign Cancel ∷ sign Backup ∷ x ∷ []))
@@ -54,21 +42,17 @@ cancelled_run : printed_list false (list (x ∷ sign Break ∷ sign Indent ∷ s
 cancelled_run = refl
 
 -- a wall parts runs, and so does a toggle
-wall_parts_runs : printed_list false (list (x ∷ sign Cancel ∷ sign Wall ∷ sign Break ∷ x ∷ [])) ≡ codes "\\|x\\6\n\\|x"
-wall_parts_runs = refl
-
-toggle_parts_runs : printed_list false (list (x ∷ sign Blank ∷ sign ToMath ∷ x ∷ sign ToText ∷ sign OptionalBreak ∷ x
-    ∷ [])) ≡ codes "\\|x ${}\\|x{}$\\5\\|x"
-toggle_parts_runs = refl
+parted_runs : (printed_list false (list (x ∷ sign Cancel ∷ sign Wall ∷ sign Break ∷ x ∷ [])) ≡ codes "\\|x\\6\n\\|x")
+    × (printed_list false (list (x ∷ sign Blank ∷ sign ToMath ∷ x ∷ sign ToText ∷ sign OptionalBreak ∷ x ∷ []))
+    ≡ codes "\\|x ${}\\|x{}$\\5\\|x")
+parted_runs = (refl, refl)
 
 -- in inner C text a run prints one blank at most
-inner_run_is_a_blank : printed_list true (list (x ∷ sign BigBreak ∷ sign Indent ∷ sign Backup ∷ x ∷ sign Outdent ∷ x
-    ∷ [])) ≡ codes "\\|x \\|x\\|x"
-inner_run_is_a_blank = refl
-
-brackets_are_inner : printed_list false (list (x ∷ Open ∷ x ∷ sign Break ∷ x ∷ Close ∷ sign Break ∷ x ∷ []))
-    ≡ codes "\\|x+\\|x \\|x+\\6\n\\|x"
-brackets_are_inner = refl
+inner_runs : (printed_list true (list (x ∷ sign BigBreak ∷ sign Indent ∷ sign Backup ∷ x ∷ sign Outdent ∷ x ∷ []))
+    ≡ codes "\\|x \\|x\\|x")
+    × (printed_list false (list (x ∷ Open ∷ x ∷ sign Break ∷ x ∷ Close ∷ sign Break ∷ x ∷ []))
+    ≡ codes "\\|x+\\|x \\|x+\\6\n\\|x")
+inner_runs = (refl, refl)
 
 -- an item that is in no run leaves no run
 run_is_over : last_run (list (sign Break ∷ x ∷ [])) ≡ []
@@ -79,18 +63,12 @@ run_is_over = refl
 abbrev name_with : Cat → List ℕ → List Entry
 name_with category text = record { kind = Ident; text = text; category = category } ∷ []
 
-macro_of_a_word : word_at reserved_bytes (name_with TexLike (codes "NULL")) 0 ≡ codes "\\NULL"
-macro_of_a_word = refl
-
-macro_of_one_byte : word_at reserved_bytes (name_with TexLike (codes "x")) 0 ≡ codes "\\x"
-macro_of_one_byte = refl
-
-letters_of_a_macro : word_at reserved_bytes (name_with TexLike (codes "a_b$c")) 0 ≡ codes "\\axbXc"
-letters_of_a_macro = refl
+macros_of_names : (word_at reserved_bytes (name_with TexLike (codes "NULL")) 0 ≡ codes "\\NULL")
+    × (word_at reserved_bytes (name_with TexLike (codes "x")) 0 ≡ codes "\\x")
+    × (word_at reserved_bytes (name_with TexLike (codes "a_b$c")) 0 ≡ codes "\\axbXc")
+macros_of_names = (refl, refl, refl)
 
 -- whatever the item was made as
-macro_of_an_identifier : word_at ident_bytes (name_with TexLike (codes "a_b")) 0 ≡ codes "\\axb"
-macro_of_an_identifier = refl
-
-no_macro : word_at reserved_bytes (name_with RawInt (codes "NULL")) 0 ≡ codes "\\&{NULL}"
-no_macro = refl
+other_names : (word_at ident_bytes (name_with TexLike (codes "a_b")) 0 ≡ codes "\\axb")
+    × (word_at reserved_bytes (name_with RawInt (codes "NULL")) 0 ≡ codes "\\&{NULL}")
+other_names = (refl, refl)

@@ -1,10 +1,7 @@
 -- Controls before stretches, the first of which may be a run that they lengthen.
-use Rattle.std.proofs.Common.{◌≡◌, ℕ, Bool, true, false, refl, ap, sym, ◌∙◌, List, [], ◌∷◌, ◌++◌}
-use Rattle.std.proofs.lemmas.List.{append-nil, append_assoc}
-use Rattle.cw_trees.specs.declared.Control.{Control}
-use Rattle.cw_trees.specs.Printing.{Printable, indent_bytes, indents, run_bytes, opened}
-use Rattle.cw_join.specs.Stretches.{Stretch, Run, Other, with_control, stretch_bytes, is_inner}
-use Rattle.cw_join.specs.Early.{early_bytes, run_back, run_front}
+use Rattle.cw_join.proofs.Terms.{◌≡◌, ℕ, Bool, refl, ap, sym, ◌∙◌, List, [], ◌∷◌, ◌++◌, append-nil, append_assoc}
+use Rattle.cw_join.proofs.Terms.{Control, Printable, indents, run_bytes, opened, Stretch, Run, Other, with_control}
+use Rattle.cw_join.proofs.Terms.{stretch_bytes, is_inner, early_bytes, run_back, run_front, arith}
 
 abbrev pub run_before : List Control → List Stretch → List Stretch
 run_before [] ss = ss
@@ -26,26 +23,21 @@ before-other control (next ∷ run) p ss = ap (with_control control) (before-oth
 
 -- the two parts of a run
 pub run-parts : (inner : Bool) (run : List Control) → run_bytes inner run ≡ run_front inner run ++ run_back inner run
-run-parts true run = refl
-run-parts false run = refl
+run-parts inner run = grind arith
 
 pub run-none : (inner : Bool) → run_bytes inner [] ≡ []
-run-none true = refl
-run-none false = refl
+run-none inner = grind arith
 
 pub front-none : (inner : Bool) → run_front inner [] ≡ []
-front-none true = refl
-front-none false = refl
+front-none inner = grind arith
 
 indents-append : (xs ys : List Control) → indents (xs ++ ys) ≡ indents xs ++ indents ys
 indents-append [] ys = refl
-indents-append (x ∷ xs) ys = ap (λ (l : List ℕ). indent_bytes x ++ l) (indents-append xs ys)
-    ∙ sym (append_assoc (indent_bytes x) (indents xs) (indents ys))
+indents-append (x ∷ xs) ys = grind (arith, indents-append xs ys, append_assoc)
 
 pub front-append : (inner : Bool) (xs ys : List Control) → run_front inner (xs ++ ys)
     ≡ run_front inner xs ++ run_front inner ys
-front-append true xs ys = refl
-front-append false xs ys = indents-append xs ys
+front-append inner xs ys = grind (arith, indents-append)
 
 -- a run, and then nothing more or an item that ends it
 module _ (inner : Bool) (depth : ℕ) where
@@ -54,9 +46,8 @@ module _ (inner : Bool) (depth : ℕ) where
   early-ends [] = sym (front-none (is_inner inner depth))
   early-ends (control ∷ run) = ap (early_bytes inner depth) (before-none control run)
 
-  pub early-goes_on : (run : List Control) (p : Printable) (ss : List Stretch)
-      → early_bytes inner depth (run_before run (Other p ∷ ss)) ≡ run_bytes (is_inner inner depth) run
-      ++ (p.bytes ++ early_bytes inner (opened depth p.item) ss)
+  pub early-goes_on : (run : List Control) (p : Printable) (ss : List Stretch) → early_bytes inner depth (run_before run
+      (Other p ∷ ss)) ≡ run_bytes (is_inner inner depth) run ++ (p.bytes ++ early_bytes inner (opened depth p.item) ss)
   early-goes_on [] p ss = ap (λ (run : List ℕ). run ++ (p.bytes ++ early_bytes inner (opened depth p.item) ss))
       (sym (run-none (is_inner inner depth)))
   early-goes_on (control ∷ run) p ss = ap (early_bytes inner depth) (before-other control run p ss)

@@ -1,16 +1,11 @@
 -- What a joiner keeps is what its list leaves, and what it prints is what its list prints.
-use Rattle.std.proofs.Common.{◌≡◌, ℕ, Bool, true, false, ◌||◌, max, codes, refl, ap, sym, ◌∙◌, List, [], ◌∷◌, ◌++◌}
-use Rattle.std.proofs.Common.{Option, Some, None, arith, if◌then◌else◌}
+use Rattle.cw_join.proofs.Terms.{◌≡◌, ℕ, Bool, false, ◌||◌, max, codes, ap, sym, ◌∙◌, List, [], ◌∷◌, ◌++◌, Option, Some}
+use Rattle.cw_join.proofs.Terms.{None, arith, if◌then◌else◌, list_any, append-nil, Control, Printable, is_backup}
+use Rattle.cw_join.proofs.Terms.{is_cancel, opened, run_sign, strength, strongest, is_inner, added, run_back, run_front}
+use Rattle.cw_join.proofs.Terms.{run_with, depth_behind, last_run, RunState, run_more, run_state, state_back}
+use Rattle.cw_join.proofs.Terms.{step_bytes, JoinerState, Stands}
 use Rattle.cw_base.specs.Conditions.{list_if}
-use Rattle.std.specs.List.{list_any}
-use Rattle.std.proofs.lemmas.List.{append-nil}
 use Rattle.std.proofs.lemmas.List.Sums.{fold_push}
-use Rattle.cw_trees.specs.declared.Control.{Control}
-use Rattle.cw_trees.specs.Printing.{Printable, break_bytes, is_backup, is_cancel, opened, run_sign, strength, strongest}
-use Rattle.cw_join.specs.Stretches.{is_inner}
-use Rattle.cw_join.specs.Early.{added, run_back, run_front, run_with, depth_behind, last_run}
-use Rattle.cw_join.specs.Runs.{RunState, run_more, run_state, state_back, pause_bytes, step_bytes}
-use Rattle.cw_join.specs.Standing.{JoinerState, Stands}
 use Rattle.cw_join.proofs.EarlyLaws.{added-is, same-depth, step_of}
 
 strongest-more : (run : List Control) (control : Control) → strongest (run ++ control ∷ [])
@@ -20,17 +15,8 @@ strongest-more (first ∷ run) control = let more = strongest-more run control i
 
 any-more : (test : Control → Bool) (run : List Control) (control : Control) → list_any test (run ++ control ∷ [])
     ≡ (list_any test run || test control)
-any-more test [] control = or-false (test control)
-  where
-    or-false : (b : Bool) → (b || false) ≡ b
-    or-false true = refl
-    or-false false = refl
-any-more test (first ∷ run) control = ap (λ (b : Bool). test first || b) (any-more test run control)
-    ∙ regroup (test first) (list_any test run) (test control)
-  where
-    regroup : (a b c : Bool) → (a || (b || c)) ≡ ((a || b) || c)
-    regroup true b c = refl
-    regroup false b c = refl
+any-more test [] control = grind arith
+any-more test (first ∷ run) control = grind (arith, any-more test run control)
 
 pub state-more : (run : List Control) (control : Control) → run_state (run ++ control ∷ [])
     ≡ run_more (run_state run) control
@@ -40,17 +26,13 @@ state-more run control = λ i. record {
   backed = any-more is_backup run control i;
 }
 
-back-by : (cancelled backed : Bool) (pause : List ℕ)
-    → (if cancelled then [] else pause ++ list_if backed (codes "\\4"))
+back-by : (cancelled backed : Bool) (pause : List ℕ) → (if cancelled then [] else pause ++ list_if backed (codes "\\4"))
     ≡ (if cancelled then [] else pause) ++ step_bytes (if cancelled then false else backed)
-back-by true backed pause = refl
-back-by false true pause = refl
-back-by false false pause = refl
+back-by cancelled backed pause = grind arith
 
 -- what an ended run prints is seen of its values
 back-is : (inner : Bool) (run : List Control) → run_back inner run ≡ state_back inner (run_state run)
-back-is true run = sym (append-nil (pause_bytes true (run_state run)))
-back-is false run = back-by (list_any is_cancel run) (list_any is_backup run) (break_bytes (strongest run))
+back-is inner run = grind (arith, append-nil, back-by)
 
 -- a control more, which goes into the run
 module _ (joiner : JoinerState) (ps : List Printable) (s : Stands joiner ps) (p : Printable) where
@@ -69,10 +51,9 @@ module _ (joiner : JoinerState) (ps : List Printable) (s : Stands joiner ps) (p 
 
   pub control-added : (control : Control) → run_sign p.item ≡ Some control
       → run_front (is_inner joiner.inner joiner.depth) (control ∷ []) ≡ added joiner.inner ps p
-  control-added control is =
-      ap (λ (depth : ℕ). run_front (is_inner joiner.inner depth) (control ∷ [])) s.depth
-      ∙ sym (added-is joiner.inner ps p ∙ ap (λ (o : Option Control). step_of o joiner.inner (depth_behind ps)
-      (last_run ps) p) is)
+  control-added control is = ap (λ (depth : ℕ). run_front (is_inner joiner.inner depth) (control ∷ [])) s.depth
+      ∙ sym (added-is joiner.inner ps p
+      ∙ ap (λ (o : Option Control). step_of o joiner.inner (depth_behind ps) (last_run ps) p) is)
 
   pub control-stands : (control : Control) → run_sign p.item ≡ Some control
       → Stands (record joiner { run = run_more joiner.run control }) (ps ++ p ∷ [])
@@ -85,11 +66,9 @@ module _ (joiner : JoinerState) (ps : List Printable) (s : Stands joiner ps) (p 
   -- any other item
   pub other-added : run_sign p.item ≡ None → state_back (is_inner joiner.inner joiner.depth) joiner.run ++ p.bytes
       ≡ added joiner.inner ps p
-  other-added is =
-      (λ i. state_back (is_inner joiner.inner (s.depth i)) (s.run i) ++ p.bytes)
-      ∙ ap (λ (l : List ℕ). l ++ p.bytes) (sym (back-is (is_inner joiner.inner (depth_behind ps)) (last_run ps)))
-      ∙ sym (added-is joiner.inner ps p ∙ ap (λ (o : Option Control). step_of o joiner.inner (depth_behind ps)
-      (last_run ps) p) is)
+  other-added is = (λ i. state_back (is_inner joiner.inner (s.depth i)) (s.run i) ++ p.bytes) ∙ ap (λ (l : List ℕ). l
+      ++ p.bytes) (sym (back-is (is_inner joiner.inner (depth_behind ps)) (last_run ps))) ∙ sym (added-is joiner.inner
+      ps p ∙ ap (λ (o : Option Control). step_of o joiner.inner (depth_behind ps) (last_run ps) p) is)
 
   pub other-stands : run_sign p.item ≡ None
       → Stands (record joiner { depth = opened joiner.depth p.item; run = run_state [] }) (ps ++ p ∷ [])

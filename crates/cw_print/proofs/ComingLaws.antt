@@ -1,18 +1,12 @@
 -- The items of a flat tree may come one behind another, and so may those of its trimmed list.
-use Rattle.std.proofs.Common.{◌≡◌, ℕ, suc, ◌<◌, ◌≤◌, Bool, true, ◌&&◌, List, [], ◌∷◌, ◌++◌, refl, sym, subst, arith}
-use Rattle.std.proofs.Common.{if◌then◌else◌}
-use Rattle.std.proofs.lemmas.List.{append-nil, append_assoc}
+use Rattle.cw_print.proofs.Terms.{◌≡◌, ℕ, suc, ◌<◌, ◌≤◌, Bool, true, ◌&&◌, List, [], ◌∷◌, ◌++◌, refl, sym, subst, arith}
+use Rattle.cw_print.proofs.Terms.{if◌then◌else◌, append-nil, append_assoc, Control, Item, Close, leaf_item, flat}
+use Rattle.cw_print.proofs.Terms.{begins_after, ends_text, is_break, is_inserted, sign_is, trim_back, trim_front}
+use Rattle.cw_print.proofs.Terms.{trimmed_items, without_inserted, opened, FlatItem, item_is, CanCome, AllMay, MayCome}
+use Rattle.cw_print.proofs.Terms.{MayStand}
 use Rattle.cw_base.proofs.TestLaws.{both-left, both-right}
-use Rattle.cw_trees.specs.declared.Control.{Control}
 use Rattle.cw_trees.specs.Tree.{Leaf, Tree, Empty, Then, Sub, Inner}
-use Rattle.cw_trees.specs.Flat.{Item, Close, leaf_item, flat, begins_after, ends_text, is_break, is_inserted, sign_is}
-use Rattle.cw_trees.specs.Flat.{trim_back, trim_front, trimmed_items, without_inserted}
-use Rattle.cw_trees.specs.Printing.{opened}
-use Rattle.cw_tokens.specs.declared.flat.FlatItem.{FlatItem}
-use Rattle.cw_tokens.specs.FlatItems.{item_is}
 use Rattle.cw_scraps.specs.Lines.{IsNamedBelow, leaf_named_below}
-use Rattle.cw_join.specs.Tokens.{CanCome}
-use Rattle.cw_print.specs.Coming.{AllMay, MayCome, MayStand}
 
 -- ## Flat trees
 
@@ -27,13 +21,13 @@ flat-may : (count : ℕ) (tree : Tree) → IsNamedBelow count tree → (depth : 
 flat-may count Empty named depth behind may = may
 flat-may count (Then leaf rest) named depth behind may =
     grind (arith, flat-may count rest named.1 depth behind may, leaf-may, leaf-depth)
-flat-may count (Sub tree rest) named depth behind may =
-    subst (λ (items : List Item). AllMay (MayStand count) depth items)
-    (sym (append_assoc (flat tree) (flat rest) behind))
+flat-may count (Sub tree rest) named depth behind may = subst
+    (λ (items : List Item). AllMay (MayStand count) depth items) (sym (append_assoc (flat tree) (flat rest) behind))
     (flat-may count tree named.0 depth (flat rest ++ behind) (flat-may count rest named.1 depth behind may))
 flat-may count (Inner tree rest) named depth behind may = grind (
   arith,
-  flat-may count tree named.0 (suc depth) (Close ∷ (flat rest ++ behind)) (record { named = tt; is_open = omega arith }, flat-may count rest named.1 depth behind may),
+  flat-may count tree named.0 (suc depth) (Close ∷ (flat rest ++ behind))
+      (record { named = tt; is_open = omega arith }, flat-may count rest named.1 depth behind may),
   append_assoc,
 )
 
@@ -77,9 +71,8 @@ module _ (may : ℕ → Item → Type 0) where
 pub trimmed-may : (count : ℕ) (tree : Tree) → IsNamedBelow count tree
     → AllMay (MayCome count) 0 (trimmed_items (flat tree))
 trimmed-may count tree named =
-    let all : AllMay (MayStand count) 0 (flat tree) =
-    subst (λ (items : List Item). AllMay (MayStand count) 0 items) (append-nil (flat tree))
-    (flat-may count tree named 0 [] refl) in
+    let all : AllMay (MayStand count) 0 (flat tree) = subst (λ (items : List Item). AllMay (MayStand count) 0 items)
+    (append-nil (flat tree)) (flat-may count tree named 0 [] refl) in
     back-may (MayCome count) (trim_front true (without_inserted (flat tree))) 0
     (front-may (MayCome count) (without_inserted (flat tree)) true 0 (without-may count (flat tree) 0 all))
 

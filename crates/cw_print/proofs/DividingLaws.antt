@@ -1,12 +1,7 @@
 -- A text that is printed byte by byte is divided between its units.
-use Rattle.std.proofs.Common.{◌≡◌, ℕ, ◌+◌, ◌-◌, ◌==◌, nat_le, Bool, true, false, List, [], ◌∷◌, ◌++◌, refl, ap, ◌∙◌}
-use Rattle.std.proofs.Common.{arith, if◌then◌else◌}
-use Rattle.std.proofs.lemmas.Bool.Decides.{nat_tests}
-use Rattle.std.proofs.lemmas.List.{append-nil, append_assoc}
-use Rattle.cw_print.specs.declared.dividing.Portion.{Portion}
-use Rattle.cw_print.specs.Dividing.{portion_behind, rest_bytes, with_byte}
-use Rattle.cw_print.specs.Escaping.{escaped_byte}
-use Rattle.cw_print.specs.Texts.{divided, divided_units, division, units}
+use Rattle.cw_print.proofs.Terms.{◌≡◌, ℕ, ◌+◌, ◌-◌, ◌==◌, nat_le, Bool, true, false, List, [], ◌∷◌, ◌++◌, refl, ap, ◌∙◌}
+use Rattle.cw_print.proofs.Terms.{arith, if◌then◌else◌, nat_tests, append-nil, append_assoc, Portion, portion_behind}
+use Rattle.cw_print.proofs.Terms.{rest_bytes, with_byte, escaped_byte, divided, divided_units, division, units}
 
 is-full : (come : ℕ) → ((20 - come) == 0) ≡ nat_le 20 come
 is-full come = grind (arith, nat_tests)
@@ -63,21 +58,15 @@ module _ (byte next : ℕ) (bytes : List ℕ) (come : ℕ) (escapes : (byte == 9
 
   pair-shown : rest_bytes (portion_behind come) (byte ∷ next ∷ bytes)
       ≡ divided_units come ((byte ∷ next ∷ []) ∷ units bytes)
-  pair-shown =
-      shown-by come (escaped_byte byte) later 2 (units bytes)
-      (λ portion. rest_bytes (with_byte portion byte) (next ∷ bytes)) behind-pair
-      ((20 - come) == 0) (nat_le 20 come) (is-full come)
+  pair-shown = shown-by come (escaped_byte byte) later 2 (units bytes) (λ portion. rest_bytes (with_byte portion byte)
+      (next ∷ bytes)) behind-pair ((20 - come) == 0) (nat_le 20 come) (is-full come)
 
-by-first : (byte next : ℕ) (bytes : List ℕ) (come : ℕ)
-    → ((c : ℕ) → rest_bytes (portion_behind c) bytes ≡ divided_units c (units bytes))
-    → ((c : ℕ) → rest_bytes (portion_behind c) (next ∷ bytes) ≡ divided_units c (units (next ∷ bytes)))
-    → (escapes : Bool) → (byte == 92) ≡ escapes
-    → rest_bytes (portion_behind come) (byte ∷ next ∷ bytes) ≡ divided_units come (if escapes then
-    (byte ∷ next ∷ []) ∷ units bytes
-    else (byte ∷ []) ∷ units (next ∷ bytes))
+by-first : (byte next : ℕ) (bytes : List ℕ) (come : ℕ) → ((c : ℕ) → rest_bytes (portion_behind c) bytes ≡ divided_units
+    c (units bytes)) → ((c : ℕ) → rest_bytes (portion_behind c) (next ∷ bytes) ≡ divided_units c (units (next ∷ bytes)))
+    → (escapes : Bool) → (byte == 92) ≡ escapes → rest_bytes (portion_behind come) (byte ∷ next ∷ bytes)
+    ≡ divided_units come (if escapes then (byte ∷ next ∷ []) ∷ units bytes else (byte ∷ []) ∷ units (next ∷ bytes))
 by-first byte next bytes come behind others true is = pair-shown byte next bytes come is behind
-by-first byte next bytes come behind others false is =
-    one-shown byte (next ∷ bytes) (units (next ∷ bytes)) come
+by-first byte next bytes come behind others false is = one-shown byte (next ∷ bytes) (units (next ∷ bytes)) come
     (λ c. ap (λ (b : Bool). rest_bytes (record { room = 20 - c; takes_next = b }) (next ∷ bytes)) is ∙ others c)
 
 shown : (text : List ℕ) (come : ℕ) → rest_bytes (portion_behind come) text ≡ divided_units come (units text)

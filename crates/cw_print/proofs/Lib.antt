@@ -1,4 +1,5 @@
 -- The laws of printing C texts: pieces of comments, tokens that are found, and items that may come.
+mod Terms
 pub mod PieceLaws
 pub mod DividingLaws
 pub mod PlainLaws

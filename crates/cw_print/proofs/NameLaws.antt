@@ -1,15 +1,8 @@
 -- A C text that is one identifier.
-use Rattle.std.proofs.Common.{◌≡◌, ℕ, ◌<◌, Bool, Some, List, [], ◌∷◌, ap, ◌∙◌, length, slice_get, arith}
-use Rattle.std.proofs.lemmas.List.{append-nil}
+use Rattle.cw_print.proofs.Terms.{◌≡◌, ℕ, ◌<◌, Bool, Some, List, [], ◌∷◌, ap, ◌∙◌, length, slice_get, arith, append-nil}
+use Rattle.cw_print.proofs.Terms.{IdentItem, ident_bytes, printed, FlatItem, items_are, word_at, AllMay, MayCome}
+use Rattle.cw_print.proofs.Terms.{IsOnlyName, shown, Source}
 use Rattle.cw_names.specs.declared.entry.NameId.{NameId}
-use Rattle.cw_trees.specs.Flat.{IdentItem}
-use Rattle.cw_trees.specs.Printing.{ident_bytes, printed}
-use Rattle.cw_tokens.specs.declared.flat.FlatItem.{FlatItem}
-use Rattle.cw_tokens.specs.FlatItems.{items_are}
-use Rattle.cw_join.specs.Tokens.{word_at}
-use Rattle.cw_print.specs.Coming.{AllMay, MayCome}
-use Rattle.cw_print.specs.Printing.{IsOnlyName, shown}
-use Rattle.cw_print.specs.Walk.{Source}
 
 -- the items of a list of one
 pub only-item : (items : List FlatItem) (item : FlatItem) → length items ≡ 1 → slice_get items 0 ≡ Some item

@@ -1,10 +1,7 @@
 -- Of the pieces of a comment: what was printed, with what is to come.
-use Rattle.std.proofs.Common.{◌≡◌, ℕ, suc, ◌+◌, ◌||◌, Bool, true, false, not, cond, List, [], ◌∷◌, ◌++◌, take, drop}
-use Rattle.std.proofs.Common.{refl, arith}
-use Rattle.std.specs.List.{position_or_len}
-use Rattle.std.proofs.lemmas.List.{append_assoc}
-use Rattle.cw_print.specs.Comments.{CommentPiece, Prints, byte_piece, comment_piece, is_special, joined_pieces}
-use Rattle.cw_print.specs.Comments.{piece_of}
+use Rattle.cw_print.proofs.Terms.{◌≡◌, ℕ, suc, ◌+◌, ◌||◌, Bool, true, false, not, cond, List, [], ◌∷◌, ◌++◌, take, drop}
+use Rattle.cw_print.proofs.Terms.{refl, arith, position_or_len, append_assoc, CommentPiece, Prints, byte_piece}
+use Rattle.cw_print.proofs.Terms.{comment_piece, is_special, joined_pieces, piece_of}
 
 -- ## Bytes that print themselves
 
@@ -35,9 +32,8 @@ one-add n = omega arith
 abbrev parted : List ℕ → ℕ → ℕ → CommentPiece
 parted text braces n = joined_pieces (piece_of (take n text) braces) (comment_piece (drop n text) braces)
 
-plain-by : (x : ℕ) (xs : List ℕ) (braces : ℕ) (b : Bool) → is_special x ≡ b → comment_piece xs braces
-    ≡ parted xs braces (plain xs)
-    → comment_piece (x ∷ xs) braces ≡ parted (x ∷ xs) braces (cond (not b) (1 + plain xs) 0)
+plain-by : (x : ℕ) (xs : List ℕ) (braces : ℕ) (b : Bool) → is_special x ≡ b → comment_piece xs braces ≡ parted xs braces
+    (plain xs) → comment_piece (x ∷ xs) braces ≡ parted (x ∷ xs) braces (cond (not b) (1 + plain xs) 0)
 plain-by x xs braces true is rest = refl
 plain-by x xs braces false is rest = grind (arith, one-plain x xs braces is, one-add (plain xs))
 
@@ -47,7 +43,6 @@ plain-front (x ∷ xs) braces = plain-by x xs braces (is_special x) refl (plain-
 
 -- the bytes before the first special one print themselves
 pub plain-printed : (begun text first rest : List ℕ) (size : ℕ) → size ≡ position_or_len is_special text
-    → first ≡ take size text
-    → rest ≡ drop size text → (out : List ℕ) → out ≡ begun ++ first → (braces : ℕ)
+    → first ≡ take size text → rest ≡ drop size text → (out : List ℕ) → out ≡ begun ++ first → (braces : ℕ)
     → Prints begun text braces out rest braces
 plain-printed begun text first rest size is front back out appended braces = grind (arith, plain-front, append_assoc)

@@ -1,12 +1,9 @@
 -- The bytes of a string that print themselves.
-use Rattle.std.proofs.Common.{◌≡◌, ℕ, ◌-◌, ◌||◌, ◌&&◌, ◌==◌, nat_lt, Bool, true, false, not, List, [], ◌∷◌, ◌++◌, ap}
-use Rattle.std.proofs.Common.{sym, ◌∙◌, arith}
+use Rattle.cw_print.proofs.Terms.{◌≡◌, ℕ, ◌-◌, ◌||◌, ◌&&◌, ◌==◌, nat_lt, Bool, true, false, not, List, [], ◌∷◌, ◌++◌}
+use Rattle.cw_print.proofs.Terms.{ap, sym, ◌∙◌, arith, nat_tests, append_assoc, Portion, has_room, rest_bytes}
+use Rattle.cw_print.proofs.Terms.{string_bytes}
 use Rattle.std.proofs.lemmas.Bool.{eqb-true}
-use Rattle.std.proofs.lemmas.Bool.Decides.{nat_tests}
-use Rattle.std.proofs.lemmas.List.{append_assoc}
-use Rattle.cw_print.specs.declared.dividing.Portion.{Portion}
-use Rattle.cw_print.specs.Dividing.{has_room, is_special, rest_bytes}
-use Rattle.cw_print.specs.Texts.{string_bytes}
+use Rattle.cw_print.specs.Dividing.{is_special}
 
 -- a portion with so much room, in which no backslash takes the next byte along
 abbrev pub with_room : ℕ → Portion
@@ -43,9 +40,7 @@ plain-printed begun out bytes byte portion some plain appended =
     let none : portion.takes_next ≡ false = none-there portion.room portion.takes_next some in
     let later : List ℕ = rest_bytes (with_room (portion.room - 1)) (string_bytes bytes) in
     (λ i. appended i ++ rest_bytes (record { room = portion.room - 1; takes_next = none i }) (string_bytes bytes))
-    ∙ append_assoc begun (byte ∷ []) later
-    ∙ ap (λ (l : List ℕ). begun ++ l)
-    (sym (ap (λ (b : Bool). rest_bytes (record { room = portion.room; takes_next = b }) (string_bytes (byte ∷ bytes)))
-    none
+    ∙ append_assoc begun (byte ∷ []) later ∙ ap (λ (l : List ℕ). begun ++ l) (sym
+    (ap (λ (b : Bool). rest_bytes (record { room = portion.room; takes_next = b }) (string_bytes (byte ∷ bytes))) none
     ∙ ap (λ (l : List ℕ). rest_bytes (with_room portion.room) l) (one-said byte bytes plain)
     ∙ one-printed portion.room byte (string_bytes bytes) (some-room portion.room portion.takes_next some) plain))

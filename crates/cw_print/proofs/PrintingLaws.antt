@@ -1,33 +1,22 @@
 -- The printing of a list, item by item: what was printed, and what may still come.
-use Rattle.std.proofs.Common.{◌≡◌, ℕ, suc, ◌+◌, ◌-◌, ◌<◌, ◌≤◌, Bool, Option, Some, Err, Ok, List, [], ◌∷◌, ◌++◌, length}
-use Rattle.std.proofs.Common.{take, drop, get_or, slice_get, refl, ap, sym, ◌∙◌, subst, arith}
+use Rattle.cw_print.proofs.Terms.{◌≡◌, ℕ, suc, ◌+◌, ◌-◌, ◌<◌, ◌≤◌, Bool, Option, Some, Err, Ok, List, [], ◌∷◌, ◌++◌}
+use Rattle.cw_print.proofs.Terms.{length, take, drop, get_or, slice_get, refl, ap, sym, ◌∙◌, subst, arith, append-nil}
+use Rattle.cw_print.proofs.Terms.{append_assoc, drop_all, drop_more, get_or-drop, get_or-take, length-map}
+use Rattle.cw_print.proofs.Terms.{take-append-drop, take_all, take_more, Item, Control, Printable, opened, printed}
+use Rattle.cw_print.proofs.Terms.{run_sign, FlatItem, item_is, items_are, prints-bytes, prints-none, prints-nothing}
+use Rattle.cw_print.proofs.Terms.{prints-stop, prints-then, added, depth_behind, early, late, Stands, CanCome, alone}
+use Rattle.cw_print.proofs.Terms.{AllMay, MayCome, IsBehind, IsMidway, Midway, PrintsOn, shown, shown_next, titles}
+use Rattle.cw_print.proofs.Terms.{Source, Title, items_shown, outside, own_bytes, placed_shown, stand_after, title_in}
+use Rattle.cw_print.proofs.Terms.{behind}
 use Rattle.std.specs.Prelude.{Result, IsErrAnd, ⊤, option_map}
-use Rattle.std.proofs.lemmas.List.{append-nil, append_assoc, drop_all, drop_more, get_or-drop, get_or-take, length-map}
-use Rattle.std.proofs.lemmas.List.{take-append-drop, take_all, take_more}
 use Rattle.std.proofs.lemmas.List.Sums.{fold_push}
 use Rattle.std.proofs.lemmas.Option.{get_or_from_slice_get, slice_get-get_or, slice_get-map, slice_get_within}
 use Rattle.cw_desk.specs.Told.{Told}
-use Rattle.cw_trees.specs.Flat.{Item}
-use Rattle.cw_trees.specs.declared.Control.{Control}
-use Rattle.cw_trees.specs.Printing.{Printable, opened, printed, run_sign}
-use Rattle.cw_tokens.specs.declared.flat.FlatItem.{FlatItem}
-use Rattle.cw_tokens.specs.FlatItems.{item_is, items_are}
-use Rattle.cw_lines.specs.Sheets.{Prints}
-use Rattle.cw_lines.specs.SheetLaws.{prints-bytes, prints-none, prints-nothing, prints-stop, prints-then}
-use Rattle.cw_lines.specs.declared.put_error.PutError.{PutError}
-use Rattle.cw_lines.specs.declared.put_error.PutError.TheVariants.{Memory}
-use Rattle.cw_lines.specs.declared.sheet.Sheet.{Sheet}
-use Rattle.cw_join.specs.Early.{added, depth_behind, early, late}
-use Rattle.cw_join.specs.Standing.{Stands}
-use Rattle.cw_join.specs.Tokens.{CanCome, alone}
+use Rattle.cw_lines.specs.{Sheets.Prints, declared.put_error.PutError.PutError}
+use Rattle.cw_lines.specs.{declared.put_error.PutError.TheVariants.Memory, declared.sheet.Sheet.Sheet}
 use Rattle.cw_join.proofs.EarlyLaws.{added-behind, early-added, printed-is}
 use Rattle.cw_join.proofs.PrintedLaws.{printed-list}
 use Rattle.cw_print.specs.declared.printing.Printer.{Printer}
-use Rattle.cw_print.specs.Coming.{AllMay, MayCome}
-use Rattle.cw_print.specs.Printing.{IsBehind, IsMidway, Midway, PrintsOn, shown, shown_next}
-use Rattle.cw_print.specs.Sources.{titles}
-use Rattle.cw_print.specs.Walk.{Source, Title, items_shown, outside, own_bytes, placed_shown, stand_after, title_in}
-use Rattle.cw_print.specs.Walked.{behind}
 use Rattle.cw_print.proofs.ComingLaws.{can-come, opened-most}
 use Rattle.cw_print.proofs.ShownLaws.{own-alone, placed-run, shown-append, stand-more}
 
@@ -48,9 +37,8 @@ pub shown-more : (s : Source) (items : List Item) (item : Item) → shown s (ite
     ++ shown_next s items item ∷ []
 shown-more s items item = shown-append s items (item ∷ []) outside
 
-early-more : (inner : Bool) (s : Source) (items : List Item) (item : Item)
-    → early inner (shown s items) ++ added inner (shown s items) (shown_next s items item)
-    ≡ early inner (shown s (items ++ item ∷ []))
+early-more : (inner : Bool) (s : Source) (items : List Item) (item : Item) → early inner (shown s items)
+    ++ added inner (shown s items) (shown_next s items item) ≡ early inner (shown s (items ++ item ∷ []))
 early-more inner s items item = grind (arith, early-added, shown-more)
 
 -- ## One item
@@ -92,9 +80,8 @@ module _ (s : Source) (inner : Bool) (items : List Item) (printer : Printer) (b 
   -- the printer stands behind it where its walk and its joiner do
   pub next-behind : (next : Printer) → titles next.book.now ≡ s.titles → next.book.now.names ≡ s.names
       → next.walk ≡ behind printer.walk (placed_shown printer.walk.fixed title (item_is item) printer.walk.stand)
-      → next.joiner.inner ≡ printer.joiner.inner
-      → Stands next.joiner (shown s items ++ shown_next s items (item_is item) ∷ [])
-      → IsBehind s inner (items ++ item_is item ∷ []) next
+      → next.joiner.inner ≡ printer.joiner.inner → Stands next.joiner
+      (shown s items ++ shown_next s items (item_is item) ∷ []) → IsBehind s inner (items ++ item_is item ∷ []) next
   next-behind next same_titles same_names walk same_inner stands = grind (arith, next-stand, shown-more)
 
 -- ## First parts
@@ -117,17 +104,13 @@ prints-part : {D T U : Type 0} {told : D → Told} (inner : Bool) (s : Source) (
     → Prints {T = T} told (early inner (shown s (take n items))) old new (Err error)
     → IsErrAnd result (λ found. found ≡ error) → Prints told (printed inner (shown s items)) old new result
 prints-part inner s items n begun is =
-    let parts : shown s items ≡ shown s (take n items)
-    ++ items_shown s (drop n items) (stand_after s (take n items) outside) =
-    ap (shown s) (sym (take-append-drop n items)) ∙ shown-append s (take n items) (drop n items) outside in
-    let first : BeginsEarly inner (shown s (take n items)) (shown s items) =
-    subst (λ (all : List Printable). BeginsEarly inner (shown s (take n items)) all) (sym parts)
-    (begins-early inner (shown s (take n items))
-    (items_shown s (drop n items) (stand_after s (take n items) outside))) in
-    prints-bytes
-    (sym (append_assoc (early inner (shown s (take n items))) first.rest (late inner (shown s items)))
-    ∙ ap (λ (l : List ℕ). l ++ late inner (shown s items)) (sym first.is)
-    ∙ printed-by inner (shown s items))
+    let parts : shown s items ≡ shown s (take n items) ++ items_shown s (drop n items) (stand_after s (take n items)
+    outside) = ap (shown s) (sym (take-append-drop n items)) ∙ shown-append s (take n items) (drop n items) outside in
+    let first : BeginsEarly inner (shown s (take n items)) (shown s items) = subst
+    (λ (all : List Printable). BeginsEarly inner (shown s (take n items)) all) (sym parts) (begins-early inner
+    (shown s (take n items)) (items_shown s (drop n items) (stand_after s (take n items) outside))) in
+    prints-bytes (sym (append_assoc (early inner (shown s (take n items))) first.rest (late inner (shown s items)))
+    ∙ ap (λ (l : List ℕ). l ++ late inner (shown s items)) (sym first.is) ∙ printed-by inner (shown s items))
     (prints-stop (first.rest ++ late inner (shown s items)) begun is)
 
 -- ## Midway
@@ -136,12 +119,10 @@ pub at-index : (items : List FlatItem) (i : ℕ) (other item : FlatItem) → get
     → i < length items → slice_get items i ≡ Some item
 at-index items i other item is inside = slice_get-get_or items i other inside ∙ ap Some is
 
-pub at-slice : (items : List FlatItem) (from to k : ℕ) (other item : FlatItem)
-    → get_or (take (to - from) (drop from items)) k other ≡ item → k < to - from → to ≤ length items
-    → slice_get items (from + k) ≡ Some item
-at-slice items from to k other item is below within = at-index items (from + k) other item
-    (sym (get_or-drop from items k other) ∙ sym (get_or-take (to - from) (drop from items) k other below) ∙ is)
-    (omega (arith, below, within))
+pub at-slice : (items : List FlatItem) (from to k : ℕ) (other item : FlatItem) → get_or (take (to - from)
+    (drop from items)) k other ≡ item → k < to - from → to ≤ length items → slice_get items (from + k) ≡ Some item
+at-slice items from to k other item is below within = at-index items (from + k) other item (sym (get_or-drop from items
+    k other) ∙ sym (get_or-take (to - from) (drop from items) k other below) ∙ is) (omega (arith, below, within))
 
 module _ (items : List FlatItem) (i : ℕ) (item : FlatItem) (is : slice_get items i ≡ Some item) where
   there : slice_get (items_are items) i ≡ Some (item_is item)
@@ -151,14 +132,12 @@ module _ (items : List FlatItem) (i : ℕ) (item : FlatItem) (is : slice_get ite
   inside = slice_get_within (items_are items) i (item_is item) there
 
   pub taken : take (i + 1) (items_are items) ≡ take i (items_are items) ++ item_is item ∷ []
-  taken = take_more (items_are items) i (item_is item) inside
-      ∙ ap (λ (x : Item). take i (items_are items)
-      ++ x ∷ []) (get_or_from_slice_get (items_are items) i (item_is item) (item_is item) there)
+  taken = take_more (items_are items) i (item_is item) inside ∙ ap (λ (x : Item). take i (items_are items) ++ x ∷ [])
+      (get_or_from_slice_get (items_are items) i (item_is item) (item_is item) there)
 
   dropped : drop i (items_are items) ≡ item_is item ∷ drop (i + 1) (items_are items)
-  dropped = drop_more (items_are items) i (item_is item) inside
-      ∙ ap (λ (x : Item). x ∷ drop (i + 1) (items_are items)) (get_or_from_slice_get (items_are items) i (item_is item)
-      (item_is item) there)
+  dropped = drop_more (items_are items) i (item_is item) inside ∙ ap (λ (x : Item). x ∷ drop (i + 1) (items_are items))
+      (get_or_from_slice_get (items_are items) i (item_is item) (item_is item) there)
 
   module _ (s : Source) (inner : Bool) (printer : Printer) (midway : Midway s inner (items_are items) i printer) where
     abbrev depth : ℕ
@@ -175,10 +154,9 @@ module _ (items : List FlatItem) (i : ℕ) (item : FlatItem) (is : slice_get ite
     pub midway-next : (next : Printer) → IsBehind s inner (take i (items_are items) ++ item_is item ∷ []) next
         → Midway s inner (items_are items) (i + 1) next
     midway-next next behind =
-        let deeper : depth_behind (shown s (take (i + 1) (items_are items))) ≡ opened depth (item_is item) =
-        ap (λ (l : List Item). depth_behind (shown s l)) taken
-        ∙ ap depth_behind (shown-more s (take i (items_are items)) (item_is item))
-        ∙ fold_push (λ (d : ℕ) (p : Printable). opened d p.item) 0 (shown s (take i (items_are items)))
+        let deeper : depth_behind (shown s (take (i + 1) (items_are items))) ≡ opened depth (item_is item) = ap
+        (λ (l : List Item). depth_behind (shown s l)) taken ∙ ap depth_behind (shown-more s (take i (items_are items))
+        (item_is item)) ∙ fold_push (λ (d : ℕ) (p : Printable). opened d p.item) 0 (shown s (take i (items_are items)))
         (shown_next s (take i (items_are items)) (item_is item)) in
         let most : opened depth (item_is item) ≤ suc depth = opened-most depth (item_is item) in
         let shallow : depth ≤ i = midway.shallow in
@@ -211,30 +189,24 @@ module _ (items : List FlatItem) (i : ℕ) (item : FlatItem) (is : slice_get ite
       (printed_so some.s some.inner some.midway).0 small
 
   -- one item more
-  pub printed-more : (next : Printer) (new : List ℕ)
-      → ((s : Source) (inner : Bool) (before : List Item) → IsBehind s inner before printer → new ≡ buffer
-      ++ added inner (shown s before) (shown_next s before (item_is item)))
-      → ((s : Source) (inner : Bool) (before : List Item) → IsBehind s inner before printer
-      → IsBehind s inner (before ++ item_is item ∷ []) next)
-      → Printed (items_are items) from (i + 1) first next old new
+  pub printed-more : (next : Printer) (new : List ℕ) → ((s : Source) (inner : Bool) (before : List Item) → IsBehind s
+      inner before printer → new ≡ buffer ++ added inner (shown s before) (shown_next s before (item_is item)))
+      → ((s : Source) (inner : Bool) (before : List Item) → IsBehind s inner before printer → IsBehind s inner
+      (before ++ item_is item ∷ []) next) → Printed (items_are items) from (i + 1) first next old new
   printed-more next new bytes behind = λ s inner m.
       let k = printed_so s inner m in
       let before : List Item = take i (items_are items) in
       let one : List ℕ = added inner (shown s (take i (items_are items)))
       (shown_next s (take i (items_are items)) (item_is item)) in (
         midway-next items i item is s inner printer k.0 next (behind s inner before k.0.behind),
-        λ done e.
-            ap (λ (l : List ℕ). done ++ l) (bytes s inner before k.0.behind) ∙ sym (append_assoc done buffer one)
-            ∙ ap (λ (l : List ℕ). l ++ one) (k.1 done e)
-            ∙ early-more inner s (take i (items_are items)) (item_is item)
+        λ done e. ap (λ (l : List ℕ). done ++ l) (bytes s inner before k.0.behind) ∙ sym (append_assoc done buffer one)
+            ∙ ap (λ (l : List ℕ). l ++ one) (k.1 done e) ∙ early-more inner s (take i (items_are items)) (item_is item)
             ∙ ap (λ (l : List Item). early inner (shown s l)) (sym (taken items i item is)),
       )
 
-pub printed-behind : (items : List Item) (from k : ℕ) (first printer : Printer) (old new : List ℕ)
-    → Printed items from (from + k + 1) first printer old new
-    → Printed items from (from + (k + 1)) first printer old new
-printed-behind items from k first printer old new so =
-    subst (λ (n : ℕ). Printed items from n first printer old new)
+pub printed-behind : (items : List Item) (from k : ℕ) (first printer : Printer) (old new : List ℕ) → Printed items from
+    (from + k + 1) first printer old new → Printed items from (from + (k + 1)) first printer old new
+printed-behind items from k first printer old new so = subst (λ (n : ℕ). Printed items from n first printer old new)
     (let e : from + k + 1 ≡ from + (k + 1) = omega arith in e) so
 
 -- all items up to the last place are printed
@@ -249,23 +221,20 @@ module _ (items : List Item) (from i to : ℕ) (first printer : Printer) (old ne
 
 -- more waits
 pub waits-on : {D : Type 0} {told : D → Told} (inner : Bool) (s : Source) (items : List Item) (from to : ℕ)
-    (buffer more : List ℕ) {old new : Sheet D}
-    → Waiting told inner s items from buffer old new → PrintsOn s inner items from to buffer more
-    → Waiting told inner s items to more old new
+    (buffer more : List ℕ) {old new : Sheet D} → Waiting told inner s items from buffer old new
+    → PrintsOn s inner items from to buffer more → Waiting told inner s items to more old new
 waits-on inner s items from to buffer more w prints = record { done = w.done; put = w.put; all = prints w.done w.all }
 
 -- what waits is put
 pub waits-none : {D : Type 0} {told : D → Told} (inner : Bool) (s : Source) (items : List Item) (i : ℕ)
-    (buffer left : List ℕ) {old mid new : Sheet D}
-    → Waiting told inner s items i buffer old mid → Prints {T = ⊤} told buffer mid new (Ok (tt {0})) → left ≡ []
-    → Waiting told inner s items i left old new
+    (buffer left : List ℕ) {old mid new : Sheet D} → Waiting told inner s items i buffer old mid
+    → Prints {T = ⊤} told buffer mid new (Ok (tt {0})) → left ≡ [] → Waiting told inner s items i left old new
 waits-none inner s items i buffer left w put none =
     grind (arith, has-printed (prints-then w.put put), prints-then w.put put, append-nil (w.done ++ buffer))
 
 -- memory is refused while bytes wait
 pub stops-waiting : {D U : Type 0} {told : D → Told} (inner : Bool) (s : Source) (items : List Item) (i : ℕ)
-    (buffer : List ℕ) {old new : Sheet D} {result : Result U PutError}
-    → Waiting told inner s items i buffer old new
+    (buffer : List ℕ) {old new : Sheet D} {result : Result U PutError} → Waiting told inner s items i buffer old new
     → IsErrAnd result (λ found. found ≡ Memory) → Prints told (printed inner (shown s items)) old new result
 stops-waiting inner s items i buffer {new = new} w is =
     prints-part inner s items i (prints-bytes w.all (prints-then w.put (prints-refused buffer new))) is
@@ -295,10 +264,8 @@ module _ (items : List FlatItem) (n : ℕ) (all : length items ≤ n) where
 
   -- what waits, and what is left
   pub prints-all : {D U : Type 0} {told : D → Told} (inner : Bool) (s : Source) (buffer rest : List ℕ)
-      {old mid new : Sheet D} {result : Result U PutError}
-      → Waiting told inner s (items_are items) n buffer old mid
-      → rest ≡ buffer ++ late inner (shown s (take n (items_are items)))
-      → Prints told rest mid new result
+      {old mid new : Sheet D} {result : Result U PutError} → Waiting told inner s (items_are items) n buffer old mid
+      → rest ≡ buffer ++ late inner (shown s (take n (items_are items))) → Prints told rest mid new result
       → Prints told (printed inner (shown s (items_are items))) old new result
   prints-all inner s buffer rest w left put = grind (
     arith,

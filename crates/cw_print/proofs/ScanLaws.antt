@@ -1,14 +1,10 @@
 -- Of the tokens that a scan finds by their numbers.
-use Rattle.std.proofs.Common.{◌≡◌, ◌≢◌, ℕ, suc, ◌+◌, ◌-◌, ◌<◌, ◌≤◌, ◌^◌, List, ◌++◌, Option, Some, append_assoc, arith}
-use Rattle.std.proofs.Common.{subst, drop, length, take}
-use Rattle.std.proofs.lemmas.List.{take_all}
+use Rattle.cw_print.proofs.Terms.{◌≡◌, ◌≢◌, ℕ, suc, ◌+◌, ◌-◌, ◌<◌, ◌≤◌, ◌^◌, List, ◌++◌, Option, Some, append_assoc}
+use Rattle.cw_print.proofs.Terms.{arith, subst, drop, length, take, take_all, until_section, IsSeeking}
 use Rattle.std.proofs.Math.Seq.{take-add}
-use Rattle.cw_lex.specs.Nested.{until_section}
-use Rattle.cw_rules.specs.declared.tokens.Lexed.{Lexed}
-use Rattle.cw_rules.specs.declared.tokens.Tok.{Tok}
-use Rattle.cw_rules.specs.Answers.{Answer, Gives, Seen, seen}
+use Rattle.cw_rules.specs.{declared.tokens.Lexed.Lexed, declared.tokens.Tok.Tok, Answers.Answer, Answers.Gives}
+use Rattle.cw_rules.specs.{Answers.Seen, Answers.seen}
 use Rattle.cw_print.specs.Found.{numbered, HasNoNumber, HasNumber, IsAhead}
-use Rattle.cw_print.specs.Scanning.{IsSeeking}
 
 -- the answers from a place on, up to another
 abbrev pub ahead-of : List Answer → ℕ → ℕ → List Answer
@@ -26,19 +22,16 @@ gives-taken : (answer : Lexed) (n : ℕ) (old new : List Answer) → Gives old a
     → Gives (take (suc n) old) answer (take n new)
 gives-taken answer n old new g = grind (arith, take_all)
 
-gives-ahead : (answer : Lexed) (all : List Answer) (place end : ℕ) → place < end
-    → Gives (drop place all) answer (drop (place + 1) all)
-    → Gives (ahead-of all place end) answer (ahead-of all (place + 1) end)
-gives-ahead answer all place end less g =
-    subst (λ (n : ℕ). Gives (take n (drop place all)) answer (ahead-of all (place + 1) end))
-    (let e : suc (end - (place + 1)) ≡ end - place = omega (arith, less) in e)
+gives-ahead : (answer : Lexed) (all : List Answer) (place end : ℕ) → place < end → Gives (drop place all) answer
+    (drop (place + 1) all) → Gives (ahead-of all place end) answer (ahead-of all (place + 1) end)
+gives-ahead answer all place end less g = subst (λ (n : ℕ). Gives (take n (drop place all)) answer
+    (ahead-of all (place + 1) end)) (let e : suc (end - (place + 1)) ≡ end - place = omega (arith, less) in e)
     (gives-taken answer (end - (place + 1)) (drop place all) (drop (place + 1) all) g)
 
 -- the walk goes on behind an answer whose token has another number
 pub passes-token : (answer : Lexed) (token : Tok) (number : ℕ) (all : List Answer) (place end from more : ℕ)
     → place < end → Gives (drop place all) answer (drop (place + 1) all) → HasNumber answer token
-    → token.span.start ≢ number → from ≤ more
-    → ((m : ℕ) → more ≤ m → m < 2 ^ 32 → token.span.start ≢ m)
+    → token.span.start ≢ number → from ≤ more → ((m : ℕ) → more ≤ m → m < 2 ^ 32 → token.span.start ≢ m)
     → Passes number all place end from → Passes number all (place + 1) end more
 passes-token answer token number all place end from more less g has other-number larger beyond p =
     grind (arith, gives-ahead)
@@ -50,31 +43,27 @@ pub passes-none : (answer : Lexed) (number : ℕ) (all : List Answer) (place end
 passes-none answer number all place end from less g none p = grind (arith, gives-ahead)
 
 -- the token of the number is found
-pub found-at : (answer : Lexed) (token : Tok) (number : ℕ) (all : List Answer) (place end from : ℕ)
-    → place < end → Gives (drop place all) answer (drop (place + 1) all) → HasNumber answer token
-    → token.span.start ≡ number → Passes number all place end from
-    → Some (seen token) ≡ numbered number (take end all)
+pub found-at : (answer : Lexed) (token : Tok) (number : ℕ) (all : List Answer) (place end from : ℕ) → place < end
+    → Gives (drop place all) answer (drop (place + 1) all) → HasNumber answer token → token.span.start ≡ number
+    → Passes number all place end from → Some (seen token) ≡ numbered number (take end all)
 found-at answer token number all place end from less g has is p = grind (arith, gives-ahead answer all place end less g)
 
 -- and the walk then stands behind it
-pub seeks-behind : (answer : Lexed) (token : Tok) (number : ℕ) (all : List Answer) (place end from : ℕ)
-    → place < end → Gives (drop place all) answer (drop (place + 1) all) → HasNumber answer token
-    → token.span.start ≡ number → Passes number all place end from
-    → IsSeeking all (record { place = place + 1; «end» = end; from = from })
+pub seeks-behind : (answer : Lexed) (token : Tok) (number : ℕ) (all : List Answer) (place end from : ℕ) → place < end
+    → Gives (drop place all) answer (drop (place + 1) all) → HasNumber answer token → token.span.start ≡ number
+    → Passes number all place end from → IsSeeking all (record { place = place + 1; «end» = end; from = from })
 seeks-behind answer token number all place end from less g has is p = grind (arith, gives-ahead)
 
 -- each number from one on has its token behind an answer
 pub seeks-on : (answer : Lexed) (all : List Answer) (place end from more : ℕ) → place < end → from ≤ more
-    → Gives (drop place all) answer (drop (place + 1) all)
-    → ((m : ℕ) (old new : List Answer) → more ≤ m → Gives old answer new → numbered m old ≡ numbered m new)
-    → IsSeeking all (record { place = place; «end» = end; from = from })
+    → Gives (drop place all) answer (drop (place + 1) all) → ((m : ℕ) (old new : List Answer) → more ≤ m → Gives old
+    answer new → numbered m old ≡ numbered m new) → IsSeeking all (record { place = place; «end» = end; from = from })
     → IsSeeking all (record { place = place + 1; «end» = end; from = more })
 seeks-on answer all place end from more less larger g same s = grind (arith, gives-ahead)
 
 -- fewer numbers are known to lie ahead
-pub seeks-less : (all : List Answer) (place end from more : ℕ) → from ≤ more
-    → IsSeeking all (record { place = place; «end» = end; from = from })
-    → IsSeeking all (record { place = place; «end» = end; from = more })
+pub seeks-less : (all : List Answer) (place end from more : ℕ) → from ≤ more → IsSeeking all (record
+    { place = place; «end» = end; from = from }) → IsSeeking all (record { place = place; «end» = end; from = more })
 seeks-less all place end from more larger s = grind arith
 
 -- what is said of the token of a number holds as it stands ahead

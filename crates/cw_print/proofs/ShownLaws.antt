@@ -1,14 +1,9 @@
 -- What is shown of a list with more behind it, and what the joiner prints of an item that is shown.
-use Rattle.std.proofs.Common.{◌≡◌, Bool, true, List, [], ◌∷◌, ◌++◌, Option, Some, None, refl, if◌then◌else◌, arith}
-use Rattle.cw_trees.specs.declared.Control.{Control}
-use Rattle.cw_trees.specs.Flat.{Item, is_run_sign}
-use Rattle.cw_trees.specs.Printing.{run_sign}
+use Rattle.cw_print.proofs.Terms.{◌≡◌, Bool, true, List, [], ◌∷◌, ◌++◌, Option, Some, None, refl, if◌then◌else◌, arith}
+use Rattle.cw_print.proofs.Terms.{Control, Item, is_run_sign, run_sign, FlatItem, item_is, control_bytes, item_bytes}
+use Rattle.cw_print.proofs.Terms.{Fixed, Source, Stand, Title, control_shown, item_shown, items_shown, own_bytes}
+use Rattle.cw_print.proofs.Terms.{own_sign, placed_shown, stand_after}
 use Rattle.cw_names.specs.Names.{Entry}
-use Rattle.cw_tokens.specs.declared.flat.FlatItem.{FlatItem}
-use Rattle.cw_tokens.specs.FlatItems.{item_is}
-use Rattle.cw_join.specs.Tokens.{control_bytes, item_bytes}
-use Rattle.cw_print.specs.Walk.{Fixed, Source, Stand, Title, control_shown, item_shown, items_shown, own_bytes}
-use Rattle.cw_print.specs.Walk.{own_sign, placed_shown, stand_after}
 
 pub shown-append : (s : Source) (items more : List Item) (stand : Stand)
     → items_shown s (items ++ more) stand ≡ items_shown s items stand ++ items_shown s more (stand_after s items stand)
@@ -33,8 +28,7 @@ control-run : (control : Control) (stand : Stand) → is_run_sign control ≡ tr
 control-run control stand is = grind arith
 
 sign-by : (control found : Control) (b : Bool) → is_run_sign control ≡ b
-    → (if b then Some control else None) ≡ Some found
-    → is_run_sign control ≡ true
+    → (if b then Some control else None) ≡ Some found → is_run_sign control ≡ true
 sign-by control found b is some = grind arith
 
 pub placed-run : (f : Fixed) (title : Option Title) (item : FlatItem) (stand : Stand) (control : Control)

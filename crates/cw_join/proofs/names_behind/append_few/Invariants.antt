@@ -1,6 +1,5 @@
 -- What is appended, and the bytes that are left, are all.
-use Rattle.std.proofs.Common.{◌≡◌, ◌++◌, drop}
-use Rattle.cw_join.specs.Appending.{StaysBefore}
+use Rattle.cw_join.proofs.Terms.{◌≡◌, ◌++◌, drop, StaysBefore}
 use Rattle.cw_join.proofs.names_behind.append_few.Given as goal
 
 abbrev pub invariant-loop-byte : goal.invariant-loop-byte

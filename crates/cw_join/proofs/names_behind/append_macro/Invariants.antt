@@ -1,7 +1,5 @@
 -- What is appended, and the letters of the rest of the name, are the letters of the macro.
-use Rattle.std.proofs.Common.{◌≡◌, ◌++◌, drop, map}
-use Rattle.cw_join.specs.Appending.{StaysBefore}
-use Rattle.cw_join.specs.Tokens.{macro_letter}
+use Rattle.cw_join.proofs.Terms.{◌≡◌, ◌++◌, drop, map, StaysBefore, macro_letter}
 use Rattle.cw_join.proofs.names_behind.append_macro.Given as goal
 
 abbrev pub invariant-loop-byte : goal.invariant-loop-byte

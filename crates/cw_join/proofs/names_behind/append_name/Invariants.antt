@@ -1,7 +1,5 @@
 -- What is appended, and what the rest of the name prints, are what the name prints.
-use Rattle.std.proofs.Common.{◌≡◌, ◌++◌, drop}
-use Rattle.cw_trees.specs.Printing.{name_bytes}
-use Rattle.cw_join.specs.Appending.{StaysBefore}
+use Rattle.cw_join.proofs.Terms.{◌≡◌, ◌++◌, drop, name_bytes, StaysBefore}
 use Rattle.cw_join.proofs.names_behind.append_name.Given as goal
 
 abbrev pub invariant-loop-byte : goal.invariant-loop-byte

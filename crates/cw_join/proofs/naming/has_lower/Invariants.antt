@@ -1,7 +1,5 @@
 -- No byte so far is a lower case letter, so those that are left decide.
-use Rattle.std.proofs.Common.{◌≡◌, drop}
-use Rattle.std.specs.List.{list_any}
-use Rattle.cw_trees.specs.Printing.{is_lower}
+use Rattle.cw_join.proofs.Terms.{◌≡◌, drop, list_any, is_lower}
 use Rattle.cw_join.proofs.naming.has_lower.Given as goal
 
 abbrev pub invariant-loop-byte : goal.invariant-loop-byte

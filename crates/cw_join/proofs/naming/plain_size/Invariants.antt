@@ -1,7 +1,5 @@
 -- No byte so far has a backslash, so the first that has one is looked for behind them.
-use Rattle.std.proofs.Common.{◌≡◌, ◌+◌, drop}
-use Rattle.std.specs.List.{position_or_len}
-use Rattle.cw_join.specs.Tokens.{is_marked}
+use Rattle.cw_join.proofs.Terms.{◌≡◌, ◌+◌, drop, position_or_len, is_marked}
 use Rattle.cw_join.proofs.naming.plain_size.Given as goal
 
 abbrev pub invariant-loop-i : goal.invariant-loop-i

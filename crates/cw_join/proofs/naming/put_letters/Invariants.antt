@@ -1,5 +1,5 @@
 -- The letters that are put, with those that are left, are the letters of the macro.
-use Rattle.std.proofs.Common.{drop}
+use Rattle.cw_join.proofs.Terms.{drop}
 use Rattle.cw_join.proofs.MacroLaws.{LettersPut}
 use Rattle.cw_join.proofs.naming.put_letters.Given as goal
 

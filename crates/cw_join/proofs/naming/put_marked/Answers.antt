@@ -1,6 +1,5 @@
 -- The backslash is put, and then the bytes that it stands before.
-use Rattle.std.proofs.Common.{refl}
-use Rattle.cw_lines.specs.SheetLaws.{prints-failing, prints-longer, prints-then}
+use Rattle.cw_join.proofs.Terms.{refl, prints-failing, prints-longer, prints-then}
 use Rattle.cw_join.proofs.naming.put_marked.Goals as goal
 
 pub returns-in_err-put_all : goal.returns-in_err-put_all

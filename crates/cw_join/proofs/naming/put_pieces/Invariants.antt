@@ -1,5 +1,5 @@
 -- The pieces that are put, with those that are left, are the bytes of the name.
-use Rattle.std.proofs.Common.{length}
+use Rattle.cw_join.proofs.Terms.{length}
 use Rattle.cw_join.proofs.NameLaws.{PiecesPut}
 use Rattle.cw_join.proofs.naming.put_pieces.Given as goal
 

@@ -1,6 +1,5 @@
 -- `sign`: answer at `CommentEnd` and answer at `ToMath`; said here, so that a wrong one fails at once.
-use Rattle.std.proofs.Common.{arith}
-use Rattle.std.proofs.lemmas.Grind.{common_steps}
+use Rattle.cw_join.proofs.Terms.{arith, common_steps}
 use Rattle.cw_join.proofs.pieces.sign.Goals as goal
 
 pub returns-in-CommentEnd : goal.returns-in-CommentEnd

@@ -1,6 +1,5 @@
 -- What is added, and the bytes that are left, are all.
-use Rattle.std.proofs.Common.{◌≡◌, ◌+◌, ◌++◌, drop}
-use Rattle.arrayvec.specs.ArrayVec.{array_vec_len}
+use Rattle.cw_join.proofs.Terms.{◌≡◌, ◌+◌, ◌++◌, drop, array_vec_len}
 use Rattle.cw_join.proofs.short_names.add_all.Given as goal
 
 abbrev pub invariant-loop-byte : goal.invariant-loop-byte

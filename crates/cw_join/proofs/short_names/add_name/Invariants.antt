@@ -1,7 +1,5 @@
 -- What is added, and what the rest of the name prints, are what the name prints.
-use Rattle.std.proofs.Common.{◌≡◌, ◌+◌, ◌*◌, ◌≤◌, ◌++◌, drop}
-use Rattle.arrayvec.specs.ArrayVec.{array_vec_len}
-use Rattle.cw_trees.specs.Printing.{name_bytes}
+use Rattle.cw_join.proofs.Terms.{◌≡◌, ◌+◌, ◌*◌, ◌≤◌, ◌++◌, drop, array_vec_len, name_bytes}
 use Rattle.cw_join.proofs.short_names.add_name.Given as goal
 
 abbrev pub invariant-loop-byte : goal.invariant-loop-byte

@@ -1,7 +1,5 @@
 -- No byte so far is special, so the first that is is looked for behind them.
-use Rattle.std.proofs.Common.{◌≡◌, ◌+◌, drop}
-use Rattle.std.specs.List.{position_or_len}
-use Rattle.cw_print.specs.Comments.{is_special}
+use Rattle.cw_print.proofs.Terms.{◌≡◌, ◌+◌, drop, position_or_len, is_special}
 use Rattle.cw_print.proofs.comments.plain_size.Given as goal
 
 abbrev pub invariant-loop-i : goal.invariant-loop-i

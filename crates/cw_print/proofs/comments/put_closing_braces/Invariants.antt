@@ -1,6 +1,5 @@
 -- The braces put so far, with those that the open ones still want, are all that close the comment.
-use Rattle.std.proofs.Common.{◌≡◌, ◌++◌}
-use Rattle.cw_print.specs.Comments.{closing_braces}
+use Rattle.cw_print.proofs.Terms.{◌≡◌, ◌++◌, closing_braces}
 use Rattle.cw_print.proofs.comments.put_closing_braces.Given as goal
 
 abbrev pub invariant-loop-open : goal.invariant-loop-open

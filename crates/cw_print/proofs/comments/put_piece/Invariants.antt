@@ -1,6 +1,5 @@
 -- What is put so far, with what the rest of the piece prints from its open braces on, is the piece.
-use Rattle.std.proofs.Common.{length}
-use Rattle.cw_print.specs.Comments.{Prints}
+use Rattle.cw_print.proofs.Terms.{length, Prints}
 use Rattle.cw_print.proofs.comments.put_piece.Given as goal
 
 abbrev pub invariant-loop-two : goal.invariant-loop-two

@@ -1,6 +1,5 @@
 -- What is put so far, with what the rest of the exponent prints, is the exponent.
-use Rattle.std.proofs.Common.{◌≡◌, ◌++◌, length}
-use Rattle.cw_print.specs.Constants.{exponent_bytes}
+use Rattle.cw_print.proofs.Terms.{◌≡◌, ◌++◌, length, exponent_bytes}
 use Rattle.cw_print.proofs.constants.put_exponent.Given as goal
 
 abbrev pub invariant-loop-rest : goal.invariant-loop-rest

@@ -1,6 +1,5 @@
 -- What is put so far, with what the rest of the hex digits prints, are the hex digits.
-use Rattle.std.proofs.Common.{◌≡◌, ◌++◌, length}
-use Rattle.cw_print.specs.Constants.{hex_digits}
+use Rattle.cw_print.proofs.Terms.{◌≡◌, ◌++◌, length, hex_digits}
 use Rattle.cw_print.proofs.constants.put_hex_digits.Given as goal
 
 abbrev pub invariant-loop-rest : goal.invariant-loop-rest

@@ -1,6 +1,5 @@
 -- What is put so far, with what the rest of the mantissa prints, is the mantissa.
-use Rattle.std.proofs.Common.{◌≡◌, ◌++◌, length}
-use Rattle.cw_print.specs.Constants.{mantissa_bytes}
+use Rattle.cw_print.proofs.Terms.{◌≡◌, ◌++◌, length, mantissa_bytes}
 use Rattle.cw_print.proofs.constants.put_mantissa.Given as goal
 
 abbrev pub invariant-loop-rest : goal.invariant-loop-rest

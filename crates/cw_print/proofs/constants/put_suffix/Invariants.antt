@@ -1,6 +1,5 @@
 -- What is put so far, with what the letters that are left print, is the suffix.
-use Rattle.std.proofs.Common.{◌≡◌, ◌++◌, drop}
-use Rattle.cw_print.specs.Constants.{suffix}
+use Rattle.cw_print.proofs.Terms.{◌≡◌, ◌++◌, drop, suffix}
 use Rattle.cw_print.proofs.constants.put_suffix.Given as goal
 
 abbrev pub invariant-loop-byte : goal.invariant-loop-byte

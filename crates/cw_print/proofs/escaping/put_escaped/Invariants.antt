@@ -1,6 +1,5 @@
 -- The bytes put so far, with those that are left escaped, are the text escaped.
-use Rattle.std.proofs.Common.{◌≡◌, ◌++◌, drop}
-use Rattle.cw_print.specs.Escaping.{escaped}
+use Rattle.cw_print.proofs.Terms.{◌≡◌, ◌++◌, drop, escaped}
 use Rattle.cw_print.proofs.escaping.put_escaped.Given as goal
 
 abbrev pub invariant-loop-byte : goal.invariant-loop-byte

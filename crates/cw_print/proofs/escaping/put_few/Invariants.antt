@@ -1,5 +1,5 @@
 -- What is appended, and the bytes that are left, are all.
-use Rattle.std.proofs.Common.{◌≡◌, ◌++◌, drop}
+use Rattle.cw_print.proofs.Terms.{◌≡◌, ◌++◌, drop}
 use Rattle.cw_print.proofs.escaping.put_few.Given as goal
 
 abbrev pub invariant-loop-byte : goal.invariant-loop-byte

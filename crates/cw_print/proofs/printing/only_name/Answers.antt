@@ -1,6 +1,5 @@
 -- The one item is an identifier.
-use Rattle.std.proofs.Common.{◌≡◌, [], ◌∷◌, ap, ◌∙◌, length, arith}
-use Rattle.cw_tokens.specs.declared.flat.FlatItem.{FlatItem}
+use Rattle.cw_print.proofs.Terms.{◌≡◌, [], ◌∷◌, ap, ◌∙◌, length, arith, FlatItem}
 use Rattle.cw_print.proofs.NameLaws.{only-item}
 use Rattle.cw_print.proofs.printing.only_name.Goals as goal
 

@@ -1,14 +1,7 @@
 -- The brackets and the items, one behind another.
-use Rattle.std.proofs.Common.{ℕ, Bool, ◌&&◌, List, ◌++◌, ap, ◌∙◌, sym, subst, length, codes}
-use Rattle.std.proofs.lemmas.List.{append_assoc}
-use Rattle.cw_trees.specs.Flat.{Item}
-use Rattle.cw_trees.specs.Printing.{ident_bytes, printed}
-use Rattle.cw_tokens.specs.FlatItems.{items_are}
-use Rattle.cw_lines.specs.SheetLaws.{prints-bytes, prints-failing, prints-longer, prints-then}
-use Rattle.cw_join.specs.Tokens.{word_at}
-use Rattle.cw_print.specs.Coming.{AllMay, MayCome}
-use Rattle.cw_print.specs.Printing.{shown, source_of}
-use Rattle.cw_print.specs.Walk.{Source, bracket, wrapped}
+use Rattle.cw_print.proofs.Terms.{ℕ, Bool, ◌&&◌, List, ◌++◌, ap, ◌∙◌, sym, length, codes, append_assoc, ident_bytes}
+use Rattle.cw_print.proofs.Terms.{printed, items_are, prints-bytes, prints-failing, prints-longer, prints-then, word_at}
+use Rattle.cw_print.proofs.Terms.{shown, source_of, Source, bracket, wrapped}
 use Rattle.cw_print.proofs.NameLaws.{only-named, only-printed}
 use Rattle.cw_print.proofs.printing.print_flat.Goals as goal
 
@@ -17,17 +10,13 @@ print_name-requires-clause-named g c =
     only-named (length c.args.c.book.now.names) c.in-Some.name c.args.items.now c.in-Some.ensures c.requires.come
 
 pub returns-in-Some : goal.returns-in-Some
-returns-in-Some g c =
-    prints-bytes
+returns-in-Some g c = prints-bytes
     ((λ i. wrapped (c.is_wrapped-wraps.ensures i) (word_at ident_bytes c.args.c.book.now.names c.in-Some.name.index))
-    ∙ ap (wrapped (c.args.c.inner && c.args.c.flags.now.wrap))
-    (sym (only-printed c.args.c.inner (source_of c.args.c) c.in-Some.name c.args.items.now c.in-Some.ensures)))
-    c.print_name.ensures
+    ∙ ap (wrapped (c.args.c.inner && c.args.c.flags.now.wrap)) (sym (only-printed c.args.c.inner
+    (source_of c.args.c) c.in-Some.name c.args.items.now c.in-Some.ensures))) c.print_name.ensures
 
 pub print_items-requires-clause-come : goal.print_items-requires-clause-come
-print_items-requires-clause-come g c =
-    subst (λ (items : List Item). AllMay (MayCome (length c.args.c.book.now.names)) 0 items)
-    (sym (ap items_are c.items.ensures)) c.requires.come
+print_items-requires-clause-come g c = rw (ap items_are c.items.ensures) c.requires.come
 
 pub returns-in_err-put_bracket : goal.returns-in_err-put_bracket
 returns-in_err-put_bracket g c =
@@ -40,19 +29,13 @@ pub returns-in_err-print_items : goal.returns-in_err-print_items
 returns-in_err-print_items g c =
     let s : Source = source_of c.args.c in
     let wraps : Bool = c.args.c.inner && c.args.c.flags.now.wrap in
-    prints-failing
-    ((λ i. (bracket (c.is_wrapped-wraps.ensures i) (codes "\\PB{")
-    ++ printed c.args.c.inner (shown s (items_are (c.items.ensures i)))) ++ bracket wraps (codes "}"))
+    prints-failing ((λ i. (bracket (c.is_wrapped-wraps.ensures i) (codes "\\PB{") ++ printed c.args.c.inner
+    (shown s (items_are (c.items.ensures i)))) ++ bracket wraps (codes "}"))
     ∙ append_assoc (bracket wraps (codes "\\PB{")) (printed c.args.c.inner (shown s (items_are c.args.items.now)))
-    (bracket wraps (codes "}")))
-    (prints-longer (bracket wraps (codes "}")) (prints-then c.in_ok-put_bracket.ensures c.in_err-print_items.ensures))
-    c.from_residual-in_err-print_items.ensures.1
+    (bracket wraps (codes "}"))) (prints-longer (bracket wraps (codes "}"))
+    (prints-then c.in_ok-put_bracket.ensures c.in_err-print_items.ensures)) c.from_residual-in_err-print_items.ensures.1
 
 pub returns : goal.returns
-returns g c =
-    let s : Source = source_of c.args.c in
-    prints-bytes
-    (λ i. bracket (c.is_wrapped-wraps.ensures i) (codes "\\PB{")
-    ++ (printed c.args.c.inner (shown s (items_are (c.items.ensures i)))
-    ++ bracket (c.is_wrapped-wraps.ensures i) (codes "}")))
+returns g c = prints-bytes (λ i. bracket (c.is_wrapped-wraps.ensures i) (codes "\\PB{") ++ (printed c.args.c.inner
+    (shown (source_of c.args.c) (items_are (c.items.ensures i))) ++ bracket (c.is_wrapped-wraps.ensures i) (codes "}")))
     (prints-then c.in_ok-put_bracket.ensures (prints-then c.in_ok-print_items.ensures c.put_bracket-2.ensures))

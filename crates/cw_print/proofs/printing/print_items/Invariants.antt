@@ -1,7 +1,5 @@
 -- The printer stands behind the items so far; what they print early is put, or waits.
-use Rattle.std.proofs.Common.{◌-◌, ◌≤◌, length}
-use Rattle.cw_tokens.specs.FlatItems.{items_are}
-use Rattle.cw_print.specs.Printing.{Midway, source_of}
+use Rattle.cw_print.proofs.Terms.{◌-◌, ◌≤◌, length, items_are, Midway, source_of}
 use Rattle.cw_print.proofs.PrintingLaws.{Waiting}
 use Rattle.cw_print.proofs.printing.print_items.Given as goal
 

@@ -1,10 +1,6 @@
 -- The brackets and the name, one behind another.
-use Rattle.std.proofs.Common.{ℕ, List, ◌++◌, refl, codes}
-use Rattle.std.proofs.lemmas.List.{append_assoc}
-use Rattle.cw_trees.specs.Printing.{ident_bytes}
-use Rattle.cw_lines.specs.SheetLaws.{prints-failing, prints-longer, prints-then}
-use Rattle.cw_join.specs.Tokens.{word_at}
-use Rattle.cw_print.specs.Walk.{bracket}
+use Rattle.cw_print.proofs.Terms.{ℕ, List, ◌++◌, refl, codes, append_assoc, ident_bytes, prints-failing, prints-longer}
+use Rattle.cw_print.proofs.Terms.{prints-then, word_at, bracket}
 use Rattle.cw_print.proofs.printing.print_name.Goals as goal
 
 pub returns-in_err-put_bracket : goal.returns-in_err-put_bracket
@@ -15,14 +11,11 @@ returns-in_err-put_bracket g c =
 pub returns-in_err-put_ident_of : goal.returns-in_err-put_ident_of
 returns-in_err-put_ident_of g c =
     let behind : List ℕ = bracket c.args.wraps (codes "}") in
-    let name : List ℕ = word_at ident_bytes c.args.names.now c.args.name.index in
-    prints-failing (append_assoc (bracket c.args.wraps (codes "\\PB{")) name behind)
-    (prints-longer behind (prints-then c.in_ok-put_bracket.ensures
+    prints-failing (append_assoc (bracket c.args.wraps (codes "\\PB{")) (word_at ident_bytes c.args.names.now
+    c.args.name.index) behind) (prints-longer behind (prints-then c.in_ok-put_bracket.ensures
     (record { puts = c.in_err-put_ident_of.ensures; same = record { line = refl; desk = refl } })))
     c.from_residual-in_err-put_ident_of.ensures.1
 
 pub returns : goal.returns
-returns g c =
-    prints-then c.in_ok-put_bracket.ensures
-    (prints-then (record { puts = c.in_ok-put_ident_of.ensures; same = record { line = refl; desk = refl } })
-    c.put_bracket-2.ensures)
+returns g c = prints-then c.in_ok-put_bracket.ensures (prints-then (record
+    { puts = c.in_ok-put_ident_of.ensures; same = record { line = refl; desk = refl } }) c.put_bracket-2.ensures)

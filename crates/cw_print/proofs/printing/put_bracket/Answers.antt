@@ -1,7 +1,5 @@
 -- The bracket is put where the text is wrapped, and nothing where it isn't.
-use Rattle.std.proofs.Common.{Bool, ap, sym}
-use Rattle.cw_lines.specs.SheetLaws.{prints-bytes, prints-none}
-use Rattle.cw_print.specs.Walk.{bracket}
+use Rattle.cw_print.proofs.Terms.{Bool, ap, sym, prints-bytes, prints-none, bracket}
 use Rattle.cw_print.proofs.printing.put_bracket.Goals as goal
 
 pub returns-then-wraps : goal.returns-then-wraps
@@ -9,6 +7,5 @@ returns-then-wraps g c = prints-bytes (ap (λ (b : Bool). bracket b c.args.bytes
     c.put_all.ensures
 
 pub returns : goal.returns
-returns g c =
-    prints-bytes (ap (λ (b : Bool). bracket b c.args.bytes.now) (sym c.if-wraps.false))
+returns g c = prints-bytes (ap (λ (b : Bool). bracket b c.args.bytes.now) (sym c.if-wraps.false))
     (prints-none _ _ (tt {0}))

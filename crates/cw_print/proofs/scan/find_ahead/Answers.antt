@@ -1,9 +1,8 @@
 -- Each answer that is passed has a token of another number, or none.
-use Rattle.std.proofs.Common.{arith}
-use Rattle.std.proofs.lemmas.Grind.{common_steps}
+use Rattle.cw_print.proofs.Terms.{arith, common_steps}
 use Rattle.cw_print.proofs.ScanLaws.{found-at, passes-none, passes-token, seeks-behind}
-use Rattle.cw_print.proofs.scan.find_ahead.Goals as goal
 use Rattle.cw_print.proofs.scan.find_ahead.Goals.{in-Some+else-token-number, in_default}
+use Rattle.cw_print.proofs.scan.find_ahead.Goals as goal
 
 pub returns-then-token-number-clause-found : goal.returns-then-token-number-clause-found
 returns-then-token-number-clause-found c = found-at _ _ _ _ _ _ _ (omega arith) c.at.ensures c.in-Some.ensures.token
@@ -20,8 +19,7 @@ loop-place-preserved c = elim c.match-token_of.branch [
       (grind (arith, w.max-from.ensures))
       (λ m l fits. grind (arith, l, fits, w.max-from.ensures, w.saturating_add.ensures)) c.loop-place.invariant)
   | in_default w ↦
-      rw w.from-is (passes-none _ _ _ _ _ _ (omega arith) c.at.ensures w.in_default.ensures.none
-      c.loop-place.invariant)
+      rw w.from-is (passes-none _ _ _ _ _ _ (omega arith) c.at.ensures w.in_default.ensures.none c.loop-place.invariant)
 ]
 
 pub loop-place-init : goal.loop-place-init

@@ -1,6 +1,5 @@
 -- No section code stands before the place.
-use Rattle.std.proofs.Common.{◌≡◌, ◌++◌, take, drop}
-use Rattle.cw_lex.specs.Nested.{until_section}
+use Rattle.cw_print.proofs.Terms.{◌≡◌, ◌++◌, take, drop, until_section}
 use Rattle.cw_print.proofs.scan.section_place.Given as goal
 
 abbrev pub invariant-loop-place : goal.invariant-loop-place

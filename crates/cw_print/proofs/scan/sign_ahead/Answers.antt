@@ -1,6 +1,5 @@
 -- No answer that is passed has the token of the number or of one above it, and that of the sign has it.
-use Rattle.std.proofs.Common.{arith}
-use Rattle.cw_print.specs.Walk.{PrintsSign}
+use Rattle.cw_print.proofs.Terms.{arith, PrintsSign}
 use Rattle.cw_print.proofs.ScanLaws.{of-ahead, seeks-less, seeks-on}
 use Rattle.cw_print.proofs.scan.sign_ahead.Goals as goal
 
@@ -12,11 +11,9 @@ loop-place-preserved c = seeks-on _ _ _ _ _ _ (omega arith) (omega arith) c.at-a
     (λ m old new l g. (rw c.if-not-is_lesser.false at c.is_lesser.ensures) m old new l g) c.loop-place.invariant
 
 pub returns-then-not-is_lesser-clause-sign : goal.returns-then-not-is_lesser-clause-sign
-returns-then-not-is_lesser-clause-sign c =
-    of-ahead (PrintsSign c.in_ok-sign.sign) _ _ _ _ _ (omega arith) (omega arith) c.at-answer.ensures
-    c.in_ok-sign.ensures.sign c.loop-place.invariant
+returns-then-not-is_lesser-clause-sign c = of-ahead (PrintsSign c.in_ok-sign.sign) _ _ _ _ _ (omega arith)
+    (omega arith) c.at-answer.ensures c.in_ok-sign.ensures.sign c.loop-place.invariant
 
 pub returns-then-not-is_lesser-clause-behind : goal.returns-then-not-is_lesser-clause-behind
-returns-then-not-is_lesser-clause-behind c =
-    seeks-on _ _ _ _ _ _ (omega arith) (omega arith) c.at-answer.ensures
+returns-then-not-is_lesser-clause-behind c = seeks-on _ _ _ _ _ _ (omega arith) (omega arith) c.at-answer.ensures
     (λ m old new l g. c.in_ok-sign.ensures.others m old new (omega (arith, l)) g) c.loop-place.invariant

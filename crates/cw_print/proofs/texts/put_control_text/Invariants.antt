@@ -1,6 +1,5 @@
 -- What is put so far, with what the rest of the control text says, is what all of it says.
-use Rattle.std.proofs.Common.{◌≡◌, ◌++◌, length}
-use Rattle.cw_rules.specs.ControlTexts.{text_to_end}
+use Rattle.cw_print.proofs.Terms.{◌≡◌, ◌++◌, length, text_to_end}
 use Rattle.cw_print.proofs.texts.put_control_text.Given as goal
 
 abbrev pub invariant-loop-rest : goal.invariant-loop-rest

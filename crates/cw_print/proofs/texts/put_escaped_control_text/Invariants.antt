@@ -1,7 +1,5 @@
 -- What is put so far, with what the rest of the control text says escaped, is all of it escaped.
-use Rattle.std.proofs.Common.{◌≡◌, ◌++◌, length}
-use Rattle.cw_print.specs.Escaping.{escaped}
-use Rattle.cw_rules.specs.ControlTexts.{text_to_end}
+use Rattle.cw_print.proofs.Terms.{◌≡◌, ◌++◌, length, escaped, text_to_end}
 use Rattle.cw_print.proofs.texts.put_escaped_control_text.Given as goal
 
 abbrev pub invariant-loop-rest : goal.invariant-loop-rest

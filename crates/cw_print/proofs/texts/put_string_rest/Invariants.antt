@@ -1,7 +1,5 @@
 -- What is put so far, with what the rest of the string prints from its portion on, is what all of it prints.
-use Rattle.std.proofs.Common.{◌≡◌, ◌++◌, length}
-use Rattle.cw_print.specs.Dividing.{rest_bytes}
-use Rattle.cw_print.specs.Texts.{string_bytes}
+use Rattle.cw_print.proofs.Terms.{◌≡◌, ◌++◌, length, rest_bytes, string_bytes}
 use Rattle.cw_print.proofs.texts.put_string_rest.Given as goal
 
 abbrev pub invariant-loop-rest : goal.invariant-loop-rest

@@ -1,6 +1,5 @@
 -- What a wrong body breaks here has an answer of its own, so that it fails at once.
-use Rattle.std.proofs.Common.{arith}
-use Rattle.std.proofs.lemmas.Grind.{common_steps}
+use Rattle.cw_desk.proofs.Terms.{arith, common_steps}
 use Rattle.cw_desk.proofs.system.System.open.Goals as goal
 
 pub returns-in-Missing-clause-noted : goal.returns-in-Missing-clause-noted

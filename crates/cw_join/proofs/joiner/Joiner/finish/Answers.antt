@@ -1,6 +1,5 @@
 -- What the run prints at its end is put to the line of the sheet.
-use Rattle.std.proofs.Common.{arith}
-use Rattle.std.proofs.lemmas.Grind.{common_steps}
+use Rattle.cw_join.proofs.Terms.{arith, common_steps}
 use Rattle.cw_join.proofs.joiner.Joiner.finish.Goals as goal
 
 pub returns-clause-puts : goal.returns-clause-puts

@@ -1,9 +1,6 @@
 -- What the run prints at its end is put, and then the item's own bytes; a failure ends both.
-use Rattle.std.proofs.Common.{List, ℕ, ◌++◌, ap}
-use Rattle.cw_lines.specs.SheetLaws.{prints-failing, prints-longer, prints-then, prints-bytes}
-use Rattle.cw_join.specs.Runs.{state_back}
-use Rattle.cw_join.specs.Standing.{JoinerState}
-use Rattle.cw_join.specs.Tokens.{item_bytes}
+use Rattle.cw_join.proofs.Terms.{List, ℕ, ◌++◌, ap, prints-failing, prints-longer, prints-then, prints-bytes}
+use Rattle.cw_join.proofs.Terms.{state_back, JoinerState, item_bytes}
 use Rattle.cw_join.proofs.joiner.Joiner.push_other.Goals as goal
 
 pub returns-in_err-end_run-clause-prints : goal.returns-in_err-end_run-clause-prints

@@ -1,6 +1,5 @@
 -- `pause`: answer at `Marked`; said here, so that a wrong one fails at once.
-use Rattle.std.proofs.Common.{arith}
-use Rattle.std.proofs.lemmas.Grind.{common_steps}
+use Rattle.cw_join.proofs.Terms.{arith, common_steps}
 use Rattle.cw_join.proofs.run.Run.pause.Goals as goal
 
 pub returns-in-Marked : goal.returns-in-Marked

@@ -1,5 +1,5 @@
 -- The answers are those of the text.
-use Rattle.std.proofs.Common.{refl, ◌∙◌}
+use Rattle.cw_print.proofs.Terms.{refl, ◌∙◌}
 use Rattle.cw_print.proofs.printing.Printer.over.Goals as goal
 
 pub returns : goal.returns

@@ -1,6 +1,5 @@
 -- The printer stands behind the items so far, and they are printed.
-use Rattle.std.proofs.Common.{◌+◌}
-use Rattle.cw_tokens.specs.FlatItems.{items_are}
+use Rattle.cw_print.proofs.Terms.{◌+◌, items_are}
 use Rattle.cw_print.proofs.PrintingLaws.{Printed}
 use Rattle.cw_print.proofs.printing.Printer.print.Given as goal
 

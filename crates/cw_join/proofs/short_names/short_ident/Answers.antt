@@ -1,7 +1,0 @@
--- `short_ident`: answer; said here, so that a wrong one fails at once.
-use Rattle.std.proofs.Common.{arith}
-use Rattle.std.proofs.lemmas.Grind.{common_steps}
-use Rattle.cw_join.proofs.short_names.short_ident.Goals as goal
-
-pub returns : goal.returns
-returns c = grind (arith, common_steps)

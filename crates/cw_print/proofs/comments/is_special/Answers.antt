@@ -1,7 +1,0 @@
--- `is_special`: answer in the last case; said here, so that a wrong one fails at once.
-use Rattle.std.proofs.Common.{arith}
-use Rattle.std.proofs.lemmas.Grind.{common_steps}
-use Rattle.cw_print.proofs.comments.is_special.Goals as goal
-
-pub returns-in_default : goal.returns-in_default
-returns-in_default c = grind (arith, common_steps)

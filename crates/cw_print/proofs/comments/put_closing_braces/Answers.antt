@@ -1,7 +1,0 @@
--- `put_closing_braces`: answer; said here, so that a wrong one fails at once.
-use Rattle.std.proofs.Common.{arith}
-use Rattle.std.proofs.lemmas.Grind.{common_steps}
-use Rattle.cw_print.proofs.comments.put_closing_braces.Goals as goal
-
-pub returns : goal.returns
-returns c = grind (arith, common_steps)

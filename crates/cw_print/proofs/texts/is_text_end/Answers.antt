@@ -1,7 +1,0 @@
--- `is_text_end`: answer on one of its ways; said here, so that a wrong one fails at once.
-use Rattle.std.proofs.Common.{arith}
-use Rattle.std.proofs.lemmas.Grind.{common_steps}
-use Rattle.cw_print.proofs.texts.is_text_end.Goals as goal
-
-pub returns-then-byte-eq64 : goal.returns-then-byte-eq64
-returns-then-byte-eq64 c = grind (arith, common_steps)
