@@ -1,32 +1,15 @@
 -- Where no bytes stand, there is no definition and no C text: nothing is printed, and nothing is left.
-use Rattle.std.proofs.Common.{◌≡◌, ℕ, ◌==◌, ◌&&◌, ◌||◌, Bool, true, false, not, List, [], ◌∷◌, drop, take, refl, sym}
-use Rattle.std.proofs.Common.{ap, ◌∙◌, length-take, arith}
-use Rattle.std.specs.Prelude.{Ok, is_some, nat_lt}
+use Rattle.cw_part.proofs.Terms.{◌≡◌, ℕ, ◌==◌, ◌&&◌, ◌||◌, Bool, true, false, not, List, [], ◌∷◌, drop, take, refl, sym}
+use Rattle.cw_part.proofs.Terms.{ap, ◌∙◌, length-take, arith, Ok, is_some, nat_lt, append-nil, drop_all, Flags, Span}
+use Rattle.cw_part.proofs.Terms.{tokens_of, CPart, puts-none, Entry, scraps_in, printed_definitions, has_no_part}
+use Rattle.cw_part.proofs.Terms.{paragraph_if, part_by, part_opening, Section, Beside, Counts, Done, reprinted, Setting}
+use Rattle.cw_part.proofs.Terms.{ended_done, text_done, Press, Weaves, underlined-none, weaves-as}
 use Rattle.std.proofs.lemmas.Bool.{eqb-true}
-use Rattle.std.proofs.lemmas.List.{append-nil, drop_all}
-use Rattle.cw_base.specs.declared.flags.Flags.{Flags}
-use Rattle.cw_base.specs.declared.span.Span.{Span}
-use Rattle.cw_lex.specs.Lexing.{tokens_of}
-use Rattle.cw_rules.specs.declared.tokens.Mode.TheVariants.{CPart}
-use Rattle.cw_lines.specs.WritesLaws.{puts-none}
-use Rattle.cw_names.specs.Names.{Entry}
 use Rattle.cw_scraps.specs.Applying.{categories}
-use Rattle.cw_table.specs.Normal.{count, log, normal}
-use Rattle.cw_table.specs.NormalWalk.{positions}
-use Rattle.cw_table.specs.WalkCounts.{looks}
+use Rattle.cw_table.specs.{Normal.count, Normal.log, Normal.normal, NormalWalk.positions, WalkCounts.looks}
 use Rattle.cw_trees.specs.Joining.{whole}
-use Rattle.cw_translator.specs.Counting.{scraps_in}
 use Rattle.cw_translator.specs.Translating.{Ended, NameTexts, begin, end_of, nothing, state_in, translated}
 use Rattle.cw_translator.specs.Translating.{with_categories}
-use Rattle.cw_texts.specs.Definitions.{printed_definitions}
-use Rattle.cw_part.specs.Parts.{has_no_part, paragraph_if, part_by, part_opening}
-use Rattle.cw_phase1.specs.declared.sections.Section.{Section}
-use Rattle.cw_texpart.specs.declared.beside.Beside.{Beside}
-use Rattle.cw_texpart.specs.declared.counts.Counts.{Counts}
-use Rattle.cw_texpart.specs.Done.{Done, reprinted}
-use Rattle.cw_texpart.specs.Texts.{Setting, ended_done, text_done}
-use Rattle.cw_texpart.specs.Weaving.{Press, Weaves}
-use Rattle.cw_texpart.proofs.WeavingLaws.{underlined-none, weaves-as}
 
 -- ## No tokens
 
@@ -90,8 +73,6 @@ no-part s code section {old = old} none scraps prods =
     let is : (is_some section.name ≡ false) × (section.c_part.start ≡ section.c_part.«end») =
     bare (is_some section.name) section.c_part.start section.c_part.«end» none in
     let opening : List ℕ = part_opening code s.flags.ranged section in
-    weaves-as
-    (sym (ap (λ (e : Done ℕ). paragraph_if (is_some section.name || nat_lt 0 (scraps_in e.ended)) opening e)
-    (no-text s section.c_part old.book.names is.1)
-    ∙ ap (λ (named : Bool). paragraph_if (named || false) opening (empty_part s section.c_part old.book.names)) is.0))
-    (left-out section.c_part scraps prods)
+    weaves-as (sym (ap (λ (e : Done ℕ). paragraph_if (is_some section.name || nat_lt 0 (scraps_in e.ended)) opening e)
+    (no-text s section.c_part old.book.names is.1) ∙ ap (λ (named : Bool). paragraph_if (named || false) opening
+    (empty_part s section.c_part old.book.names)) is.0)) (left-out section.c_part scraps prods)

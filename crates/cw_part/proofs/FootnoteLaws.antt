@@ -1,15 +1,10 @@
 -- Footnotes, and the numbers in them.
-use Rattle.std.proofs.Common.{arith}
-use Rattle.std.proofs.Common.{◌≡◌, ℕ, suc, ◌-◌, ◌<◌, ◌≤◌, ◌==◌, Bool, true, false, refl, sym, ap, List, [], ◌∷◌, ◌++◌, codes, drop, get_or, length, map, take, arith}
-use Rattle.std.proofs.lemmas.List.{take_all}
-use Rattle.std.specs.Prelude.{Option, Some, None, slice_get}
+use Rattle.cw_part.proofs.Terms.{arith, ◌≡◌, ℕ, suc, ◌-◌, ◌<◌, ◌≤◌, ◌==◌, Bool, true, false, refl, sym, ap, List, []}
+use Rattle.cw_part.proofs.Terms.{◌∷◌, ◌++◌, codes, drop, get_or, length, map, take, take_all, Option, Some, None}
+use Rattle.cw_part.proofs.Terms.{slice_get, footnote, footnote_numbers, later_numbers, name_footnotes, number_in}
+use Rattle.cw_part.proofs.Terms.{of_kept, of_name, separator, use_footnotes, list_if, Section, SecName}
 use Rattle.std.specs.Option.{option_map}
-use Rattle.cw_part.specs.Footnotes.{footnote, footnote_numbers, later_numbers, name_footnotes, number_in, of_kept}
-use Rattle.cw_part.specs.Footnotes.{of_name, separator, use_footnotes}
-use Rattle.cw_base.specs.Conditions.{list_if}
-use Rattle.cw_phase1.specs.declared.sections.Section.{Section}
 use Rattle.cw_print.specs.Sources.{defines_first}
-use Rattle.cw_secnames.specs.Kept.{SecName}
 use Rattle.cw_secnames.specs.declared.kinds.SecId.{SecId}
 
 -- ## Numbers
@@ -19,8 +14,7 @@ behind-first n ns = let all : length ns ≤ length (n ∷ ns) - 1 = omega arith 
 
 -- the first of some numbers, with what separates it from those that follow
 pub later-next : (shown : ℕ → List ℕ) (numbers sep : List ℕ) → 1 ≤ length numbers
-    → sep ≡ separator (map shown (take (length numbers - 1) (drop 1 numbers)))
-    → later_numbers (map shown numbers) ≡ sep
+    → sep ≡ separator (map shown (take (length numbers - 1) (drop 1 numbers))) → later_numbers (map shown numbers) ≡ sep
     ++ (shown (get_or numbers 0 0) ++ later_numbers (map shown (take (length numbers - 1) (drop 1 numbers))))
 later-next shown [] sep some is = absurd (omega arith)
 later-next shown (n ∷ ns) sep some is = grind (arith, behind-first n ns)
@@ -58,9 +52,8 @@ part-is part name x is = cc
 abbrev pub used_by : List Section → SecName → List ℕ
 used_by sections name = footnote sections (codes "\\U") name.used
 
-used-kept : (sections : List Section) (found : Option SecName) (used : List ℕ)
-    → option_map (λ n. n.used) found ≡ Some used
-    → footnote sections (codes "\\U") used ≡ of_kept (used_by sections) found
+used-kept : (sections : List Section) (found : Option SecName) (used : List ℕ) → option_map (λ n. n.used) found
+    ≡ Some used → footnote sections (codes "\\U") used ≡ of_kept (used_by sections) found
 used-kept sections found used is = grind (arith, part-is)
 
 pub used-last : (sections : List Section) (kept : List SecName) (id : SecId) (used : List ℕ)
@@ -74,20 +67,17 @@ cited-kept : (sections : List Section) (found : Option SecName) (cited : List �
 cited-kept sections found cited is = grind (arith, part-is)
 
 pub cited-first : (sections : List Section) (kept : List SecName) (id : SecId) (cited : List ℕ)
-    → option_map (λ n. n.cited) (slice_get kept id.index) ≡ Some cited
-    → footnote sections (codes "\\Q") cited ++ of_name (used_by sections) kept (Some id)
-    ≡ of_name (use_footnotes sections) kept (Some id)
+    → option_map (λ n. n.cited) (slice_get kept id.index) ≡ Some cited → footnote sections (codes "\\Q") cited
+    ++ of_name (used_by sections) kept (Some id) ≡ of_name (use_footnotes sections) kept (Some id)
 cited-first sections kept id cited is = cited-kept sections (slice_get kept id.index) cited is
 
 defined-kept : (sections : List Section) (found : Option SecName) (defined others : List ℕ)
-    → option_map (λ n. n.defined) found ≡ Some defined → others ≡ drop 1 defined
-    → footnote sections (codes "\\A") others ++ of_kept (use_footnotes sections) found
-    ≡ of_kept (name_footnotes sections) found
+    → option_map (λ n. n.defined) found ≡ Some defined → others ≡ drop 1 defined → footnote sections (codes "\\A")
+    others ++ of_kept (use_footnotes sections) found ≡ of_kept (name_footnotes sections) found
 defined-kept sections found defined others is rest = grind (arith, part-is)
 
 pub defined-first : (sections : List Section) (kept : List SecName) (id : SecId) (defined others : List ℕ)
-    → option_map (λ n. n.defined) (slice_get kept id.index) ≡ Some defined
-    → others ≡ drop 1 defined
+    → option_map (λ n. n.defined) (slice_get kept id.index) ≡ Some defined → others ≡ drop 1 defined
     → footnote sections (codes "\\A") others ++ of_name (use_footnotes sections) kept (Some id)
     ≡ of_name (name_footnotes sections) kept (Some id)
 defined-first sections kept id defined others is rest = grind (arith, defined-kept)
@@ -109,8 +99,6 @@ pub unnamed : (notes : SecName → List ℕ) (kept : List SecName) (name : Optio
 unnamed notes kept name number is = grind arith
 
 pub named : (notes : SecName → List ℕ) (kept : List SecName) (name : Option SecId) (id : SecId) (number : ℕ)
-    (first : Bool) → name ≡ Some id
-    → defines_first kept (Some id) number ≡ first
-    → list_if first (of_name notes kept (Some id)) ≡ list_if (defines_first kept name number)
-    (of_name notes kept name)
+    (first : Bool) → name ≡ Some id → defines_first kept (Some id) number ≡ first
+    → list_if first (of_name notes kept (Some id)) ≡ list_if (defines_first kept name number) (of_name notes kept name)
 named notes kept name id number first is e = grind (arith, where-by)

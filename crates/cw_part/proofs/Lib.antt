@@ -1,4 +1,5 @@
 -- The laws of sections behind their TeX parts: paragraphs, footnotes, and definitions that are whole.
+mod Terms
 pub mod WovenLaws
 mod ParagraphLaws
 pub mod SectionLaws

@@ -1,22 +1,11 @@
 -- A paragraph is translated, and then printed or not.
-use Rattle.std.proofs.Common.{◌≡◌, ℕ, ◌||◌, Bool, true, false, sym, ap, ◌∙◌, List, ◌++◌, codes, arith}
-use Rattle.std.specs.Prelude.{Result, Ok, Err, IsErrAnd, nat_lt}
-use Rattle.std.proofs.lemmas.List.{append-nil}
+use Rattle.cw_part.proofs.Terms.{◌≡◌, ℕ, ◌||◌, Bool, true, false, sym, ap, ◌∙◌, List, ◌++◌, codes, arith, Result, Ok}
+use Rattle.cw_part.proofs.Terms.{Err, IsErrAnd, nat_lt, append-nil, Told, LineState, Puts, puts-bytes, puts-none}
+use Rattle.cw_part.proofs.Terms.{puts-stop, puts-then, puts-nothing, PutError, paragraph_if, Book, Counts, Done}
+use Rattle.cw_part.proofs.Terms.{reprinted, Setting, Press, Weaves, weaves-refused}
 use Rattle.cw_base.specs.declared.memory.Memory.{Memory}
-use Rattle.cw_desk.specs.Told.{Told}
-use Rattle.cw_lines.specs.Line.{LineState}
-use Rattle.cw_lines.specs.Writes.{Puts}
-use Rattle.cw_lines.specs.WritesLaws.{puts-bytes, puts-none, puts-stop, puts-then, puts-nothing}
-use Rattle.cw_lines.specs.declared.put_error.PutError.{PutError}
-use Rattle.cw_lines.specs.declared.put_error.PutError.TheVariants as puts
-use Rattle.cw_part.specs.Parts.{paragraph_if}
-use Rattle.cw_phase1.specs.declared.book.Book.{Book}
-use Rattle.cw_texpart.specs.declared.counts.Counts.{Counts}
-use Rattle.cw_texpart.specs.Done.{Done, reprinted}
-use Rattle.cw_texpart.specs.Texts.{Setting}
 use Rattle.cw_texpart.specs.Translation.{TranslatedState, Translates}
-use Rattle.cw_texpart.specs.Weaving.{Press, Weaves}
-use Rattle.cw_texpart.proofs.WeavingLaws.{weaves-refused}
+use Rattle.cw_lines.specs.declared.put_error.PutError.TheVariants as puts
 
 abbrev reprint : List ℕ → Done ℕ → Done ℕ
 reprint out d = reprinted (λ bytes. out) d
@@ -60,10 +49,8 @@ paragraph-put front false is t put = absurd (cc)
 
 pub paragraph-cut : {T : Type 0} {s : Setting} {d : Done ℕ} (front : List ℕ) (printed : Bool) {old new : Book}
     {before after : ℕ} {text : TranslatedState} {line line' : LineState} {told told' : Told} {error : PutError}
-    {result : Result Counts PutError}
-    → printed ≡ true → Translates s d old new before after (Ok text)
-    → Puts {T = T} (front ++ d.out ++ codes "\\par\n") line line' told told' (Err error)
-    → IsErrAnd result (λ found. found ≡ error)
+    {result : Result Counts PutError} → printed ≡ true → Translates s d old new before after (Ok text) → Puts {T = T}
+    (front ++ d.out ++ codes "\\par\n") line line' told told' (Err error) → IsErrAnd result (λ found. found ≡ error)
     → Weaves s (paragraph_if printed front d) (record { book = old; line = line; told = told; steps = before })
     (record { book = new; line = line'; told = told'; steps = after }) result
 paragraph-cut front true {error = error} is t put e = grind (arith, weaves-refused, puts-bytes, append-nil, puts-stop)

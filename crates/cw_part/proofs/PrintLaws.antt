@@ -1,11 +1,7 @@
 -- Bytes are printed one after another.
-use Rattle.std.proofs.Common.{◌≡◌, ℕ, refl, ◌∙◌, List, [], ◌++◌, append_assoc, arith}
-use Rattle.std.specs.Prelude.{Result, Ok, Err, IsErrAnd, ⊤}
-use Rattle.std.proofs.lemmas.List.{append-nil}
-use Rattle.cw_desk.specs.Told.{Told}
-use Rattle.cw_lines.specs.Sheets.{Prints}
-use Rattle.cw_lines.specs.SheetLaws.{prints-bytes, prints-none, prints-stop, prints-then}
-use Rattle.cw_lines.specs.declared.put_error.PutError.{PutError}
+use Rattle.cw_part.proofs.Terms.{◌≡◌, ℕ, refl, ◌∙◌, List, [], ◌++◌, append_assoc, arith, Result, Ok, Err, IsErrAnd, ⊤}
+use Rattle.cw_part.proofs.Terms.{append-nil, Told, Prints, prints-bytes, prints-none, prints-stop, prints-then}
+use Rattle.cw_part.proofs.Terms.{PutError}
 use Rattle.cw_lines.specs.declared.sheet.Sheet.{Sheet}
 
 -- Bytes are printed; with the rest they are all.
@@ -17,8 +13,7 @@ pub record Printing {D : Type 0} (told : D → Told) (rest all : List ℕ) (old 
 pub printing-begun : {D : Type 0} (told : D → Told) (all : List ℕ) (sheet : Sheet D) → Printing told all all sheet sheet
 printing-begun told all sheet = record { done = []; put = prints-none told sheet (tt {0}); goes = refl }
 
-pub printing-next : {D T : Type 0} {told : D → Told} {bytes rest all : List ℕ} {old mid new : Sheet D}
-    {value : T}
+pub printing-next : {D T : Type 0} {told : D → Told} {bytes rest all : List ℕ} {old mid new : Sheet D} {value : T}
     → Printing told (bytes ++ rest) all old mid → Prints {T = T} told bytes mid new (Ok value)
     → Printing told rest all old new
 printing-next {told = told} {bytes = bytes} {rest = rest} {new = new} p put = record {
@@ -28,10 +23,8 @@ printing-next {told = told} {bytes = bytes} {rest = rest} {new = new} p put = re
 }
 
 pub printing-stopped : {D T U : Type 0} {told : D → Told} {bytes : List ℕ} (rest : List ℕ) {all : List ℕ}
-    {old mid new : Sheet D}
-    {error : PutError} {result : Result U PutError}
-    → Printing told (bytes ++ rest) all old mid → Prints {T = T} told bytes mid new (Err error)
-    → IsErrAnd result (λ found. found ≡ error)
+    {old mid new : Sheet D} {error : PutError} {result : Result U PutError} → Printing told (bytes ++ rest) all old mid
+    → Prints {T = T} told bytes mid new (Err error) → IsErrAnd result (λ found. found ≡ error)
     → Prints told all old new result
 printing-stopped rest p put is = prints-bytes p.goes (prints-then p.put (prints-stop rest put is))
 

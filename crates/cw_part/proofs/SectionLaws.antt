@@ -1,32 +1,19 @@
 -- Pieces of a section, in the setting of the section.
-use Rattle.std.proofs.Common.{◌≡◌, ℕ, ◌+◌, refl, subst, List, arith}
-use Rattle.std.specs.Prelude.{Result}
-use Rattle.cw_base.specs.declared.flags.Flags.{Flags}
-use Rattle.cw_lines.specs.declared.put_error.PutError.{PutError}
-use Rattle.cw_names.specs.Names.{Entry}
+use Rattle.cw_part.proofs.Terms.{◌≡◌, ℕ, ◌+◌, refl, List, arith, Result, Flags, PutError, Entry, part_setting}
+use Rattle.cw_part.proofs.Terms.{rest_done, IsWholeRest, Book, Section, Counts, Done, Lasting, Setting, setting, Press}
+use Rattle.cw_part.proofs.Terms.{Weaves}
 use Rattle.cw_part.specs.declared.paragraphs.Present.{Present}
-use Rattle.cw_part.specs.PresentForms.{part_setting}
-use Rattle.cw_part.specs.Sections.{rest_done}
-use Rattle.cw_part.specs.WholeTexts.{IsWholeRest}
-use Rattle.cw_phase1.specs.declared.book.Book.{Book}
-use Rattle.cw_phase1.specs.declared.sections.Section.{Section}
-use Rattle.cw_texpart.specs.declared.counts.Counts.{Counts}
-use Rattle.cw_texpart.specs.Done.{Done}
-use Rattle.cw_texpart.specs.Texts.{Lasting, Setting, setting}
-use Rattle.cw_texpart.specs.Weaving.{Press, Weaves}
 use Rattle.cw_part.proofs.WovenLaws.{AreSums, Weaving}
 
 -- the same of what stays of a book
 pub moved : (p : Present) (d : Setting → Done ℕ) {l l' : Lasting} {old new : Press} {result : Result Counts PutError}
-    → l ≡ l'
-    → Weaves (part_setting p l) (d (part_setting p l)) old new result
+    → l ≡ l' → Weaves (part_setting p l) (d (part_setting p l)) old new result
     → Weaves (part_setting p l') (d (part_setting p l')) old new result
 moved p d {old = old} {new = new} {result = result} same woven = grind arith
 
 -- the same rest
 pub weaving-as : {s : Setting} {rest rest' : List Entry → Done ℕ} {all : Done ℕ} {old now : Press} {counts : Counts}
-    → rest ≡ rest'
-    → Weaving s rest all old now counts → Weaving s rest' all old now counts
+    → rest ≡ rest' → Weaving s rest all old now counts → Weaving s rest' all old now counts
 weaving-as {s = s} {all = all} {old = old} {now = now} {counts = counts} same w = grind arith
 
 -- ## The section of a number, and the text of a web
@@ -39,11 +26,7 @@ pub woven-as : (flags : Flags) (n : ℕ) (b : Book) {text text' : List ℕ} {s s
     {result : Result Counts PutError} → text ≡ text' → s ≡ s'
     → Weaves (setting text flags n b) (rest_done (setting text flags n b) s b.names) old new result
     → Weaves (setting text' flags n b) (rest_done (setting text' flags n b) s' b.names) old new result
-woven-as flags n b {text' = text'} {s = s} {old = old} {new = new} {result = result} same is woven =
-    subst (λ (x : Section). Weaves (setting text' flags n b)
-    (rest_done (setting text' flags n b) x b.names) old new result) is
-    (subst (λ (x : List ℕ). Weaves (setting x flags n b)
-    (rest_done (setting x flags n b) s b.names) old new result) same woven)
+woven-as flags n b same is woven = rw (← is, ← same) woven
 
 -- ## Counts
 

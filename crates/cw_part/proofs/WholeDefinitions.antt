@@ -1,26 +1,17 @@
 -- The definitions of a whole part are whole.
-use Rattle.std.proofs.Common.{◌≡◌, ℕ, ◌≤◌, Bool, false, List, [], ◌∷◌, ◌++◌, Option, Some, None, All, length, take}
-use Rattle.std.proofs.Common.{refl, sym, ap, subst, ◌∙◌, arith, append_assoc, ◌⊎◌, inl, inr}
-use Rattle.std.proofs.lemmas.List.{take_all, take-take, length-take}
-use Rattle.std.proofs.lemmas.List.Elements.{All-nil, All-cons, All-weaker}
+use Rattle.cw_part.proofs.Terms.{◌≡◌, ℕ, ◌≤◌, Bool, false, List, [], ◌∷◌, ◌++◌, Option, Some, None, All, length, take}
+use Rattle.cw_part.proofs.Terms.{refl, sym, ap, subst, ◌∙◌, arith, append_assoc, ◌⊎◌, inl, inr, take_all, take-take}
+use Rattle.cw_part.proofs.Terms.{length-take, All-nil, All-cons, All-weaker, answers_at, tokens_of, beginning as begun}
+use Rattle.cw_part.proofs.Terms.{Definition, begun_by, next_begin, ended_at, with_begun, definitions_of}
+use Rattle.cw_part.proofs.Terms.{DefinitionsAreWhole, RestsAreWhole, IsWholeDefinition}
 use Rattle.cw_phase1.proofs.PartEnds.{uncut-before}
-use Rattle.cw_rules.specs.declared.codes.Code.{Code}
-use Rattle.cw_rules.specs.declared.tokens.Mode.TheVariants as modes
-use Rattle.cw_rules.specs.declared.tokens.TokKind.{TokKind}
-use Rattle.cw_rules.specs.declared.tokens.TokKind.TheVariants as kinds
+use Rattle.cw_rules.specs.{declared.codes.Code.Code, declared.tokens.TokKind.TokKind, Order.AreWithin}
 use Rattle.cw_rules.specs.Answers.{Answer, Token, Begin, Finish, Note, has_sign}
-use Rattle.cw_lex.specs.Lexing.{answers_at, tokens_of, beginning as begun}
-use Rattle.cw_lex.specs.Nested.{begins_section_in}
-use Rattle.cw_lex.specs.Openings.{opened_by, TextsEndAtOpenings}
-use Rattle.cw_rules.specs.Order.{AreWithin}
-use Rattle.cw_lex.proofs.TokensWithin.{tokens-within}
-use Rattle.cw_lex.proofs.Openings.{uncut-right}
-use Rattle.cw_texts.specs.declared.definitions.Begun.{Begun}
-use Rattle.cw_texts.specs.declared.definitions.Definition.{Definition}
-use Rattle.cw_texts.specs.Definitions.{begun_by, next_begin, ended_at, with_begun, definitions_of}
-use Rattle.cw_part.specs.WholeDefinitions.{DefinitionsAreWhole, RestsAreWhole}
-use Rattle.cw_part.specs.WholeTexts.{IsWholeDefinition}
-use Rattle.cw_texts.specs.Scans.{scanned}
+use Rattle.cw_lex.specs.{Nested.begins_section_in, Openings.opened_by, Openings.TextsEndAtOpenings}
+use Rattle.cw_lex.proofs.{TokensWithin.tokens-within, Openings.uncut-right}
+use Rattle.cw_texts.specs.{declared.definitions.Begun.Begun, Scans.scanned}
+use Rattle.cw_rules.specs.declared.tokens.Mode.TheVariants as modes
+use Rattle.cw_rules.specs.declared.tokens.TokKind.TheVariants as kinds
 
 -- ## Section codes among answers
 
@@ -68,15 +59,13 @@ module _ (openings : TextsEndAtOpenings) (text : List ℕ) where
       begins_section_in (xs ++ ys) ≡ false → AreWithin 0 (length text) ys
       → IsGood text start (next_begin (length text) (definitions_of (length text) ys))
   up-to-next start xs [] l e h a = grind (arith, take_all)
-  up-to-next start xs (Token t ∷ ys) l e h a =
-      by (told t.kind t.span.start).so (up-to-next start (xs ++ Token t ∷ []) ys l
-      (e ∙ sym (append_assoc xs (Token t ∷ []) ys)) (ap begins_section_in (append_assoc xs (Token t ∷ []) ys) ∙ h)
-      a.1)
+  up-to-next start xs (Token t ∷ ys) l e h a = by (told t.kind t.span.start).so
+      (up-to-next start (xs ++ Token t ∷ []) ys l (e ∙ sym (append_assoc xs (Token t ∷ []) ys))
+      (ap begins_section_in (append_assoc xs (Token t ∷ []) ys) ∙ h) a.1)
     where
-      by : (begun_by t.kind t.span.start ≡ None) ⊎ ((b : Begun) × (begun_by t.kind t.span.start ≡ Some b) ×
-          Begins t.kind t.span.start b)
-          → IsGood text start (next_begin (length text) (definitions_of (length text) ys)) →
-          IsGood text start (next_by (length text) (begun_by t.kind t.span.start) ys)
+      by : (begun_by t.kind t.span.start ≡ None) ⊎ ((b : Begun) × (begun_by t.kind t.span.start ≡ Some b) × Begins
+          t.kind t.span.start b) → IsGood text start (next_begin (length text) (definitions_of (length text) ys))
+          → IsGood text start (next_by (length text) (begun_by t.kind t.span.start) ys)
       by (inl none) rec = subst (λ (o : Option Begun). IsGood text start (next_by (length text) o ys)) (sym none) rec
       by (inr some) rec =
           let law = openings text start modes.Definition modes.Definition xs t ys refl e
@@ -99,15 +88,12 @@ module _ (openings : TextsEndAtOpenings) (text : List ℕ) where
   each : (start : ℕ) (xs ys : List Answer) → scan start ≡ xs ++ ys → begins_section_in (xs ++ ys) ≡ false →
       AreWithin 0 (length text) ys → All (IsGoodDefinition text) (definitions_of (length text) ys)
   each start xs [] e h a = All-nil (IsGoodDefinition text)
-  each start xs (Token t ∷ ys) e h a =
-      by (told t.kind t.span.start).so (each start (xs ++ Token t ∷ []) ys (e ∙ sym (append_assoc xs (Token t ∷ []) ys))
-      (ap begins_section_in (append_assoc xs (Token t ∷ []) ys) ∙ h) a.1)
+  each start xs (Token t ∷ ys) e h a = by (told t.kind t.span.start).so (each start (xs ++ Token t ∷ []) ys (e
+      ∙ sym (append_assoc xs (Token t ∷ []) ys)) (ap begins_section_in (append_assoc xs (Token t ∷ []) ys) ∙ h) a.1)
     where
-      by : (begun_by t.kind t.span.start ≡ None) ⊎ ((b : Begun) × (begun_by t.kind t.span.start ≡ Some b) ×
-          Begins t.kind t.span.start b)
-          → All (IsGoodDefinition text) (definitions_of (length text) ys) →
-          All (IsGoodDefinition text) (with_begun (begun_by t.kind t.span.start) (length text)
-          (definitions_of (length text) ys))
+      by : (begun_by t.kind t.span.start ≡ None) ⊎ ((b : Begun) × (begun_by t.kind t.span.start ≡ Some b) × Begins
+          t.kind t.span.start b) → All (IsGoodDefinition text) (definitions_of (length text) ys) → All (IsGoodDefinition
+          text) (with_begun (begun_by t.kind t.span.start) (length text) (definitions_of (length text) ys))
       by (inl none) rec = subst (λ (o : Option Begun). All (IsGoodDefinition text)
           (with_begun o (length text) (definitions_of (length text) ys))) (sym none) rec
       by (inr some) rec =
@@ -124,12 +110,10 @@ module _ (openings : TextsEndAtOpenings) (text : List ℕ) where
           good) rec)
   each start xs (Begin t ∷ ys) e h a = each start (xs ++ Begin t ∷ []) ys (e ∙ sym (append_assoc xs (Begin t ∷ []) ys))
       (ap begins_section_in (append_assoc xs (Begin t ∷ []) ys) ∙ h) a.1
-  each start xs (Finish t ∷ ys) e h a = each start (xs ++ Finish t ∷
-      []) ys (e ∙ sym (append_assoc xs (Finish t ∷ []) ys)) (ap begins_section_in (append_assoc xs (Finish t ∷ []) ys) ∙
-      h) a.1
-  each start xs (Note kind place ∷ ys) e h a = each start (xs ++ Note kind place ∷
-      []) ys (e ∙ sym (append_assoc xs (Note kind place ∷ []) ys))
-      (ap begins_section_in (append_assoc xs (Note kind place ∷ []) ys) ∙ h) a
+  each start xs (Finish t ∷ ys) e h a = each start (xs ++ Finish t ∷ []) ys (e
+      ∙ sym (append_assoc xs (Finish t ∷ []) ys)) (ap begins_section_in (append_assoc xs (Finish t ∷ []) ys) ∙ h) a.1
+  each start xs (Note kind place ∷ ys) e h a = each start (xs ++ Note kind place ∷ []) ys (e ∙ sym (append_assoc xs
+      (Note kind place ∷ []) ys)) (ap begins_section_in (append_assoc xs (Note kind place ∷ []) ys) ∙ h) a
 
 -- the spans of answers are within a wider stretch
 wider : (low from to : ℕ) (answers : List Answer) → low ≤ from → AreWithin from to answers → AreWithin low to answers
@@ -150,13 +134,11 @@ definitions-whole openings text part w =
     let cut = take end text in
     let size : length cut ≡ end = omega (arith, length-take end text, w.within) in
     let answers = scanned modes.Definition text part in
-    let within : AreWithin 0 (length cut) answers = subst (λ n. AreWithin 0 n answers) (sym size)
-    (wider 0 part.start end answers (omega arith) (tokens-within text part.start end modes.Definition w.order
-    w.within)) in
+    let within : AreWithin 0 (length cut) answers = subst (λ n. AreWithin 0 n answers) (sym size) (wider 0 part.start
+    end answers (omega arith) (tokens-within text part.start end modes.Definition w.order w.within)) in
     let good = each openings cut part.start [] answers refl w.uncut within in
-    subst (λ n. All (IsWholeDefinition text) (definitions_of n answers)) size
-    (All-weaker (IsGoodDefinition cut) (IsWholeDefinition text) (λ d g. in-text text end d w.within g)
-    (definitions_of (length cut) answers) good)
+    subst (λ n. All (IsWholeDefinition text) (definitions_of n answers)) size (All-weaker (IsGoodDefinition cut)
+    (IsWholeDefinition text) (λ d g. in-text text end d w.within g) (definitions_of (length cut) answers) good)
 
 pub rests-whole : TextsEndAtOpenings → RestsAreWhole
 rests-whole openings text section w = grind (arith, each, definitions-whole)

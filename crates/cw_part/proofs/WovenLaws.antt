@@ -1,22 +1,11 @@
 -- Pieces of a book are woven one after another.
-use Rattle.std.proofs.Common.{◌≡◌, ℕ, ◌+◌, ◌≤◌, refl, sym, ap, ◌∙◌, List, [], ◌++◌, append_assoc, arith}
-use Rattle.std.specs.Prelude.{Result, Ok, Err, IsErrAnd}
-use Rattle.std.proofs.lemmas.List.{append-nil}
-use Rattle.cw_desk.specs.Told.{Told}
-use Rattle.cw_lines.specs.Line.{LineState}
-use Rattle.cw_lines.specs.Writes.{Puts}
-use Rattle.cw_lines.specs.WritesLaws.{puts-bytes, puts-none, puts-stop, puts-then, puts-nothing}
-use Rattle.cw_lines.specs.declared.put_error.PutError.{PutError}
-use Rattle.cw_lines.specs.declared.put_error.PutError.TheVariants.{Memory}
-use Rattle.cw_names.specs.Names.{Entry}
+use Rattle.cw_part.proofs.Terms.{◌≡◌, ℕ, ◌+◌, ◌≤◌, refl, sym, ap, ◌∙◌, List, [], ◌++◌, append_assoc, arith, Result, Ok}
+use Rattle.cw_part.proofs.Terms.{Err, IsErrAnd, append-nil, Told, LineState, Puts, puts-bytes, puts-none, puts-stop}
+use Rattle.cw_part.proofs.Terms.{puts-then, puts-nothing, PutError, Memory, Entry, limit_in, Counts, Done, joined_done}
+use Rattle.cw_part.proofs.Terms.{as_it_is, done_then, Setting, Press, Weaves, underlined, joined-joined, limit-append}
+use Rattle.cw_part.proofs.Terms.{productions-append, scraps-append, ticks-append, underlined-append, underlined-none}
+use Rattle.cw_part.proofs.Terms.{weaves-as, weaves-refused}
 use Rattle.cw_names.specs.declared.xrefs.Occurrence.{Occurrence}
-use Rattle.cw_translator.specs.Counting.{limit_in, productions_in, scraps_in, ticks_in}
-use Rattle.cw_texpart.specs.declared.counts.Counts.{Counts}
-use Rattle.cw_texpart.specs.Done.{Done, joined_done, as_it_is, done_then}
-use Rattle.cw_texpart.specs.Texts.{Setting}
-use Rattle.cw_texpart.specs.Weaving.{Press, Weaves, underlined}
-use Rattle.cw_texpart.proofs.WeavingLaws.{joined-joined, limit-append, productions-append, scraps-append, ticks-append}
-use Rattle.cw_texpart.proofs.WeavingLaws.{underlined-append, underlined-none, weaves-as, weaves-refused}
 
 -- ## One piece
 
@@ -33,10 +22,8 @@ nothing-more counts = record { scraps = omega arith; productions = omega arith }
 
 -- bytes that no text prints
 pub weaves-bytes : {T : Type 0} {s : Setting} {bytes : List ℕ} {old : Press} {line : LineState} {told : Told}
-    {value : T}
-    → Puts {T = T} bytes old.line line old.told told (Ok value)
-    → Weaves s (as_it_is bytes old.book.names) old
-    (record { book = old.book; line = line; told = told; steps = old.steps }) (Ok no_counts)
+    {value : T} → Puts {T = T} bytes old.line line old.told told (Ok value) → Weaves s (as_it_is bytes old.book.names)
+    old (record { book = old.book; line = line; told = told; steps = old.steps }) (Ok no_counts)
 weaves-bytes {s = s} {old = old} {line = line} {told = told} put =
     grind (arith, puts-bytes, append-nil, puts-then, puts-none, underlined-none)
 
@@ -44,81 +31,60 @@ pub weaves-nothing : (s : Setting) (old : Press) → Weaves s (as_it_is [] old.b
 weaves-nothing s old = weaves-bytes (puts-none old.line old.told (tt {0}))
 
 pub bytes-refused : {T : Type 0} {s : Setting} {bytes : List ℕ} {old : Press} {line : LineState} {told : Told}
-    {error : PutError} {result : Result Counts PutError}
-    → Puts {T = T} bytes old.line line old.told told (Err error) → IsErrAnd result (λ found. found ≡ error)
-    → Weaves s (as_it_is bytes old.book.names) old
+    {error : PutError} {result : Result Counts PutError} → Puts {T = T} bytes old.line line old.told told (Err error)
+    → IsErrAnd result (λ found. found ≡ error) → Weaves s (as_it_is bytes old.book.names) old
     (record { book = old.book; line = line; told = told; steps = old.steps }) result
 bytes-refused {error = error} put is = grind (arith, weaves-refused, puts-bytes, append-nil, puts-stop)
 
 -- ## A piece and then another
 
-pub weaves-joined : {s : Setting} {a b : Done ℕ} {old mid new : Press} {first more sum : Counts}
-    → Weaves s a old mid (Ok first) → Weaves s b mid new (Ok more) → AreSums sum first more
-    → Weaves s (joined_done a b) old new (Ok sum)
-weaves-joined {s = s} {a = a} {b = b} {old = old} {mid = mid} {new = new} {first = first} {more = more}
-    {sum = sum} begun ended sums = record {
+pub weaves-joined : {s : Setting} {a b : Done ℕ} {old mid new : Press} {first more sum : Counts} → Weaves s a old mid
+    (Ok first) → Weaves s b mid new (Ok more) → AreSums sum first more → Weaves s (joined_done a b) old new (Ok sum)
+weaves-joined {s = s} {a = a} {b = b} {old = old} {mid = mid} {new = new} {first = first} {more = more} {sum = sum}
+    begun ended sums = record {
       puts = puts-bytes (append-nil _) (puts-then (puts-then begun.puts ended.puts) (puts-none new.line new.told sum));
       names = ended.names;
-      occurrences = ended.occurrences
-          ∙ ap (λ (os : List Occurrence). os ++ underlined s.section b.marks) begun.occurrences
+      occurrences = ended.occurrences ∙ ap (λ (os : List Occurrence). os ++ underlined s.section b.marks) begun.occurrences
           ∙ append_assoc old.book.xrefs (underlined s.section a.marks) (underlined s.section b.marks)
           ∙ ap (λ (os : List Occurrence). old.book.xrefs ++ os) (sym (underlined-append s.section a.marks b.marks));
       same = ended.same ∙ begun.same;
-      scraps = let x : first.scraps ≡ scraps_in a.ended = begun.scraps in let y : more.scraps ≡ scraps_in b.ended =
-          ended.scraps in
-          let z : scraps_in (a.ended ++ b.ended) ≡ scraps_in a.ended + scraps_in b.ended =
-          scraps-append a.ended b.ended in
-          let t : sum.scraps ≡ first.scraps + more.scraps = sums.scraps in omega (arith, x, y, z, t);
-      productions = let x : first.productions ≡ productions_in s.flags a.ended = begun.productions in
-          let y : more.productions ≡ productions_in s.flags b.ended = ended.productions in
-          let z : productions_in s.flags (a.ended ++ b.ended)
-          ≡ productions_in s.flags a.ended + productions_in s.flags b.ended =
-          productions-append s.flags a.ended b.ended in
-          let t : sum.productions ≡ first.productions + more.productions = sums.productions in
-          omega (arith, x, y, z, t);
-      steps_are = let x : mid.steps ≡ old.steps + ticks_in s.flags a.ended = begun.steps_are in
-          let y : new.steps ≡ mid.steps + ticks_in s.flags b.ended = ended.steps_are in
-          let z : ticks_in s.flags (a.ended ++ b.ended) ≡ ticks_in s.flags a.ended + ticks_in s.flags b.ended =
-          ticks-append s.flags a.ended b.ended in omega (arith, x, y, z);
-      bound = let x : mid.steps ≤ old.steps + limit_in s.flags a.ended = begun.bound in
-          let y : new.steps ≤ mid.steps + limit_in s.flags b.ended = ended.bound in
-          let z : limit_in s.flags (a.ended ++ b.ended) ≡ limit_in s.flags a.ended + limit_in s.flags b.ended =
-          limit-append s.flags a.ended b.ended in omega (arith, x, y, z);
+      scraps = omega (arith, begun.scraps, ended.scraps, (scraps-append a.ended b.ended), sums.scraps);
+      productions = omega (
+        arith,
+        begun.productions,
+        ended.productions,
+        (productions-append s.flags a.ended b.ended),
+        sums.productions,
+      );
+      steps_are = omega (arith, begun.steps_are, ended.steps_are, (ticks-append s.flags a.ended b.ended));
+      bound = omega (arith, begun.bound, ended.bound, (limit-append s.flags a.ended b.ended));
     }
 
 -- the first is refused
 pub weaves-stopped : {s : Setting} {a : Done ℕ} (b : Done ℕ) {old new : Press} {error : PutError}
-    {result : Result Counts PutError}
-    → Weaves s a old new (Err error) → IsErrAnd result (λ found. found ≡ error)
+    {result : Result Counts PutError} → Weaves s a old new (Err error) → IsErrAnd result (λ found. found ≡ error)
     → Weaves s (joined_done a b) old new result
 weaves-stopped {s = s} {a = a} b {old = old} {new = new} {error = error} begun is =
     grind (arith, puts-stop b.out begun.puts is, limit-append s.flags a.ended b.ended)
 
 -- the second is refused
 pub weaves-joined-refused : {s : Setting} {a b : Done ℕ} {old mid new : Press} {first : Counts} {error : PutError}
-    {result : Result Counts PutError}
-    → Weaves s a old mid (Ok first) → Weaves s b mid new (Err error) → IsErrAnd result (λ found. found ≡ error)
-    → Weaves s (joined_done a b) old new result
+    {result : Result Counts PutError} → Weaves s a old mid (Ok first) → Weaves s b mid new (Err error)
+    → IsErrAnd result (λ found. found ≡ error) → Weaves s (joined_done a b) old new result
 weaves-joined-refused {s = s} {a = a} {b = b} {old = old} {mid = mid} {new = new} {error = error} begun ended is =
-    weaves-refused error (puts-bytes (append-nil _) (puts-stop [] (puts-then begun.puts ended.puts) is))
-    (ended.same ∙ begun.same)
-    (let x : mid.steps ≤ old.steps + limit_in s.flags a.ended = begun.bound in
-    let y : new.steps ≤ mid.steps + limit_in s.flags b.ended = ended.bound in
-    let z : limit_in s.flags (a.ended ++ b.ended) ≡ limit_in s.flags a.ended + limit_in s.flags b.ended =
-    limit-append s.flags a.ended b.ended in omega (arith, x, y, z))
-    is
+    weaves-refused error (puts-bytes (append-nil _) (puts-stop [] (puts-then begun.puts ended.puts) is)) (ended.same
+    ∙ begun.same) (let x : mid.steps ≤ old.steps + limit_in s.flags a.ended = begun.bound in let y : new.steps ≤
+    mid.steps + limit_in s.flags b.ended = ended.bound in let z : limit_in s.flags (a.ended ++ b.ended) ≡ limit_in
+    s.flags a.ended + limit_in s.flags b.ended = limit-append s.flags a.ended b.ended in omega (arith, x, y, z)) is
 
 -- memory is wanted behind the first
 pub weaves-wanting : {s : Setting} {a : Done ℕ} (b : Done ℕ) {old now : Press} {first : Counts}
-    {result : Result Counts PutError}
-    → Weaves s a old now (Ok first) → IsErrAnd result (λ found. found ≡ Memory)
+    {result : Result Counts PutError} → Weaves s a old now (Ok first) → IsErrAnd result (λ found. found ≡ Memory)
     → Weaves s (joined_done a b) old now result
 weaves-wanting {s = s} {a = a} b {old = old} {now = now} begun is =
-    weaves-refused Memory (puts-then begun.puts (puts-nothing b.out now.line now.told is)) begun.same
-    (let x : now.steps ≤ old.steps + limit_in s.flags a.ended = begun.bound in
-    let z : limit_in s.flags (a.ended ++ b.ended) ≡ limit_in s.flags a.ended + limit_in s.flags b.ended =
-    limit-append s.flags a.ended b.ended in omega (arith, x, z))
-    is
+    weaves-refused Memory (puts-then begun.puts (puts-nothing b.out now.line now.told is)) begun.same (let x : now.steps
+    ≤ old.steps + limit_in s.flags a.ended = begun.bound in let z : limit_in s.flags (a.ended ++ b.ended) ≡ limit_in
+    s.flags a.ended + limit_in s.flags b.ended = limit-append s.flags a.ended b.ended in omega (arith, x, z)) is
 
 -- ## Several pieces
 
@@ -130,8 +96,7 @@ pub record Weaving (s : Setting) (rest : List Entry → Done ℕ) (all : Done �
   pub goes : joined_done done (rest done.names) ≡ all
 
 pub weaving-begun : (s : Setting) (rest : List Entry → Done ℕ) (press : Press) {counts : Counts}
-    → AreSums counts no_counts no_counts
-    → Weaving s rest (rest press.book.names) press press counts
+    → AreSums counts no_counts no_counts → Weaving s rest (rest press.book.names) press press counts
 weaving-begun s rest press none =
     grind (arith, weaves-joined (weaves-nothing s press) (weaves-nothing s press) none, weaves-nothing s press)
 
@@ -142,10 +107,8 @@ goes-next : {s : Setting} (d rest : List Entry → Done ℕ) {all : Done ℕ} {o
 goes-next d rest {mid = mid} w = grind arith
 
 pub weaving-next : {s : Setting} (d rest : List Entry → Done ℕ) {all : Done ℕ} {old mid new : Press}
-    {counts more sum : Counts}
-    → Weaving s (λ names. done_then (d names) rest) all old mid counts → Weaves s (d mid.book.names) mid new (Ok more)
-    → AreSums sum counts more
-    → Weaving s rest all old new sum
+    {counts more sum : Counts} → Weaving s (λ names. done_then (d names) rest) all old mid counts
+    → Weaves s (d mid.book.names) mid new (Ok more) → AreSums sum counts more → Weaving s rest all old new sum
 weaving-next {s = s} d rest {all = all} {old = old} {mid = mid} w woven sums = record {
   done = joined_done w.done (d mid.book.names);
   woven = weaves-joined w.woven woven sums;
@@ -156,8 +119,7 @@ pub weaving-stopped : {s : Setting} (d rest : List Entry → Done ℕ) {all : Do
     {counts : Counts} {error : PutError} {result : Result Counts PutError}
     → Weaving s (λ names. done_then (d names) rest) all old mid counts → Weaves s (d mid.book.names) mid new (Err error)
     → IsErrAnd result (λ found. found ≡ error) → Weaves s all old new result
-weaving-stopped {s = s} d rest {all = all} {old = old} {mid = mid} w woven is =
-    weaves-as (goes-next d rest w)
+weaving-stopped {s = s} d rest {all = all} {old = old} {mid = mid} w woven is = weaves-as (goes-next d rest w)
     (weaves-joined-refused w.woven (weaves-stopped (rest (d mid.book.names).names) woven refl) is)
 
 pub weaving-wanting : {s : Setting} {rest : List Entry → Done ℕ} {all : Done ℕ} {old now : Press} {counts : Counts}
@@ -169,21 +131,17 @@ weaving-wanting {rest = rest} w is = weaves-as w.goes (weaves-wanting (rest w.do
 pub weaving-ended : {s : Setting} {rest : List Entry → Done ℕ} {all : Done ℕ} {old now : Press} {counts : Counts}
     → Weaving s rest all old now counts → ((names : List Entry) → rest names ≡ as_it_is [] names)
     → Weaves s all old now (Ok counts)
-weaving-ended {s = s} {rest = rest} {all = all} {old = old} {now = now} {counts = counts} w none =
-    weaves-as (ap (λ (names : List Entry). joined_done w.done (as_it_is [] names)) w.woven.names
-    ∙ ap (joined_done w.done) (sym (none w.done.names)) ∙ w.goes)
-    (weaves-joined w.woven (weaves-nothing s now) (nothing-more counts))
+weaving-ended {s = s} {rest = rest} {all = all} {old = old} {now = now} {counts = counts} w none = weaves-as
+    (ap (λ (names : List Entry). joined_done w.done (as_it_is [] names)) w.woven.names ∙ ap (joined_done w.done)
+    (sym (none w.done.names)) ∙ w.goes) (weaves-joined w.woven (weaves-nothing s now) (nothing-more counts))
 
 -- The last piece.
 pub weaving-last : {s : Setting} {d : List Entry → Done ℕ} {all : Done ℕ} {old mid new : Press}
-    {counts more sum : Counts}
-    → Weaving s d all old mid counts → Weaves s (d mid.book.names) mid new (Ok more) → AreSums sum counts more
-    → Weaves s all old new (Ok sum)
+    {counts more sum : Counts} → Weaving s d all old mid counts → Weaves s (d mid.book.names) mid new (Ok more)
+    → AreSums sum counts more → Weaves s all old new (Ok sum)
 weaving-last {d = d} w woven sums = grind (arith, weaves-joined w.woven woven sums)
 
 pub weaving-last-stopped : {s : Setting} {d : List Entry → Done ℕ} {all : Done ℕ} {old mid new : Press}
-    {counts : Counts} {error : PutError} {result : Result Counts PutError}
-    → Weaving s d all old mid counts → Weaves s (d mid.book.names) mid new (Err error)
-    → IsErrAnd result (λ found. found ≡ error)
-    → Weaves s all old new result
+    {counts : Counts} {error : PutError} {result : Result Counts PutError} → Weaving s d all old mid counts → Weaves s
+    (d mid.book.names) mid new (Err error) → IsErrAnd result (λ found. found ≡ error) → Weaves s all old new result
 weaving-last-stopped {d = d} w woven is = grind (arith, weaves-joined-refused w.woven woven is)

@@ -1,6 +1,5 @@
 -- One number goes behind another.
-use Rattle.std.proofs.Common.{ℕ, ◌-◌, ◌≤◌, List, ◌++◌, drop, get_or, length, map, take, arith}
-use Rattle.cw_part.specs.Footnotes.{later_numbers, number_in}
+use Rattle.cw_part.proofs.Terms.{ℕ, ◌-◌, List, ◌++◌, drop, get_or, length, map, take, arith, later_numbers, number_in}
 use Rattle.cw_part.proofs.FootnoteLaws.{later-next}
 use Rattle.cw_part.proofs.PrintLaws.{printing-as, printing-begun, printing-next, printing-stopped}
 use Rattle.cw_part.proofs.footnotes.put_later.Goals as goal
@@ -12,35 +11,24 @@ pub returns-in_err-put_all : goal.returns-in_err-put_all
 returns-in_err-put_all g c =
     let numbers : List ℕ = c.loop-rest.rest.now in
     let shown : ℕ → List ℕ = number_in c.args.book.now.outline.sections in
-    let some : 1 ≤ length numbers = omega arith in
     let later : List ℕ = later_numbers (map shown (take (length numbers - 1) (drop 1 numbers))) in
-    printing-stopped (shown (get_or numbers 0 0) ++ later)
-    (printing-as (later-next shown numbers c.separator.result.now some (c.separator.ensures shown))
-    c.loop-rest.invariant)
-    c.in_err-put_all.ensures c.from_residual.ensures.1
+    printing-stopped (shown (get_or numbers 0 0) ++ later) (printing-as (later-next shown numbers c.separator.result.now
+    (omega arith) (c.separator.ensures shown)) c.loop-rest.invariant) c.in_err-put_all.ensures c.from_residual.ensures.1
 
 pub returns-in_err-put_section : goal.returns-in_err-put_section
 returns-in_err-put_section g c =
     let numbers : List ℕ = c.loop-rest.rest.now in
     let shown : ℕ → List ℕ = number_in c.args.book.now.outline.sections in
-    let some : 1 ≤ length numbers = omega arith in
     let later : List ℕ = later_numbers (map shown (take (length numbers - 1) (drop 1 numbers))) in
-    printing-stopped later
-    (printing-next {rest = shown (get_or numbers 0 0) ++ later}
-    (printing-as (later-next shown numbers c.separator.result.now some (c.separator.ensures shown))
-    c.loop-rest.invariant)
-    c.in_ok-put_all.ensures)
-    c.in_err-put_section.ensures c.from_residual-in_err-put_section.ensures.1
+    printing-stopped later (printing-next {rest = shown (get_or numbers 0 0) ++ later} (printing-as
+    (later-next shown numbers c.separator.result.now (omega arith) (c.separator.ensures shown)) c.loop-rest.invariant)
+    c.in_ok-put_all.ensures) c.in_err-put_section.ensures c.from_residual-in_err-put_section.ensures.1
 
 pub loop-rest-preserved : goal.loop-rest-preserved
 loop-rest-preserved g c =
     let numbers : List ℕ = c.loop-rest.rest.now in
     let shown : ℕ → List ℕ = number_in c.args.book.now.outline.sections in
-    let some : 1 ≤ length numbers = omega arith in
     let later : List ℕ = later_numbers (map shown (take (length numbers - 1) (drop 1 numbers))) in
-    printing-next {rest = later}
-    (printing-next {rest = shown (get_or numbers 0 0) ++ later}
-    (printing-as (later-next shown numbers c.separator.result.now some (c.separator.ensures shown))
-    c.loop-rest.invariant)
-    c.in_ok-put_all.ensures)
-    c.in_ok-put_section.ensures
+    printing-next {rest = later} (printing-next {rest = shown (get_or numbers 0 0) ++ later} (printing-as
+    (later-next shown numbers c.separator.result.now (omega arith) (c.separator.ensures shown)) c.loop-rest.invariant)
+    c.in_ok-put_all.ensures) c.in_ok-put_section.ensures

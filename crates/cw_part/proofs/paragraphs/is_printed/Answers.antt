@@ -1,6 +1,5 @@
 -- `is_printed`: answer on one of its ways; said here, so that a wrong one fails at once.
-use Rattle.std.proofs.Common.{arith}
-use Rattle.std.proofs.lemmas.Grind.{common_steps}
+use Rattle.cw_part.proofs.Terms.{arith, common_steps}
 use Rattle.cw_part.proofs.paragraphs.is_printed.Goals as goal
 
 pub returns-else-always : goal.returns-else-always

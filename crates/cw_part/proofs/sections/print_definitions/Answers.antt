@@ -1,43 +1,28 @@
 -- One definition goes behind another. Where no bytes stand, there is none.
-use Rattle.std.proofs.Common.{◌≡◌, ℕ, not, refl, sym, ap, subst, All, List, length, arith}
-use Rattle.std.proofs.lemmas.List.Elements.{All-filter, All-head, All-tail}
-use Rattle.cw_lines.specs.SheetLaws.{same-sheet, same-then}
-use Rattle.cw_lines.specs.WritesLaws.{can-after}
-use Rattle.cw_texts.specs.declared.definitions.Definition.{Definition}
+use Rattle.cw_part.proofs.Terms.{◌≡◌, ℕ, not, refl, sym, ap, subst, All, List, length, arith, All-filter, All-head}
+use Rattle.cw_part.proofs.Terms.{All-tail, same-sheet, same-then, can-after, Definition, definitions_in, not_silent}
+use Rattle.cw_part.proofs.Terms.{definition_done, definitions_done, first_opening, later_opening, part_setting}
+use Rattle.cw_part.proofs.Terms.{IsWholeDefinition, AreNamesOf, Lasting, Setting, lasting, weaves-as, weaves-nothing}
 use Rattle.cw_texts.specs.DefinitionForms.{loud}
-use Rattle.cw_texts.specs.Definitions.{definitions_in, not_silent}
-use Rattle.cw_part.specs.Parts.{definition_done, definitions_done, first_opening, later_opening}
-use Rattle.cw_part.specs.PresentForms.{part_setting}
-use Rattle.cw_part.specs.WholeTexts.{IsWholeDefinition}
-use Rattle.cw_translator.specs.NameParts.{AreNamesOf}
-use Rattle.cw_texpart.specs.Texts.{Lasting, Setting, lasting}
-use Rattle.cw_texpart.proofs.WeavingLaws.{weaves-as, weaves-nothing}
 use Rattle.cw_part.proofs.BareParts.{no-definitions}
 use Rattle.cw_part.proofs.SectionLaws.{moved, sums-are, weaving-as}
 use Rattle.cw_part.proofs.WovenLaws.{weaving-begun, weaving-ended, weaving-next, weaving-stopped, weaving-wanting}
 use Rattle.cw_part.proofs.sections.print_definitions.Goals as goal
 
 pub returns-then-part-clause-weaves : goal.returns-then-part-clause-weaves
-returns-then-part-clause-weaves g c =
-    let s : Setting = part_setting c.args.p (lasting c.args.book.now) in
-    weaves-as
-    (ap (λ (ds : List Definition). definitions_done s (first_opening c.args.p.beside) ds c.args.book.now.names)
-    (sym (no-definitions c.args.p.text.now c.args.part c.if-part.true)))
-    (weaves-nothing c.none.ensures.scraps c.none.ensures.productions)
+returns-then-part-clause-weaves g c = weaves-as (ap (λ (ds : List Definition). definitions_done (part_setting c.args.p
+    (lasting c.args.book.now)) (first_opening c.args.p.beside) ds c.args.book.now.names) (sym (no-definitions
+    c.args.p.text.now c.args.part c.if-part.true))) (weaves-nothing c.none.ensures.scraps c.none.ensures.productions)
 
 pub printed-init : goal.printed-init
 printed-init g c =
     let s : Setting = part_setting c.args.p (lasting c.args.book.now) in
-    let are : c.over-definitions.result ≡ definitions_in c.args.p.text.now c.args.part =
-    c.over-definitions.ensures in
+    let are : c.over-definitions.result ≡ definitions_in c.args.p.text.now c.args.part = c.over-definitions.ensures in
     record {
-      woven = weaving-as
-          (ap (λ (opening : List ℕ). definitions_done s opening (not_silent c.over-definitions.result))
-          (sym c.first_opening-front.ensures))
-          (weaving-as
-          (ap (λ (ds : List Definition). definitions_done s (first_opening c.args.p.beside) (not_silent ds)) (sym are))
-          (weaving-begun s (definitions_done s (first_opening c.args.p.beside)
-          (not_silent (definitions_in c.args.p.text.now c.args.part))) _
+      woven = weaving-as (ap (λ (opening : List ℕ). definitions_done s opening (not_silent c.over-definitions.result))
+          (sym c.first_opening-front.ensures)) (weaving-as (ap (λ (ds : List Definition). definitions_done s
+          (first_opening c.args.p.beside) (not_silent ds)) (sym are)) (weaving-begun s (definitions_done s
+          (first_opening c.args.p.beside) (not_silent (definitions_in c.args.p.text.now c.args.part))) _
           (record { scraps = c.none-counts.ensures.scraps; productions = c.none-counts.ensures.productions })));
       whole = All-filter (λ d. not d.silent) (IsWholeDefinition c.args.p.text.now) c.over-definitions.result
           (subst (All (IsWholeDefinition c.args.p.text.now)) (sym are) c.requires.each);
@@ -67,22 +52,17 @@ returns-in_err-more-in-Some-clause-weaves g c =
     (definitions_done s later_opening (not_silent c.next_printed.new.self))
     (weaving-as (ap (definitions_done s c.printed.front.now) c.in-Some.ensures) c.printed.invariant.woven)
     (moved c.args.p (λ (t : Setting). definition_done t c.printed.front.now (loud c.in-Some.span) c.printed.book.names)
-    c.printed.invariant.woven.woven.same
-    c.in_err-more-in-Some.ensures.weaves)
-    c.from_residual.ensures.1
+    c.printed.invariant.woven.woven.same c.in_err-more-in-Some.ensures.weaves) c.from_residual.ensures.1
 
 pub returns-in_err-counts-in-Some-clause-weaves : goal.returns-in_err-counts-in-Some-clause-weaves
 returns-in_err-counts-in-Some-clause-weaves g c =
     let s : Setting = part_setting c.args.p (lasting c.args.book.now) in
-    weaving-wanting
-    (weaving-next (definition_done s c.printed.front.now (loud c.in-Some.span))
+    weaving-wanting (weaving-next (definition_done s c.printed.front.now (loud c.in-Some.span))
     (definitions_done s later_opening (not_silent c.next_printed.new.self))
     (weaving-as (ap (definitions_done s c.printed.front.now) c.in-Some.ensures) c.printed.invariant.woven)
     (moved c.args.p (λ (t : Setting). definition_done t c.printed.front.now (loud c.in-Some.span) c.printed.book.names)
-    c.printed.invariant.woven.woven.same
-    c.in_ok-more-in-Some.ensures.weaves)
-    (sums-are c.printed.counts c.in_ok-more-in-Some.more))
-    c.from_residual-in_err-counts-in-Some.ensures.1
+    c.printed.invariant.woven.woven.same c.in_ok-more-in-Some.ensures.weaves)
+    (sums-are c.printed.counts c.in_ok-more-in-Some.more)) c.from_residual-in_err-counts-in-Some.ensures.1
 
 pub printed-preserved : goal.printed-preserved
 printed-preserved g c =
@@ -91,14 +71,9 @@ printed-preserved g c =
       woven = weaving-next (definition_done s c.printed.front.now (loud c.in-Some.span))
           (definitions_done s later_opening (not_silent c.next_printed.new.self))
           (weaving-as (ap (definitions_done s c.printed.front.now) c.in-Some.ensures) c.printed.invariant.woven)
-          (moved c.args.p (λ (t : Setting). definition_done t c.printed.front.now
-          (loud c.in-Some.span) c.printed.book.names) c.printed.invariant.woven.woven.same
-          c.in_ok-more-in-Some.ensures.weaves)
-          (record {
-            scraps = c.in_ok-counts-in-Some.ensures.scraps;
-            productions =
-                c.in_ok-counts-in-Some.ensures.productions;
-          });
+          (moved c.args.p (λ (t : Setting). definition_done t c.printed.front.now (loud c.in-Some.span)
+          c.printed.book.names) c.printed.invariant.woven.woven.same c.in_ok-more-in-Some.ensures.weaves) (record
+          { scraps = c.in_ok-counts-in-Some.ensures.scraps; productions = c.in_ok-counts-in-Some.ensures.productions });
       whole = All-tail (IsWholeDefinition c.args.p.text.now) _ _
           (subst (All (IsWholeDefinition c.args.p.text.now)) c.in-Some.ensures c.printed.invariant.whole);
       same = same-then c.printed.invariant.same c.in_ok-more-in-Some.ensures.same;
@@ -108,7 +83,5 @@ pub printed-smaller : goal.printed-smaller
 printed-smaller g c = omega (arith, ap length c.in-Some.ensures)
 
 pub returns-in-None-clause-weaves : goal.returns-in-None-clause-weaves
-returns-in-None-clause-weaves g c =
-    let s : Setting = part_setting c.args.p (lasting c.args.book.now) in
-    weaving-ended c.printed.invariant.woven
-    (λ names. ap (λ (ds : List Definition). definitions_done s c.printed.front.now ds names) c.in-None.ensures)
+returns-in-None-clause-weaves g c = weaving-ended c.printed.invariant.woven (λ names. ap (λ (ds : List Definition).
+    definitions_done (part_setting c.args.p (lasting c.args.book.now)) c.printed.front.now ds names) c.in-None.ensures)

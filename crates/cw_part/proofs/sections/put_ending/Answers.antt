@@ -1,6 +1,5 @@
 -- The footnotes, and what stands behind them.
-use Rattle.std.specs.Prelude.{codes}
-use Rattle.cw_lines.specs.SheetLaws.{prints-stop, prints-then}
+use Rattle.cw_part.proofs.Terms.{codes, prints-stop, prints-then}
 use Rattle.cw_part.proofs.sections.put_ending.Goals as goal
 
 pub returns-in_err-put_footnotes : goal.returns-in_err-put_footnotes

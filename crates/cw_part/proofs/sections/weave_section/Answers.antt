@@ -1,14 +1,8 @@
 -- The section is the one of this number, and the text is that of the web.
-use Rattle.std.proofs.Common.{ap, refl, sym, arith}
-use Rattle.std.proofs.lemmas.Grind.{common_steps}
-use Rattle.cw_lines.specs.WritesLaws.{puts-nothing}
-use Rattle.cw_lines.specs.declared.put_error.PutError.TheVariants.{Memory}
-use Rattle.cw_part.specs.Sections.{rest_by}
+use Rattle.cw_part.proofs.Terms.{ap, refl, sym, arith, common_steps, puts-nothing, Memory, rest_by, Beside, setting}
+use Rattle.cw_part.proofs.Terms.{weaves-as, weaves-refused}
 use Rattle.cw_part.proofs.SectionLaws.{whole-as, woven-as}
-use Rattle.cw_texpart.specs.declared.beside.Beside.{Beside}
-use Rattle.cw_texpart.specs.Texts.{setting}
 use Rattle.cw_texpart.proofs.SectionLaws.{one-section}
-use Rattle.cw_texpart.proofs.WeavingLaws.{weaves-as, weaves-refused}
 use Rattle.cw_part.proofs.sections.weave_section.Goals as goal
 
 pub returns-in_err-beside : goal.returns-in_err-beside
@@ -20,15 +14,11 @@ print_rest-requires-clause-whole g c =
     whole-as (sym c.text-text.ensures.lines) refl (c.requires.whole c.section-printed.result c.section-printed.ensures)
 
 pub returns : goal.returns
-returns g c = λ s there.
-    grind (
-      arith,
-      common_steps,
-      woven-as c.args.flags.now c.args.section c.args.book.now c.text-text.ensures.lines
-          (one-section _ c.section-printed.result s c.section-printed.ensures there)
-          (weaves-as
-          (ap (λ (code : Beside). rest_by code
-          (setting c.text-text.result.now c.args.flags.now c.args.section c.args.book.now) c.section-printed.result
-          c.args.book.now.names) c.in_ok-beside.ensures)
-          c.print_rest.ensures.weaves),
-    )
+returns g c = λ s there. grind (
+  arith,
+  common_steps,
+  woven-as c.args.flags.now c.args.section c.args.book.now c.text-text.ensures.lines
+      (one-section _ c.section-printed.result s c.section-printed.ensures there) (weaves-as (ap (λ (code : Beside).
+      rest_by code (setting c.text-text.result.now c.args.flags.now c.args.section c.args.book.now)
+      c.section-printed.result c.args.book.now.names) c.in_ok-beside.ensures) c.print_rest.ensures.weaves),
+)

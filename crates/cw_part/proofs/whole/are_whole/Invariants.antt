@@ -1,7 +1,5 @@
 -- The definitions that are still to come are whole where all are, and only there.
-use Rattle.std.proofs.Common.{All, length}
-use Rattle.cw_texts.specs.Definitions.{definitions_in}
-use Rattle.cw_part.specs.WholeTexts.{IsWholeDefinition}
+use Rattle.cw_part.proofs.Terms.{All, length, definitions_in, IsWholeDefinition}
 use Rattle.cw_part.proofs.whole.are_whole.Given as goal
 
 abbrev pub invariant-loop-definition : goal.invariant-loop-definition
