@@ -1,21 +1,14 @@
 -- Inks are printed one after another.
-use Rattle.std.proofs.Common.{◌≡◌, ℕ, suc, ◌+◌, ◌-◌, ◌<◌, ◌≤◌, ◌≢◌, ◌==◌, ◌||◌, Bool, true, false, not, refl, sym, ap}
-use Rattle.std.proofs.Common.{◌∙◌, List, [], ◌∷◌, ◌++◌, append_assoc, length, take, drop, get_or, arith, ne_eqb}
-use Rattle.std.proofs.Common.{length-drop, take-take, subst}
-use Rattle.std.specs.Prelude.{Result, Ok, Err, IsErrAnd, min, nat_lt, slice_range}
-use Rattle.std.proofs.lemmas.List.{append-nil, drop-drop, drop-take, drop_more, length-take, take-append-drop}
-use Rattle.std.proofs.lemmas.List.Elements.{All-head, All-tail}
-use Rattle.cw_desk.specs.Told.{Told}
-use Rattle.cw_lines.specs.Line.{HasNoLineEnd, Line, LineState, fill, fill_by, fill_byte}
-use Rattle.cw_lines.specs.Writes.{HasPut, Puts}
-use Rattle.cw_lines.specs.WritesLaws.{puts-bytes, puts-none, puts-stop, puts-then}
-use Rattle.cw_lines.specs.declared.put_error.PutError.{PutError}
-use Rattle.cw_rules.specs.Answers.{Seen}
-use Rattle.cw_lex.specs.Nest.{is_text_kind}
-use Rattle.cw_rules.specs.declared.tokens.TokKind.{TokKind}
-use Rattle.cw_texpart.specs.Inks.{Ink, Print, LineEnd, bytes_of, copied, end_if, ink_by, kind_inks, laid, prints}
-use Rattle.cw_texpart.specs.Inks.{token_inks, token_inks_by}
-use Rattle.cw_texpart.specs.Laying.{held, held_behind, holds_bytes, inked}
+use Rattle.cw_texpart.proofs.Terms.{◌≡◌, ℕ, suc, ◌+◌, ◌-◌, ◌<◌, ◌≤◌, ◌≢◌, ◌==◌, ◌||◌, Bool, true, false, not, refl, sym}
+use Rattle.cw_texpart.proofs.Terms.{ap, ◌∙◌, List, [], ◌∷◌, ◌++◌, append_assoc, length, take, drop, get_or, arith}
+use Rattle.cw_texpart.proofs.Terms.{ne_eqb, length-drop, take-take, subst, Result, Ok, Err, IsErrAnd, min, nat_lt}
+use Rattle.cw_texpart.proofs.Terms.{slice_range, append-nil, drop-drop, drop-take, drop_more, length-take}
+use Rattle.cw_texpart.proofs.Terms.{take-append-drop, All-head, All-tail, Told, HasNoLineEnd, Line, LineState, fill_by}
+use Rattle.cw_texpart.proofs.Terms.{fill_byte, HasPut, Puts, puts-bytes, puts-none, puts-stop, puts-then, PutError}
+use Rattle.cw_texpart.proofs.Terms.{Seen, is_text_kind, TokKind, Ink, Print, LineEnd, bytes_of, copied, end_if, ink_by}
+use Rattle.cw_texpart.proofs.Terms.{kind_inks, laid, prints, token_inks, token_inks_by, held, held_behind, holds_bytes}
+use Rattle.cw_texpart.proofs.Terms.{inked}
+use Rattle.cw_lines.specs.Line.{fill}
 
 -- ## Bytes
 
@@ -23,16 +16,14 @@ pub inked-append : (holds : Bool) (xs ys : List Ink) → inked holds (xs ++ ys)
     ≡ inked holds xs ++ inked (held holds xs) ys
 inked-append holds [] ys = refl
 inked-append holds (Print byte ∷ xs) ys = ap (λ (bytes : List ℕ). byte ∷ bytes) (inked-append (not (byte == 10)) xs ys)
-inked-append holds (LineEnd empty ∷ xs) ys =
-    ap (λ (bytes : List ℕ). end_if (holds || empty) ++ bytes) (inked-append false xs ys) ∙
-    sym (append_assoc (end_if (holds || empty)) (inked false xs) (inked (held false xs) ys))
+inked-append holds (LineEnd empty ∷ xs) ys = ap (λ (bytes : List ℕ). end_if (holds || empty) ++ bytes) (inked-append
+    false xs ys) ∙ sym (append_assoc (end_if (holds || empty)) (inked false xs) (inked (held false xs) ys))
 
 pub laid-append : (holds : Bool) (xs ys : List Ink) → laid holds (xs ++ ys) ≡ inked holds xs ++ laid (held holds xs) ys
 laid-append holds [] ys = refl
 laid-append holds (Print byte ∷ xs) ys = ap (λ (bytes : List ℕ). byte ∷ bytes) (laid-append (not (byte == 10)) xs ys)
-laid-append holds (LineEnd empty ∷ xs) ys =
-    ap (λ (bytes : List ℕ). end_if (holds || empty) ++ bytes) (laid-append false xs ys) ∙
-    sym (append_assoc (end_if (holds || empty)) (inked false xs) (laid (held false xs) ys))
+laid-append holds (LineEnd empty ∷ xs) ys = ap (λ (bytes : List ℕ). end_if (holds || empty) ++ bytes)
+    (laid-append false xs ys) ∙ sym (append_assoc (end_if (holds || empty)) (inked false xs) (laid (held false xs) ys))
 
 pub laid-is : (holds : Bool) (xs : List Ink) → laid holds xs ≡ inked holds xs ++ end_if (held holds xs)
 laid-is holds xs = ap (laid holds) (sym (append-nil xs)) ∙ laid-append holds xs []
@@ -41,9 +32,7 @@ laid-is holds xs = ap (laid holds) (sym (append-nil xs)) ∙ laid-append holds x
 
 held-end : (holds empty : Bool) (bytes : List ℕ) → held_behind holds (end_if (holds || empty) ++ bytes)
     ≡ held_behind false bytes
-held-end true empty bytes = refl
-held-end false true bytes = refl
-held-end false false bytes = refl
+held-end holds empty bytes = grind arith
 
 held-inked : (holds : Bool) (xs : List Ink) → held_behind holds (inked holds xs) ≡ held holds xs
 held-inked holds [] = refl
@@ -57,10 +46,7 @@ held_behind-append holds (byte ∷ xs) ys = held_behind-append (not (byte == 10)
 
 one-more : (bytes : List ℕ) (byte : ℕ) → not (length (bytes ++ byte ∷ []) == 0) ≡ true
 one-more [] byte = refl
-one-more (first ∷ bytes) byte =
-    let n : ℕ = length (bytes ++ byte ∷ []) in
-    let some : suc n ≢ 0 = omega arith in
-    ap not (ne_eqb (suc n) 0 some)
+one-more (first ∷ bytes) byte = let n : ℕ = length (bytes ++ byte ∷ []) in ap not (ne_eqb (suc n) 0 (omega arith))
 
 holds-by : (end room : Bool) (line : Line) (byte : ℕ) → (byte == 10) ≡ end
     → not (length (fill_by end room line byte).line.pending == 0) ≡ not (byte == 10)
@@ -72,33 +58,26 @@ holds-fill : (line : Line) (bytes : List ℕ)
     → not (length (fill line bytes).line.pending == 0) ≡ held_behind (not (length line.pending == 0)) bytes
 unfolding fill
 holds-fill line [] = refl
-holds-fill line (byte ∷ bytes) =
-    holds-fill (fill_byte line byte).line bytes ∙
-    ap (λ (holds : Bool). held_behind holds bytes)
-    (holds-by (byte == 10) (nat_lt (length line.pending) 80) line byte refl)
+holds-fill line (byte ∷ bytes) = holds-fill (fill_byte line byte).line bytes ∙ ap
+    (λ (holds : Bool). held_behind holds bytes) (holds-by (byte == 10) (nat_lt (length line.pending) 80) line byte refl)
 
 pub holds-put : {T : Type 0} {bytes : List ℕ} {old new : LineState} {before now : Told} {value : T}
     → Puts {T = T} bytes old new before now (Ok value) → holds_bytes new ≡ held_behind (holds_bytes old) bytes
 holds-put {bytes = bytes} {old = old} put = ap (λ (l : Line). not (length l.pending == 0)) put.line
     ∙ holds-fill old.line bytes
 
-pub holds-inked : {T : Type 0} (xs : List Ink) {old new : LineState} {before now : Told} {value : T}
-    → Puts {T = T} (inked (holds_bytes old) xs) old new before now (Ok value) → holds_bytes new
-    ≡ held (holds_bytes old) xs
+pub holds-inked : {T : Type 0} (xs : List Ink) {old new : LineState} {before now : Told} {value : T} → Puts {T = T}
+    (inked (holds_bytes old) xs) old new before now (Ok value) → holds_bytes new ≡ held (holds_bytes old) xs
 holds-inked xs {old = old} put = holds-put put ∙ held-inked (holds_bytes old) xs
 
 -- ## Inks after inks
 
 pub inks-then : {T U : Type 0} (xs ys : List Ink) {first second third : LineState} {a b c : Told} {value : T}
-    {result : Result U PutError}
-    → Puts {T = T} (inked (holds_bytes first) xs) first second a b (Ok value)
+    {result : Result U PutError} → Puts {T = T} (inked (holds_bytes first) xs) first second a b (Ok value)
     → Puts (inked (holds_bytes second) ys) second third b c result
     → Puts (inked (holds_bytes first) (xs ++ ys)) first third a c result
-inks-then xs ys {first = first} begun ended =
-    puts-bytes
-    (ap (λ (holds : Bool). inked (holds_bytes first) xs ++ inked holds ys) (holds-inked xs begun)
-    ∙ sym (inked-append (holds_bytes first) xs ys))
-    (puts-then begun ended)
+inks-then xs ys {first = first} begun ended = puts-bytes (ap (λ (holds : Bool). inked (holds_bytes first) xs ++ inked
+    holds ys) (holds-inked xs begun) ∙ sym (inked-append (holds_bytes first) xs ys)) (puts-then begun ended)
 
 pub as-put : {T : Type 0} {bytes : List ℕ} {old new : LineState} {before now : Told} {value : T}
     → Puts {T = T} bytes old new before now (Ok value) → HasPut bytes old new before now
@@ -117,13 +96,11 @@ inking-begun all out told = record { done = []; put = puts-none out told (tt {0}
 -- the same inks, still to be printed
 pub inking-as : {rest rest' all : List Ink} {old new : LineState} {before now : Told} → rest ≡ rest'
     → Inking rest all old new before now → Inking rest' all old new before now
-inking-as is i = record { done = i.done; put = i.put; goes = ap (λ (xs : List Ink). i.done ++ xs) (sym is) ∙ i.goes }
+inking-as is i = rw (← is) i
 
 pub inking-next : {T : Type 0} (xs : List Ink) {rest all : List Ink} {old mid new : LineState}
-    {before between now : Told} {value : T}
-    → Inking (xs ++ rest) all old mid before between
-    → Puts {T = T} (inked (holds_bytes mid) xs) mid new between now (Ok value)
-    → Inking rest all old new before now
+    {before between now : Told} {value : T} → Inking (xs ++ rest) all old mid before between
+    → Puts {T = T} (inked (holds_bytes mid) xs) mid new between now (Ok value) → Inking rest all old new before now
 inking-next xs {rest = rest} i put = record {
   done = i.done ++ xs;
   put = as-put (inks-then i.done xs i.put put);
@@ -132,25 +109,21 @@ inking-next xs {rest = rest} i put = record {
 
 -- A failure in some of them.
 pub inking-stopped : {T U : Type 0} (xs rest : List Ink) {all : List Ink} {old mid new : LineState}
-    {before between now : Told} {error : PutError} {result : Result U PutError}
-    → Inking (xs ++ rest) all old mid before between
-    → Puts {T = T} (inked (holds_bytes mid) xs) mid new between now (Err error)
+    {before between now : Told} {error : PutError} {result : Result U PutError} → Inking (xs ++ rest) all old mid before
+    between → Puts {T = T} (inked (holds_bytes mid) xs) mid new between now (Err error)
     → IsErrAnd result (λ found. found ≡ error) → Puts (inked (holds_bytes old) all) old new before now result
 inking-stopped xs rest {old = old} i put is =
     let holds : Bool = holds_bytes old in
-    puts-bytes
-    (sym (inked-append holds (i.done ++ xs) rest) ∙ ap (inked holds) (append_assoc i.done xs rest ∙ i.goes))
+    puts-bytes (sym (inked-append holds (i.done ++ xs) rest) ∙ ap (inked holds) (append_assoc i.done xs rest ∙ i.goes))
     (puts-stop (inked (held holds (i.done ++ xs)) rest) (inks-then i.done xs i.put put) is)
 
 pub lays-stopped : {T U : Type 0} (xs rest : List Ink) {all : List Ink} {old mid new : LineState}
-    {before between now : Told} {error : PutError} {result : Result U PutError}
-    → Inking (xs ++ rest) all old mid before between
-    → Puts {T = T} (inked (holds_bytes mid) xs) mid new between now (Err error)
+    {before between now : Told} {error : PutError} {result : Result U PutError} → Inking (xs ++ rest) all old mid before
+    between → Puts {T = T} (inked (holds_bytes mid) xs) mid new between now (Err error)
     → IsErrAnd result (λ found. found ≡ error) → Puts (laid (holds_bytes old) all) old new before now result
 lays-stopped xs rest {old = old} i put is =
     let holds : Bool = holds_bytes old in
-    puts-bytes
-    (sym (laid-append holds (i.done ++ xs) rest) ∙ ap (laid holds) (append_assoc i.done xs rest ∙ i.goes))
+    puts-bytes (sym (laid-append holds (i.done ++ xs) rest) ∙ ap (laid holds) (append_assoc i.done xs rest ∙ i.goes))
     (puts-stop (laid (held holds (i.done ++ xs)) rest) (inks-then i.done xs i.put put) is)
 
 -- All are printed, and at their end the line is ended where it holds bytes.
@@ -159,9 +132,8 @@ pub inking-ended : {all : List Ink} {old new : LineState} {before now : Told}
 inking-ended {old = old} i = puts-bytes (ap (inked (holds_bytes old)) (sym (append-nil i.done) ∙ i.goes)) i.put
 
 pub lays-ended : {U : Type 0} {all : List Ink} {old mid new : LineState} {before between now : Told}
-    {result : Result U PutError}
-    → Inking [] all old mid before between → Puts (end_if (holds_bytes mid)) mid new between now result
-    → Puts (laid (holds_bytes old) all) old new before now result
+    {result : Result U PutError} → Inking [] all old mid before between → Puts (end_if (holds_bytes mid)) mid new
+    between now result → Puts (laid (holds_bytes old) all) old new before now result
 lays-ended {all = all} {old = old} i put =
     let holds : Bool = holds_bytes old in
     let done : HasPut (inked holds all) old _ _ _ = inking-ended i in
@@ -171,8 +143,7 @@ lays-ended {all = all} {old = old} i put =
 -- ## Bytes of a text
 
 -- a span of the text goes on with its first byte
-pub copy-next : (text : List ℕ) (at end : ℕ) → at < end → at < length text
-    → copied text at (slice_range text at end)
+pub copy-next : (text : List ℕ) (at end : ℕ) → at < end → at < length text → copied text at (slice_range text at end)
     ≡ ink_by (get_or text at 0 == 10) text at (get_or text at 0) ∷ copied text (at + 1) (slice_range text (at + 1) end)
 copy-next text at end some within =
     let size : end - at ≡ suc (end - (at + 1)) = omega arith in
@@ -185,9 +156,8 @@ nothing-in (byte ∷ bytes) is = absurd (omega arith)
 
 pub copy-none : (text : List ℕ) (at end : ℕ) → min end (length text) ≤ at → copied text at (slice_range text at end)
     ≡ []
-copy-none text at end past =
-    ap (copied text at) (nothing-in (slice_range text at end)
-    (omega (arith, length-take (end - at) (drop at text), length-drop at text)))
+copy-none text at end past = ap (copied text at)
+    (nothing-in (slice_range text at end) (omega (arith, length-take (end - at) (drop at text), length-drop at text)))
 
 -- a span of the text is two spans, one behind the other
 slice-split : (text : List ℕ) (at stop end : ℕ) → at ≤ stop → stop ≤ end
@@ -196,48 +166,34 @@ slice-split text at stop end from to =
     let all : List ℕ = slice_range text at end in
     let n : ℕ = stop - at in
     let m : ℕ = end - stop in
-    let within : n ≤ end - at = omega arith in
-    let sum : end - at ≡ n + m = omega arith in
-    let here : at + n ≡ stop = omega arith in
-    sym (take-append-drop n all) ∙
-    ap (λ (first : List ℕ). first ++ drop n all) (take-take n (end - at) (drop at text) within) ∙
-    ap (λ (rest : List ℕ). take n (drop at text) ++ rest)
-    (ap (λ (k : ℕ). drop n (take k (drop at text))) sum ∙ drop-take n m (drop at text)
-    ∙ ap (take m) (drop-drop n at text ∙ ap (λ (k : ℕ). drop k text) here))
+    sym (take-append-drop n all)
+    ∙ ap (λ (first : List ℕ). first ++ drop n all) (take-take n (end - at) (drop at text) (omega arith)) ∙ ap
+    (λ (rest : List ℕ). take n (drop at text) ++ rest) (ap (λ (k : ℕ). drop n (take k (drop at text))) (omega arith)
+    ∙ drop-take n m (drop at text) ∙ ap (take m) (drop-drop n at text ∙ ap (λ (k : ℕ). drop k text) (omega arith)))
 
 -- bytes without a line's end are printed as they stand
 copied-run : (text : List ℕ) (at : ℕ) (bytes rest : List ℕ) → HasNoLineEnd bytes
     → copied text at (bytes ++ rest) ≡ prints bytes ++ copied text (at + length bytes) rest
-copied-run text at [] rest none =
-    let here : at ≡ at + 0 = omega arith in
-    ap (λ (n : ℕ). copied text n rest) here
+copied-run text at [] rest none = let here : at ≡ at + 0 = omega arith in ap (λ (n : ℕ). copied text n rest) here
 copied-run text at (byte ∷ bytes) rest none =
     let plain : (byte == 10) ≡ false = ne_eqb byte 10 (All-head (λ (b : ℕ). b ≢ 10) byte bytes none) in
-    let size : at + 1 + length bytes ≡ at + suc (length bytes) = omega arith in
-    ap (λ (end : Bool). ink_by end text at byte ∷ copied text (at + 1) (bytes ++ rest)) plain ∙
-    ap (λ (more : List Ink). Print byte ∷ more)
-    (copied-run text (at + 1) bytes rest (All-tail (λ (b : ℕ). b ≢ 10) byte bytes none)
-    ∙ ap (λ (n : ℕ). prints bytes ++ copied text n rest) size)
+    ap (λ (end : Bool). ink_by end text at byte ∷ copied text (at + 1) (bytes ++ rest)) plain
+    ∙ ap (λ (more : List Ink). Print byte ∷ more) (copied-run text (at + 1) bytes rest
+    (All-tail (λ (b : ℕ). b ≢ 10) byte bytes none) ∙ ap (λ (n : ℕ). prints bytes ++ copied text n rest) (omega arith))
 
 pub copy-line : (text : List ℕ) (at stop end : ℕ) → at ≤ stop → stop ≤ end → stop ≤ length text
-    → HasNoLineEnd (slice_range text at stop)
-    → copied text at (slice_range text at end)
+    → HasNoLineEnd (slice_range text at stop) → copied text at (slice_range text at end)
     ≡ prints (slice_range text at stop) ++ copied text stop (slice_range text stop end)
 copy-line text at stop end from to within none =
-    let size : at + length (slice_range text at stop) ≡ stop =
-    omega (arith, length-take (stop - at) (drop at text), length-drop at text) in
-    ap (copied text at) (slice-split text at stop end from to)
-    ∙ copied-run text at (slice_range text at stop) (slice_range text stop end) none
-    ∙ ap (λ (n : ℕ). prints (slice_range text at stop) ++ copied text n (slice_range text stop end)) size
+    ap (copied text at) (slice-split text at stop end from to) ∙ copied-run text at (slice_range text at stop)
+    (slice_range text stop end) none ∙ ap (λ (n : ℕ). prints (slice_range text at stop) ++ copied text n
+    (slice_range text stop end)) (omega (arith, length-take (stop - at) (drop at text), length-drop at text))
 
 -- what a longer span begins with, as a span
 pub line-free : (text : List ℕ) (at size end : ℕ) → at + size ≤ end → HasNoLineEnd (take size (slice_range text at end))
     → HasNoLineEnd (slice_range text at (at + size))
-line-free text at size end within none =
-    let so_many : at + size - at ≡ size = omega arith in
-    let low : size ≤ end - at = omega arith in
-    subst HasNoLineEnd
-    (sym (ap (λ (n : ℕ). take n (drop at text)) so_many ∙ sym (take-take size (end - at) (drop at text) low))) none
+line-free text at size end within none = subst HasNoLineEnd (sym (ap (λ (n : ℕ). take n (drop at text)) (omega arith)
+    ∙ sym (take-take size (end - at) (drop at text) (omega arith)))) none
 
 pub inked-prints : (holds : Bool) (bytes : List ℕ) → inked holds (prints bytes) ≡ bytes
 inked-prints holds [] = refl
@@ -245,29 +201,24 @@ inked-prints holds (byte ∷ bytes) = ap (λ (rest : List ℕ). byte ∷ rest) (
 
 -- bytes that are printed as they stand
 pub line-put : {T : Type 0} {bytes : List ℕ} {old new : LineState} {before now : Told} {result : Result T PutError}
-    → Puts bytes old new before now result
-    → Puts (inked (holds_bytes old) (prints bytes)) old new before now result
+    → Puts bytes old new before now result → Puts (inked (holds_bytes old) (prints bytes)) old new before now result
 line-put {bytes = bytes} {old = old} put = puts-bytes (sym (inked-prints (holds_bytes old) bytes)) put
 
 -- Bytes without a line's end are copied, and then the line's end behind them.
 pub inking-line : {T : Type 0} (text : List ℕ) (at stop end : ℕ) {all : List Ink} {old mid new : LineState}
     {before between now : Told} {value : T} → at ≤ stop → stop ≤ end → stop ≤ length text
-    → HasNoLineEnd (slice_range text at stop)
-    → Inking (copied text at (slice_range text at end)) all old mid before between
-    → Puts {T = T} (slice_range text at stop) mid new between now (Ok value)
+    → HasNoLineEnd (slice_range text at stop) → Inking (copied text at (slice_range text at end)) all old mid before
+    between → Puts {T = T} (slice_range text at stop) mid new between now (Ok value)
     → Inking (copied text stop (slice_range text stop end)) all old new before now
-inking-line text at stop end from to within none i put =
-    inking-next (prints (slice_range text at stop)) (inking-as (copy-line text at stop end from to within none) i)
-    (line-put put)
+inking-line text at stop end from to within none i put = inking-next (prints (slice_range text at stop))
+    (inking-as (copy-line text at stop end from to within none) i) (line-put put)
 
 -- what a token prints, by whether it is a piece of text
 pub text-inked : (holds : Bool) (text : List ℕ) (kind : TokKind) (token : Seen) → is_text_kind kind ≡ true
     → inked holds (copied text token.span.start (bytes_of text token.span)) ≡ inked holds (token_inks text kind token)
-text-inked holds text kind token is = ap (λ (t : Bool). inked holds (token_inks_by t text kind token)) (sym is)
+text-inked holds text kind token is = rw is refl
 
-pub code-inked : (holds : Bool) (text : List ℕ) (kind : TokKind) (token : Seen) (bytes : List ℕ) → is_text_kind kind
-    ≡ false
-    → prints bytes ≡ kind_inks kind → bytes ≡ inked holds (token_inks text kind token)
-code-inked holds text kind token bytes is same =
-    sym (inked-prints holds bytes) ∙ ap (inked holds) same
+pub code-inked : (holds : Bool) (text : List ℕ) (kind : TokKind) (token : Seen) (bytes : List ℕ)
+    → is_text_kind kind ≡ false → prints bytes ≡ kind_inks kind → bytes ≡ inked holds (token_inks text kind token)
+code-inked holds text kind token bytes is same = sym (inked-prints holds bytes) ∙ ap (inked holds) same
     ∙ ap (λ (t : Bool). inked holds (token_inks_by t text kind token)) (sym is)

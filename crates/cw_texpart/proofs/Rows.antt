@@ -1,22 +1,12 @@
 -- Worked rows: the limbo and the first section's head and TeX part of small webs.
-use Rattle.std.proofs.Common.{◌≡◌, ℕ, Bool, false, true, List, [], ◌∷◌, codes, map, refl}
+use Rattle.cw_texpart.proofs.Terms.{◌≡◌, ℕ, Bool, false, true, List, [], ◌∷◌, codes, map, refl, Flags, Entry, Book}
+use Rattle.cw_texpart.proofs.Terms.{Section, successor, limbo_bytes, tex_done, Setting, setting}
 use Rattle.std.specs.Fmt.{digits}
-use Rattle.cw_base.specs.Flags.{start_flags}
-use Rattle.cw_base.specs.declared.flags.Flags.{Flags}
-use Rattle.cw_base.specs.Web.{MergedLine, text_of}
-use Rattle.cw_names.specs.Names.{Entry}
+use Rattle.cw_base.specs.{Flags.start_flags, Web.MergedLine, Web.text_of}
 use Rattle.cw_phase1.specs.Book.{book}
-use Rattle.cw_phase1.specs.declared.book.Book.{Book}
-use Rattle.cw_phase1.specs.declared.sections.Section.{Section}
 use Rattle.cw_translator.specs.Translating.{translated}
-use Rattle.cw_table.specs.Normal.{count, log, normal}
-use Rattle.cw_table.specs.NormalWalk.{positions}
-use Rattle.cw_table.specs.Productions.{productions}
-use Rattle.cw_table.specs.WalkCounts.{looks}
-use Rattle.cw_texpart.specs.Heads.{successor}
-use Rattle.cw_texpart.specs.Limbo.{limbo_bytes}
-use Rattle.cw_texpart.specs.TexParts.{tex_done}
-use Rattle.cw_texpart.specs.Texts.{Setting, setting}
+use Rattle.cw_table.specs.{Normal.count, Normal.log, Normal.normal, NormalWalk.positions, Productions.productions}
+use Rattle.cw_table.specs.{WalkCounts.looks}
 
 abbrev line : Bool → List ℕ → MergedLine
 line changed text = record { text = text; place = record { file = 0; line = 1 }; changed = changed }
@@ -68,30 +58,18 @@ raised_rows : map successor (codes "0" ∷ codes "7" ∷ codes "09" ∷ codes "1
     ≡ codes "1" ∷ codes "8" ∷ codes "10" ∷ codes "200" ∷ codes "100" ∷ []
 raised_rows = refl
 
-ranged_row : ranged_tex (web (codes "@*07 Deep." ∷ [])) ≡ codes "\\N{8}{1}Deep.\n"
+starred_rows : (ranged_tex (web (codes "@*07 Deep." ∷ [])) ≡ codes "\\N{8}{1}Deep.\n")
+    × (ranged_tex (web (codes "@** Top." ∷ [])) ≡ codes "\\N{0}{1}Top.\n")
+    × (tex (web (codes "@*Top." ∷ [])) ≡ codes "\\N{0}{1}Top.\n")
+    × (tex (web (codes "@*000 Top." ∷ [])) ≡ codes "\\N{0}{1}Top.\n")
 unfolding digits
-ranged_row = refl
-
-ranged_top_row : ranged_tex (web (codes "@** Top." ∷ [])) ≡ codes "\\N{0}{1}Top.\n"
-unfolding digits
-ranged_top_row = refl
-
-no_depth_row : tex (web (codes "@*Top." ∷ [])) ≡ codes "\\N{0}{1}Top.\n"
-unfolding digits
-no_depth_row = refl
-
-noughts_row : tex (web (codes "@*000 Top." ∷ [])) ≡ codes "\\N{0}{1}Top.\n"
-unfolding digits
-noughts_row = refl
+starred_rows = (refl, refl, refl, refl)
 
 -- Only one star is the depth.
-star_row : tex (web (codes "@*** Part." ∷ [])) ≡ codes "\\N{-1}{1}* Part.\n"
+text_rows : (tex (web (codes "@*** Part." ∷ [])) ≡ codes "\\N{-1}{1}* Part.\n")
+    × (tex (line false (codes "@ A") ∷ line true (codes "b") ∷ []) ≡ codes "\\M{1\\*}A\nb\n")
 unfolding digits
-star_row = refl
-
-changed_row : tex (line false (codes "@ A") ∷ line true (codes "b") ∷ []) ≡ codes "\\M{1\\*}A\nb\n"
-unfolding digits
-changed_row = refl
+text_rows = (refl, refl)
 
 -- ## TeX text
 
@@ -116,21 +94,12 @@ codes_row = refl
 
 -- ## C texts in it
 
-inner_row : tex (web (codes "@ See |n|." ∷ [])) ≡ codes "\\M{1}See \\PB{\\|n}.\n"
+c_text_rows : (tex (web (codes "@ See |n|." ∷ [])) ≡ codes "\\M{1}See \\PB{\\|n}.\n")
+    × (tex (web (codes "@ A||b" ∷ [])) ≡ codes "\\M{1}A\\PB{}b\n")
+    × (tex (web (codes "@ See @<A@>." ∷ [])) ≡ codes "\\M{1}See \\PB{\\X0:A\\X}.\n")
+    × (tex (web (codes "@ See @(a_b@>." ∷ [])) ≡ codes "\\M{1}See \\PB{\\X0:\\.{a\\_b}\\X}.\n")
 unfolding digits translated normal log count positions looks productions
-inner_row = refl
-
-empty_inner_row : tex (web (codes "@ A||b" ∷ [])) ≡ codes "\\M{1}A\\PB{}b\n"
-unfolding digits translated normal log count positions looks productions
-empty_inner_row = refl
-
-cited_row : tex (web (codes "@ See @<A@>." ∷ [])) ≡ codes "\\M{1}See \\PB{\\X0:A\\X}.\n"
-unfolding digits translated normal log count positions looks productions
-cited_row = refl
-
-file_row : tex (web (codes "@ See @(a_b@>." ∷ [])) ≡ codes "\\M{1}See \\PB{\\X0:\\.{a\\_b}\\X}.\n"
-unfolding digits translated normal log count positions looks productions
-file_row = refl
+c_text_rows = (refl, refl, refl, refl)
 
 -- A name that is ignored prints nothing.
 ignored_row : tex (web (codes "@ See @<...@>." ∷ [])) ≡ codes "\\M{1}See .\n"

@@ -1,29 +1,15 @@
 -- A C text is translated, its marks are noted, and then it is printed.
-use Rattle.std.proofs.Common.{◌≡◌, ℕ, ◌+◌, ◌≤◌, ◌≢◌, refl, sym, ap, ◌∙◌, ne_eqb, List, [], ◌∷◌, ◌++◌}
-use Rattle.std.proofs.Common.{append_assoc, length, map, take, inl, inr, None, Option}
-use Rattle.std.specs.Prelude.{Err, IsErrAnd, Ok, Result, Some, slice_get}
-use Rattle.std.specs.List.{take-map}
-use Rattle.std.proofs.lemmas.List.{append-nil, map-append, take_all, take_more}
+use Rattle.cw_texpart.proofs.Terms.{◌≡◌, ℕ, ◌+◌, ◌≤◌, ◌≢◌, refl, sym, ap, ◌∙◌, ne_eqb, List, [], ◌∷◌, ◌++◌}
+use Rattle.cw_texpart.proofs.Terms.{append_assoc, length, map, take, inl, inr, None, Option, Err, IsErrAnd, Ok, Result}
+use Rattle.cw_texpart.proofs.Terms.{Some, slice_get, take-map, append-nil, map-append, take_all, take_more, Told}
+use Rattle.cw_texpart.proofs.Terms.{LineState, Puts, puts-bytes, puts-failing, puts-none, puts-then, puts-nothing}
+use Rattle.cw_texpart.proofs.Terms.{NameId, Occurrence, Book, PutError, Memory as out_of_memory, translated, Answer}
+use Rattle.cw_texpart.proofs.Terms.{Counts, Done, Setting, NotesFirst, Weaves, mark, marked, underlined}
 use Rattle.std.proofs.lemmas.Option.{get_or_from_slice_get, slice_get_within}
 use Rattle.cw_answers.specs.Reading.{Stays}
 use Rattle.cw_answers.proofs.Staying.{stays-trans}
 use Rattle.cw_base.specs.declared.memory.Memory.{Memory}
-use Rattle.cw_desk.specs.Told.{Told}
-use Rattle.cw_lines.specs.Line.{LineState}
-use Rattle.cw_lines.specs.Writes.{Puts}
-use Rattle.cw_lines.specs.WritesLaws.{puts-bytes, puts-failing, puts-none, puts-then, puts-nothing}
-use Rattle.cw_names.specs.declared.entry.NameId.{NameId}
-use Rattle.cw_names.specs.declared.xrefs.Occurrence.{Occurrence}
-use Rattle.cw_phase1.specs.declared.book.Book.{Book}
-use Rattle.cw_lines.specs.declared.put_error.PutError.{PutError}
-use Rattle.cw_lines.specs.declared.put_error.PutError.TheVariants.{Memory as out_of_memory}
-use Rattle.cw_translator.specs.Translating.{translated}
-use Rattle.cw_rules.specs.Answers.{Answer}
-use Rattle.cw_texpart.specs.declared.counts.Counts.{Counts}
-use Rattle.cw_texpart.specs.Done.{Done}
-use Rattle.cw_texpart.specs.Texts.{Setting}
 use Rattle.cw_texpart.specs.Translation.{TranslatedState, Translates}
-use Rattle.cw_texpart.specs.Weaving.{NotesFirst, Weaves, mark, marked, underlined}
 use Rattle.cw_texpart.proofs.WeavingLaws.{weaves-refused}
 
 -- ## Marks
@@ -33,42 +19,32 @@ ids-marked section [] = refl
 ids-marked section (id ∷ ids) = ap (λ (os : List Occurrence). mark section id ∷ os) (ids-marked section ids)
 
 pub marked-next : (section : ℕ) (ids : List NameId) (i : ℕ) (id : NameId) (first before new : List Occurrence)
-    → slice_get ids i ≡ Some id
-    → before ≡ first ++ map (mark section) (take i ids) → new ≡ before ++ mark section id ∷ []
-    → new ≡ first ++ map (mark section) (take (i + 1) ids)
+    → slice_get ids i ≡ Some id → before ≡ first ++ map (mark section) (take i ids)
+    → new ≡ before ++ mark section id ∷ [] → new ≡ first ++ map (mark section) (take (i + 1) ids)
 marked-next section ids i id first before new there so_far grown =
-    let more : take (i + 1) ids ≡ take i ids ++ id ∷ [] =
-    take_more ids i id (slice_get_within ids i id there)
+    let more : take (i + 1) ids ≡ take i ids ++ id ∷ [] = take_more ids i id (slice_get_within ids i id there)
     ∙ ap (λ (x : NameId). take i ids ++ x ∷ []) (get_or_from_slice_get ids i id id there) in
-    grown ∙ ap (λ (os : List Occurrence). os ++ mark section id ∷ []) so_far
-    ∙ append_assoc first (map (mark section) (take i ids)) (mark section id ∷ []) ∙
-    ap (λ (os : List Occurrence). first ++ os)
+    grown ∙ ap (λ (os : List Occurrence). os ++ mark section id ∷ []) so_far ∙ append_assoc first
+    (map (mark section) (take i ids)) (mark section id ∷ []) ∙ ap (λ (os : List Occurrence). first ++ os)
     (sym (map-append (mark section) (take i ids) (id ∷ [])) ∙ ap (map (mark section)) (sym more))
 
 pub marked-all : (section : ℕ) (ids : List NameId) (i : ℕ) (first new : List Occurrence) → section ≢ 0 → length ids ≤ i
     → new ≡ first ++ map (mark section) (take i ids) → new ≡ first ++ underlined section (map (λ id. id.index) ids)
-marked-all section ids i first new some whole is =
-    is ∙ ap (λ (os : List Occurrence). first ++ os)
-    (ap (map (mark section)) (take_all i ids whole) ∙ ids-marked section ids
-    ∙ rw (ne_eqb section 0 some, underlined) refl)
+marked-all section ids i first new some whole is = is ∙ ap (λ (os : List Occurrence). first ++ os) (ap
+    (map (mark section)) (take_all i ids whole) ∙ ids-marked section ids ∙ rw (ne_eqb section 0 some, underlined) refl)
 
 pub marked-none : (section : ℕ) (marks : List ℕ) (first : List Occurrence) → section ≡ 0 → first
     ≡ first ++ underlined section marks
-marked-none section marks first none =
-    sym (append-nil first) ∙ ap (λ (n : ℕ). first ++ underlined n marks) (sym none)
+marked-none section marks first none = sym (append-nil first) ∙ ap (λ (n : ℕ). first ++ underlined n marks) (sym none)
 
 -- where a mark finds no room, those before it are noted
-pub marked-first : (section : ℕ) (ids : List NameId) (i : ℕ) (first new : List Occurrence) → section ≢ 0
-    → new ≡ first ++ map (mark section) (take i ids)
-    → NotesFirst (underlined section (map (λ id. id.index) ids)) first new
-marked-first section ids i first new some is =
-    let under : underlined section (map (λ id. id.index) ids) ≡ marked section (map (λ id. id.index) ids) =
-    rw (ne_eqb section 0 some, underlined) refl in
-    record {
-      count = i;
-      are = is ∙ ap (λ (os : List Occurrence). first ++ os)
-          (sym (take-map (mark section) i ids) ∙ ap (take i) (ids-marked section ids ∙ sym under));
-    }
+pub marked-first : (section : ℕ) (ids : List NameId) (i : ℕ) (first new : List Occurrence) → section ≢ 0 → new ≡ first
+    ++ map (mark section) (take i ids) → NotesFirst (underlined section (map (λ id. id.index) ids)) first new
+marked-first section ids i first new some is = record {
+  count = i;
+  are = is ∙ ap (λ (os : List Occurrence). first ++ os) (sym (take-map (mark section) i ids)
+      ∙ ap (take i) (ids-marked section ids ∙ sym (rw (ne_eqb section 0 some, underlined) refl)));
+}
 
 pub none-noted : (noted first : List Occurrence) → NotesFirst noted first first
 none-noted noted first = record { count = 0; are = sym (append-nil first) }
@@ -76,9 +52,8 @@ none-noted noted first = record { count = 0; are = sym (append-nil first) }
 -- ## A text that is translated and then printed
 
 pub translated-woven : {T : Type 0} {s : Setting} {d : Done ℕ} {old now : Book} {before after : ℕ}
-    {text : TranslatedState} {counts : Counts} {line line' : LineState} {told told' : Told} {value : T}
-    → counts ≡ text.counts → Translates s d old now before after (Ok text)
-    → Puts {T = T} d.out line line' told told' (Ok value)
+    {text : TranslatedState} {counts : Counts} {line line' : LineState} {told told' : Told} {value : T} → counts
+    ≡ text.counts → Translates s d old now before after (Ok text) → Puts {T = T} d.out line line' told told' (Ok value)
     → Weaves s d (record { book = old; line = line; told = told; steps = before })
     (record { book = now; line = line'; told = told'; steps = after }) (Ok counts)
 translated-woven {counts = counts} {line' = line'} {told' = told'} same t put = record {
@@ -104,9 +79,8 @@ untranslated-woven {d = d} {line = line} {told = told} t is =
 -- the printing is refused
 pub unprinted-woven : {T : Type 0} {s : Setting} {d : Done ℕ} {old now : Book} {before after : ℕ}
     {translated : Result TranslatedState Memory} {line line' : LineState} {told told' : Told} {error : PutError}
-    {result : Result Counts PutError}
-    → Translates s d old now before after translated → Puts {T = T} d.out line line' told told' (Err error)
-    → IsErrAnd result (λ found. found ≡ error)
+    {result : Result Counts PutError} → Translates s d old now before after translated
+    → Puts {T = T} d.out line line' told told' (Err error) → IsErrAnd result (λ found. found ≡ error)
     → Weaves s d (record { book = old; line = line; told = told; steps = before })
     (record { book = now; line = line'; told = told'; steps = after }) result
 unprinted-woven t put is = weaves-refused _ (puts-failing refl put is) t.same t.bound is

@@ -1,40 +1,18 @@
 -- Pieces of a book are woven one after another.
-use Rattle.std.proofs.Common.{◌≡◌, ℕ, ◌+◌, ◌≤◌, ◌==◌, Bool, true, false, refl, sym, ap, ◌∙◌, subst, List, [], ◌∷◌, ◌++◌}
-use Rattle.std.proofs.Common.{append_assoc, length, codes, arith}
-use Rattle.std.specs.Prelude.{Result, Ok, Err, IfOk, IsErrAnd, Option, Some, None}
+use Rattle.cw_texpart.proofs.Terms.{◌≡◌, ℕ, ◌+◌, ◌≤◌, ◌==◌, Bool, true, false, refl, sym, ap, ◌∙◌, subst, List, [], ◌∷◌}
+use Rattle.cw_texpart.proofs.Terms.{◌++◌, append_assoc, length, arith, Result, Ok, Err, IfOk, IsErrAnd, Option, Some}
+use Rattle.cw_texpart.proofs.Terms.{None, append-nil, map-append, Flags, Span, Told, Inner, LineState, HasPut, Puts}
+use Rattle.cw_texpart.proofs.Terms.{is_err, puts-bytes, puts-failing, puts-none, puts-stop, puts-then, puts-nothing}
+use Rattle.cw_texpart.proofs.Terms.{PutError, Memory, Entry, Occurrence, Section, Counts, Done, done_behind}
+use Rattle.cw_texpart.proofs.Terms.{joined_done, as_it_is, reprinted, section_number, head, head_by, printed_depth, Ink}
+use Rattle.cw_texpart.proofs.Terms.{end_if, laid, prints, held, held_behind, holds_bytes, inked, piece_is, piece_done}
+use Rattle.cw_texpart.proofs.Terms.{pieces_done, head_and_tex, TexPiece, Setting, lasting, name_done_by, text_done}
+use Rattle.cw_texpart.proofs.Terms.{Press, Weaves, underlined}
 use Rattle.std.specs.Option.{option_map}
-use Rattle.std.proofs.lemmas.List.{append-nil, map-append}
 use Rattle.std.proofs.lemmas.List.Sums.{sum_by-append}
-use Rattle.cw_base.specs.declared.flags.Flags.{Flags}
-use Rattle.cw_base.specs.declared.span.Span.{Span}
-use Rattle.cw_desk.specs.Told.{Told}
-use Rattle.cw_rules.specs.declared.tokens.Mode.TheVariants.{Inner}
-use Rattle.cw_lines.specs.Line.{LineState}
-use Rattle.cw_lines.specs.Writes.{HasPut, Puts}
-use Rattle.cw_lines.specs.WritesLaws.{is_err, puts-bytes, puts-failing, puts-none, puts-stop, puts-then}
-use Rattle.cw_lines.specs.WritesLaws.{puts-nothing}
-use Rattle.cw_lines.specs.declared.put_error.PutError.{PutError}
-use Rattle.cw_lines.specs.declared.put_error.PutError.TheVariants.{Memory}
-use Rattle.cw_names.specs.Names.{Entry}
-use Rattle.cw_names.specs.declared.xrefs.Occurrence.{Occurrence}
-use Rattle.cw_phase1.specs.declared.sections.Section.{Section}
 use Rattle.cw_translator.specs.Counting.{limit_in, productions_in, scraps_in, text_limit, ticks_in}
-use Rattle.cw_table.specs.Normal.{count}
-use Rattle.cw_table.specs.Productions.{productions}
-use Rattle.cw_table.specs.Rewriting.{State}
-use Rattle.cw_table.specs.WalkCounts.{ticks}
-use Rattle.cw_texpart.specs.declared.counts.Counts.{Counts}
+use Rattle.cw_table.specs.{Normal.count, Productions.productions, Rewriting.State, WalkCounts.ticks}
 use Rattle.cw_texts.specs.declared.pieces.Piece.{Piece}
-use Rattle.cw_texpart.specs.Done.{Done, done_behind, joined_done, as_it_is, reprinted}
-use Rattle.cw_print.specs.Walk.{section_number}
-use Rattle.cw_texpart.specs.Heads.{head, head_by, printed_depth}
-use Rattle.cw_texpart.specs.Inks.{Ink, end_if, laid, prints}
-use Rattle.cw_texpart.specs.Laying.{held, held_behind, holds_bytes, inked}
-use Rattle.cw_texts.specs.PieceForms.{piece_is}
-use Rattle.cw_texpart.specs.TexParts.{piece_done, pieces_done, head_and_tex}
-use Rattle.cw_texts.specs.TexPieces.{TexPiece}
-use Rattle.cw_texpart.specs.Texts.{Setting, lasting, name_done_by, text_done}
-use Rattle.cw_texpart.specs.Weaving.{Press, Weaves, mark_at, underlined}
 use Rattle.cw_texpart.proofs.LayingLaws.{Inking, as-put, held_behind-append, inks-then, inked-prints, laid-append}
 use Rattle.cw_texpart.proofs.LayingLaws.{lays-ended, lays-stopped}
 
@@ -42,60 +20,34 @@ use Rattle.cw_texpart.proofs.LayingLaws.{lays-ended, lays-stopped}
 
 -- a call that is refused
 pub weaves-refused : {s : Setting} {d : Done ℕ} {old new : Press} (error : PutError) {result : Result Counts PutError}
-    → Puts d.out old.line new.line old.told new.told result → lasting new.book ≡ lasting old.book
-    → new.steps ≤ old.steps + limit_in s.flags d.ended → IsErrAnd result (λ found. found ≡ error)
-    → Weaves s d old new result
-weaves-refused {s = s} {d = d} {old = old} {new = new} error {result = result} puts same bound is =
-    let e : result ≡ Err error = is_err result error is in
-    let refused : Weaves s d old new (Err error) = record {
-      puts = subst (λ (r : Result Counts PutError). Puts d.out old.line new.line old.told new.told r) e puts;
-      names = tt;
-      occurrences = tt;
-      same = same;
-      scraps = tt;
-      productions = tt;
-      steps_are = tt;
-      bound = bound;
-    } in
-    subst (λ (r : Result Counts PutError). Weaves s d old new r) (sym e) refused
+    → Puts d.out old.line new.line old.told new.told result → lasting new.book ≡ lasting old.book → new.steps ≤
+    old.steps + limit_in s.flags d.ended → IsErrAnd result (λ found. found ≡ error) → Weaves s d old new result
+weaves-refused error puts same bound is = grind (arith, is_err)
 
 -- the same piece
 pub weaves-as : {s : Setting} {d e : Done ℕ} {old new : Press} {result : Result Counts PutError} → d ≡ e
     → Weaves s d old new result → Weaves s e old new result
-weaves-as {s = s} {old = old} {new = new} {result = result} is woven =
-    subst (λ (d : Done ℕ). Weaves s d old new result) is woven
+weaves-as is woven = rw (← is) woven
 
 -- a piece behind bytes that were put
 pub weaves-behind : {T : Type 0} {s : Setting} {front : List ℕ} {d : Done ℕ} {old new : Press} {line : LineState}
-    {told : Told} {value : T} {result : Result Counts PutError}
-    → Puts {T = T} front old.line line old.told told (Ok value)
-    → Weaves s d (record { book = old.book; line = line; told = told; steps = old.steps }) new result
+    {told : Told} {value : T} {result : Result Counts PutError} → Puts {T = T} front old.line line old.told told
+    (Ok value) → Weaves s d (record { book = old.book; line = line; told = told; steps = old.steps }) new result
     → Weaves s (done_behind front d) old new result
-weaves-behind put woven = record {
-  puts = puts-then put woven.puts;
-  names = woven.names;
-  occurrences = woven.occurrences;
-  same = woven.same;
-  scraps = woven.scraps;
-  productions = woven.productions;
-  steps_are = woven.steps_are;
-  bound = woven.bound;
-}
+weaves-behind put woven = grind (arith, puts-then put woven.puts)
 
 -- ## Marks and inks
 
 underlined-by : (none : Bool) (section : ℕ) (xs ys : List ℕ) → (section == 0) ≡ none
     → underlined section (xs ++ ys) ≡ underlined section xs ++ underlined section ys
-underlined-by true section xs ys is = rw (is, underlined) refl
-underlined-by false section xs ys is = rw (is, underlined) (map-append (mark_at section) xs ys)
+underlined-by none section xs ys is = grind (arith, map-append, underlined)
 
 pub underlined-append : (section : ℕ) (xs ys : List ℕ) → underlined section (xs ++ ys)
     ≡ underlined section xs ++ underlined section ys
 underlined-append section xs ys = underlined-by (section == 0) section xs ys refl
 
 none-by : (none : Bool) (section : ℕ) → (section == 0) ≡ none → underlined section [] ≡ []
-none-by true section is = rw (is, underlined) refl
-none-by false section is = rw (is, underlined) refl
+none-by none section is = grind (arith, underlined)
 
 pub underlined-none : (section : ℕ) → underlined section [] ≡ []
 underlined-none section = none-by (section == 0) section refl
@@ -153,10 +105,8 @@ weaving-begun s pieces press = record {
 
 -- the same pieces, still to be woven
 pub weaving-as : {s : Setting} {rest rest' : List TexPiece} {all : Done Ink} {old new : Press} {scraps prods : ℕ}
-    → rest ≡ rest'
-    → Weaving s rest all old new scraps prods → Weaving s rest' all old new scraps prods
-weaving-as {s = s} {all = all} {old = old} {new = new} {scraps = scraps} {prods = prods} is w =
-    subst (λ (pieces : List TexPiece). Weaving s pieces all old new scraps prods) is w
+    → rest ≡ rest' → Weaving s rest all old new scraps prods → Weaving s rest' all old new scraps prods
+weaving-as is w = rw (← is) w
 
 pub scraps-append : (xs ys : List State) → scraps_in (xs ++ ys) ≡ scraps_in xs + scraps_in ys
 scraps-append xs ys = sum_by-append (λ state. length state.scraps) xs ys
@@ -182,15 +132,12 @@ piece-is : {s : Setting} {piece : TexPiece} {rest : List TexPiece} {all : Done I
 piece-is {s = s} {piece = piece} w = ap (piece_done s piece) w.names
 
 goes-on : {s : Setting} {piece : TexPiece} {rest : List TexPiece} {all : Done Ink} {old mid : Press} {scraps prods : ℕ}
-    (w : Weaving s (piece ∷ rest) all old mid scraps prods)
-    → joined_done w.done (joined_done (next_piece s piece mid) (pieces_done s rest (next_piece s piece mid).names))
-    ≡ all
-goes-on {s = s} {piece = piece} {rest = rest} w =
-    ap (λ (d : Done Ink). joined_done w.done (joined_done d (pieces_done s rest d.names))) (piece-is w) ∙ w.goes
+    (w : Weaving s (piece ∷ rest) all old mid scraps prods) → joined_done w.done
+    (joined_done (next_piece s piece mid) (pieces_done s rest (next_piece s piece mid).names)) ≡ all
+goes-on w = grind (arith, piece-is w)
 
 pub weaving-next : {s : Setting} {piece : TexPiece} {rest : List TexPiece} {all : Done Ink} {old mid new : Press}
-    {scraps prods : ℕ} {more : Counts}
-    → Weaving s (piece ∷ rest) all old mid scraps prods
+    {scraps prods : ℕ} {more : Counts} → Weaving s (piece ∷ rest) all old mid scraps prods
     → Weaves s (reprinted (inked (holds_bytes mid.line)) (piece_done s piece mid.book.names)) mid new (Ok more)
     → Weaving s rest all old new (scraps + more.scraps) (prods + more.productions)
 weaving-next {s = s} {piece = piece} {rest = rest} {all = all} {old = old} {mid = mid} {new = new} {scraps = scraps}
@@ -201,29 +148,18 @@ weaving-next {s = s} {piece = piece} {rest = rest} {all = all} {old = old} {mid 
       put = as-put (inks-then w.done.out d.out w.put woven.puts);
       names = woven.names;
       occurrences = woven.occurrences ∙ ap (λ (os : List Occurrence). os ++ underlined s.section d.marks) w.occurrences
-          ∙ append_assoc old.book.xrefs (underlined s.section w.done.marks) (underlined s.section d.marks)
-          ∙ ap (λ (os : List Occurrence). old.book.xrefs ++ os)
-          (sym (underlined-append s.section w.done.marks d.marks));
+          ∙ append_assoc old.book.xrefs (underlined s.section w.done.marks) (underlined s.section d.marks) ∙ ap
+          (λ (os : List Occurrence). old.book.xrefs ++ os) (sym (underlined-append s.section w.done.marks d.marks));
       same = woven.same ∙ w.same;
-      scraps_are = let a : scraps ≡ scraps_in w.done.ended = w.scraps_are in let b : more.scraps ≡ scraps_in d.ended =
-          woven.scraps in
-          let c : scraps_in (w.done.ended ++ d.ended) ≡ scraps_in w.done.ended + scraps_in d.ended =
-          scraps-append w.done.ended d.ended in omega (arith, a, b, c);
-      productions_are = let a : prods ≡ productions_in s.flags w.done.ended = w.productions_are in
-          let b : more.productions ≡ productions_in s.flags d.ended = woven.productions in
-          let c : productions_in s.flags (w.done.ended ++ d.ended)
-          ≡ productions_in s.flags w.done.ended + productions_in s.flags d.ended =
-          productions-append s.flags w.done.ended d.ended in omega (arith, a, b, c);
-      steps_are = let a : mid.steps ≡ old.steps + ticks_in s.flags w.done.ended = w.steps_are in
-          let b : new.steps ≡ mid.steps + ticks_in s.flags d.ended = woven.steps_are in
-          let c : ticks_in s.flags (w.done.ended ++ d.ended)
-          ≡ ticks_in s.flags w.done.ended + ticks_in s.flags d.ended =
-          ticks-append s.flags w.done.ended d.ended in omega (arith, a, b, c);
-      bound = let a : mid.steps ≤ old.steps + limit_in s.flags w.done.ended = w.bound in
-          let b : new.steps ≤ mid.steps + limit_in s.flags d.ended = woven.bound in
-          let c : limit_in s.flags (w.done.ended ++ d.ended)
-          ≡ limit_in s.flags w.done.ended + limit_in s.flags d.ended =
-          limit-append s.flags w.done.ended d.ended in omega (arith, a, b, c);
+      scraps_are = omega (arith, w.scraps_are, woven.scraps, (scraps-append w.done.ended d.ended));
+      productions_are = omega (
+        arith,
+        w.productions_are,
+        woven.productions,
+        (productions-append s.flags w.done.ended d.ended),
+      );
+      steps_are = omega (arith, w.steps_are, woven.steps_are, (ticks-append s.flags w.done.ended d.ended));
+      bound = omega (arith, w.bound, woven.bound, (limit-append s.flags w.done.ended d.ended));
       goes = joined-joined w.done d (pieces_done s rest d.names) ∙ goes-on w;
     }
 
@@ -236,54 +172,40 @@ pub weaving-stopped : {s : Setting} {piece : TexPiece} {rest : List TexPiece} {a
 weaving-stopped {s = s} {piece = piece} {rest = rest} {all = all} {old = old} {mid = mid} {new = new} w woven is =
     let d : Done Ink = next_piece s piece mid in
     let later : Done Ink = pieces_done s rest d.names in
-    let inking : Inking (d.out ++ later.out) all.out old.line mid.line old.told mid.told =
-    record { done = w.done.out; put = w.put; goes = ap (λ (a : Done Ink). a.out) (goes-on w) } in
+    let inking : Inking (d.out ++ later.out) all.out old.line mid.line old.told mid.told = record
+    { done = w.done.out; put = w.put; goes = ap (λ (a : Done Ink). a.out) (goes-on w) } in
     let ended : w.done.ended ++ (d.ended ++ later.ended) ≡ all.ended = ap (λ (a : Done Ink). a.ended) (goes-on w) in
     weaves-refused _ (lays-stopped d.out later.out inking woven.puts is) (woven.same ∙ w.same)
-    (let a : mid.steps ≤ old.steps + limit_in s.flags w.done.ended = w.bound in
-    let b : new.steps ≤ mid.steps + limit_in s.flags d.ended = woven.bound in
-    let c : limit_in s.flags (w.done.ended ++ (d.ended ++ later.ended))
-    ≡ limit_in s.flags w.done.ended + limit_in s.flags (d.ended ++ later.ended) =
-    limit-append s.flags w.done.ended (d.ended ++ later.ended) in
-    let f : limit_in s.flags (d.ended ++ later.ended) ≡ limit_in s.flags d.ended + limit_in s.flags later.ended =
-    limit-append s.flags d.ended later.ended in
-    let e : limit_in s.flags (w.done.ended ++ (d.ended ++ later.ended)) ≡ limit_in s.flags all.ended =
-    ap (limit_in s.flags) ended in
-    omega (arith, a, b, c, e, f))
-    is
+    (let a : mid.steps ≤ old.steps + limit_in s.flags w.done.ended = w.bound in let b : new.steps ≤ mid.steps + limit_in
+    s.flags d.ended = woven.bound in let c : limit_in s.flags (w.done.ended ++ (d.ended ++ later.ended)) ≡ limit_in
+    s.flags w.done.ended + limit_in s.flags (d.ended ++ later.ended) = limit-append s.flags w.done.ended
+    (d.ended ++ later.ended) in let f : limit_in s.flags (d.ended ++ later.ended) ≡ limit_in s.flags d.ended + limit_in
+    s.flags later.ended = limit-append s.flags d.ended later.ended in let e : limit_in s.flags (w.done.ended ++ (d.ended
+    ++ later.ended)) ≡ limit_in s.flags all.ended = ap (limit_in s.flags) ended in omega (arith, a, b, c, e, f)) is
 
 -- Memory is wanted between two pieces.
 pub weaving-refused : {s : Setting} {rest : List TexPiece} {all : Done Ink} {old now : Press} {scraps prods : ℕ}
-    {result : Result Counts PutError}
-    → Weaving s rest all old now scraps prods → IsErrAnd result (λ found. found ≡ Memory)
-    → Weaves s (reprinted (laid (holds_bytes old.line)) all) old now result
+    {result : Result Counts PutError} → Weaving s rest all old now scraps prods
+    → IsErrAnd result (λ found. found ≡ Memory) → Weaves s (reprinted (laid (holds_bytes old.line)) all) old now result
 weaving-refused {s = s} {rest = rest} {all = all} {old = old} {now = now} w is =
     let later : Done Ink = pieces_done s rest w.done.names in
     let holds : Bool = holds_bytes old.line in
-    let ended : w.done.ended ++ later.ended ≡ all.ended = ap (λ (a : Done Ink). a.ended) w.goes in
-    weaves-refused Memory
-    (puts-bytes (sym (laid-append holds w.done.out later.out) ∙ ap (λ (a : Done Ink). laid holds a.out) w.goes)
-    (puts-then w.put (puts-nothing (laid (held holds w.done.out) later.out) now.line now.told is)))
-    w.same
-    (let a : now.steps ≤ old.steps + limit_in s.flags w.done.ended = w.bound in
-    let c : limit_in s.flags (w.done.ended ++ later.ended)
-    ≡ limit_in s.flags w.done.ended + limit_in s.flags later.ended =
-    limit-append s.flags w.done.ended later.ended in
-    let e : limit_in s.flags (w.done.ended ++ later.ended) ≡ limit_in s.flags all.ended =
-    ap (limit_in s.flags) ended in
-    omega (arith, a, c, e))
-    is
+    weaves-refused Memory (puts-bytes (sym (laid-append holds w.done.out later.out) ∙ ap (λ (a : Done Ink). laid holds
+    a.out) w.goes) (puts-then w.put (puts-nothing (laid (held holds w.done.out) later.out) now.line now.told is)))
+    w.same (let a : now.steps ≤ old.steps + limit_in s.flags w.done.ended = w.bound in let c : limit_in s.flags
+    (w.done.ended ++ later.ended) ≡ limit_in s.flags w.done.ended + limit_in s.flags later.ended = limit-append s.flags
+    w.done.ended later.ended in let e : limit_in s.flags (w.done.ended ++ later.ended) ≡ limit_in s.flags all.ended = ap
+    (limit_in s.flags) (ap (λ (a : Done Ink). a.ended) w.goes) in omega (arith, a, c, e)) is
 
 -- All are woven, and their last line is ended where it holds bytes.
 all-done : {s : Setting} {all : Done Ink} {old now : Press} {scraps prods : ℕ}
     (w : Weaving s [] all old now scraps prods) → w.done ≡ all
-all-done w =
-    (λ i. record {
-      out = sym (append-nil w.done.out) i;
-      names = w.done.names;
-      marks = sym (append-nil w.done.marks) i;
-      ended = sym (append-nil w.done.ended) i;
-    }) ∙ w.goes
+all-done w = (λ i. record {
+  out = sym (append-nil w.done.out) i;
+  names = w.done.names;
+  marks = sym (append-nil w.done.marks) i;
+  ended = sym (append-nil w.done.ended) i;
+}) ∙ w.goes
 
 inking-all : {s : Setting} {all : Done Ink} {old now : Press} {scraps prods : ℕ}
     → Weaving s [] all old now scraps prods → Inking [] all.out old.line now.line old.told now.told
@@ -291,11 +213,9 @@ inking-all w = record
     { done = w.done.out; put = w.put; goes = append-nil w.done.out ∙ ap (λ (a : Done Ink). a.out) (all-done w) }
 
 pub weaving-ended : {T : Type 0} {s : Setting} {all : Done Ink} {old now : Press} {line : LineState} {told : Told}
-    {counts : Counts} {value : T}
-    → Weaving s [] all old now counts.scraps counts.productions
-    → Puts {T = T} (end_if (holds_bytes now.line)) now.line line now.told told (Ok value)
-    → Weaves s (reprinted (laid (holds_bytes old.line)) all) old
-    (record { book = now.book; line = line; told = told; steps = now.steps }) (Ok counts)
+    {counts : Counts} {value : T} → Weaving s [] all old now counts.scraps counts.productions → Puts {T = T} (end_if
+    (holds_bytes now.line)) now.line line now.told told (Ok value) → Weaves s (reprinted (laid (holds_bytes old.line))
+    all) old (record { book = now.book; line = line; told = told; steps = now.steps }) (Ok counts)
 weaving-ended {s = s} {all = all} {old = old} {now = now} {line = line} {told = told} {counts = counts} w put =
     let d : w.done ≡ all = all-done w in
     record {
@@ -310,11 +230,9 @@ weaving-ended {s = s} {all = all} {old = old} {now = now} {line = line} {told = 
     }
 
 pub weaving-end-refused : {T : Type 0} {s : Setting} {all : Done Ink} {old now : Press} {scraps prods : ℕ}
-    {line : LineState} {told : Told} {error : PutError} {result : Result Counts PutError}
-    → Weaving s [] all old now scraps prods
-    → Puts {T = T} (end_if (holds_bytes now.line)) now.line line now.told told (Err error)
-    → IsErrAnd result (λ found. found ≡ error)
-    → Weaves s (reprinted (laid (holds_bytes old.line)) all) old
+    {line : LineState} {told : Told} {error : PutError} {result : Result Counts PutError} → Weaving s [] all old now
+    scraps prods → Puts {T = T} (end_if (holds_bytes now.line)) now.line line now.told told (Err error)
+    → IsErrAnd result (λ found. found ≡ error) → Weaves s (reprinted (laid (holds_bytes old.line)) all) old
     (record { book = now.book; line = line; told = told; steps = now.steps }) result
 weaving-end-refused {s = s} {all = all} {old = old} {now = now} w put is =
     weaves-refused _ (puts-bytes (append-nil _) (puts-stop [] (lays-ended (inking-all w) put) is)) w.same
@@ -324,43 +242,18 @@ weaving-end-refused {s = s} {all = all} {old = old} {now = now} w put is =
 pub weaving-counts : {s : Setting} {rest : List TexPiece} {all : Done Ink} {old now : Press}
     {scraps prods scraps' prods' : ℕ} → scraps' ≡ scraps → prods' ≡ prods
     → Weaving s rest all old now scraps prods → Weaving s rest all old now scraps' prods'
-weaving-counts {s = s} {rest = rest} {all = all} {old = old} {now = now} {scraps = scraps} {prods' = prods'} a b w =
-    subst (λ (n : ℕ). Weaving s rest all old now n prods') (sym a)
-    (subst (λ (n : ℕ). Weaving s rest all old now scraps n) (sym b) w)
+weaving-counts a b w = rw (a, b) w
 
 -- bytes that were put, of no C text
 pub weaves-put : {s : Setting} (bytes : List ℕ) {old : Press} {line : LineState} {told : Told}
-    (result : Result Counts PutError)
-    → Puts bytes old.line line old.told told result
-    → IfOk result (λ counts. counts.scraps ≡ 0) → IfOk result (λ counts. counts.productions ≡ 0)
-    → Weaves s (as_it_is bytes old.book.names) old
-    (record { book = old.book; line = line; told = told; steps = old.steps }) result
-weaves-put {s = s} bytes {old = old} (Ok counts) puts scraps prods = record {
-  puts = puts;
-  names = refl;
-  occurrences = sym (append-nil old.book.xrefs)
-      ∙ ap (λ (os : List Occurrence). old.book.xrefs ++ os) (sym (underlined-none s.section));
-  same = refl;
-  scraps = scraps;
-  productions = prods;
-  steps_are = omega arith;
-  bound = omega arith;
-}
-weaves-put bytes (Err error) puts scraps prods = record {
-  puts = puts;
-  names = tt;
-  occurrences = tt;
-  same = refl;
-  scraps = tt;
-  productions = tt;
-  steps_are = tt;
-  bound = omega arith;
-}
+    (result : Result Counts PutError) → Puts bytes old.line line old.told told result
+    → IfOk result (λ counts. counts.scraps ≡ 0) → IfOk result (λ counts. counts.productions ≡ 0) → Weaves s
+    (as_it_is bytes old.book.names) old (record { book = old.book; line = line; told = told; steps = old.steps }) result
+weaves-put {s = s} bytes {old = old} result puts scraps prods = grind (arith, append-nil, underlined-none)
 
 -- what is copied
 pub weaves-plain : {s : Setting} (xs : List Ink) {old : Press} {line : LineState} {told : Told}
-    (result : Result Counts PutError)
-    → Puts (inked (holds_bytes old.line) xs) old.line line old.told told result
+    (result : Result Counts PutError) → Puts (inked (holds_bytes old.line) xs) old.line line old.told told result
     → IfOk result (λ counts. counts.scraps ≡ 0) → IfOk result (λ counts. counts.productions ≡ 0)
     → Weaves s (reprinted (inked (holds_bytes old.line)) (as_it_is xs old.book.names)) old
     (record { book = old.book; line = line; told = told; steps = old.steps }) result
@@ -374,33 +267,25 @@ weaves-nothing {s = s} {old = old} {counts = counts} scraps prods =
     weaves-plain [] (Ok counts) (puts-none old.line old.told counts) scraps prods
 
 -- a section name that is ignored, and one that isn't
-pub ignored : {X : Type 0} (f : ℕ → X) (s : Setting) (inner : Bool) (part : Span) (names : List Entry)
-    (name : Option ℕ) → None ≡ option_map f name
-    → name_done_by s inner part name names ≡ as_it_is [] names
-ignored f s inner part names None is = refl
-ignored f s inner part names (Some name) is = absurd (cc)
+pub ignored : {X : Type 0} (f : ℕ → X) (s : Setting) (inner : Bool) (part : Span) (names : List Entry) (name : Option ℕ)
+    → None ≡ option_map f name → name_done_by s inner part name names ≡ as_it_is [] names
+ignored f s inner part names name is = grind arith
 
 pub cited : {X : Type 0} (f : ℕ → X) (id : X) (s : Setting) (inner : Bool) (part : Span) (names : List Entry)
     (name : Option ℕ) → Some id ≡ option_map f name
     → text_done s Inner inner part names ≡ name_done_by s inner part name names
-cited f id s inner part names None is = absurd (cc)
-cited f id s inner part names (Some name) is = refl
+cited f id s inner part names name is = grind arith
 
 -- ## Heads
 
-brace-last : (holds : Bool) (bytes : List ℕ) → held_behind holds (bytes ++ codes "}") ≡ true
-brace-last holds bytes = held_behind-append holds bytes (codes "}")
-
 head-by-holds : (starred holds : Bool) (depth number : List ℕ) → held_behind holds (head_by starred depth number) ≡ true
-head-by-holds true holds depth number = brace-last holds (((codes "\\N{" ++ depth) ++ codes "}{") ++ number)
-head-by-holds false holds depth number = brace-last holds (codes "\\M{" ++ number)
+head-by-holds starred holds depth number = grind (arith, held_behind-append)
 
 -- A head is refused, whatever would have stood behind it.
 pub head-refused : {T : Type 0} {s : Setting} (section : Section) (goes : Bool) (front : List ℕ) {old : Press}
-    {line : LineState} {told : Told} {error : PutError} {result : Result Counts PutError}
-    → Puts {T = T} front old.line line old.told told (Err error) → IsErrAnd result (λ found. found ≡ error)
-    → Weaves s (head_and_tex goes front s section old.book.names) old
-    (record { book = old.book; line = line; told = told; steps = old.steps }) result
+    {line : LineState} {told : Told} {error : PutError} {result : Result Counts PutError} → Puts {T = T} front old.line
+    line old.told told (Err error) → IsErrAnd result (λ found. found ≡ error) → Weaves s (head_and_tex goes front s
+    section old.book.names) old (record { book = old.book; line = line; told = told; steps = old.steps }) result
 head-refused section true front puts is = weaves-refused _ (puts-stop _ puts is) refl (omega arith) is
 head-refused section false front puts is = weaves-refused _ (puts-failing refl puts is) refl (omega arith) is
 

@@ -1,36 +1,29 @@
 -- The C texts in a TeX part are whole.
-use Rattle.std.proofs.Common.{◌≡◌, ℕ, zero, suc, ◌+◌, ◌<◌, ◌≤◌, true, false, List, [], ◌∷◌, ◌++◌, Option}
-use Rattle.std.proofs.Common.{Some, None, All, length, take, refl, sym, ap, subst, ◌∙◌, arith, ◌⊎◌, inl, inr}
+use Rattle.cw_texpart.proofs.Terms.{◌≡◌, ℕ, zero, suc, ◌+◌, ◌<◌, ◌≤◌, true, false, List, [], ◌∷◌, ◌++◌, Option, Some}
+use Rattle.cw_texpart.proofs.Terms.{None, All, length, take, refl, sym, ap, subst, ◌∙◌, arith, ◌⊎◌, inl, inr, drop_all}
+use Rattle.cw_texpart.proofs.Terms.{length-take, take-take, All-nil, All-cons, All-weaker, Span, TokKind, Answer, Token}
+use Rattle.cw_texpart.proofs.Terms.{Begin, Finish, Note, Seen, has_sign, answers, answers_at, beginning, fresh_at}
+use Rattle.cw_texpart.proofs.Terms.{last_at, tokens_of, is_some, TexPiece, Copied, InnerText, Cited, token_piece}
+use Rattle.cw_texpart.proofs.Terms.{tex_pieces, tex_pieces_of, IsWhole, IsWholePiece}
 use Rattle.std.proofs.lemmas.Bool.{cases_lt}
-use Rattle.std.proofs.lemmas.List.{drop_all, length-take, take-take}
-use Rattle.std.proofs.lemmas.List.Elements.{All-nil, All-cons, All-weaker}
 use Rattle.cw_base.proofs.TestLaws.{one-failed-left, one-failed-right}
-use Rattle.cw_base.specs.declared.span.Span.{Span}
-use Rattle.cw_rules.specs.declared.codes.Code.TheVariants as at
-use Rattle.cw_rules.specs.declared.tokens.Mode.TheVariants as modes
-use Rattle.cw_rules.specs.declared.tokens.TokKind.{TokKind}
-use Rattle.cw_rules.specs.declared.tokens.TokKind.TheVariants as kinds
-use Rattle.cw_rules.specs.Answers.{Answer, Token, Begin, Finish, Note, Seen, has_sign}
 use Rattle.cw_rules.proofs.Choices.{or-false}
-use Rattle.cw_lex.specs.Lexing.{answers, answers_at, beginning, fresh_at, last_at, tokens_of}
 use Rattle.cw_lex.specs.Limbo.{is_name_kind}
 use Rattle.cw_lex.specs.Nested.{Level, InCode, InComment, after_token, after_begin, after_finish, levels_after}
 use Rattle.cw_lex.specs.Nested.{all_levels_after, is_section_kind, begins_section_in, CTextsAreNested}
 use Rattle.cw_lex.specs.Openings.{opened_by, opens_part_before, opens_part_in}
-use Rattle.std.specs.Prelude.{is_some}
 use Rattle.cw_lex.specs.TexTexts.{tex_at, are_notes, GoesOn, HoldsInner, TexTextsGoOn}
 use Rattle.cw_phase1.specs.Sections.{span}
-use Rattle.cw_texts.specs.TexPieces.{TexPiece, Copied, InnerText, Cited, token_piece, tex_pieces, tex_pieces_of}
-use Rattle.cw_texpart.specs.TexParts.{IsWhole, IsWholePiece}
 use Rattle.cw_texpart.specs.WholePieces.{PiecesAreWhole, TexPartsAreWhole}
+use Rattle.cw_rules.specs.declared.tokens.Mode.TheVariants as modes
+use Rattle.cw_rules.specs.declared.tokens.TokKind.TheVariants as kinds
 
 -- ## Answers in which no part begins
 
 token-rest : (more : List Answer) (t : Seen) (answers : List Answer) → opens_part_before more (Token t ∷ answers) ≡
     false → opens_part_before more answers ≡ false
-token-rest more t answers h =
-    one-failed-right (is_some (opened_by t.kind (has_sign (answers ++ more)))) (opens_part_before more answers)
-    (one-failed-right (is_section_kind t.kind) _ h)
+token-rest more t answers h = one-failed-right (is_some (opened_by t.kind (has_sign (answers ++ more))))
+    (opens_part_before more answers) (one-failed-right (is_section_kind t.kind) _ h)
 
 opens-right : (more xs ys : List Answer) → opens_part_before more (xs ++ ys) ≡ false → opens_part_before more ys ≡ false
 opens-right more [] ys h = h
@@ -79,8 +72,8 @@ goes a xs ls ms h = by (levels_after a ls) refl
     by (Some next) e = record {
       next = next;
       one = e;
-      rest = sym
-          (ap (λ (o : Option (List Level)). elim o [ None ↦ None | Some next ↦ all_levels_after xs next ]) e) ∙ h;
+      rest = sym (ap (λ (o : Option (List Level)). elim o [ None ↦ None | Some next ↦ all_levels_after xs next ]) e)
+          ∙ h;
     }
 
 some-is : (a b : List Level) → ◌≡◌ {A = Option (List Level)} (Some a) (Some b) → a ≡ b
@@ -90,33 +83,20 @@ none-not : (b : List Level) → ◌≡◌ {A = Option (List Level)} None (Some b
 none-not b e = cc
 
 token-same : (k : TokKind) (l : Level) (ls next : List Level) → after_token k (l ∷ ls) ≡ Some next → next ≡ l ∷ ls
-token-same kinds.Text InComment ls next e = sym (some-is (InComment ∷ ls) next e)
-token-same kinds.Text InCode ls next e = absurd (none-not next e)
-token-same k InCode ls next e = sym (some-is (InCode ∷ ls) next e)
-token-same k InComment ls next e = absurd (none-not next e)
+token-same k l ls next e = grind arith
 
 begin-more : (k : TokKind) (l : Level) (ls next : List Level) → after_begin k (l ∷ ls) ≡ Some next → (m : Level) ×
     (next ≡ m ∷ l ∷ ls)
 begin-more kinds.InnerText InComment ls next e = (InCode, sym (some-is (InCode ∷ InComment ∷ ls) next e))
-begin-more kinds.InnerText InCode ls next e = absurd (none-not next e)
 begin-more kinds.LongComment InCode ls next e = (InComment, sym (some-is (InComment ∷ InCode ∷ ls) next e))
-begin-more kinds.LongComment InComment ls next e = absurd (none-not next e)
 begin-more kinds.ShortComment InCode ls next e = (InComment, sym (some-is (InComment ∷ InCode ∷ ls) next e))
-begin-more kinds.ShortComment InComment ls next e = absurd (none-not next e)
-begin-more k InCode ls next e = absurd (none-not next e)
-begin-more k InComment ls next e = absurd (none-not next e)
+begin-more _ _ _ next e = absurd (none-not next e)
 
 finish-less : (l : Level) (ls next : List Level) → after_finish (l ∷ ls) ≡ Some next → ls ≡ next
-finish-less InCode [] next e = absurd (none-not next e)
-finish-less InComment [] next e = absurd (none-not next e)
-finish-less InCode (InComment ∷ ls) next e = some-is (InComment ∷ ls) next e
-finish-less InComment (InCode ∷ ls) next e = some-is (InCode ∷ ls) next e
-finish-less InCode (InCode ∷ ls) next e = absurd (none-not next e)
-finish-less InComment (InComment ∷ ls) next e = absurd (none-not next e)
+finish-less l ls next e = grind arith
 
 finish-two : (l : Level) (next : List Level) → after_finish (l ∷ []) ≡ Some next → ⊥
-finish-two InCode next e = none-not next e
-finish-two InComment next e = none-not next e
+finish-two l next e = grind arith
 
 nested-pieces : (start : ℕ) (xs ys : List Answer) (l : Level) (ls ms : List Level) → all_levels_after xs (l ∷ ls) ≡
     Some ms → tex_pieces (length (l ∷ ls)) start (xs ++ ys) ≡ tex_pieces (length ms) start ys
@@ -140,10 +120,7 @@ nested-pieces start (Note kind place ∷ xs) ys l ls ms h = nested-pieces start 
 -- what a token makes
 token-whole : (text : List ℕ) (k : TokKind) (t : Seen) → t.kind ≡ k → (is_name_kind k ≡ true → IsWhole text t.span) →
     IsWholePiece text (token_piece k t)
-token-whole text (kinds.Code at.SectionName) t e h = h refl
-token-whole text (kinds.Code at.FileName) t e h = h refl
-token-whole text (kinds.Code c) t e h = tt
-token-whole text k t e h = tt
+token-whole text k t e h = grind arith
 
 module _ (steps : TexTextsGoOn) (nested : CTextsAreNested) (text : List ℕ) where
   abbrev AreWhole : ℕ → List Answer → Type 0
@@ -159,9 +136,8 @@ module _ (steps : TexTextsGoOn) (nested : CTextsAreNested) (text : List ℕ) whe
       (All-nil (IsWholePiece text))
   pieces (suc n) place start h q = by (cases_lt place (length text)) (λ next start k r. pieces n next start k r)
     where
-      by : (place < length text) ⊎ (length text ≤ place) → ((next start : ℕ) → length text ≤ next + n →
-          opens_part_in (tex_at text next) ≡ false → AreWhole start (tex_at text next)) →
-          AreWhole start (tex_at text place)
+      by : (place < length text) ⊎ (length text ≤ place) → ((next start : ℕ) → length text ≤ next + n → opens_part_in
+          (tex_at text next) ≡ false → AreWhole start (tex_at text next)) → AreWhole start (tex_at text place)
       by (inr end) rec = subst (AreWhole start) (sym (at-end place end)) (All-nil (IsWholePiece text))
       by (inl within) rec = piece (steps text place within q)
         where
@@ -202,9 +178,8 @@ module _ (steps : TexTextsGoOn) (nested : CTextsAreNested) (text : List ℕ) whe
                   opens_part_in g.rest ≡ false → AreWhole from g.rest
               rest from (inl notes) behind = subst (All (IsWholePiece text)) (sym (no-pieces from g.rest notes))
                   (All-nil (IsWholePiece text))
-              rest from (inr on) behind =
-                  subst (AreWhole from) (sym on) (rec (g.finish.span.start +
-                  1) from (omega (arith, h, g.begins, g.order)) (ap opens_part_in (sym on) ∙ behind))
+              rest from (inr on) behind = subst (AreWhole from) (sym on) (rec (g.finish.span.start + 1) from
+                  (omega (arith, h, g.begins, g.order)) (ap opens_part_in (sym on) ∙ behind))
 
 -- a part of the text's beginning is a part of the text
 in-text : (text : List ℕ) (end : ℕ) (part : Span) → end ≤ length text → IsWhole (take end text) part → IsWhole text part
@@ -228,8 +203,7 @@ pub pieces-whole : TexTextsGoOn → CTextsAreNested → PiecesAreWhole
 pieces-whole steps nested text part order within quiet =
     let cut = take part.«end» text in
     All-weaker (IsWholePiece cut) (IsWholePiece text) (λ piece w. piece-in-text text part.«end» piece within w)
-    (tex_pieces_of text part)
-    (pieces steps nested cut (length cut) part.start zero (omega arith) quiet)
+    (tex_pieces_of text part) (pieces steps nested cut (length cut) part.start zero (omega arith) quiet)
 
 pub tex-parts-whole : TexTextsGoOn → CTextsAreNested → TexPartsAreWhole
 tex-parts-whole steps nested text section w =

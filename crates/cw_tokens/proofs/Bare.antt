@@ -1,11 +1,8 @@
 -- A tree that is exactly one identifier is a list of one token.
-use Rattle.std.proofs.Common.{◌≡◌, ℕ, suc, ◌<◌, List, [], ◌∷◌, length, Option, None, get_or, refl, option_map, arith}
+use Rattle.cw_tokens.proofs.Terms.{◌≡◌, ℕ, suc, ◌<◌, List, [], ◌∷◌, length, Option, None, get_or, refl, option_map}
+use Rattle.cw_tokens.proofs.Terms.{arith, Tree, bare_name, Token, Shape, item_of, tree_in, unfolded, IsTied}
+use Rattle.cw_tokens.proofs.Terms.{only_name_of}
 use Rattle.cw_names.specs.declared.NameId.{NameId}
-use Rattle.cw_trees.specs.Tree.{Tree, bare_name}
-use Rattle.cw_tokens.specs.declared.token.Token.{Token}
-use Rattle.cw_tokens.specs.Shapes.{Shape, item_of, tree_in, unfolded}
-use Rattle.cw_tokens.specs.References.{IsTied}
-use Rattle.cw_tokens.specs.Walking.{only_name_of}
 use Rattle.cw_tokens.proofs.Unfolding.{unfold-is}
 
 abbrev pub name_at : Option ℕ → Option NameId

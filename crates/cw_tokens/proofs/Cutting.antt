@@ -1,10 +1,8 @@
 -- The lists that the ends cut out of one vector of tokens.
-use Rattle.std.proofs.Common.{◌≡◌, ℕ, zero, suc, ◌+◌, ◌-◌, ◌<◌, ◌≤◌, List, [], ◌∷◌, ◌++◌, length, take, drop, set}
-use Rattle.std.proofs.Common.{get_or, refl, sym, ap, ◌∙◌, arith}
-use Rattle.std.proofs.lemmas.List.{take-append-le, drop-append-le, drop-drop, drop-set-lt, drop-set-add, take-set-le}
-use Rattle.std.proofs.lemmas.List.{length-take, length-drop, take_all}
-use Rattle.cw_tokens.specs.declared.token.Token.{Token}
-use Rattle.cw_tokens.specs.Stored.{cut, last_end, start_of, IsAscending}
+use Rattle.cw_tokens.proofs.Terms.{◌≡◌, ℕ, zero, suc, ◌+◌, ◌-◌, ◌<◌, ◌≤◌, List, [], ◌∷◌, ◌++◌, length, take, drop, set}
+use Rattle.cw_tokens.proofs.Terms.{get_or, refl, sym, ap, ◌∙◌, arith, take-append-le, drop-append-le, drop-drop}
+use Rattle.cw_tokens.proofs.Terms.{drop-set-lt, drop-set-add, take-set-le, length-take, length-drop, take_all, Token}
+use Rattle.cw_tokens.proofs.Terms.{cut, last_end, start_of, IsAscending}
 
 pub length-cut : (start : ℕ) (es : List ℕ) (ts : List Token) → length (cut start es ts) ≡ length es
 length-cut start [] ts = refl
@@ -26,9 +24,8 @@ cut-push start (e ∷ es) ts t a w =
     let high : e ≤ last_end e es = last_end-le e es a.1 in
     let fits : e - start ≤ length ts = omega arith in
     let rest : last_end e es ≤ e + length (drop (e - start) ts) = omega (arith, length-drop (e - start) ts) in
-    cons _ _ _ _ (take-append-le (e - start) ts (t ∷ []) fits)
-    (ap (λ us. cut e es us) (drop-append-le (e - start) ts (t ∷ []) fits)
-    ∙ cut-push e es (drop (e - start) ts) t a.1 rest)
+    cons _ _ _ _ (take-append-le (e - start) ts (t ∷ []) fits) (ap (λ us. cut e es us)
+    (drop-append-le (e - start) ts (t ∷ []) fits) ∙ cut-push e es (drop (e - start) ts) t a.1 rest)
 
 drop-two : (s m n : ℕ) (us : List Token) → s ≤ m → m ≤ n → drop (n - m) (drop (m - s) us) ≡ drop (n - s) us
 drop-two s m n us h k = grind (arith, drop-drop)
@@ -39,13 +36,11 @@ pub cut-finish : (start : ℕ) (es : List ℕ) (ts : List Token) (e : ℕ) → I
     ≡ cut start es ts ++ drop (last_end start es - start) ts ∷ []
 cut-finish start [] ts e a w h = grind (arith, cons, take_all)
 cut-finish start (x ∷ es) ts e a w h =
-    let low : start ≤ x = a.0 in
     let high : x ≤ last_end x es = last_end-le x es a.1 in
-    let rest : last_end x es ≤ x + length (drop (x - start) ts) = omega (arith, length-drop (x - start) ts) in
     let end : e ≡ x + length (drop (x - start) ts) = omega (arith, length-drop (x - start) ts) in
-    let same : drop (last_end x es - x) (drop (x - start) ts) ≡ drop (last_end x es - start) ts =
-    drop-two start x (last_end x es) ts low high in
-    cons _ _ _ _ refl (cut-finish x es (drop (x - start) ts) e a.1 rest end
+    let same : drop (last_end x es - x) (drop (x - start) ts) ≡ drop (last_end x es - start) ts = drop-two start x
+    (last_end x es) ts a.0 high in
+    cons _ _ _ _ refl (cut-finish x es (drop (x - start) ts) e a.1 (omega (arith, length-drop (x - start) ts)) end
     ∙ ap (λ us. cut x es (drop (x - start) ts) ++ us ∷ []) same)
 
 pub ascending-finish : (start : ℕ) (es : List ℕ) (e : ℕ) → IsAscending start es → last_end start es ≤ e
@@ -109,12 +104,9 @@ cut-set start [] ts i p k u a h lt e = absurd (omega arith)
 cut-set start (x ∷ es) ts zero p k u a h lt e = grind (arith, length-take, cons, take-set-in, drop-set-lt)
 cut-set start (x ∷ es) ts (suc i) p k u a h lt e =
     let s : Spans x es i = spans x es i a.1 (omega arith) in
-    let low : start ≤ x = a.0 in
-    let up : x ≤ start_of x es i = s.low in
-    let big : x - start ≤ k = omega arith in
     let split : k ≡ (x - start) + (k - (x - start)) = omega arith in
     let rest : (k - (x - start)) + x ≡ start_of x es i + p = omega arith in
-    cons _ _ _ _ (take-set-le (x - start) ts k u big)
+    cons _ _ _ _ (take-set-le (x - start) ts k u (omega arith))
     (ap (cut x es) (ap (λ j. drop (x - start) (set ts j u)) split ∙ drop-set-add (x - start) ts (k - (x - start)) u)
     ∙ cut-set x es (drop (x - start) ts) i p (k - (x - start)) u a.1 (omega arith) lt rest)
 

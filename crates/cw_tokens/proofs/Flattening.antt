@@ -1,22 +1,13 @@
 -- The walk that lays a tree flat.
-use Rattle.std.proofs.Common.{◌≡◌, ℕ, zero, suc, ◌+◌, ◌-◌, ◌<◌, ◌≤◌, List, [], ◌∷◌, ◌++◌, length, Some, drop, get_or}
-use Rattle.std.proofs.Common.{refl, sym, ap, ◌∙◌, arith}
-use Rattle.std.specs.List.{slice_get}
-use Rattle.std.proofs.lemmas.List.{drop_all, append_assoc, append-nil, map_push}
-use Rattle.std.proofs.lemmas.Option.{slice_get_within}
-use Rattle.cw_trees.specs.Flat.{Item, Open as open_item, Close as close_item, flat}
-use Rattle.cw_tokens.specs.declared.token.Token.{Token}
-use Rattle.cw_tokens.specs.declared.flat.FlatItem.{FlatItem}
-use Rattle.cw_tokens.specs.declared.store.Link.{Link}
-use Rattle.cw_tokens.specs.declared.walk.Part.TheVariants.{Leaf as leaf_part, Below as below_part}
-use Rattle.cw_tokens.specs.declared.walk.Part.TheVariants.{InnerBelow as inner_part}
-use Rattle.cw_tokens.specs.Shapes.{Shape, Below, InnerBelow, shape, ref_of, item_of, tree_in, trees_from, unfolded}
-use Rattle.cw_tokens.specs.References.{token_ref, refers, IsTied, Reach, here, next}
-use Rattle.cw_tokens.specs.Stored.{no_link, IsLinked}
-use Rattle.cw_tokens.specs.FlatItems.{item_is, items_are, IsPart, closing, closing_at, flat_from, to_come, Flattens}
-use Rattle.cw_tokens.proofs.Linking.{refers-within}
-use Rattle.cw_tokens.proofs.Unfolding.{unfold-is, reach-le}
-use Rattle.cw_tokens.proofs.Searching.{drop-at}
+use Rattle.cw_tokens.proofs.Terms.{◌≡◌, ℕ, zero, suc, ◌+◌, ◌-◌, ◌<◌, ◌≤◌, List, [], ◌∷◌, ◌++◌, length, Some, drop}
+use Rattle.cw_tokens.proofs.Terms.{get_or, refl, sym, ap, ◌∙◌, arith, slice_get, drop_all, append_assoc, append-nil}
+use Rattle.cw_tokens.proofs.Terms.{map_push, slice_get_within, Item, Open as open_item, Close as close_item, flat}
+use Rattle.cw_tokens.proofs.Terms.{Token, FlatItem, Link, Leaf as leaf_part, Shape, Below, InnerBelow, shape, ref_of}
+use Rattle.cw_tokens.proofs.Terms.{item_of, tree_in, trees_from, unfolded, token_ref, refers, IsTied, Reach, here, next}
+use Rattle.cw_tokens.proofs.Terms.{no_link, IsLinked, item_is, items_are, IsPart, closing, closing_at, flat_from}
+use Rattle.cw_tokens.proofs.Terms.{to_come, Flattens}
+use Rattle.cw_tokens.specs.declared.walk.Part.TheVariants.{Below as below_part, InnerBelow as inner_part}
+use Rattle.cw_tokens.proofs.{Linking.refers-within, Unfolding.unfold-is, Unfolding.reach-le, Searching.drop-at}
 
 -- how far the walk has come, and the list at hand is read
 pub record ReadsFlat (lists : List (List Token)) (root list place : ℕ) (items : List Token) (given all : List Item) :
@@ -76,18 +67,13 @@ module _ (ls : List (List Token)) (root l p : ℕ) (all : List Item) (t : Token)
       let in_store : l < length ls = f.inside in
       record {
         way = next l p x r f.way;
-        is = ap (λ o. given ++ (flat_from ls x 0
-            ++ (closing_at o ++ (flat_from ls l (p + 1) ++ to_come ls root l f.way)))) at
-            ∙ (ap (λ w. given ++ (flat_from ls x 0
-            ++ (closing w ++ (flat_from ls l (p + 1) ++ to_come ls root l f.way)))) s
-            ∙ (ap (λ xs. given ++ (xs ++ (flat_from ls l (p + 1) ++ to_come ls root l f.way)))
-            (flat-start ls x tied (omega arith))
-            ∙ (ap (λ xs. given ++ xs) (sym (append_assoc (flat (unfolded ls x)) (flat_from ls l (p + 1))
-            (to_come ls root l f.way)))
-            ∙ (ap (λ w. given ++ (flat (item_of (trees_from [] ls) w
-            (tree_in (trees_from [] ls) (drop (p + 1) (get_or ls l [])))) ++ to_come ls root l f.way)) (sym s)
-            ∙ (ap (λ xs. given ++ (xs ++ to_come ls root l f.way)) (sym (flat-at ls l p t at))
-            ∙ f.is)))));
+        is = ap (λ o. given ++ (flat_from ls x 0 ++ (closing_at o ++ (flat_from ls l (p + 1) ++ to_come ls root l
+            f.way)))) at ∙ (ap (λ w. given ++ (flat_from ls x 0 ++ (closing w ++ (flat_from ls l (p + 1) ++ to_come ls
+            root l f.way)))) s ∙ (ap (λ xs. given ++ (xs ++ (flat_from ls l (p + 1) ++ to_come ls root l f.way)))
+            (flat-start ls x tied (omega arith)) ∙ (ap (λ xs. given ++ xs) (sym (append_assoc (flat (unfolded ls x))
+            (flat_from ls l (p + 1)) (to_come ls root l f.way))) ∙ (ap (λ w. given ++ (flat (item_of (trees_from [] ls)
+            w (tree_in (trees_from [] ls) (drop (p + 1) (get_or ls l [])))) ++ to_come ls root l f.way)) (sym s)
+            ∙ (ap (λ xs. given ++ (xs ++ to_come ls root l f.way)) (sym (flat-at ls l p t at)) ∙ f.is)))));
         inside = omega arith;
         within = omega arith;
       }
@@ -101,23 +87,16 @@ module _ (ls : List (List Token)) (root l p : ℕ) (all : List Item) (t : Token)
       let in_store : l < length ls = f.inside in
       record {
         way = next l p x r f.way;
-        is = append-cons given (flat_from ls x 0
-            ++ (closing_at (slice_get (get_or ls l []) p) ++ (flat_from ls l (p + 1) ++ to_come ls root l f.way)))
-            open_item
-            ∙ (ap (λ o. given ++ open_item ∷ (flat_from ls x 0
-            ++ (closing_at o ++ (flat_from ls l (p + 1) ++ to_come ls root l f.way)))) at
-            ∙ (ap (λ w. given ++ open_item ∷ (flat_from ls x 0
-            ++ (closing w ++ (flat_from ls l (p + 1) ++ to_come ls root l f.way)))) s
-            ∙ (ap (λ xs. given ++ open_item ∷ (xs
-            ++ (close_item ∷ (flat_from ls l (p + 1) ++ to_come ls root l f.way))))
-            (flat-start ls x tied (omega arith))
-            ∙ (ap (λ xs. given ++ open_item ∷ xs)
-            (sym (append_assoc (flat (unfolded ls x)) (close_item ∷ flat_from ls l (p + 1))
-            (to_come ls root l f.way)))
+        is = append-cons given (flat_from ls x 0 ++ (closing_at (slice_get (get_or ls l []) p) ++ (flat_from ls l
+            (p + 1) ++ to_come ls root l f.way))) open_item ∙ (ap (λ o. given ++ open_item ∷ (flat_from ls x 0
+            ++ (closing_at o ++ (flat_from ls l (p + 1) ++ to_come ls root l f.way)))) at ∙ (ap (λ w. given ++ open_item
+            ∷ (flat_from ls x 0 ++ (closing w ++ (flat_from ls l (p + 1) ++ to_come ls root l f.way)))) s ∙ (ap
+            (λ xs. given ++ open_item ∷ (xs ++ (close_item ∷ (flat_from ls l (p + 1) ++ to_come ls root l f.way))))
+            (flat-start ls x tied (omega arith)) ∙ (ap (λ xs. given ++ open_item ∷ xs)
+            (sym (append_assoc (flat (unfolded ls x)) (close_item ∷ flat_from ls l (p + 1)) (to_come ls root l f.way)))
             ∙ (ap (λ w. given ++ (flat (item_of (trees_from [] ls) w
             (tree_in (trees_from [] ls) (drop (p + 1) (get_or ls l [])))) ++ to_come ls root l f.way)) (sym s)
-            ∙ (ap (λ xs. given ++ (xs ++ to_come ls root l f.way)) (sym (flat-at ls l p t at))
-            ∙ f.is))))));
+            ∙ (ap (λ xs. given ++ (xs ++ to_come ls root l f.way)) (sym (flat-at ls l p t at)) ∙ f.is))))));
         inside = omega arith;
         within = omega arith;
       }
@@ -160,9 +139,8 @@ flattens-up ls links root x p given all linked f end apart =
           below = lt;
           rest = record {
             way = way;
-            is = append_assoc given (closing (shape tok.0)) (flat_from ls l (q + 1) ++ to_come ls root l way)
-                ∙ (ap (λ o. given ++ (closing_at o ++ (flat_from ls l (q + 1) ++ to_come ls root l way))) (sym tok.1)
-                ∙ e);
+            is = append_assoc given (closing (shape tok.0)) (flat_from ls l (q + 1) ++ to_come ls root l way) ∙ (ap
+                (λ o. given ++ (closing_at o ++ (flat_from ls l (q + 1) ++ to_come ls root l way))) (sym tok.1) ∙ e);
             inside = refers-within ls l q y r;
             within = omega arith;
           };
@@ -171,11 +149,8 @@ flattens-up ls links root x p given all linked f end apart =
 -- at the end of the root all is given
 pub flattens-end : (ls : List (List Token)) (root p : ℕ) (given all : List Item) → IsTied ls
     → Flattens ls root root p given all → length (get_or ls root []) ≤ p → given ≡ all
-flattens-end ls root p given all tied f end =
-    sym (append-nil given)
-    ∙ (ap (λ xs. given ++ xs) (sym (nothing root f.way refl))
-    ∙ (ap (λ xs. given ++ (xs ++ to_come ls root root f.way)) (sym (flat-end ls root p end))
-    ∙ f.is))
+flattens-end ls root p given all tied f end = sym (append-nil given) ∙ (ap (λ xs. given ++ xs) (sym (nothing root f.way
+    refl)) ∙ (ap (λ xs. given ++ (xs ++ to_come ls root root f.way)) (sym (flat-end ls root p end)) ∙ f.is))
   where
     nothing : (y : ℕ) (way : Reach ls root y) → y ≡ root → to_come ls root y way ≡ []
     nothing y here e = refl
@@ -194,7 +169,6 @@ pub up-step : (ls : List (List Token)) (links : List Link) (root x : ℕ) (given
 up-step ls links root x given all k u e = grind arith
 
 pub up-flattens : (ls : List (List Token)) (links : List Link) (root x : ℕ) (given all new : List Item) (k : Link)
-    (b : Token) → Ups ls links root x given all → k ≡ get_or links x no_link
-    → slice_get (get_or ls k.list []) (k.place - 1) ≡ Some b → new ≡ given ++ closing (shape b)
-    → Flattens ls root k.list k.place new all
+    (b : Token) → Ups ls links root x given all → k ≡ get_or links x no_link → slice_get (get_or ls k.list [])
+    (k.place - 1) ≡ Some b → new ≡ given ++ closing (shape b) → Flattens ls root k.list k.place new all
 up-flattens ls links root x given all new k b u e at is = grind arith

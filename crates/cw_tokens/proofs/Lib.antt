@@ -1,4 +1,5 @@
 -- The laws of the store and its trees: how lists are linked, searched, reserved, laid flat and trimmed.
+mod Terms
 pub mod Cutting
 pub mod Linking
 pub mod Storing

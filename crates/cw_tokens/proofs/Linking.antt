@@ -1,15 +1,9 @@
 -- Each list is linked to the one token that refers to it.
-use Rattle.std.proofs.Common.{◌≡◌, ℕ, zero, suc, ◌+◌, ◌<◌, List, [], ◌∷◌, ◌++◌, length, Option, Some, None, ◌⊎◌, inl}
-use Rattle.std.proofs.Common.{inr, get_or, refl, sym, ap, ◌∙◌, arith}
-use Rattle.std.specs.List.{slice_get}
-use Rattle.std.proofs.lemmas.List.{get_or_append_left, get_or-set_same, get_or-set_other}
+use Rattle.cw_tokens.proofs.Terms.{◌≡◌, ℕ, zero, suc, ◌+◌, ◌<◌, List, [], ◌∷◌, ◌++◌, length, Option, Some, None, ◌⊎◌}
+use Rattle.cw_tokens.proofs.Terms.{inl, inr, get_or, refl, sym, ap, ◌∙◌, arith, slice_get, get_or_append_left}
+use Rattle.cw_tokens.proofs.Terms.{get_or-set_same, get_or-set_other, common_steps, Token, Link, shape, ref_of}
+use Rattle.cw_tokens.proofs.Terms.{token_ref, refers, IsUnreferred, IsTied, with_built, linked, no_link, IsLinked}
 use Rattle.std.proofs.lemmas.Bool.Decides.{nat_tests}
-use Rattle.std.proofs.lemmas.Grind.{common_steps}
-use Rattle.cw_tokens.specs.declared.token.Token.{Token}
-use Rattle.cw_tokens.specs.declared.store.Link.{Link}
-use Rattle.cw_tokens.specs.Shapes.{shape, ref_of}
-use Rattle.cw_tokens.specs.References.{token_ref, refers, IsUnreferred, IsTied}
-use Rattle.cw_tokens.specs.Stored.{with_built, linked, no_link, IsLinked}
 
 -- a list that refers is one of the store
 pub refers-within : (ls : List (List Token)) (l p x : ℕ) → refers ls l p ≡ Some x → l < length ls
@@ -105,9 +99,8 @@ pub linked-same : (old new : List (List Token)) (links : List Link) → ((l p : 
     → IsLinked old links → IsLinked new links
 linked-same old new links same k = grind arith
 
-pub refers-with : (old new : List (List Token)) (b : Option (List Token)) → length new ≡ length old
-    → ((l p : ℕ) → refers new l p ≡ refers old l p) → (l p : ℕ) → refers (with_built new b) l p
-    ≡ refers (with_built old b) l p
+pub refers-with : (old new : List (List Token)) (b : Option (List Token)) → length new ≡ length old → ((l p : ℕ)
+    → refers new l p ≡ refers old l p) → (l p : ℕ) → refers (with_built new b) l p ≡ refers (with_built old b) l p
 refers-with old new None len same l p = same l p
 refers-with [] [] (Some ts) len same l p = refl
 refers-with [] (y ∷ new) (Some ts) len same l p = cc

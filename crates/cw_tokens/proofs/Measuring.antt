@@ -1,18 +1,10 @@
 -- How much of a walk through a tree is still to come.
-use Rattle.std.proofs.Common.{◌≡◌, ℕ, zero, suc, ◌+◌, ◌<◌, ◌≤◌, false, eqb, List, [], length, Some, drop, get_or, sym}
-use Rattle.std.proofs.Common.{ap, ◌∙◌, arith}
-use Rattle.std.specs.List.{slice_get}
-use Rattle.std.proofs.lemmas.Bool.{eq-eqb, eqb-true}
-use Rattle.cw_trees.specs.Tree.{Tree}
-use Rattle.cw_tokens.specs.declared.token.Token.{Token}
-use Rattle.cw_tokens.specs.declared.store.Link.{Link}
-use Rattle.cw_tokens.specs.Shapes.{Shape, shape, ref_of, item_of, tree_in, trees_from, unfolded}
-use Rattle.cw_tokens.specs.References.{token_ref, refers, Reach, here, next}
-use Rattle.cw_tokens.specs.Stored.{no_link, IsLinked}
-use Rattle.cw_tokens.specs.Walking.{Path, top, down, size, size_from, size_above}
-use Rattle.cw_tokens.proofs.Linking.{refers-within, linked-tied}
-use Rattle.cw_tokens.proofs.Unfolding.{unfold-is, reach-le}
-use Rattle.cw_tokens.proofs.Searching.{drop-at}
+use Rattle.cw_tokens.proofs.Terms.{◌≡◌, ℕ, zero, suc, ◌+◌, ◌<◌, ◌≤◌, false, eqb, List, [], length, Some, drop, get_or}
+use Rattle.cw_tokens.proofs.Terms.{sym, ap, ◌∙◌, arith, slice_get, eq-eqb, eqb-true, Tree, Token, Link, Shape, shape}
+use Rattle.cw_tokens.proofs.Terms.{ref_of, item_of, tree_in, trees_from, unfolded, token_ref, refers, Reach, here, next}
+use Rattle.cw_tokens.proofs.Terms.{no_link, IsLinked, Path, top, down, size, size_from, size_above}
+use Rattle.cw_tokens.proofs.{Linking.refers-within, Linking.linked-tied, Unfolding.unfold-is, Unfolding.reach-le}
+use Rattle.cw_tokens.proofs.{Searching.drop-at}
 
 pub reach-of : (ls : List (List Token)) (root l : ℕ) → Path ls root l → Reach ls root l
 reach-of ls root l top = here
@@ -41,9 +33,8 @@ module _ (ls : List (List Token)) (links : List Link) (root : ℕ) (linked : IsL
       let low : l < m = linked.earlier m p l e in
       let up : m ≤ root = reach-le ls root m (linked-tied ls links linked) w in
       let lt : l < root = omega arith in
-      above-next f m p l e lt
-      ∙ (ap (λ n. 1 + (size_from ls m (p + 1) + n)) (above-more m w f g (omega arith) (omega arith))
-      ∙ sym (above-next g m p l e lt))
+      above-next f m p l e lt ∙ (ap (λ n. 1 + (size_from ls m (p + 1) + n))
+      (above-more m w f g (omega arith) (omega arith)) ∙ sym (above-next g m p l e lt))
 
   abbrev pub left : ℕ → ℕ → ℕ
   left l p = size_from ls l p + size_above ls links root (length ls) l
@@ -58,10 +49,6 @@ module _ (ls : List (List Token)) (links : List Link) (root : ℕ) (linked : IsL
   size-at : (l p : ℕ) (t : Token) → slice_get (get_or ls l []) p ≡ Some t → size_from ls l p
       ≡ size (item_of (trees_from [] ls) (shape t) (tree_in (trees_from [] ls) (drop (p + 1) (get_or ls l []))))
   size-at l p t e = grind (arith, drop-at)
-
-  pub less-past : (l p : ℕ) (t : Token) → slice_get (get_or ls l []) p ≡ Some t → left l (p + 1) < left l p
-  less-past l p t e =
-      grind (arith, size-item (shape t) (tree_in (trees_from [] ls) (drop (p + 1) (get_or ls l []))), size-at l p t e)
 
   size-below : (s : Shape) (x : ℕ) (rest : Tree) → ref_of s ≡ Some x → size (item_of (trees_from [] ls) s rest)
       ≡ 2 + (size (unfolded ls x) + size rest)

@@ -1,9 +1,6 @@
 -- What the code reads at a place of a list.
-use Rattle.std.proofs.Common.{◌≡◌, ℕ, ◌<◌, ◌≤◌, List, [], length, get_or, Some, sym, ap, ◌∙◌, arith}
-use Rattle.std.specs.List.{slice_get}
-use Rattle.std.proofs.lemmas.Option.{slice_get-get_or}
-use Rattle.cw_tokens.specs.declared.token.Token.{Token}
-use Rattle.cw_tokens.specs.Stored.{cut}
+use Rattle.cw_tokens.proofs.Terms.{◌≡◌, ℕ, ◌<◌, ◌≤◌, List, [], length, get_or, Some, sym, ap, ◌∙◌, arith, slice_get}
+use Rattle.cw_tokens.proofs.Terms.{slice_get-get_or, Token, cut}
 use Rattle.cw_tokens.proofs.Cutting.{length-cut}
 
 -- a list of the store that the code has read, at a place below its length

@@ -1,7 +1,6 @@
 -- Which lists stand in the tree of another.
-use Rattle.std.proofs.Common.{◌≡◌, ℕ, List, Some, ◌⊎◌, inl, inr, refl, sym, subst, arith}
-use Rattle.cw_tokens.specs.declared.token.Token.{Token}
-use Rattle.cw_tokens.specs.References.{refers, IsUnreferred, IsTied, Reach, here, next}
+use Rattle.cw_tokens.proofs.Terms.{◌≡◌, ℕ, List, Some, ◌⊎◌, inl, inr, refl, sym, subst, arith, Token, refers}
+use Rattle.cw_tokens.proofs.Terms.{IsUnreferred, IsTied, Reach, here, next}
 use Rattle.cw_tokens.proofs.Unfolding.{reach-le}
 
 module _ (ls : List (List Token)) (tied : IsTied ls) where

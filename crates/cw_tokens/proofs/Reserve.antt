@@ -1,26 +1,17 @@
 -- One token is written, and the tree of the root is the one whose first identifier is reserved.
-use Rattle.std.proofs.Common.{◌≡◌, ℕ, zero, suc, ◌<◌, ◌≤◌, List, [], ◌∷◌, length, Some, None, inl, inr, take, set}
-use Rattle.std.proofs.Common.{get_or, refl, sym, ap, ◌∙◌, subst, arith}
-use Rattle.std.specs.List.{slice_get}
+use Rattle.cw_tokens.proofs.Terms.{◌≡◌, ℕ, zero, suc, ◌<◌, ◌≤◌, List, [], ◌∷◌, length, Some, None, inl, inr, take, set}
+use Rattle.cw_tokens.proofs.Terms.{get_or, refl, sym, ap, ◌∙◌, subst, arith, slice_get, get_or-set_same}
+use Rattle.cw_tokens.proofs.Terms.{get_or-set_other, length-set, cases_eq, RawInt, Tree, Empty, Then, Sub, Inner}
+use Rattle.cw_tokens.proofs.Terms.{Search, Found, Nothing, or_else, search_leaf, first_ident, reserve_first, Token}
+use Rattle.cw_tokens.proofs.Terms.{Ident, Reserved, Spot, Shape, Below, shape, ref_of, item_of, tree_in, trees_from}
+use Rattle.cw_tokens.proofs.Terms.{unfolded, token_ref, refers, IsTied, Reach, here, next, before, Path, top, down}
+use Rattle.cw_tokens.proofs.Terms.{Finds, found_name, Reserves, ReservesToken}
 use Rattle.std.proofs.lemmas.List.Sums.{sum_by-set}
-use Rattle.std.proofs.lemmas.List.{get_or-set_same, get_or-set_other, length-set}
-use Rattle.std.proofs.lemmas.Bool.{cases_eq}
-use Rattle.cw_base.specs.declared.category.Cat.TheVariants.{RawInt}
-use Rattle.cw_trees.specs.Tree.{Leaf, Tree, Empty, Then, Sub, Inner, Search, Found, Nothing, or_else, search_leaf}
-use Rattle.cw_trees.specs.Tree.{first_ident, reserve_first}
-use Rattle.cw_tokens.specs.declared.token.Token.{Token}
-use Rattle.cw_tokens.specs.declared.token.Token.TheVariants.{Ident, Reserved}
-use Rattle.cw_tokens.specs.declared.walk.Spot.{Spot}
-use Rattle.cw_tokens.specs.Shapes.{Shape, Below, shape, ref_of, item_of, tree_in, trees_from, unfolded}
-use Rattle.cw_tokens.specs.References.{token_ref, refers, IsTied, Reach, here, next}
-use Rattle.cw_tokens.specs.Walking.{before, Path, top, down, Finds, found_name}
+use Rattle.cw_trees.specs.Tree.{Leaf}
 use Rattle.cw_tokens.specs.Counting.{token_count}
-use Rattle.cw_tokens.specs.Reserving.{Reserves, ReservesToken}
-use Rattle.cw_tokens.proofs.Linking.{refers-within}
+use Rattle.cw_tokens.proofs.{Linking.refers-within, Measuring.reach-of, Reaching.comparable, Reaching.siblings}
 use Rattle.cw_tokens.proofs.Unfolding.{item_of-same, tree_in-same, unfold-is, unfolded-same, reach-le, reach-trans}
 use Rattle.cw_tokens.proofs.Searching.{item_search, first-item, first-at, path-in, below-first}
-use Rattle.cw_tokens.proofs.Measuring.{reach-of}
-use Rattle.cw_tokens.proofs.Reaching.{comparable, siblings}
 
 -- where nothing is found nothing changes
 some-none : (n : ℕ) (s : Search) → s ≡ Found n → found_name s ≡ None → ⊥
@@ -66,9 +57,8 @@ reserve-at old new (v ∷ ts) zero t u e n same h =
 reserve-at old new (v ∷ ts) (suc p) t u e n same h =
     let both : (item_search old (shape v) ≡ Nothing) × (first_ident (tree_in old (take p ts)) ≡ Nothing) =
     or_else-none _ _ (sym (first-item old (shape v) (tree_in old (take p ts))) ∙ n) in
-    item_of-same new old (shape v) (tree_in new (set ts p u)) (reserve_first (tree_in old ts))
-    (λ x k. sym (same 0 x (λ d. cc) k)) (reserve-at old new ts p t u e both.1
-    (λ q x ne k. same (suc q) x (λ d. ne (pred-is q p d)) k) h)
+    item_of-same new old (shape v) (tree_in new (set ts p u)) (reserve_first (tree_in old ts)) (λ x k. sym (same 0 x
+    (λ d. cc) k)) (reserve-at old new ts p t u e both.1 (λ q x ne k. same (suc q) x (λ d. ne (pred-is q p d)) k) h)
     ∙ skip-item old (shape v) (tree_in old ts) both.0
   where
     pred-is : (a b : ℕ) → suc a ≡ suc b → a ≡ b
@@ -89,11 +79,9 @@ module _ (old : List (List Token)) (l p : ℕ) (t u : Token) (tied : IsTied old)
 
   ref-written : (ts : List Token) (i q : ℕ) → slice_get ts i ≡ Some t → token_ref (slice_get (set ts i u) q)
       ≡ token_ref (slice_get ts q)
-  ref-written [] i q e = refl
   ref-written (v ∷ ts) zero zero e = grind arith
-  ref-written (v ∷ ts) zero (suc q) e = refl
-  ref-written (v ∷ ts) (suc i) zero e = refl
   ref-written (v ∷ ts) (suc i) (suc q) e = ref-written ts i q e
+  ref-written _ _ _ _ = refl
 
   pub written-refs : (k q : ℕ) → refers new k q ≡ refers old k q
   written-refs k q = grind (arith, cases_eq, this-list, ref-written, other-list)
@@ -125,12 +113,10 @@ module _ (old : List (List Token)) (l p : ℕ) (t u : Token) (tied : IsTied old)
       let high : l ≤ x = reach-le old x l tied r in
       let apart : m ≡ l → ⊥ = λ d. omega arith in
       let lt : m < length new = let k : length new ≡ length old = written-length in omega arith in
-      unfold-is new m written-tied lt
-      ∙ (ap (tree_in (trees_from [] new)) (other-list m apart)
-      ∙ (ap (tree_in (trees_from [] new)) (sym (set-same (get_or old m []) q v e))
-      ∙ (reserve-at (trees_from [] old) (trees_from [] new) (get_or old m []) q v v e none (λ i y ne k.
-      unaffected y (λ s. ne (siblings old tied m i q y x l k ref s r))) (λ rest. sub rest)
-      ∙ ap reserve_first (sym (unfold-is old m tied within)))))
+      unfold-is new m written-tied lt ∙ (ap (tree_in (trees_from [] new)) (other-list m apart)
+      ∙ (ap (tree_in (trees_from [] new)) (sym (set-same (get_or old m []) q v e)) ∙ (reserve-at (trees_from [] old)
+      (trees_from [] new) (get_or old m []) q v v e none (λ i y ne k. unaffected y (λ s. ne (siblings old tied m i q y x
+      l k ref s r))) (λ rest. sub rest) ∙ ap reserve_first (sym (unfold-is old m tied within)))))
     where
       set-same : (ts : List Token) (i : ℕ) (w : Token) → slice_get ts i ≡ Some w → set ts i w ≡ ts
       set-same [] i w k = refl
@@ -142,9 +128,8 @@ module _ (old : List (List Token)) (l p : ℕ) (t u : Token) (tied : IsTied old)
 
       sub : (rest : Tree) → item_of (trees_from [] new) (shape v) rest
           ≡ reserve_first (item_of (trees_from [] old) (shape v) rest)
-      sub rest = ap (λ s. item_of (trees_from [] new) s rest) h
-          ∙ (ap (λ s. Sub s rest) done ∙ (sym (found (unfolded old x) f)
-          ∙ ap (λ s. reserve_first (item_of (trees_from [] old) s rest)) (sym h)))
+      sub rest = ap (λ s. item_of (trees_from [] new) s rest) h ∙ (ap (λ s. Sub s rest) done
+          ∙ (sym (found (unfolded old x) f) ∙ ap (λ s. reserve_first (item_of (trees_from [] old) s rest)) (sym h)))
         where
           found : (tree : Tree) → first_ident tree ≡ Found n → reserve_first (Sub tree rest)
               ≡ Sub (reserve_first tree) rest
@@ -176,16 +161,14 @@ module _ (old : List (List Token)) (root : ℕ) (spot : Spot) (tied : IsTied old
   word = Reserved spot.name spot.number RawInt
 
   first-here : first_ident (unfolded old spot.list) ≡ Found spot.name.index
-  first-here = ap first_ident (unfold-is old spot.list tied f.walks.inside)
-      ∙ first-at (trees_from [] old) (get_or old spot.list []) spot.place (Ident spot.name spot.number) f.token
-      f.walks.none
+  first-here = ap first_ident (unfold-is old spot.list tied f.walks.inside) ∙ first-at (trees_from [] old)
+      (get_or old spot.list []) spot.place (Ident spot.name spot.number) f.token f.walks.none
 
   pub finds-reserves : Reserves old written root
   finds-reserves = record {
     tree = climb old spot.list spot.place (Ident spot.name spot.number) word tied f.walks.inside f.token refl refl root
-        spot.list spot.name.index lt f.walks.path first-here here
-        (this-tree old spot.list spot.place (Ident spot.name spot.number) word tied f.walks.inside f.token refl refl
-        f.walks.none (λ rest. refl));
+        spot.list spot.name.index lt f.walks.path first-here here (this-tree old spot.list spot.place
+        (Ident spot.name spot.number) word tied f.walks.inside f.token refl refl f.walks.none (λ rest. refl));
     other_lists = λ k up down. other-list old spot.list spot.place (Ident spot.name spot.number) word tied
         f.walks.inside f.token refl refl k (λ e. down
         (subst (λ i. Reach old root i) (sym e) (reach-of old root spot.list f.walks.path)));

@@ -1,19 +1,11 @@
 -- A token of the vector is written over.
-use Rattle.std.proofs.Common.{◌≡◌, ℕ, ◌+◌, ◌<◌, ◌≤◌, Bool, List, [], length, set, get_or, sym, ◌∙◌, subst, arith}
-use Rattle.std.proofs.lemmas.List.{drop-set-lt, length-set, length-take}
-use Rattle.std.proofs.lemmas.Option.{slice_get_within}
-use Rattle.cw_base.specs.declared.category.Cat.TheVariants.{RawInt}
-use Rattle.cw_tokens.specs.declared.token.Token.{Token}
-use Rattle.cw_tokens.specs.declared.token.Token.TheVariants.{Reserved}
-use Rattle.cw_tokens.specs.declared.store.Link.{Link}
-use Rattle.cw_tokens.specs.declared.walk.Spot.{Spot}
-use Rattle.cw_tokens.specs.Stored.{StoredLists, cut, built, last_end, start_of, with_built, IsLinked, IsStored}
-use Rattle.cw_tokens.specs.Walking.{Finds}
-use Rattle.cw_tokens.specs.Reserving.{Reserves, ReservesToken}
+use Rattle.cw_tokens.proofs.Terms.{◌≡◌, ℕ, ◌+◌, ◌<◌, ◌≤◌, Bool, List, [], length, set, get_or, sym, ◌∙◌, subst, arith}
+use Rattle.cw_tokens.proofs.Terms.{drop-set-lt, length-set, length-take, slice_get_within, RawInt, Token, Reserved}
+use Rattle.cw_tokens.proofs.Terms.{Link, Spot, StoredLists, cut, built, last_end, start_of, with_built, IsLinked}
+use Rattle.cw_tokens.proofs.Terms.{IsStored, Finds, Reserves, ReservesToken}
+use Rattle.cw_tokens.proofs.{Storing.view_of, Reserve.finds-reserves, Reserve.finds-token, Reserve.written}
 use Rattle.cw_tokens.proofs.Cutting.{spans, get_or-cut, cut-set, length-cut}
 use Rattle.cw_tokens.proofs.Linking.{linked-tied, linked-lists, linked-same, refers-with}
-use Rattle.cw_tokens.proofs.Storing.{view_of}
-use Rattle.cw_tokens.proofs.Reserve.{finds-reserves, finds-token, written}
 
 -- the fields after the identifier at a spot has become a reserved word, where the ones before were seen as v
 pub record Rewrites (b : Bool) (from : ℕ) (es : List ℕ) (ts : List Token) (ks : List Link) (s t e k : ℕ) (root : ℕ)
@@ -65,9 +57,8 @@ module _ (b : Bool) (from : ℕ) (es : List ℕ) (ts : List Token) (ks : List Li
       as_many = old.as_many;
       linked = subst (λ o. IsLinked (with_built (cut 0 es (set ts place word)) o) ks) (sym (same-built b))
           (linked-same (with_built (cut 0 es ts) (built b es ts))
-          (with_built (cut 0 es (set ts place word)) (built b es ts)) ks
-          (refers-with (cut 0 es ts) (cut 0 es (set ts place word)) (built b es ts) reserves-here.same_length
-          reserves-here.same_refs) old.linked);
+          (with_built (cut 0 es (set ts place word)) (built b es ts)) ks (refers-with (cut 0 es ts)
+          (cut 0 es (set ts place word)) (built b es ts) reserves-here.same_length reserves-here.same_refs) old.linked);
     };
     building = same-built b;
     reserves = reserves-here;

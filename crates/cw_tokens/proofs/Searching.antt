@@ -1,21 +1,11 @@
 -- The walk that looks for the first identifier of a tree.
-use Rattle.std.proofs.Common.{◌≡◌, ℕ, zero, suc, ◌+◌, ◌<◌, ◌≤◌, List, [], ◌∷◌, length, Some, None, take, drop, get_or}
-use Rattle.std.proofs.Common.{refl, sym, ap, ◌∙◌, subst, arith}
-use Rattle.std.specs.List.{slice_get}
-use Rattle.std.proofs.lemmas.List.{take_all, take-take}
-use Rattle.std.proofs.lemmas.Option.{slice_get_within}
-use Rattle.cw_trees.specs.Tree.{Tree, Empty, Search, Found, Stopped, Nothing, or_else, first_ident}
-use Rattle.cw_tokens.specs.declared.token.Token.{Token}
-use Rattle.cw_tokens.specs.declared.token.Token.TheVariants.{Ident}
-use Rattle.cw_tokens.specs.declared.store.Link.{Link}
-use Rattle.cw_tokens.specs.declared.walk.Spot.{Spot}
-use Rattle.cw_tokens.specs.Shapes.{Shape, Plain, Below, InnerBelow, shape, ref_of, item_of, tree_in, trees_from}
-use Rattle.cw_tokens.specs.Shapes.{unfolded}
-use Rattle.cw_tokens.specs.References.{token_ref, refers, IsTied}
-use Rattle.cw_tokens.specs.Stored.{no_link, IsLinked}
-use Rattle.cw_tokens.specs.Walking.{IsPassed, stops_at, before, Path, top, down, Walks, Finds, found_name}
-use Rattle.cw_tokens.proofs.Linking.{refers-within, linked-tied}
-use Rattle.cw_tokens.proofs.Unfolding.{unfold-is}
+use Rattle.cw_tokens.proofs.Terms.{◌≡◌, ℕ, zero, suc, ◌+◌, ◌<◌, ◌≤◌, List, [], ◌∷◌, length, Some, None, take, drop}
+use Rattle.cw_tokens.proofs.Terms.{get_or, refl, sym, ap, ◌∙◌, subst, arith, slice_get, take_all, take-take}
+use Rattle.cw_tokens.proofs.Terms.{slice_get_within, Tree, Empty, Search, Found, Stopped, Nothing, or_else, first_ident}
+use Rattle.cw_tokens.proofs.Terms.{Token, Ident, Link, Spot, Shape, Plain, Below, InnerBelow, shape, ref_of, item_of}
+use Rattle.cw_tokens.proofs.Terms.{tree_in, trees_from, unfolded, token_ref, refers, IsTied, no_link, IsLinked}
+use Rattle.cw_tokens.proofs.Terms.{IsPassed, stops_at, before, Path, top, down, Walks, Finds, found_name}
+use Rattle.cw_tokens.proofs.{Linking.refers-within, Linking.linked-tied, Unfolding.unfold-is}
 
 -- a list in which nothing stands before a place
 or_else-first : (s t u : Search) → or_else (or_else s t) u ≡ or_else s (or_else t u)
@@ -57,9 +47,8 @@ first-at trees ts p t e n = first-split trees ts p ∙ (ap (λ s. or_else s (fir
     ∙ ap (λ us. first_ident (tree_in trees us)) (drop-at ts p t e))
 
 -- and the search before p + 1 is that of token p
-pub first-before : (trees : List Tree) (ts : List Token) (p : ℕ) (t : Token) → slice_get ts p ≡ Some t
-    → first_ident (tree_in trees (take p ts)) ≡ Nothing
-    → first_ident (tree_in trees (take (p + 1) ts)) ≡ item_search trees (shape t)
+pub first-before : (trees : List Tree) (ts : List Token) (p : ℕ) (t : Token) → slice_get ts p ≡ Some t → first_ident
+    (tree_in trees (take p ts)) ≡ Nothing → first_ident (tree_in trees (take (p + 1) ts)) ≡ item_search trees (shape t)
 first-before trees ts p t e n =
     grind (arith, first-split trees (take (suc p) ts) p, take-at ts p t e, drop-take-at ts p t e)
 
@@ -84,10 +73,8 @@ module _ (ls : List (List Token)) (root : ℕ) (tied : IsTied ls) where
   pub below-first : (m p x : ℕ) (t : Token) → slice_get (get_or ls m []) p ≡ Some t → shape t ≡ Below x
       → first_ident (before ls m p) ≡ Nothing → m < length ls → (s : Search) → (s ≡ Nothing → ⊥)
       → first_ident (unfolded ls x) ≡ s → first_ident (unfolded ls m) ≡ s
-  below-first m p x t e h n lt s some f =
-      ap first_ident (unfold-is ls m tied lt)
-      ∙ (first-at trees (get_or ls m []) p t e n
-      ∙ (ap (λ q. first_ident (item_of trees q (tree_in trees (drop (suc p) (get_or ls m []))))) h
+  below-first m p x t e h n lt s some f = ap first_ident (unfold-is ls m tied lt) ∙ (first-at trees (get_or ls m []) p t
+      e n ∙ (ap (λ q. first_ident (item_of trees q (tree_in trees (drop (suc p) (get_or ls m []))))) h
       ∙ (ap (λ q. or_else q (first_ident (tree_in trees (drop (suc p) (get_or ls m []))))) f
       ∙ or_else-stays s (first_ident (tree_in trees (drop (suc p) (get_or ls m [])))) some)))
 
@@ -102,8 +89,7 @@ module _ (ls : List (List Token)) (root : ℕ) (tied : IsTied ls) where
   at-token : (l p : ℕ) (t : Token) → root < length ls → Walks ls root l p → slice_get (get_or ls l []) p ≡ Some t
       → (s : Search) → (s ≡ Nothing → ⊥)
       → ((rest : Tree) → first_ident (item_of trees (shape t) rest) ≡ s) → first_ident (unfolded ls root) ≡ s
-  at-token l p t lt w e s some f =
-      root-first l lt w.path s some (ap first_ident (unfold-is ls l tied w.inside)
+  at-token l p t lt w e s some f = root-first l lt w.path s some (ap first_ident (unfold-is ls l tied w.inside)
       ∙ (first-at trees (get_or ls l []) p t e w.none ∙ f (tree_in trees (drop (suc p) (get_or ls l [])))))
 
   pub walks-found : (spot : Spot) → root < length ls → Walks ls root spot.list spot.place

@@ -1,18 +1,15 @@
 -- The laws of a flat list that is trimmed as its items come.
-use Rattle.std.proofs.Common.{◌≡◌, ℕ, ◌+◌, ◌<◌, ◌≤◌, Bool, true, false, ◌&&◌, ◌||◌, List, [], ◌∷◌, ◌++◌, length, get_or}
-use Rattle.std.proofs.Common.{set, take, drop, refl, sym, ap, ◌∙◌, subst, arith, eqb, if◌then◌else◌}
-use Rattle.std.proofs.lemmas.List.{append_assoc, append-nil, map-append, map_push, take-append-drop, drop-append-le}
-use Rattle.std.proofs.lemmas.List.{take-append-le, take_all, drop_all, drop-set-lt, length-append}
-use Rattle.std.proofs.lemmas.Bool.{eq-eqb, eqb-true}
+use Rattle.cw_tokens.proofs.Terms.{◌||◌, ◌≡◌, ℕ, ◌+◌, ◌<◌, ◌≤◌, Bool, true, false, ◌&&◌, List, [], ◌∷◌, ◌++◌, length}
+use Rattle.cw_tokens.proofs.Terms.{get_or, set, take, drop, refl, sym, ap, ◌∙◌, subst, arith, eqb, if◌then◌else◌}
+use Rattle.cw_tokens.proofs.Terms.{append_assoc, append-nil, map-append, map_push, take-append-drop, drop-append-le}
+use Rattle.cw_tokens.proofs.Terms.{take-append-le, take_all, drop_all, drop-set-lt, length-append, eq-eqb, eqb-true}
+use Rattle.cw_tokens.proofs.Terms.{Item, SignItem, is_break, is_break_sign, is_run_sign, is_wall_sign, is_gap}
+use Rattle.cw_tokens.proofs.Terms.{is_inserted, begins_after, ends_text, trim_back, trim_front, trimmed_items}
+use Rattle.cw_tokens.proofs.Terms.{without_inserted, FlatItem, item_is, items_are, unbroken, gap_before, AllGaps, Trims}
+use Rattle.cw_tokens.proofs.Terms.{parted, StandsFor}
 use Rattle.cw_trees.specs.declared.Control.{Control}
-use Rattle.cw_trees.specs.Flat.{Item, SignItem, is_break, is_break_sign, is_run_sign, is_wall_sign, is_gap}
-use Rattle.cw_trees.specs.Flat.{is_inserted, begins_after, ends_text, trim_back, trim_front, trimmed_items}
-use Rattle.cw_trees.specs.Flat.{without_inserted}
-use Rattle.cw_tokens.specs.declared.flat.FlatItem.{FlatItem}
-use Rattle.cw_tokens.specs.declared.flat.FlatItem.TheVariants as FlatItems
-use Rattle.cw_tokens.specs.FlatItems.{item_is, items_are}
-use Rattle.cw_tokens.specs.Trimming.{unbroken, gap_before, AllGaps, Trims, parted, StandsFor}
 use Rattle.cw_tokens.proofs.Trimming.{rest-more, item-and-rest, stored, front_step}
+use Rattle.cw_tokens.specs.declared.flat.FlatItem.TheVariants as FlatItems
 
 -- what is in no gap is no break
 sign-in-none : (control : Control) → (is_run_sign control || is_wall_sign control) ≡ false → is_break_sign control
@@ -97,9 +94,8 @@ module _ (gap : ℕ) (items : List FlatItem) (begins : Bool) (item : FlatItem) (
   front more = trim_front (begins_after begins came) (without_inserted more)
 
   -- all items with one more, and whatever comes behind it
-  one-more : (is_inserted came || (begins && is_break came)) ≡ false → (more : List Item)
-      → trimmed_items ((given ++ came ∷ []) ++ more) ≡ items_are (take gap items)
-      ++ trim_back (items_are (drop gap items) ++ came ∷ front more)
+  one-more : (is_inserted came || (begins && is_break came)) ≡ false → (more : List Item) → trimmed_items ((given
+      ++ came ∷ []) ++ more) ≡ items_are (take gap items) ++ trim_back (items_are (drop gap items) ++ came ∷ front more)
   one-more stays more = grind (arith, append_assoc, front_step)
 
   -- an item of a gap
@@ -113,10 +109,8 @@ module _ (gap : ℕ) (items : List FlatItem) (begins : Bool) (item : FlatItem) (
 
   -- an item that is in no gap: the gap before it is settled too
   stands-settled : (kept : List FlatItem) → (is_inserted came || (begins && is_break came)) ≡ false → is_gap came
-      ≡ false
-      → items_are kept ≡ items_are (take gap items) ++ gap_before came (items_are (drop gap items))
-      → StandsFor (parted (length (kept ++ item ∷ [])) (kept ++ item ∷ []) (begins_after begins came))
-      (given ++ came ∷ [])
+      ≡ false → items_are kept ≡ items_are (take gap items) ++ gap_before came (items_are (drop gap items)) → StandsFor
+      (parted (length (kept ++ item ∷ [])) (kept ++ item ∷ []) (begins_after begins came)) (given ++ came ∷ [])
   stands-settled kept stays in_none is =
       let all = kept ++ item ∷ [] in
       let settled : take (length all) all ≡ all = take_all (length all) all (omega arith) in
@@ -125,18 +119,13 @@ module _ (gap : ℕ) (items : List FlatItem) (begins : Bool) (item : FlatItem) (
       ∷ [] = map_push item_is kept item ∙ ap (λ (l : List Item). l ++ came ∷ []) is in
       record {
         gaps = subst (λ (l : List FlatItem). AllGaps (items_are l)) (sym none) tt;
-        stays = λ more.
-            one-more stays more
-            ∙ ap (λ (l : List Item). items_are (take gap items) ++ l) (gap-and-item (items_are (drop gap items)) came
-            (front more) stands.gaps in_none)
-            ∙ sym (append_assoc (items_are (take gap items)) (gap_before came (items_are (drop gap items)))
-            (came ∷ trim_back (front more)))
+        stays = λ more. one-more stays more ∙ ap (λ (l : List Item). items_are (take gap items) ++ l)
+            (gap-and-item (items_are (drop gap items)) came (front more) stands.gaps in_none) ∙ sym (append_assoc
+            (items_are (take gap items)) (gap_before came (items_are (drop gap items))) (came ∷ trim_back (front more)))
             ∙ sym (append_assoc (items_are (take gap items) ++ gap_before came (items_are (drop gap items))) (came ∷ [])
-            (trim_back (front more)))
-            ∙ ap (λ (l : List Item). l ++ trim_back (front more)) (sym whole)
-            ∙ ap (λ (l : List FlatItem). items_are l ++ trim_back (front more)) (sym settled)
-            ∙ ap (λ (l : List FlatItem). items_are (take (length all) all) ++ trim_back (items_are l ++ front more))
-            (sym none);
+            (trim_back (front more))) ∙ ap (λ (l : List Item). l ++ trim_back (front more)) (sym whole) ∙ ap
+            (λ (l : List FlatItem). items_are l ++ trim_back (front more)) (sym settled) ∙ ap (λ (l : List FlatItem).
+            items_are (take (length all) all) ++ trim_back (items_are l ++ front more)) (sym none);
       }
 
   module _ (kept : List FlatItem) (in_none : is_gap came ≡ false) (stays : is_inserted came ≡ false)
@@ -164,9 +153,8 @@ stands-end trims given kept stands is =
 -- a gap stays as it is before an item that ends no text
 pub gap-untouched : (items : List FlatItem) (gap : ℕ) (next : FlatItem) → (next ≡ FlatItems.Close → ⊥) → items_are items
     ≡ items_are (take gap items) ++ gap_before (item_is next) (items_are (drop gap items))
-gap-untouched items gap next other = ap items_are (sym (take-append-drop gap items))
-    ∙ map-append item_is (take gap items) (drop gap items)
-    ∙ ap (λ (l : List Item). items_are (take gap items) ++ l) (sym (go next other))
+gap-untouched items gap next other = ap items_are (sym (take-append-drop gap items)) ∙ map-append item_is
+    (take gap items) (drop gap items) ∙ ap (λ (l : List Item). items_are (take gap items) ++ l) (sym (go next other))
   where
     go : (item : FlatItem) → (item ≡ FlatItems.Close → ⊥) → gap_before (item_is item) (items_are (drop gap items))
         ≡ items_are (drop gap items)
@@ -209,8 +197,7 @@ module _ (old items : List FlatItem) (gap i kept : ℕ) (d : FlatItem) (within :
         rest = drop-set-lt (i + 1) items kept (get_or items i d) (omega arith) ∙ rest-more old items i d within k.rest;
         front = ap (λ (l : List Item). l ++ later) (stored items kept (get_or items i d) (omega arith))
             ∙ append_assoc (items_are (take kept items)) (here ∷ []) later
-            ∙ ap (λ (l : List Item). items_are (take kept items) ++ l) (sym (next false is))
-            ∙ k.front;
+            ∙ ap (λ (l : List Item). items_are (take kept items) ++ l) (sym (next false is)) ∙ k.front;
       }
 
   pub unbroken-dropped : is_break here ≡ true → KeepsUnbroken old items gap (i + 1) kept

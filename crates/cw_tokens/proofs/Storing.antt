@@ -1,13 +1,9 @@
 -- What the fields of a store keep, from one call to the next.
-use Rattle.std.proofs.Common.{◌≡◌, ℕ, ◌+◌, ◌-◌, ◌<◌, ◌≤◌, Bool, true, false, List, [], ◌∷◌, ◌++◌, length, Option, Some}
-use Rattle.std.proofs.Common.{drop, IsSome, arith}
+use Rattle.cw_tokens.proofs.Terms.{◌≡◌, ℕ, ◌+◌, ◌-◌, ◌<◌, ◌≤◌, Bool, true, false, List, [], ◌∷◌, ◌++◌, length, Option}
+use Rattle.cw_tokens.proofs.Terms.{Some, drop, IsSome, arith, drop-append-le, length-drop, length-set, length_push}
+use Rattle.cw_tokens.proofs.Terms.{Token, Link, shape, ref_of, IsTied, StoredLists, MayBePushed, all_lists, cut, built}
+use Rattle.cw_tokens.proofs.Terms.{last_end, linked, no_link, IsStored}
 use Rattle.std.specs.Option.{option_to_list}
-use Rattle.std.proofs.lemmas.List.{drop-append-le, length-drop, length-set, length_push}
-use Rattle.cw_tokens.specs.declared.token.Token.{Token}
-use Rattle.cw_tokens.specs.declared.store.Link.{Link}
-use Rattle.cw_tokens.specs.Shapes.{shape, ref_of}
-use Rattle.cw_tokens.specs.References.{IsTied}
-use Rattle.cw_tokens.specs.Stored.{StoredLists, MayBePushed, all_lists, cut, built, last_end, linked, no_link, IsStored}
 use Rattle.cw_tokens.proofs.Cutting.{length-cut, cut-push, cut-finish, ascending-finish, last_end-finish}
 use Rattle.cw_tokens.proofs.Linking.{linked-push, linked-finish, linked-tied}
 
@@ -66,8 +62,7 @@ pub record Pushes (b : Bool) (f : ℕ) (es : List ℕ) (ts : List Token) (ks : L
   pub below : (x : ℕ) → ref_of (shape token) ≡ Some x → x < length ks
 
 push-own : (b : Bool) (f : ℕ) (es : List ℕ) (ts : List Token) (ks : List Link) (s t e k : ℕ) (token : Token)
-    → IsStored b f es ts ks s t e k
-    → IsSome (built b es ts) → 0 < s → MayBePushed (view_of b es ts s) token
+    → IsStored b f es ts ks s t e k → IsSome (built b es ts) → 0 < s → MayBePushed (view_of b es ts s) token
     → Pushes b f es ts ks s t e k token (view_of b es ts s)
 push-own true f es ts ks s t e k token old some room may = record {
   stored = push-stored f es ts ks s t e k token room may old;
@@ -96,8 +91,7 @@ finish-own true f es ts ks s t e k old some =
 finish-own false f es ts ks s t e k old some = cc
 
 pub finish-view : (b : Bool) (f : ℕ) (es : List ℕ) (ts : List Token) (ks : List Link) (s t e k : ℕ) (v : StoredLists)
-    → IsStored b f es ts ks s t e k → view_of b es ts s ≡ v
-    → IsSome v.building → Finishes f es ts ks s t e k v
+    → IsStored b f es ts ks s t e k → view_of b es ts s ≡ v → IsSome v.building → Finishes f es ts ks s t e k v
 finish-view b f es ts ks s t e k v old q = grind (arith, finish-own b f es ts ks s t e k old)
 
 pub tied-view : (b : Bool) (f : ℕ) (es : List ℕ) (ts : List Token) (ks : List Link) (s t e k : ℕ) (v : StoredLists)

@@ -1,25 +1,15 @@
 -- The walk that lays a tree flat and trims it.
-use Rattle.std.proofs.Common.{◌≡◌, ℕ, zero, suc, ◌+◌, ◌-◌, ◌<◌, ◌≤◌, List, [], ◌∷◌, ◌++◌, length, reverse}
-use Rattle.std.proofs.Common.{slice_index_or, take, drop, Some, Result, OnOk, get_or, refl, sym, ap, ◌∙◌, subst, arith}
-use Rattle.std.specs.List.{slice_get}
-use Rattle.std.proofs.lemmas.List.{append_assoc, append-nil, reverse-append, take_all}
-use Rattle.cw_trees.specs.Flat.{Item, Open as open_item, Close as close_item, flat, trimmed_items}
-use Rattle.cw_trees.specs.Tree.{Tree, Empty}
-use Rattle.cw_tokens.specs.declared.token.Token.{Token}
+use Rattle.cw_tokens.proofs.Terms.{◌≡◌, ℕ, zero, suc, ◌+◌, ◌-◌, ◌<◌, ◌≤◌, List, [], ◌∷◌, ◌++◌, length, reverse}
+use Rattle.cw_tokens.proofs.Terms.{slice_index_or, take, drop, Some, Result, OnOk, get_or, refl, sym, ap, ◌∙◌, subst}
+use Rattle.cw_tokens.proofs.Terms.{arith, slice_get, append_assoc, append-nil, reverse-append, take_all, Item}
+use Rattle.cw_tokens.proofs.Terms.{Open as open_item, Close as close_item, flat, trimmed_items, Tree, Empty, Token}
+use Rattle.cw_tokens.proofs.Terms.{FlatItem, Leaf as leaf_part, Shape, Plain, Below, InnerBelow, shape, ref_of, item_of}
+use Rattle.cw_tokens.proofs.Terms.{tree_in, trees_from, unfolded, token_ref, IsTied, GoesAbove, IsLoneWord, MayStandFor}
+use Rattle.cw_tokens.proofs.Terms.{ReferWithin, RefersWithin, closing_of, flat_above, size_of, Lays, TrimsAhead}
+use Rattle.cw_tokens.proofs.Terms.{item_is, IsPart, Trims, StandsFor, size}
 use Rattle.cw_tokens.specs.declared.flat.Above.{Above}
-use Rattle.cw_tokens.specs.declared.flat.FlatItem.{FlatItem}
-use Rattle.cw_tokens.specs.declared.walk.Part.TheVariants.{Leaf as leaf_part, Below as below_part}
-use Rattle.cw_tokens.specs.declared.walk.Part.TheVariants.{InnerBelow as inner_part}
-use Rattle.cw_tokens.specs.Shapes.{Shape, Plain, Below, InnerBelow, shape, ref_of, item_of, tree_in, trees_from}
-use Rattle.cw_tokens.specs.Shapes.{unfolded}
-use Rattle.cw_tokens.specs.References.{token_ref, IsTied}
-use Rattle.cw_tokens.specs.Ahead.{GoesAbove, IsLoneWord, MayStandFor, ReferWithin, RefersWithin, closing_of, flat_above}
-use Rattle.cw_tokens.specs.Ahead.{size_of, Lays, TrimsAhead}
-use Rattle.cw_tokens.specs.FlatItems.{item_is, IsPart}
-use Rattle.cw_tokens.specs.Trimming.{Trims, StandsFor}
-use Rattle.cw_tokens.specs.Walking.{size}
-use Rattle.cw_tokens.proofs.Flattening.{below-ref, inner-ref}
-use Rattle.cw_tokens.proofs.Unfolding.{unfold-is}
+use Rattle.cw_tokens.specs.declared.walk.Part.TheVariants.{Below as below_part, InnerBelow as inner_part}
+use Rattle.cw_tokens.proofs.{Flattening.below-ref, Flattening.inner-ref, Unfolding.unfold-is}
 
 -- the first of some tokens, and those behind it
 pub first-is : (ts : List Token) (d : Token) → 1 ≤ length ts → ts
@@ -66,9 +56,8 @@ module _ (ls : List (List Token)) (tied : IsTied ls) where
       ≡ tree_in (trees_from [] ls) ts
   list-tree x ts lt e = unfold-is ls x tied lt ∙ ap (tree_in (trees_from [] ls)) (sym e)
 
-pub ahead-start : (ls : List (List Token)) (root : ℕ) (items : List Token) (trims : Trims) → IsTied ls
-    → root < length ls → StandsFor trims [] → items ≡ get_or ls root []
-    → TrimsAhead ls items [] trims (flat (unfolded ls root))
+pub ahead-start : (ls : List (List Token)) (root : ℕ) (items : List Token) (trims : Trims) → IsTied ls → root < length
+    ls → StandsFor trims [] → items ≡ get_or ls root [] → TrimsAhead ls items [] trims (flat (unfolded ls root))
 ahead-start ls root items trims tied lt stands e = grind (arith, append-nil, list-tree, list-within)
 
 append-cons : (xs ys : List Item) (x : Item) → (xs ++ x ∷ []) ++ ys ≡ xs ++ x ∷ ys
@@ -84,18 +73,15 @@ module _ (ls : List (List Token)) (t u : Token) (m : MayStandFor ls t u) (x : �
 -- there is less to walk behind a token
 module _ (ls : List (List Token)) (t : Token) (behind : List Token) (above : List Above) (u : Token)
     (m : MayStandFor ls t u) where
-  leaf-less : (item : FlatItem) → IsPart (shape u) (leaf_part item)
-      → size (tree_in (trees_from [] ls) behind) + size_of ls above < size
-      (item_of (trees_from [] ls) (shape t) (tree_in (trees_from [] ls) behind)) + size_of ls above
+  leaf-less : (item : FlatItem) → IsPart (shape u) (leaf_part item) → size (tree_in (trees_from [] ls) behind) + size_of
+      ls above < size (item_of (trees_from [] ls) (shape t) (tree_in (trees_from [] ls) behind)) + size_of ls above
   leaf-less item is = grind arith
 
   module _ (x : ℕ) (below : List Token) (tied : IsTied ls) (read : below ≡ get_or ls x []) (new : List Above) where
-    below-less-of : x < length ls → (s : Shape) (closes : ℕ)
-        → size (item_of (trees_from [] ls) s (tree_in (trees_from [] ls) behind))
-        ≡ 2 + (size (unfolded ls x) + size (tree_in (trees_from [] ls) behind)) → s ≡ shape u
-        → GoesAbove behind closes above new
-        → size (tree_in (trees_from [] ls) below) + size_of ls new < size
-        (item_of (trees_from [] ls) (shape t) (tree_in (trees_from [] ls) behind)) + size_of ls above
+    below-less-of : x < length ls → (s : Shape) (closes : ℕ) → size (item_of (trees_from [] ls) s
+        (tree_in (trees_from [] ls) behind)) ≡ 2 + (size (unfolded ls x) + size (tree_in (trees_from [] ls) behind))
+        → s ≡ shape u → GoesAbove behind closes above new → size (tree_in (trees_from [] ls) below) + size_of ls new <
+        size (item_of (trees_from [] ls) (shape t) (tree_in (trees_from [] ls) behind)) + size_of ls above
     below-less-of inside s closes e same up = grind (arith, list-tree)
 
     below-smaller : IsPart (shape u) (below_part x) → GoesAbove behind 0 above new
@@ -115,22 +101,19 @@ module _ (ls : List (List Token)) (t : Token) (behind : List Token) (above : Lis
       ++ flat_above ls above) ≡ all
   by-other = ap (λ xs. w.given ++ (xs ++ flat_above ls above)) (m.same (tree_in (trees_from [] ls) behind)) ∙ w.is
 
-  pub ahead-leaf : (new : Trims) (item : FlatItem) → IsPart (shape u) (leaf_part item)
-      → ((given : List Item) → StandsFor trims given → StandsFor new (given ++ item_is item ∷ []))
-      → TrimsAhead ls behind above new all
+  pub ahead-leaf : (new : Trims) (item : FlatItem) → IsPart (shape u) (leaf_part item) → ((given : List Item)
+      → StandsFor trims given → StandsFor new (given ++ item_is item ∷ [])) → TrimsAhead ls behind above new all
   ahead-leaf new item is push = record {
     given = w.given ++ item_is item ∷ [];
     is = append-cons w.given (flat (tree_in (trees_from [] ls) behind) ++ flat_above ls above) (item_is item)
-        ∙ (ap (λ xs. w.given ++ (xs ++ flat_above ls above)) (sym (first (shape u) is))
-        ∙ by-other);
+        ∙ (ap (λ xs. w.given ++ (xs ++ flat_above ls above)) (sym (first (shape u) is)) ∙ by-other);
     stands = push w.given w.stands;
     within = w.within.1;
     others = w.others;
   }
     where
-      first : (s : Shape) → IsPart s (leaf_part item)
-          → flat (item_of (trees_from [] ls) s (tree_in (trees_from [] ls) behind))
-          ≡ item_is item ∷ flat (tree_in (trees_from [] ls) behind)
+      first : (s : Shape) → IsPart s (leaf_part item) → flat (item_of (trees_from [] ls) s
+          (tree_in (trees_from [] ls) behind)) ≡ item_is item ∷ flat (tree_in (trees_from [] ls) behind)
       first (Plain leaf) e = ap (λ x. x ∷ flat (tree_in (trees_from [] ls) behind)) e
       first (Below x) e = absurd e
       first (InnerBelow x) e = absurd e
@@ -139,23 +122,18 @@ module _ (ls : List (List Token)) (t : Token) (behind : List Token) (above : Lis
     pub ahead-below : IsPart (shape u) (below_part x) → GoesAbove behind 0 above new → TrimsAhead ls below new trims all
     ahead-below is up = grind (arith, list-tree, below-inside, append_assoc, below-ref, by-other, list-within)
 
-    pub ahead-inner : (after : Trims) → IsPart (shape u) (inner_part x) → GoesAbove behind 1 above new
-        → ((given : List Item) → StandsFor trims given → StandsFor after (given ++ open_item ∷ []))
-        → TrimsAhead ls below new after all
+    pub ahead-inner : (after : Trims) → IsPart (shape u) (inner_part x) → GoesAbove behind 1 above new → ((given : List
+        Item) → StandsFor trims given → StandsFor after (given ++ open_item ∷ [])) → TrimsAhead ls below new after all
     ahead-inner after is up push = record {
       given = w.given ++ open_item ∷ [];
       is = ap (λ xs. (w.given ++ open_item ∷ []) ++ (flat (tree_in (trees_from [] ls) below) ++ xs)) (up.items ls)
-          ∙ (append-cons w.given (flat (tree_in (trees_from [] ls) below)
-          ++ (close_item ∷ (flat (tree_in (trees_from [] ls) behind) ++ flat_above ls above))) open_item
-          ∙ (ap (λ (t : Tree). w.given ++ open_item ∷ (flat t
-          ++ (close_item ∷ (flat (tree_in (trees_from [] ls) behind) ++ flat_above ls above))))
-          (sym (list-tree ls tied x below (inner-inside ls t u m x is) read))
-          ∙ (ap (λ xs. w.given ++ open_item ∷ xs)
+          ∙ (append-cons w.given (flat (tree_in (trees_from [] ls) below) ++ (close_item ∷ (flat
+          (tree_in (trees_from [] ls) behind) ++ flat_above ls above))) open_item ∙ (ap (λ (t : Tree). w.given
+          ++ open_item ∷ (flat t ++ (close_item ∷ (flat (tree_in (trees_from [] ls) behind) ++ flat_above ls above))))
+          (sym (list-tree ls tied x below (inner-inside ls t u m x is) read)) ∙ (ap (λ xs. w.given ++ open_item ∷ xs)
           (sym (append_assoc (flat (unfolded ls x)) (close_item ∷ flat (tree_in (trees_from [] ls) behind))
-          (flat_above ls above)))
-          ∙ (ap (λ (s : Shape). w.given ++ (flat (item_of (trees_from [] ls) s (tree_in (trees_from [] ls) behind))
-          ++ flat_above ls above)) (sym (inner-ref (shape u) x is))
-          ∙ by-other))));
+          (flat_above ls above))) ∙ (ap (λ (s : Shape). w.given ++ (flat (item_of (trees_from [] ls) s
+          (tree_in (trees_from [] ls) behind)) ++ flat_above ls above)) (sym (inner-ref (shape u) x is)) ∙ by-other))));
       stands = push w.given w.stands;
       within = list-within ls tied x below (inner-inside ls t u m x is) read;
       others = up.within (length ls) w.within.1 w.others;
@@ -184,9 +162,8 @@ module _ (ls : List (List Token)) (tied : IsTied ls) (first : List Token) (old :
   now : Lays ls first old before (t ∷ behind) above trims
   now = subst (λ ts. Lays ls first old before ts above trims) (first-is rest d some) w
 
-  pub lays-leaf : (new : Trims) (item : FlatItem) → IsPart (shape u) (leaf_part item)
-      → ((given : List Item) → StandsFor trims given → StandsFor new (given ++ item_is item ∷ []))
-      → Lays ls first old before behind above new
+  pub lays-leaf : (new : Trims) (item : FlatItem) → IsPart (shape u) (leaf_part item) → ((given : List Item) → StandsFor
+      trims given → StandsFor new (given ++ item_is item ∷ [])) → Lays ls first old before behind above new
   lays-leaf new item is push = record {
     items = λ all a. ahead-leaf ls t behind above trims all (now.items all a) u m new item is push;
     no_more = omega (arith, leaf-less ls t behind above u m item is, now.no_more);
@@ -202,20 +179,17 @@ module _ (ls : List (List Token)) (tied : IsTied ls) (first : List Token) (old :
   }
 
   module _ (x : ℕ) (below : List Token) (read : below ≡ get_or ls x []) (new : List Above) where
-    pub list-less : IsPart (shape u) (below_part x) → GoesAbove behind 0 above new
-        → size (tree_in (trees_from [] ls) below) + size_of ls new
-        < size (tree_in (trees_from [] ls) rest) + size_of ls above
+    pub list-less : IsPart (shape u) (below_part x) → GoesAbove behind 0 above new → size (tree_in (trees_from [] ls)
+        below) + size_of ls new < size (tree_in (trees_from [] ls) rest) + size_of ls above
     list-less is up = grind (arith, first-is, below-smaller)
 
-    pub inner-less : IsPart (shape u) (inner_part x) → GoesAbove behind 1 above new
-        → size (tree_in (trees_from [] ls) below) + size_of ls new
-        < size (tree_in (trees_from [] ls) rest) + size_of ls above
+    pub inner-less : IsPart (shape u) (inner_part x) → GoesAbove behind 1 above new → size (tree_in (trees_from [] ls)
+        below) + size_of ls new < size (tree_in (trees_from [] ls) rest) + size_of ls above
     inner-less is up = grind (arith, first-is, inner-smaller)
 
   pub lays-inner : (x : ℕ) (below : List Token) → below ≡ get_or ls x [] → (new : List Above) (after : Trims)
-      → IsPart (shape u) (inner_part x) → GoesAbove behind 1 above new
-      → ((given : List Item) → StandsFor trims given → StandsFor after (given ++ open_item ∷ []))
-      → Lays ls first old before below new after
+      → IsPart (shape u) (inner_part x) → GoesAbove behind 1 above new → ((given : List Item) → StandsFor trims given
+      → StandsFor after (given ++ open_item ∷ [])) → Lays ls first old before below new after
   lays-inner x below read new after is up push = record {
     items = λ all a.
         ahead-inner ls t behind above trims all (now.items all a) u m x below tied read new after is up push;
@@ -237,9 +211,8 @@ lays-word ls tied first old before rest above trims w d some u m x below read is
 
 -- a list has ended, and the one above it goes on
 pub ahead-up : (ls : List (List Token)) (up : Above) (ups : List Above) (trims new : Trims) (all : List Item)
-    → TrimsAhead ls [] (up ∷ ups) trims all
-    → ((given : List Item) → StandsFor trims given → StandsFor new (given ++ closing_of up.closes))
-    → TrimsAhead ls up.rest.now ups new all
+    → TrimsAhead ls [] (up ∷ ups) trims all → ((given : List Item) → StandsFor trims given → StandsFor new
+    (given ++ closing_of up.closes)) → TrimsAhead ls up.rest.now ups new all
 ahead-up ls up ups trims new all w push = record {
   given = w.given ++ closing_of up.closes;
   is = append_assoc w.given (closing_of up.closes) (flat (tree_in (trees_from [] ls) up.rest.now) ++ flat_above ls ups)
@@ -250,9 +223,8 @@ ahead-up ls up ups trims new all w push = record {
 }
 
 pub ahead-popped : (ls : List (List Token)) (old ups : List Above) (up : Above) (trims new : Trims) (all : List Item)
-    → TrimsAhead ls [] (reverse old) trims all → old ≡ ups ++ up ∷ []
-    → ((given : List Item) → StandsFor trims given → StandsFor new (given ++ closing_of up.closes))
-    → TrimsAhead ls up.rest.now (reverse ups) new all
+    → TrimsAhead ls [] (reverse old) trims all → old ≡ ups ++ up ∷ [] → ((given : List Item) → StandsFor trims given
+    → StandsFor new (given ++ closing_of up.closes)) → TrimsAhead ls up.rest.now (reverse ups) new all
 ahead-popped ls old ups up trims new all w last push = grind (arith, ahead-up, reverse, last-first)
 
 -- all have ended

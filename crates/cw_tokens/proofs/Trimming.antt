@@ -1,13 +1,10 @@
 -- The steps of the trimming of a flat list in its own place: what stays is moved to the front of the list.
-use Rattle.std.proofs.Common.{◌≡◌, ℕ, ◌+◌, ◌<◌, ◌≤◌, Bool, true, false, ◌&&◌, ◌||◌, List, [], ◌∷◌, ◌++◌, length, get_or}
-use Rattle.std.proofs.Common.{set, take, drop, reverse, refl, sym, ap, ◌∙◌, arith, length-drop, if◌then◌else◌}
-use Rattle.std.proofs.lemmas.List.{append_assoc, drop_more, drop-set-lt, map_push, reverse-append, reverse-reverse}
-use Rattle.std.proofs.lemmas.List.{take_more, take_more_set, take_all, drop_all, append-nil}
-use Rattle.cw_trees.specs.Flat.{Item, is_break, is_inserted, begins_after, ends_text, trim_back, trim_front}
-use Rattle.cw_trees.specs.Flat.{trimmed_items, without_inserted}
-use Rattle.cw_tokens.specs.declared.flat.FlatItem.{FlatItem}
-use Rattle.cw_tokens.specs.FlatItems.{item_is, items_are}
-use Rattle.cw_tokens.specs.Trimming.{ends_before}
+use Rattle.cw_tokens.proofs.Terms.{◌||◌, ◌≡◌, ℕ, ◌+◌, ◌<◌, ◌≤◌, Bool, true, false, ◌&&◌, List, [], ◌∷◌, ◌++◌, length}
+use Rattle.cw_tokens.proofs.Terms.{get_or, set, take, drop, reverse, refl, sym, ap, ◌∙◌, arith, length-drop}
+use Rattle.cw_tokens.proofs.Terms.{if◌then◌else◌, append_assoc, drop_more, drop-set-lt, map_push, reverse-append}
+use Rattle.cw_tokens.proofs.Terms.{reverse-reverse, take_more, take_more_set, take_all, drop_all, append-nil, Item}
+use Rattle.cw_tokens.proofs.Terms.{is_break, is_inserted, begins_after, ends_text, trim_back, trim_front, trimmed_items}
+use Rattle.cw_tokens.proofs.Terms.{without_inserted, FlatItem, item_is, items_are, ends_before}
 
 -- what the walk from the front holds at a place: what stays of the items before it, and all items from it on
 pub record KeepsFront (old items : List FlatItem) (i kept : ℕ) (begins : Bool) : Type 0 where
@@ -43,22 +40,18 @@ module _ (old items : List FlatItem) (i : ℕ) (d : FlatItem) (within : i < leng
 
   item-and-front : reverse (items_are (take (i + 1) old))
       ≡ item_is (get_or items i d) ∷ reverse (items_are (take i old))
-  item-and-front =
-      ap (λ l. reverse (items_are l)) (take_more old i d within-old)
-      ∙ ap reverse (map_push item_is (take i old) (get_or old i d))
-      ∙ reverse-append (items_are (take i old)) (item_is (get_or old i d) ∷ [])
-      ∙ ap (λ x. item_is x ∷ reverse (items_are (take i old))) (sym same-item)
+  item-and-front = ap (λ l. reverse (items_are l)) (take_more old i d within-old)
+      ∙ ap reverse (map_push item_is (take i old) (get_or old i d)) ∙ reverse-append (items_are (take i old))
+      (item_is (get_or old i d) ∷ []) ∙ ap (λ x. item_is x ∷ reverse (items_are (take i old))) (sym same-item)
 
 -- an item that stays
 pub stored : (items : List FlatItem) (kept : ℕ) (item : FlatItem) → kept < length items
     → items_are (take (kept + 1) (set items kept item)) ≡ items_are (take kept items) ++ item_is item ∷ []
 stored items kept item low = ap items_are (take_more_set items kept item low) ∙ map_push item_is (take kept items) item
 
-pub front_step : (begins : Bool) (item : Item) (items : List Item) (b : Bool)
-    → (is_inserted item || (begins && is_break item)) ≡ b
-    → trim_front begins (without_inserted (item ∷ items)) ≡ (if b then
-    trim_front begins (without_inserted items)
-    else item ∷ trim_front (begins_after begins item) (without_inserted items))
+pub front_step : (begins : Bool) (item : Item) (items : List Item) (b : Bool) → (is_inserted item ||
+    (begins && is_break item)) ≡ b → trim_front begins (without_inserted (item ∷ items)) ≡ (if b then trim_front begins
+    (without_inserted items) else item ∷ trim_front (begins_after begins item) (without_inserted items))
 front_step begins item items b is = grind arith
 
 module _ (old items : List FlatItem) (i kept : ℕ) (begins : Bool) (d : FlatItem) (within : i < length items)
@@ -66,10 +59,9 @@ module _ (old items : List FlatItem) (i kept : ℕ) (begins : Bool) (d : FlatIte
   abbrev item : Item
   item = item_is (get_or items i d)
 
-  next-front : (b : Bool) → (is_inserted item || (begins && is_break item)) ≡ b
-      → trim_front begins (without_inserted (items_are (drop i old))) ≡ (if b then
-      trim_front begins (without_inserted (items_are (drop (i + 1) old)))
-      else item ∷ trim_front (begins_after begins item) (without_inserted (items_are (drop (i + 1) old))))
+  next-front : (b : Bool) → (is_inserted item || (begins && is_break item)) ≡ b → trim_front begins (without_inserted
+      (items_are (drop i old))) ≡ (if b then trim_front begins (without_inserted (items_are (drop (i + 1) old))) else
+      item ∷ trim_front (begins_after begins item) (without_inserted (items_are (drop (i + 1) old))))
   next-front b is = grind (arith, item-and-rest, front_step)
 
   pub front-kept : (is_inserted item || (begins && is_break item)) ≡ false
@@ -82,8 +74,7 @@ module _ (old items : List FlatItem) (i kept : ℕ) (begins : Bool) (d : FlatIte
         rest = drop-set-lt (i + 1) items kept (get_or items i d) (omega arith) ∙ rest-more old items i d within k.rest;
         front = ap (λ (l : List Item). l ++ behind) (stored items kept (get_or items i d) (omega arith))
             ∙ append_assoc (items_are (take kept items)) (item ∷ []) behind
-            ∙ ap (λ (l : List Item). items_are (take kept items) ++ l) (sym (next-front false is))
-            ∙ k.front;
+            ∙ ap (λ (l : List Item). items_are (take kept items) ++ l) (sym (next-front false is)) ∙ k.front;
       }
 
   pub front-dropped : (is_inserted item || (begins && is_break item)) ≡ true → KeepsFront old items (i + 1) kept begins
@@ -118,10 +109,8 @@ module _ (old items : List FlatItem) (i kept : ℕ) (ends : Bool) (d : FlatItem)
       record {
         low = omega arith;
         rest = drop-set-lt (i + 1) items kept (get_or items i d) (omega arith) ∙ rest-more old items i d within k.rest;
-        back = ap reverse (stored items kept (get_or items i d) (omega arith))
-            ∙ reverse-append (items_are (take kept items)) (here ∷ [])
-            ∙ ap (λ (l : List Item). here ∷ l) k.back
-            ∙ sym (next-back false is);
+        back = ap reverse (stored items kept (get_or items i d) (omega arith)) ∙ reverse-append (items_are
+            (take kept items)) (here ∷ []) ∙ ap (λ (l : List Item). here ∷ l) k.back ∙ sym (next-back false is);
         ending = next-ending;
       }
 
@@ -142,9 +131,7 @@ whole n xs ys is less = grind (arith, drop_all, append-nil, take_all)
 
 pub items-reversed : (items : List FlatItem) → items_are (reverse items) ≡ reverse (items_are items)
 items-reversed [] = refl
-items-reversed (item ∷ items) =
-    ap items_are (reverse-append (item ∷ []) items)
-    ∙ map_push item_is (reverse items) item
+items-reversed (item ∷ items) = ap items_are (reverse-append (item ∷ []) items) ∙ map_push item_is (reverse items) item
     ∙ ap (λ (l : List Item). l ++ item_is item ∷ []) (items-reversed items)
     ∙ sym (reverse-append (item_is item ∷ []) (items_are items))
 

@@ -1,13 +1,8 @@
 -- The trees of a store.
-use Rattle.std.proofs.Common.{◌≡◌, ℕ, zero, suc, ◌+◌, ◌<◌, ◌≤◌, List, [], ◌∷◌, ◌++◌, length, Some, inl, inr, get_or}
-use Rattle.std.proofs.Common.{refl, sym, ap, ◌∙◌, arith}
-use Rattle.std.specs.List.{slice_get}
-use Rattle.std.proofs.lemmas.List.{get_or_append_left, get_or_at, get_or_past, length_push}
-use Rattle.std.proofs.lemmas.Bool.{cases_lt}
-use Rattle.cw_trees.specs.Tree.{Tree, Empty}
-use Rattle.cw_tokens.specs.declared.token.Token.{Token}
-use Rattle.cw_tokens.specs.Shapes.{Shape, shape, ref_of, item_of, tree_in, trees_from, unfolded}
-use Rattle.cw_tokens.specs.References.{token_ref, refers, IsTied, Reach, here, next}
+use Rattle.cw_tokens.proofs.Terms.{◌≡◌, ℕ, zero, suc, ◌+◌, ◌<◌, ◌≤◌, List, [], ◌∷◌, ◌++◌, length, Some, inl, inr}
+use Rattle.cw_tokens.proofs.Terms.{get_or, refl, sym, ap, ◌∙◌, arith, slice_get, get_or_append_left, get_or_at}
+use Rattle.cw_tokens.proofs.Terms.{get_or_past, length_push, cases_lt, Tree, Empty, Token, Shape, shape, ref_of}
+use Rattle.cw_tokens.proofs.Terms.{item_of, tree_in, trees_from, unfolded, token_ref, refers, IsTied, Reach, here, next}
 
 pub length-trees : (done : List Tree) (ls : List (List Token)) → length (trees_from done ls) ≡ length done + length ls
 length-trees done [] = omega arith
@@ -16,14 +11,12 @@ length-trees done (ts ∷ ls) = grind (arith, length-trees (done ++ tree_in done
 pub trees-front : (done : List Tree) (ls : List (List Token)) (i : ℕ) → i < length done
     → get_or (trees_from done ls) i Empty ≡ get_or done i Empty
 trees-front done [] i h = refl
-trees-front done (ts ∷ ls) i h =
-    let lt : i < length (done ++ tree_in done ts ∷ []) = omega (arith, length_push done (tree_in done ts)) in
-    trees-front (done ++ tree_in done ts ∷ []) ls i lt ∙ get_or_append_left done (tree_in done ts ∷ []) Empty i h
+trees-front done (ts ∷ ls) i h = trees-front (done ++ tree_in done ts ∷ []) ls i
+    (omega (arith, length_push done (tree_in done ts))) ∙ get_or_append_left done (tree_in done ts ∷ []) Empty i h
 
 -- an item, and a tree, depend only on the trees to which they refer
-pub item_of-same : (old new : List Tree) (s : Shape) (a b : Tree)
-    → ((x : ℕ) → ref_of s ≡ Some x → get_or old x Empty ≡ get_or new x Empty) → a ≡ b → item_of old s a
-    ≡ item_of new s b
+pub item_of-same : (old new : List Tree) (s : Shape) (a b : Tree) → ((x : ℕ) → ref_of s ≡ Some x → get_or old x Empty
+    ≡ get_or new x Empty) → a ≡ b → item_of old s a ≡ item_of new s b
 item_of-same old new s a b h e = grind arith
 
 pub tree_in-same : (old new : List Tree) (ts : List Token) → ((q x : ℕ) → token_ref (slice_get ts q) ≡ Some x
@@ -38,31 +31,19 @@ unfold-at : (done : List Tree) (ls : List (List Token)) (i : ℕ)
     → get_or (trees_from done ls) (length done + i) Empty ≡ tree_in (trees_from done ls) (get_or ls i [])
 unfold-at done [] i h lt = absurd (omega arith)
 unfold-at done (ts ∷ ls) zero h lt =
-    let more : List Tree = done ++ tree_in done ts ∷ [] in
-    let z : length done + 0 ≡ length done = omega arith in
-    let inside : length done < length (done ++ tree_in done ts ∷ []) =
-    omega (arith, length_push done (tree_in done ts)) in
-    ap (λ n. get_or (trees_from (done ++ tree_in done ts ∷ []) ls) n Empty) z
-    ∙ (trees-front (done ++ tree_in done ts ∷ []) ls (length done) inside
-    ∙ (get_or_at done (tree_in done ts) [] Empty (length done) refl
-    ∙ tree_in-same done (trees_from (done ++ tree_in done ts ∷ []) ls) ts (λ q x k.
-    let low : x < length done + 0 = h 0 q x k in
-    let a : x < length done = omega arith in
-    let b : x < length (done ++ tree_in done ts ∷ []) = omega (arith, length_push done (tree_in done ts)) in
-    sym (trees-front (done ++ tree_in done ts ∷ []) ls x b
-    ∙ get_or_append_left done (tree_in done ts ∷ []) Empty x a))))
-unfold-at done (ts ∷ ls) (suc i) h lt =
-    let e : length done + suc i ≡ length (done ++ tree_in done ts ∷ []) + i =
-    omega (arith, length_push done (tree_in done ts)) in
-    ap (λ n. get_or (trees_from (done ++ tree_in done ts ∷ []) ls) n Empty) e
-    ∙ unfold-at (done ++ tree_in done ts ∷ []) ls i (λ l p x k. let low : x < length done + suc l = h (suc l) p x k in
-    omega (arith, length_push done (tree_in done ts))) (omega arith)
+    ap (λ n. get_or (trees_from (done ++ tree_in done ts ∷ []) ls) n Empty) (omega arith)
+    ∙ (trees-front (done ++ tree_in done ts ∷ []) ls (length done) (omega (arith, length_push done (tree_in done ts)))
+    ∙ (get_or_at done (tree_in done ts) [] Empty (length done) refl ∙ tree_in-same done (trees_from (done ++ tree_in
+    done ts ∷ []) ls) ts (λ q x k. let low : x < length done + 0 = h 0 q x k in let a : x < length done = omega arith in
+    let b : x < length (done ++ tree_in done ts ∷ []) = omega (arith, length_push done (tree_in done ts)) in sym
+    (trees-front (done ++ tree_in done ts ∷ []) ls x b ∙ get_or_append_left done (tree_in done ts ∷ []) Empty x a))))
+unfold-at done (ts ∷ ls) (suc i) h lt = ap (λ n. get_or (trees_from (done ++ tree_in done ts ∷ []) ls) n Empty)
+    (omega (arith, length_push done (tree_in done ts))) ∙ unfold-at (done ++ tree_in done ts ∷ []) ls i (λ l p x k. let
+    low : x < length done + suc l = h (suc l) p x k in omega (arith, length_push done (tree_in done ts))) (omega arith)
 
 pub unfold-is : (ls : List (List Token)) (i : ℕ) → IsTied ls → i < length ls → unfolded ls i
     ≡ tree_in (trees_from [] ls) (get_or ls i [])
-unfold-is ls i tied lt =
-    let e : 0 + i ≡ i = omega arith in
-    ap (λ n. get_or (trees_from [] ls) n Empty) (sym e)
+unfold-is ls i tied lt = ap (λ n. get_or (trees_from [] ls) n Empty) (sym (omega arith))
     ∙ unfold-at [] ls i (λ l p x k. let low : x < l = tied.earlier l p x k in omega arith) lt
 
 pub unfold-past : (ls : List (List Token)) (i : ℕ) → length ls ≤ i → unfolded ls i ≡ Empty
@@ -96,17 +77,12 @@ same-below : (old new : List (List Token)) (n k : ℕ) → k < n → IsTied old 
     → ((j : ℕ) → Reach old k j → get_or old j [] ≡ get_or new j []) → unfolded old k ≡ unfolded new k
 same-below old new zero k lt to tn len same = absurd (omega arith)
 same-below old new (suc n) k lt to tn len same = elim (cases_lt k (length old)) [
-  | inl h ↦
-      let m : k < length new = omega arith in
-      unfold-is old k to h
-      ∙ (tree_in-same (trees_from [] old) (trees_from [] new) (get_or old k []) (λ q x e.
-      let low : x < k = to.earlier k q x e in
-      same-below old new n x (omega arith) to tn len (λ j r. same j (reach-trans old k x j (next k q x e here) r)))
-      ∙ (ap (tree_in (trees_from [] new)) (same k here)
-      ∙ sym (unfold-is new k tn m)))
-  | inr h ↦
-      let m : length new ≤ k = omega arith in
-      unfold-past old k h ∙ sym (unfold-past new k m)
+  | inl h ↦ let m : k < length new =
+      omega arith in unfold-is old k to h ∙ (tree_in-same (trees_from [] old) (trees_from [] new) (get_or old k [])
+      (λ q x e. let low : x < k = to.earlier k q x e in same-below old new n x (omega arith) to tn len (λ j r. same j
+      (reach-trans old k x j (next k q x e here) r))) ∙ (ap (tree_in (trees_from [] new)) (same k here) ∙ sym (unfold-is
+      new k tn m)))
+  | inr h ↦ let m : length new ≤ k = omega arith in unfold-past old k h ∙ sym (unfold-past new k m)
 ]
 
 pub unfolded-same : (old new : List (List Token)) (k : ℕ) → IsTied old → IsTied new → length old ≡ length new

@@ -1,10 +1,8 @@
 -- A definition is given exactly where one that is printed is left.
-use Rattle.std.proofs.Common.{◌≡◌, ◌≢◌, ◌==◌, ℕ, suc, not, sym, ap, ◌∙◌, List, length, arith, ne_eqb}
-use Rattle.std.specs.Prelude.{Option, Some, None, is_some}
-use Rattle.cw_base.specs.declared.span.Span.{Span}
-use Rattle.cw_texts.specs.declared.definitions.Definition.{Definition}
-use Rattle.cw_texts.specs.DefinitionForms.{GivesPrinted}
-use Rattle.cw_texts.specs.Definitions.{not_silent}
+use Rattle.cw_texpart.proofs.Terms.{◌≡◌, ◌==◌, ℕ, suc, not, sym, ap, ◌∙◌, List, length, arith, ne_eqb, Option, Some}
+use Rattle.cw_texpart.proofs.Terms.{None, is_some, Span}
+use Rattle.cw_texts.specs.{declared.definitions.Definition.Definition, DefinitionForms.GivesPrinted}
+use Rattle.cw_texts.specs.{Definitions.not_silent}
 use Rattle.cw_texpart.proofs.beside.has_definition.Goals as goal
 
 given : (old new : List Definition) (next : Option Span) → GivesPrinted old next new
@@ -12,10 +10,8 @@ given : (old new : List Definition) (next : Option Span) → GivesPrinted old ne
 given old new None gives = ap (λ (ds : List Definition). not (length ds == 0)) (sym gives)
 given old new (Some span) gives =
     let n : ℕ = length (not_silent new) in
-    let some : suc n ≢ 0 = omega arith in
-    sym (ap not (ne_eqb (suc n) 0 some)) ∙ ap (λ (ds : List Definition). not (length ds == 0)) (sym gives)
+    sym (ap not (ne_eqb (suc n) 0 (omega arith))) ∙ ap (λ (ds : List Definition). not (length ds == 0)) (sym gives)
 
 pub returns : goal.returns
-returns c =
-    c.is_some.ensures ∙ given c.over.result _ c.next_printed.result c.next_printed.ensures
+returns c = c.is_some.ensures ∙ given c.over.result _ c.next_printed.result c.next_printed.ensures
     ∙ ap (λ (ds : List Definition). not (length (not_silent ds) == 0)) c.over.ensures

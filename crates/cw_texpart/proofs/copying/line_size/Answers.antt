@@ -1,5 +1,5 @@
 -- No byte 10 comes before the first one.
-use Rattle.std.proofs.Common.{length}
+use Rattle.cw_texpart.proofs.Terms.{length}
 use Rattle.cw_lines.proofs.Appending.{none-before}
 use Rattle.cw_texpart.proofs.copying.line_size.Goals as goal
 

@@ -1,7 +1,5 @@
 -- A section without a changed line has no mark.
-use Rattle.std.proofs.Common.{ap, sym}
-use Rattle.cw_lines.specs.SheetLaws.{prints-bytes, prints-none}
-use Rattle.cw_print.specs.Walk.{changed_mark}
+use Rattle.cw_texpart.proofs.Terms.{ap, sym, prints-bytes, prints-none, changed_mark}
 use Rattle.cw_texpart.proofs.heads.put_changed_mark.Goals as goal
 
 pub returns : goal.returns

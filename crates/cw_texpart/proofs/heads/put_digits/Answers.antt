@@ -1,8 +1,6 @@
 -- The digits, and the mark behind them.
-use Rattle.std.proofs.Common.{rules, ◌≡◌, ap, ◌++◌, List, ℕ}
-use Rattle.std.specs.Prelude.{decimal}
-use Rattle.cw_lines.specs.SheetLaws.{prints-bytes, prints-stop, prints-then}
-use Rattle.cw_print.specs.Walk.{changed_mark}
+use Rattle.cw_texpart.proofs.Terms.{rules, ◌≡◌, ap, ◌++◌, List, ℕ, decimal, prints-bytes, prints-stop, prints-then}
+use Rattle.cw_texpart.proofs.Terms.{changed_mark}
 use Rattle.cw_texpart.proofs.heads.put_digits.Goals as goal
 
 pub returns-in_err-put_all : goal.returns-in_err-put_all

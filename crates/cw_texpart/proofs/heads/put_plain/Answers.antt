@@ -1,5 +1,5 @@
 -- The opening, the number and the closing brace are put one after another, and a failure ends the head.
-use Rattle.cw_lines.specs.SheetLaws.{prints-stop, prints-then}
+use Rattle.cw_texpart.proofs.Terms.{prints-stop, prints-then}
 use Rattle.cw_texpart.proofs.heads.put_plain.Goals as goal
 
 pub returns-in_err-put_all : goal.returns-in_err-put_all

@@ -1,6 +1,5 @@
 -- Nines stand from here on, which are zeros now, and one is carried over them; what is before them is as it was.
-use Rattle.std.proofs.Common.{◌≡◌, ◌≤◌, true, drop, length, take}
-use Rattle.cw_texpart.specs.Heads.{with_one}
+use Rattle.cw_texpart.proofs.Terms.{◌≡◌, ◌≤◌, true, drop, length, take, with_one}
 use Rattle.cw_texpart.proofs.heads.successor.Given as goal
 
 abbrev pub invariant-loop-at : goal.invariant-loop-at

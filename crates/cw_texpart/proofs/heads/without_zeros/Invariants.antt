@@ -1,6 +1,5 @@
 -- The digits from here on say the same as all of them, and at least one is left.
-use Rattle.std.proofs.Common.{◌≡◌, ◌-◌, ◌<◌, length, drop}
-use Rattle.cw_texpart.specs.Heads.{drop_zeros}
+use Rattle.cw_texpart.proofs.Terms.{◌≡◌, ◌-◌, ◌<◌, length, drop, drop_zeros}
 use Rattle.cw_texpart.proofs.heads.without_zeros.Given as goal
 
 abbrev pub invariant-loop-at : goal.invariant-loop-at

@@ -1,9 +1,6 @@
 -- Limbo stands behind the first line.
-use Rattle.std.proofs.Common.{◌∙◌}
-use Rattle.std.proofs.lemmas.List.{append-nil}
-use Rattle.cw_lines.specs.SheetLaws.{prints-bytes, prints-failing, prints-none, prints-stop, prints-then}
-use Rattle.cw_lines.specs.WritesLaws.{can-after}
-use Rattle.cw_texpart.specs.Limbo.{printed_limbo}
+use Rattle.cw_texpart.proofs.Terms.{◌∙◌, append-nil, prints-bytes, prints-failing, prints-none, prints-stop}
+use Rattle.cw_texpart.proofs.Terms.{prints-then, can-after, printed_limbo}
 use Rattle.cw_texpart.proofs.LayingLaws.{holds-put}
 use Rattle.cw_texpart.proofs.limbo.print_limbo.Goals as goal
 
@@ -15,13 +12,9 @@ put_limbo-requires g c = record
     { can = can-after c.requires.can c.in_ok-put_all.ensures.puts; begins = holds-put c.in_ok-put_all.ensures.puts }
 
 pub returns-in_err-put_limbo-clause-prints : goal.returns-in_err-put_limbo-clause-prints
-returns-in_err-put_limbo-clause-prints g c =
-    prints-then c.in_ok-put_all.ensures
-    (prints-failing (λ i. printed_limbo (c.text.ensures.lines i) (c.limbo.ensures i))
-    c.in_err-put_limbo.ensures c.from_residual-in_err-put_limbo.ensures.1)
+returns-in_err-put_limbo-clause-prints g c = prints-then c.in_ok-put_all.ensures (prints-failing (λ i. printed_limbo
+    (c.text.ensures.lines i) (c.limbo.ensures i)) c.in_err-put_limbo.ensures c.from_residual-in_err-put_limbo.ensures.1)
 
 pub returns-clause-prints : goal.returns-clause-prints
-returns-clause-prints g c =
-    prints-then c.in_ok-put_all.ensures
-    (prints-bytes (append-nil _ ∙ (λ i. printed_limbo (c.text.ensures.lines i) (c.limbo.ensures i)))
-    (prints-then c.in_ok-put_limbo.ensures (prints-none _ _ _)))
+returns-clause-prints g c = prints-then c.in_ok-put_all.ensures (prints-bytes (append-nil _ ∙ (λ i. printed_limbo
+    (c.text.ensures.lines i) (c.limbo.ensures i))) (prints-then c.in_ok-put_limbo.ensures (prints-none _ _ _)))

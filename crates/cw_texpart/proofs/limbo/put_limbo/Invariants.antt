@@ -1,10 +1,7 @@
 -- What the answers so far print is put.
-use Rattle.std.proofs.Common.{length}
-use Rattle.cw_rules.specs.declared.tokens.Mode.TheVariants as modes
-use Rattle.cw_lines.specs.Sheets.{IsSameSheet}
-use Rattle.cw_texpart.specs.Inks.{inks}
-use Rattle.cw_texts.specs.Scans.{scanned}
+use Rattle.cw_texpart.proofs.Terms.{length, IsSameSheet, inks, scanned}
 use Rattle.cw_texpart.proofs.LayingLaws.{Inking}
+use Rattle.cw_rules.specs.declared.tokens.Mode.TheVariants as modes
 use Rattle.cw_texpart.proofs.limbo.put_limbo.Given as goal
 
 abbrev pub invariant-answers : goal.invariant-answers

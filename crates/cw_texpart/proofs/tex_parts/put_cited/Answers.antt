@@ -1,22 +1,15 @@
 -- A name that the book keeps is a C text of its own.
-use Rattle.std.proofs.Common.{true, sym}
-use Rattle.cw_secnames.specs.Kept.{id}
-use Rattle.cw_secnames.specs.Uses.{name_at}
-use Rattle.cw_texpart.specs.PartForms.{tex_setting}
-use Rattle.cw_texpart.specs.Texts.{lasting}
+use Rattle.cw_texpart.proofs.Terms.{true, sym, tex_setting, lasting}
+use Rattle.cw_secnames.specs.{Kept.id, Uses.name_at}
 use Rattle.cw_texpart.proofs.WeavingLaws.{cited, ignored, weaves-as, weaves-nothing}
 use Rattle.cw_texpart.proofs.tex_parts.put_cited.Goals as goal
 
 pub returns-in-None-clause-woven : goal.returns-in-None-clause-woven
-returns-in-None-clause-woven g c =
-    weaves-as (sym (ignored id (tex_setting c.args.t.now (lasting c.args.book.now)) true c.args.part
-    c.args.book.now.names
-    (name_at c.args.part.start c.args.book.now.name_uses) c.in-None.ensures))
+returns-in-None-clause-woven g c = weaves-as (sym (ignored id (tex_setting c.args.t.now (lasting c.args.book.now)) true
+    c.args.part c.args.book.now.names (name_at c.args.part.start c.args.book.now.name_uses) c.in-None.ensures))
     (weaves-nothing c.none.ensures.scraps c.none.ensures.productions)
 
 pub returns-in-Some-clause-woven : goal.returns-in-Some-clause-woven
-returns-in-Some-clause-woven g c =
-    weaves-as (cited id c.in-Some._id
-    (tex_setting c.args.t.now (lasting c.args.book.now)) true c.args.part c.args.book.now.names
-    (name_at c.args.part.start c.args.book.now.name_uses) c.in-Some.ensures)
-    c.put_inner.ensures.woven
+returns-in-Some-clause-woven g c = weaves-as
+    (cited id c.in-Some._id (tex_setting c.args.t.now (lasting c.args.book.now)) true c.args.part c.args.book.now.names
+    (name_at c.args.part.start c.args.book.now.name_uses) c.in-Some.ensures) c.put_inner.ensures.woven

@@ -1,23 +1,9 @@
 -- One piece goes behind another.
-use Rattle.std.proofs.Common.{◌≡◌, ◌≤◌, ◌∙◌, Bool, sym, ap, subst, All, List, length, arith, rules}
-use Rattle.std.proofs.lemmas.List.Elements.{All-head, All-tail}
-use Rattle.std.specs.Prelude.{Result}
-use Rattle.cw_lines.specs.SheetLaws.{same-sheet, same-then}
-use Rattle.cw_lines.specs.WritesLaws.{can-after, puts-bytes}
-use Rattle.cw_lines.specs.declared.put_error.PutError.{PutError}
-use Rattle.cw_names.specs.Names.{Entry}
-use Rattle.cw_translator.specs.NameParts.{AreNamesOf}
-use Rattle.cw_texpart.specs.declared.counts.Counts.{Counts}
-use Rattle.cw_texpart.specs.Done.{reprinted}
-use Rattle.cw_texpart.specs.Inks.{end_if}
-use Rattle.cw_texpart.specs.Laying.{holds_bytes, inked}
-use Rattle.cw_texpart.specs.PartForms.{TexSetting, tex_setting}
-use Rattle.cw_texts.specs.PieceForms.{piece_is}
-use Rattle.cw_texpart.specs.TexParts.{IsWholePiece, piece_done}
-use Rattle.cw_texts.specs.TexPieces.{TexPiece, tex_pieces_of}
-use Rattle.cw_texpart.specs.Texts.{Lasting}
-use Rattle.cw_texpart.specs.Weaving.{Press, Weaves}
-use Rattle.cw_texts.proofs.PieceLaws.{ended, gave}
+use Rattle.cw_texpart.proofs.Terms.{◌≡◌, ◌≤◌, ◌∙◌, Bool, sym, ap, subst, All, List, length, arith, rules, All-head}
+use Rattle.cw_texpart.proofs.Terms.{All-tail, Result, same-sheet, same-then, can-after, puts-bytes, PutError, Entry}
+use Rattle.cw_texpart.proofs.Terms.{AreNamesOf, Counts, reprinted, end_if, holds_bytes, inked, TexSetting, tex_setting}
+use Rattle.cw_texpart.proofs.Terms.{piece_is, IsWholePiece, piece_done, TexPiece, tex_pieces_of, Lasting, Press, Weaves}
+use Rattle.cw_texpart.proofs.Terms.{ended, gave}
 use Rattle.cw_texpart.proofs.WeavingLaws.{weaving-as, weaving-begun, weaving-counts, weaving-end-refused, weaving-ended}
 use Rattle.cw_texpart.proofs.WeavingLaws.{weaving-next, weaving-refused, weaving-stopped}
 use Rattle.cw_texpart.proofs.tex_parts.put_pieces.Goals as goal
@@ -27,11 +13,7 @@ moved : {t t' : TexSetting} (holds : Bool) (piece : TexPiece) (names : List Entr
     {result : Result Counts PutError} → t ≡ t' → l ≡ l'
     → Weaves (tex_setting t l) (reprinted (inked holds) (piece_done (tex_setting t l) piece names)) old new result
     → Weaves (tex_setting t' l') (reprinted (inked holds) (piece_done (tex_setting t' l') piece names)) old new result
-moved {t = t} holds piece names {l' = l'} {old = old} {new = new} {result = result} fixed same woven =
-    subst (λ (t : TexSetting). Weaves (tex_setting t l')
-    (reprinted (inked holds) (piece_done (tex_setting t l') piece names)) old new result) fixed
-    (subst (λ (l : Lasting). Weaves (tex_setting t l)
-    (reprinted (inked holds) (piece_done (tex_setting t l) piece names)) old new result) same woven)
+moved holds piece names fixed same woven = rw (← fixed, ← same) woven
 
 pub all-init : goal.all-init
 all-init g c =
@@ -53,59 +35,48 @@ put_piece-requires g c = record {
   can = can-after c.requires.can c.all.invariant.woven.put;
   short = subst (λ (s : TexSetting). length s.text ≤ 16777216) (sym c.all.invariant.same) c.requires.short;
   whole = subst (λ (s : TexSetting). IsWholePiece s.text (piece_is c.in-Some.piece)) (sym c.all.invariant.same)
-      (All-head (IsWholePiece c.args.t.now.text) _ _
-      (subst (All (IsWholePiece c.args.t.now.text))
+      (All-head (IsWholePiece c.args.t.now.text) _ _ (subst (All (IsWholePiece c.args.t.now.text))
       (gave _ _ c.in_ok-next.next c.in-Some.piece c.in_ok-next.ensures c.in-Some.is) c.all.invariant.whole));
   kept = subst (λ (l : Lasting). AreNamesOf l.sec_names l.name_uses) (sym c.all.invariant.woven.same) c.requires.kept;
 }
 
 pub returns-in_err-more-in-Some-clause-weaves : goal.returns-in_err-more-in-Some-clause-weaves
-returns-in_err-more-in-Some-clause-weaves g c =
-    weaving-stopped (weaving-as
-    (gave _ _ c.in_ok-next.next c.in-Some.piece c.in_ok-next.ensures c.in-Some.is) c.all.invariant.woven)
-    (moved (holds_bytes c.all.sheet.line.now)
-    (piece_is c.in-Some.piece) c.all.book.names c.all.invariant.same c.all.invariant.woven.same
-    c.in_err-more-in-Some.ensures.woven)
-    c.from_residual-in_err-more-in-Some.ensures.1
+returns-in_err-more-in-Some-clause-weaves g c = weaving-stopped
+    (weaving-as (gave _ _ c.in_ok-next.next c.in-Some.piece c.in_ok-next.ensures c.in-Some.is) c.all.invariant.woven)
+    (moved (holds_bytes c.all.sheet.line.now) (piece_is c.in-Some.piece) c.all.book.names c.all.invariant.same
+    c.all.invariant.woven.same c.in_err-more-in-Some.ensures.woven) c.from_residual-in_err-more-in-Some.ensures.1
 
 pub returns-in_err-counts-in-Some-clause-weaves : goal.returns-in_err-counts-in-Some-clause-weaves
-returns-in_err-counts-in-Some-clause-weaves g c =
-    weaving-refused
-    (weaving-next (weaving-as
-    (gave _ _ c.in_ok-next.next c.in-Some.piece c.in_ok-next.ensures c.in-Some.is) c.all.invariant.woven)
-    (moved (holds_bytes c.all.sheet.line.now)
-    (piece_is c.in-Some.piece) c.all.book.names c.all.invariant.same c.all.invariant.woven.same
-    c.in_ok-more-in-Some.ensures.woven))
-    c.from_residual-in_err-counts-in-Some.ensures.1
+returns-in_err-counts-in-Some-clause-weaves g c = weaving-refused (weaving-next
+    (weaving-as (gave _ _ c.in_ok-next.next c.in-Some.piece c.in_ok-next.ensures c.in-Some.is) c.all.invariant.woven)
+    (moved (holds_bytes c.all.sheet.line.now) (piece_is c.in-Some.piece) c.all.book.names c.all.invariant.same
+    c.all.invariant.woven.same c.in_ok-more-in-Some.ensures.woven)) c.from_residual-in_err-counts-in-Some.ensures.1
 
 pub all-preserved : goal.all-preserved
 all-preserved g c = record {
-  woven = weaving-counts c.in_ok-counts-in-Some.ensures.scraps c.in_ok-counts-in-Some.ensures.productions
-      (weaving-next (weaving-as
-      (gave _ _ c.in_ok-next.next c.in-Some.piece c.in_ok-next.ensures c.in-Some.is) c.all.invariant.woven)
-      (moved (holds_bytes c.all.sheet.line.now)
-      (piece_is c.in-Some.piece) c.all.book.names c.all.invariant.same c.all.invariant.woven.same
-      c.in_ok-more-in-Some.ensures.woven));
+  woven = weaving-counts c.in_ok-counts-in-Some.ensures.scraps c.in_ok-counts-in-Some.ensures.productions (weaving-next
+      (weaving-as (gave _ _ c.in_ok-next.next c.in-Some.piece c.in_ok-next.ensures c.in-Some.is) c.all.invariant.woven)
+      (moved (holds_bytes c.all.sheet.line.now) (piece_is c.in-Some.piece) c.all.book.names c.all.invariant.same
+      c.all.invariant.woven.same c.in_ok-more-in-Some.ensures.woven));
   same = c.in_ok-more-in-Some.ensures.same ∙ c.all.invariant.same;
   sheet = same-then c.all.invariant.sheet c.in_ok-more-in-Some.ensures.sheet;
-  whole = All-tail (IsWholePiece c.args.t.now.text) _ _
-      (subst (All (IsWholePiece c.args.t.now.text))
+  whole = All-tail (IsWholePiece c.args.t.now.text) _ _ (subst (All (IsWholePiece c.args.t.now.text))
       (gave _ _ c.in_ok-next.next c.in-Some.piece c.in_ok-next.ensures c.in-Some.is) c.all.invariant.whole);
 }
 
 pub all-smaller : goal.all-smaller
-all-smaller g c = omega
-    (arith, ap length (gave _ _ c.in_ok-next.next c.in-Some.piece c.in_ok-next.ensures c.in-Some.is))
+all-smaller g c = omega (
+  arith,
+  ap length (gave _ _ c.in_ok-next.next c.in-Some.piece c.in_ok-next.ensures c.in-Some.is),
+)
 
 pub end_line_if-requires : goal.end_line_if-requires
 end_line_if-requires g c = record { can = can-after c.requires.can c.all.invariant.woven.put }
 
 pub returns-in_err-end_line_if-in-None-clause-weaves : goal.returns-in_err-end_line_if-in-None-clause-weaves
-returns-in_err-end_line_if-in-None-clause-weaves g c =
-    weaving-end-refused (weaving-as
-    (ended _ _ c.in_ok-next.next c.in_ok-next.ensures c.in-None.is) c.all.invariant.woven)
-    (puts-bytes (ap end_if c.holds_bytes-holds.ensures) c.in_err-end_line_if-in-None.ensures.puts)
-    c.from_residual-in_err-end_line_if-in-None.ensures.1
+returns-in_err-end_line_if-in-None-clause-weaves g c = weaving-end-refused (weaving-as (ended _ _ c.in_ok-next.next
+    c.in_ok-next.ensures c.in-None.is) c.all.invariant.woven) (puts-bytes (ap end_if c.holds_bytes-holds.ensures)
+    c.in_err-end_line_if-in-None.ensures.puts) c.from_residual-in_err-end_line_if-in-None.ensures.1
 
 pub returns-in-None-clause-weaves : goal.returns-in-None-clause-weaves
 returns-in-None-clause-weaves g c =

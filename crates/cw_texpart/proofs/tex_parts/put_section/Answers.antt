@@ -1,18 +1,8 @@
 -- The TeX part stands behind its head, where no code stands beside the number.
-use Rattle.std.proofs.Common.{◌≡◌, Bool, true, false, ap, refl, sym, ◌∙◌, arith}
-use Rattle.std.specs.Prelude.{Ok}
-use Rattle.std.proofs.lemmas.List.{append-nil}
-use Rattle.cw_lines.specs.WritesLaws.{can-after, puts-bytes, puts-none, puts-nothing, puts-then}
-use Rattle.cw_lines.specs.declared.put_error.PutError.TheVariants.{Memory}
-use Rattle.cw_texpart.specs.Beside.{code_beside, is_nothing}
-use Rattle.cw_texpart.specs.Done.{reprinted}
-use Rattle.cw_texpart.specs.Heads.{head}
-use Rattle.cw_texpart.specs.Inks.{laid}
-use Rattle.cw_texpart.specs.Laying.{holds_bytes}
-use Rattle.cw_texpart.specs.PartForms.{TexSetting, tex_setting}
-use Rattle.cw_texpart.specs.TexParts.{beside_in, pieces_done, head_and_tex}
-use Rattle.cw_texts.specs.TexPieces.{tex_pieces_of}
-use Rattle.cw_texpart.specs.Texts.{lasting}
+use Rattle.cw_texpart.proofs.Terms.{◌≡◌, Bool, true, false, ap, refl, sym, ◌∙◌, arith, Ok, append-nil, can-after}
+use Rattle.cw_texpart.proofs.Terms.{puts-bytes, puts-none, puts-nothing, puts-then, Memory, code_beside, is_nothing}
+use Rattle.cw_texpart.proofs.Terms.{reprinted, head, laid, holds_bytes, TexSetting, tex_setting, beside_in, pieces_done}
+use Rattle.cw_texpart.proofs.Terms.{head_and_tex, tex_pieces_of, lasting}
 use Rattle.cw_texpart.proofs.LayingLaws.{holds-put}
 use Rattle.cw_texpart.proofs.WeavingLaws.{head-holds, head-refused, weaves-as, weaves-behind, weaves-put}
 use Rattle.cw_texpart.proofs.WeavingLaws.{weaves-refused}
@@ -23,13 +13,10 @@ returns-in_err-code-clause-weaves g c =
     weaves-refused Memory (puts-nothing _ _ _ c.from_residual.ensures.1) refl (omega arith) c.from_residual.ensures.1
 
 pub returns-in_err-put_head-clause-weaves : goal.returns-in_err-put_head-clause-weaves
-returns-in_err-put_head-clause-weaves g c =
-    head-refused c.args.section
-    (is_nothing (beside_in (tex_setting c.args.t.now (lasting c.args.book.now)) c.args.section))
-    (head c.args.t.now.flags.ranged c.args.t.now.text c.args.t.now.section c.args.section)
-    (puts-bytes (ap (λ (s : TexSetting). head s.flags.ranged s.text s.section c.args.section) c.t.view_is)
-    c.in_err-put_head.ensures.puts)
-    c.from_residual-in_err-put_head.ensures.1
+returns-in_err-put_head-clause-weaves g c = head-refused c.args.section (is_nothing (beside_in (tex_setting c.args.t.now
+    (lasting c.args.book.now)) c.args.section)) (head c.args.t.now.flags.ranged c.args.t.now.text c.args.t.now.section
+    c.args.section) (puts-bytes (ap (λ (s : TexSetting). head s.flags.ranged s.text s.section c.args.section)
+    c.t.view_is) c.in_err-put_head.ensures.puts) c.from_residual-in_err-put_head.ensures.1
 
 pub put_pieces-requires-clause-can : goal.put_pieces-requires-clause-can
 put_pieces-requires-clause-can g c = can-after c.requires.can c.in_ok-put_head.ensures.puts
@@ -43,15 +30,10 @@ returns-then-is_nothing-clause-weaves g c =
     let none : true ≡ is_nothing (beside_in s c.args.section) =
     sym c.if-is_nothing.true ∙ c.is_nothing.ensures ∙ ap is_nothing (c.in_ok-code.ensures
     ∙ ap (λ (s : TexSetting). code_beside s.text s.flags c.args.book.now.name_uses c.args.section) c.t.view_is) in
-    weaves-as (ap (λ (goes : Bool). head_and_tex goes front s c.args.section c.args.book.now.names) none)
-    (weaves-behind put
-    (weaves-as
-    (ap (λ (holds : Bool). reprinted (laid holds)
-    (pieces_done s (tex_pieces_of c.args.t.now.text c.args.section.tex) c.args.book.now.names))
-    (holds-put put ∙ head-holds
-    (holds_bytes c.args.sheet.now.line.now) c.args.t.now.flags.ranged c.args.t.now.text c.args.t.now.section
-    c.args.section))
-    c.put_pieces.ensures.weaves))
+    weaves-as (ap (λ (goes : Bool). head_and_tex goes front s c.args.section c.args.book.now.names) none) (weaves-behind
+    put (weaves-as (ap (λ (holds : Bool). reprinted (laid holds) (pieces_done s (tex_pieces_of c.args.t.now.text
+    c.args.section.tex) c.args.book.now.names)) (holds-put put ∙ head-holds (holds_bytes c.args.sheet.now.line.now)
+    c.args.t.now.flags.ranged c.args.t.now.text c.args.t.now.section c.args.section)) c.put_pieces.ensures.weaves))
 
 pub returns-clause-weaves : goal.returns-clause-weaves
 returns-clause-weaves g c =

@@ -1,6 +1,5 @@
 -- The marks so far are noted.
-use Rattle.std.proofs.Common.{◌≡◌, ◌++◌, map, take}
-use Rattle.cw_texpart.specs.Weaving.{mark}
+use Rattle.cw_texpart.proofs.Terms.{◌≡◌, ◌++◌, map, take, mark}
 use Rattle.cw_texpart.proofs.texts.note_marks.Given as goal
 
 abbrev pub invariant-loop-i : goal.invariant-loop-i

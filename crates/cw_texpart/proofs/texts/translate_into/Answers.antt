@@ -1,38 +1,25 @@
 -- The answers of the scan are nested and stand in the text, and the list of the text's tree is one of the store.
-use Rattle.std.proofs.Common.{◌≡◌, ◌∙◌, ℕ, false, List, ap, arith, map, rules, sym, subst}
-use Rattle.std.proofs.lemmas.Grind.{common_steps}
-use Rattle.cw_lex.specs.Lexing.{tokens_of}
+use Rattle.cw_texpart.proofs.Terms.{◌≡◌, ◌∙◌, ℕ, false, List, ap, arith, map, rules, sym, subst, common_steps}
+use Rattle.cw_texpart.proofs.Terms.{tokens_of, Answer, lasting, NotesFirst, underlined, NameId, name_texts, translated}
+use Rattle.cw_texpart.proofs.Terms.{on-err}
 use Rattle.cw_lex.specs.Nested.{IsNested, begins_section_in}
-use Rattle.cw_lex.proofs.Nesting.{c-texts-nested}
-use Rattle.cw_lex.proofs.TokensWithin.{tokens-within}
-use Rattle.cw_rules.specs.Answers.{Answer}
+use Rattle.cw_lex.proofs.{Nesting.c-texts-nested, TokensWithin.tokens-within}
 use Rattle.cw_translator.specs.Opening.{StartsBelow}
 use Rattle.cw_reduce.proofs.ReadSteps.{within-starts}
 use Rattle.cw_scraps.specs.Marking.{MarkList, marked_names}
 use Rattle.cw_texpart.specs.Printing.{text_printed}
-use Rattle.cw_texpart.specs.Texts.{lasting}
-use Rattle.cw_texpart.specs.Weaving.{NotesFirst, underlined}
-use Rattle.cw_names.specs.declared.entry.NameId.{NameId}
-use Rattle.cw_translator.specs.NameParts.{name_texts}
-use Rattle.cw_translator.specs.Translating.{translated}
-use Rattle.cw_translator.proofs.Routes.{on-err}
 use Rattle.cw_texpart.proofs.TextLaws.{kept-tokens, none-noted}
 use Rattle.cw_texpart.proofs.texts.translate_into.Goals as goal
 
 pub translate_read-requires-clause-nested : goal.translate_read-requires-clause-nested
-translate_read-requires-clause-nested g c =
-    subst IsNested (sym c.restart.ensures.coming)
-    (c-texts-nested c.args.c.text.now c.args.c.span.start c.args.c.span.end c.args.c.mode c.requires.c_text
-    c.requires.uncut)
+translate_read-requires-clause-nested g c = subst IsNested (sym c.restart.ensures.coming) (c-texts-nested
+    c.args.c.text.now c.args.c.span.start c.args.c.span.end c.args.c.mode c.requires.c_text c.requires.uncut)
 
 pub translate_read-requires-clause-start : goal.translate_read-requires-clause-start
-translate_read-requires-clause-start g c =
-    subst (StartsBelow 4294967296) (sym c.restart.ensures.coming)
-    (within-starts 4294967296 c.args.c.span.start c.args.c.span.end
-    (tokens_of c.args.c.text.now c.args.c.span.start c.args.c.span.end c.args.c.mode)
-    (omega (arith, c.requires.within, c.requires.short))
-    (tokens-within c.args.c.text.now c.args.c.span.start c.args.c.span.end c.args.c.mode c.requires.order
-    c.requires.within))
+translate_read-requires-clause-start g c = subst (StartsBelow 4294967296) (sym c.restart.ensures.coming)
+    (within-starts 4294967296 c.args.c.span.start c.args.c.span.end (tokens_of c.args.c.text.now c.args.c.span.start
+    c.args.c.span.end c.args.c.mode) (omega (arith, c.requires.within, c.requires.short)) (tokens-within
+    c.args.c.text.now c.args.c.span.start c.args.c.span.end c.args.c.mode c.requires.order c.requires.within))
 
 pub returns-clause-kept : goal.returns-clause-kept
 returns-clause-kept g c =
@@ -55,17 +42,13 @@ returns-in_err-rooms-clause-noted g c = on-err _ _ (none-noted _ _)
 pub returns-in_err-note_marks-clause-noted : goal.returns-in_err-note_marks-clause-noted
 returns-in_err-note_marks-clause-noted g c =
     let named = name_texts c.args.book.now.sec_names c.args.book.now.name_uses in
-    let marks : marked_names c.translate_read.new.work.marks.now
-    ≡ (text_printed c.args.c (lasting c.args.book.now) c.args.book.now.names).marks =
-    c.in_ok-done.ensures.text.text.marks_are
+    let marks : marked_names c.translate_read.new.work.marks.now ≡ (text_printed c.args.c
+    (lasting c.args.book.now) c.args.book.now.names).marks = c.in_ok-done.ensures.text.text.marks_are
     ∙ (ap (λ (answers : List Answer). (translated c.args.c.flags.now named answers c.args.book.now.names
-    (marked_names c.new_in-marks.result)).known.marks) c.restart.ensures.coming
-    ∙ ap (λ (ids : List NameId). (translated c.args.c.flags.now named
-    (tokens_of c.args.c.text.now c.args.c.span.start c.args.c.span.end c.args.c.mode) c.args.book.now.names
-    (map (λ id. id.index) ids)).known.marks) c.new_in-marks.ensures) in
-    let same : c.marks-2-1.given.0 ≡ c.translate_read.new.work.marks.now = first_of (
-      search rules,
-      grind (arith, common_steps),
-    ) in
+    (marked_names c.new_in-marks.result)).known.marks) c.restart.ensures.coming ∙ ap (λ (ids : List NameId).
+    (translated c.args.c.flags.now named (tokens_of c.args.c.text.now c.args.c.span.start c.args.c.span.end
+    c.args.c.mode) c.args.book.now.names (map (λ id. id.index) ids)).known.marks) c.new_in-marks.ensures) in
+    let same : c.marks-2-1.given.0 ≡ c.translate_read.new.work.marks.now = first_of
+    (search rules, grind (arith, common_steps)) in
     on-err _ _ (subst (λ (ms : List ℕ). NotesFirst (underlined c.args.c.section ms) c.args.book.now.xrefs
     c.note_marks.new.xrefs) (ap (λ (m : MarkList). marked_names m) same ∙ marks) c.in_err-note_marks.ensures.err)

@@ -1,7 +1,5 @@
 -- The pieces that are still to come are whole where all are, and only there.
-use Rattle.std.proofs.Common.{All, length}
-use Rattle.cw_texpart.specs.TexParts.{IsWholePiece}
-use Rattle.cw_texts.specs.TexPieces.{tex_pieces_of}
+use Rattle.cw_texpart.proofs.Terms.{All, length, IsWholePiece, tex_pieces_of}
 use Rattle.cw_texpart.proofs.whole.is_whole.Given as goal
 
 abbrev pub invariant-all : goal.invariant-all

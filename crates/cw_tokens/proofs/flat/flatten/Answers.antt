@@ -1,44 +1,33 @@
 -- Each turn takes an item, goes down into a list or up behind one; at the end all items of the tree are laid.
-use Rattle.std.proofs.Common.{◌≤◌, ◌++◌, length, ap, arith}
-use Rattle.cw_trees.specs.Flat.{flat}
-use Rattle.cw_tokens.specs.Shapes.{ref_of, unfolded}
-use Rattle.cw_tokens.specs.Stored.{cut}
+use Rattle.cw_tokens.proofs.Terms.{◌≤◌, length, ap, arith, ref_of, cut}
 use Rattle.cw_tokens.specs.declared.flat.FlatItem.TheVariants.{Open}
-use Rattle.cw_tokens.specs.FlatItems.{items_are, Flattens}
-use Rattle.cw_tokens.proofs.Cutting.{cut-short}
-use Rattle.cw_tokens.proofs.Linking.{linked-tied}
+use Rattle.cw_tokens.proofs.{Cutting.cut-short, Linking.linked-tied, Measuring.less-down, Measuring.less-up}
 use Rattle.cw_tokens.proofs.Places.{at-place, at-end, below-cut, above-cut}
-use Rattle.cw_tokens.proofs.Measuring.{less-down, less-up}
 use Rattle.cw_tokens.proofs.Flattening.{flattens-start, flattens-leaf, flattens-below, flattens-inner, items-push}
 use Rattle.cw_tokens.proofs.Flattening.{flattens-up, flattens-end, below-ref, inner-ref, up-step, up-flattens}
 use Rattle.cw_tokens.proofs.flat.flatten.Goals as goal
 
 pub loop-place-init : goal.loop-place-init
 loop-place-init c = record {
-  flattens = flattens-start _ _ _ (linked-tied _ _ c.requires.linked)
-      (below-cut _ _ _ c.requires.root);
+  flattens = flattens-start _ _ _ (linked-tied _ _ c.requires.linked) (below-cut _ _ _ c.requires.root);
   here = c.list_at-items.ensures;
 }
 
 pub offset_bounds-items-place : goal.offset_bounds-items-place
 offset_bounds-items-place c =
-    let here : length c.loop-place.items.now ≤ length c.args.tokens.now =
-    omega (
+    let here : length c.loop-place.items.now ≤ length c.args.tokens.now = omega (
       arith,
       ap length c.loop-place.invariant.here,
-      cut-short 0 c.args.ends.now c.args.tokens.now
-          c.loop-place.list,
+      cut-short 0 c.args.ends.now c.args.tokens.now c.loop-place.list,
     ) in
     omega (arith, here)
 
 pub overflow_add-place : goal.overflow_add-place
 overflow_add-place c =
-    let here : length c.loop-place.items.now ≤ length c.args.tokens.now =
-    omega (
+    let here : length c.loop-place.items.now ≤ length c.args.tokens.now = omega (
       arith,
       ap length c.loop-place.invariant.here,
-      cut-short 0 c.args.ends.now c.args.tokens.now
-          c.loop-place.list,
+      cut-short 0 c.args.ends.now c.args.tokens.now c.loop-place.list,
     ) in
     omega (arith, here)
 
@@ -73,10 +62,9 @@ list_at-items-requires-else-list-root-clause-list c =
     above-cut _ _ _ u.inside
 
 pub loop-place-smaller-in-Below : goal.loop-place-smaller-in-Below
-loop-place-smaller-in-Below c =
-    less-down _ _ _ c.requires.linked _ _ _ _ (below-cut _ _ _ c.requires.root) c.loop-place.invariant.flattens.way
-    (at-place (cut 0 c.args.ends.now c.args.tokens.now) c.loop-place.list _ _ _ c.loop-place.invariant.here
-    c.if-place-items.true) (ap ref_of (below-ref _ _ c.in-Below.ensures))
+loop-place-smaller-in-Below c = less-down _ _ _ c.requires.linked _ _ _ _ (below-cut _ _ _ c.requires.root)
+    c.loop-place.invariant.flattens.way (at-place (cut 0 c.args.ends.now c.args.tokens.now) c.loop-place.list _ _ _
+    c.loop-place.invariant.here c.if-place-items.true) (ap ref_of (below-ref _ _ c.in-Below.ensures))
 
 pub loop-place-preserved-in-Below : goal.loop-place-preserved-in-Below
 loop-place-preserved-in-Below c = record {
@@ -87,10 +75,9 @@ loop-place-preserved-in-Below c = record {
 }
 
 pub loop-place-smaller-in-InnerBelow : goal.loop-place-smaller-in-InnerBelow
-loop-place-smaller-in-InnerBelow c =
-    less-down _ _ _ c.requires.linked _ _ _ _ (below-cut _ _ _ c.requires.root) c.loop-place.invariant.flattens.way
-    (at-place (cut 0 c.args.ends.now c.args.tokens.now) c.loop-place.list _ _ _ c.loop-place.invariant.here
-    c.if-place-items.true) (ap ref_of (inner-ref _ _ c.in-InnerBelow.ensures))
+loop-place-smaller-in-InnerBelow c = less-down _ _ _ c.requires.linked _ _ _ _ (below-cut _ _ _ c.requires.root)
+    c.loop-place.invariant.flattens.way (at-place (cut 0 c.args.ends.now c.args.tokens.now) c.loop-place.list _ _ _
+    c.loop-place.invariant.here c.if-place-items.true) (ap ref_of (inner-ref _ _ c.in-InnerBelow.ensures))
 
 pub loop-place-preserved-in-InnerBelow : goal.loop-place-preserved-in-InnerBelow
 loop-place-preserved-in-InnerBelow c = record {
@@ -102,14 +89,9 @@ loop-place-preserved-in-InnerBelow c = record {
 }
 
 pub returns-then-list-root : goal.returns-then-list-root
-returns-then-list-root c =
-    let f : Flattens (cut 0 c.args.ends.now c.args.tokens.now) c.args.root c.args.root c.loop-place.place
-    (items_are c.loop-place.out.items) (items_are c.args.out.now.items
-    ++ flat (unfolded (cut 0 c.args.ends.now c.args.tokens.now) c.args.root)) =
-    rw c.if-list-root.true at c.loop-place.invariant.flattens in
-    flattens-end _ _ _ _ _ (linked-tied _ _ c.requires.linked) f
-    (rw c.if-list-root.true at (at-end (cut 0 c.args.ends.now c.args.tokens.now) c.loop-place.list _ _
-    c.loop-place.invariant.here c.if-place-items.false))
+returns-then-list-root c = flattens-end _ _ _ _ _ (linked-tied _ _ c.requires.linked)
+    (rw c.if-list-root.true at c.loop-place.invariant.flattens) (rw c.if-list-root.true at (at-end
+    (cut 0 c.args.ends.now c.args.tokens.now) c.loop-place.list _ _ c.loop-place.invariant.here c.if-place-items.false))
 
 pub link_at-up-requires : goal.link_at-up-requires
 link_at-up-requires c = omega (arith, above-cut _ _ _ c.loop-place.invariant.flattens.inside, c.requires.links)
@@ -131,11 +113,9 @@ token_before-requires-clause-place c =
     u.within
 
 pub loop-place-smaller : goal.loop-place-smaller
-loop-place-smaller c =
-    rw c.link_at-up.ensures (less-up _ _ _ c.requires.linked _ _ (below-cut _ _ _ c.requires.root)
-    c.loop-place.invariant.flattens.way c.if-list-root.false
-    (at-end (cut 0 c.args.ends.now c.args.tokens.now) c.loop-place.list _ _ c.loop-place.invariant.here
-    c.if-place-items.false))
+loop-place-smaller c = rw c.link_at-up.ensures (less-up _ _ _ c.requires.linked _ _
+    (below-cut _ _ _ c.requires.root) c.loop-place.invariant.flattens.way c.if-list-root.false (at-end
+    (cut 0 c.args.ends.now c.args.tokens.now) c.loop-place.list _ _ c.loop-place.invariant.here c.if-place-items.false))
 
 pub loop-place-preserved : goal.loop-place-preserved
 loop-place-preserved c = record {

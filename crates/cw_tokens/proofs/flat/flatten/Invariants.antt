@@ -1,10 +1,5 @@
 -- The items so far, with those that the walk still gives, are those before it and all of the tree.
-use Rattle.std.proofs.Common.{◌+◌, ◌++◌, length}
-use Rattle.cw_trees.specs.Flat.{flat}
-use Rattle.cw_tokens.specs.Shapes.{unfolded}
-use Rattle.cw_tokens.specs.Stored.{cut}
-use Rattle.cw_tokens.specs.Walking.{size_from, size_above}
-use Rattle.cw_tokens.specs.FlatItems.{items_are}
+use Rattle.cw_tokens.proofs.Terms.{◌+◌, ◌++◌, length, flat, unfolded, cut, size_from, size_above, items_are}
 use Rattle.cw_tokens.proofs.Flattening.{ReadsFlat}
 use Rattle.cw_tokens.proofs.flat.flatten.Given as goal
 

@@ -1,10 +1,6 @@
 -- The trimmer stands for the items that the walk has given; with those to come they are all of the tree.
-use Rattle.std.proofs.Common.{[], ◌+◌, reverse}
-use Rattle.cw_trees.specs.Flat.{flat}
-use Rattle.cw_tokens.specs.Ahead.{TrimsAhead, size_of}
-use Rattle.cw_tokens.specs.Shapes.{tree_in, trees_from, unfolded}
-use Rattle.cw_tokens.specs.Stored.{cut}
-use Rattle.cw_tokens.specs.Walking.{size}
+use Rattle.cw_tokens.proofs.Terms.{[], ◌+◌, reverse, flat, TrimsAhead, size_of, tree_in, trees_from, unfolded, cut}
+use Rattle.cw_tokens.proofs.Terms.{size}
 use Rattle.cw_tokens.proofs.flat.flatten_trimmed.Given as goal
 
 abbrev pub invariant-loop-above : goal.invariant-loop-above

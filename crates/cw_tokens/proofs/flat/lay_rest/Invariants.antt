@@ -1,9 +1,5 @@
 -- With what is to come all items are the same as at first, and there is no more to walk.
-use Rattle.std.proofs.Common.{[], ◌+◌, reverse}
-use Rattle.cw_tokens.specs.Ahead.{Lays, size_of}
-use Rattle.cw_tokens.specs.Shapes.{tree_in, trees_from}
-use Rattle.cw_tokens.specs.Stored.{cut}
-use Rattle.cw_tokens.specs.Walking.{size}
+use Rattle.cw_tokens.proofs.Terms.{[], ◌+◌, reverse, Lays, size_of, tree_in, trees_from, cut, size}
 use Rattle.cw_tokens.proofs.flat.lay_rest.Given as goal
 
 abbrev pub invariant-loop-rest : goal.invariant-loop-rest

@@ -1,6 +1,5 @@
 -- The list to which a token refers has a link that can be set.
-use Rattle.std.proofs.Common.{ap, inl, inr}
-use Rattle.cw_tokens.specs.Shapes.{shape, ref_of}
+use Rattle.cw_tokens.proofs.Terms.{ap, inl, inr, shape, ref_of}
 use Rattle.cw_tokens.proofs.store.set_link.Goals as goal
 
 pub index_mut-requires : goal.index_mut-requires

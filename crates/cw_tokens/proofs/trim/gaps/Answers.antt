@@ -1,6 +1,5 @@
 -- `gaps`: answer at `Blank`; said here, so that a wrong one fails at once.
-use Rattle.std.proofs.Common.{arith}
-use Rattle.std.proofs.lemmas.Grind.{common_steps}
+use Rattle.cw_tokens.proofs.Terms.{arith, common_steps}
 use Rattle.cw_tokens.proofs.trim.gaps.Goals as goal
 
 pub returns-in-Control-Blank : goal.returns-in-Control-Blank

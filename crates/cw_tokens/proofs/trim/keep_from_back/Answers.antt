@@ -1,9 +1,8 @@
 -- A break that ends a text is passed over; every other item is moved to the front.
-use Rattle.std.proofs.Common.{sym, ◌∙◌, arith}
-use Rattle.cw_tokens.specs.declared.flat.FlatItem.TheVariants.{Source}
+use Rattle.cw_tokens.proofs.Terms.{sym, ◌∙◌, arith, Source}
 use Rattle.cw_tokens.proofs.Trimming.{back-kept, back-dropped}
-use Rattle.cw_tokens.proofs.trim.keep_from_back.Goals as goal
 use Rattle.cw_tokens.proofs.trim.keep_from_back.Goals.{then-not-drops_last, else-not-drops_last}
+use Rattle.cw_tokens.proofs.trim.keep_from_back.Goals as goal
 
 pub loop-i-preserved : goal.loop-i-preserved
 loop-i-preserved c = rw c.already_ends-ends.ensures (elim c.if-not-drops_last.branch [

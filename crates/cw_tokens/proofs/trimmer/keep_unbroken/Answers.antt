@@ -1,9 +1,8 @@
 -- A break of the gap is passed over, and every other item of it is moved to its front.
-use Rattle.std.proofs.Common.{sym, ◌∙◌, arith}
-use Rattle.cw_tokens.specs.declared.flat.FlatItem.TheVariants.{Source}
+use Rattle.cw_tokens.proofs.Terms.{sym, ◌∙◌, arith, Source}
 use Rattle.cw_tokens.proofs.Standing.{unbroken-start, unbroken-kept, unbroken-dropped}
-use Rattle.cw_tokens.proofs.trimmer.keep_unbroken.Goals as goal
 use Rattle.cw_tokens.proofs.trimmer.keep_unbroken.Goals.{then-not-breaks, else-not-breaks}
+use Rattle.cw_tokens.proofs.trimmer.keep_unbroken.Goals as goal
 
 pub loop-i-init : goal.loop-i-init
 loop-i-init c = unbroken-start c.args.items.now c.args.gap

@@ -1,7 +1,5 @@
 -- No identifier stands before the place of the search, and nothing before it ends the search.
-use Rattle.std.proofs.Common.{◌+◌, length}
-use Rattle.cw_tokens.specs.Stored.{cut}
-use Rattle.cw_tokens.specs.Walking.{Walks, size_from, size_above}
+use Rattle.cw_tokens.proofs.Terms.{◌+◌, length, cut, Walks, size_from, size_above}
 use Rattle.cw_tokens.proofs.walk.find.Given as goal
 
 abbrev pub invariant-loop-place : goal.invariant-loop-place

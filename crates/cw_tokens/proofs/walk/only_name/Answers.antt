@@ -1,6 +1,5 @@
 -- A list has an only name where it is one token, an identifier, and none where it is more or fewer tokens.
-use Rattle.std.proofs.Common.{sym, ap, ◌∙◌}
-use Rattle.cw_tokens.specs.Walking.{only_name_of}
+use Rattle.cw_tokens.proofs.Terms.{sym, ap, ◌∙◌, only_name_of}
 use Rattle.cw_tokens.proofs.Bare.{only-none, one-token}
 use Rattle.cw_tokens.proofs.walk.only_name.Goals as goal
 

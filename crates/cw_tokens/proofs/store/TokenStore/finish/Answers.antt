@@ -1,5 +1,5 @@
 -- The list that was being built stands behind the others, and its number is how many these are.
-use Rattle.std.proofs.Common.{◌∙◌}
+use Rattle.cw_tokens.proofs.Terms.{◌∙◌}
 use Rattle.cw_tokens.proofs.Storing.{finish-view}
 use Rattle.cw_tokens.proofs.store.TokenStore.finish.Goals as goal
 

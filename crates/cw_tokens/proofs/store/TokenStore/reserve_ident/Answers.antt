@@ -1,21 +1,13 @@
 -- The token of the first identifier is written over, which reserves it in the tree; without one nothing changes.
-use Rattle.std.proofs.Common.{◌≡◌, ◌+◌, length, None, subst, ap, ◌∙◌, arith}
-use Rattle.cw_tokens.specs.Stored.{StoredLists, cut, start_of}
-use Rattle.cw_tokens.specs.Walking.{Finds, found_name}
-use Rattle.cw_trees.specs.Tree.{first_ident}
-use Rattle.cw_tokens.specs.Shapes.{unfolded}
-use Rattle.cw_tokens.specs.Reserving.{Reserves}
-use Rattle.cw_tokens.proofs.Linking.{linked-lists}
-use Rattle.cw_tokens.proofs.Storing.{kept-view}
-use Rattle.cw_tokens.proofs.Places.{above-cut}
-use Rattle.cw_tokens.proofs.Reserve.{none-reserves}
-use Rattle.cw_tokens.proofs.Rewriting.{rewrites-view}
+use Rattle.cw_tokens.proofs.Terms.{◌≡◌, ◌+◌, length, None, subst, ap, ◌∙◌, arith, StoredLists, cut, start_of, Finds}
+use Rattle.cw_tokens.proofs.Terms.{found_name, first_ident, unfolded, Reserves}
+use Rattle.cw_tokens.proofs.{Linking.linked-lists, Storing.kept-view, Places.above-cut, Reserve.none-reserves}
+use Rattle.cw_tokens.proofs.{Rewriting.rewrites-view}
 use Rattle.cw_tokens.proofs.store.TokenStore.reserve_ident.Goals as goal
 
 pub find-requires-clause-root : goal.find-requires-clause-root
 find-requires-clause-root c =
-    let k = kept-view _ _ _ _ _ _ c.self.view_is c.requires.list in
-    rw c.deref-2.ensures.value k.in_ends
+    let k = kept-view _ _ _ _ _ _ c.self.view_is c.requires.list in rw c.deref-2.ensures.value k.in_ends
 
 pub start-requires : goal.start-requires
 start-requires c =

@@ -1,13 +1,11 @@
 -- The tokens of a list are those between its two ends in the one vector of the store.
-use Rattle.std.proofs.Common.{ap, ◌∙◌, refl, get_or, []}
-use Rattle.cw_tokens.specs.Stored.{StoredLists}
+use Rattle.cw_tokens.proofs.Terms.{ap, ◌∙◌, refl, get_or, [], StoredLists}
 use Rattle.cw_tokens.proofs.Storing.{kept-view}
 use Rattle.cw_tokens.proofs.store.TokenStore.tokens.Goals as goal
 
 pub list_at-requires-clause-list : goal.list_at-requires-clause-list
 list_at-requires-clause-list c =
-    let k = kept-view _ _ _ _ _ _ c.self.view_is c.requires.list in
-    rw c.deref-2.ensures.value k.in_ends
+    let k = kept-view _ _ _ _ _ _ c.self.view_is c.requires.list in rw c.deref-2.ensures.value k.in_ends
 
 pub returns : goal.returns
 returns c = record {
