@@ -1,12 +1,13 @@
 # make try      weaves examples/hello.w without any proof, in about half a minute
-# make hello    proves and builds cweave, which tells how many crates are proved on the way, and weaves examples/hello.w
+# make hello    proves and builds cweave, and weaves examples/hello.w
 # make programs proves and builds all programs: $(PROGRAMS)
+#               (both prove crates side by side, as many as processors and memory allow; JOBS=1 proves one after another)
 # make book     weaves, compiles and typesets the examples, as far as ctangle, cc and TeX are there
 # make install  puts the programs into PREFIX/bin and their man pages into PREFIX/share/man/man1; make uninstall takes them away
 # make gate     every proof, must-fail edit, test and program
 # make bench    instructions per input byte and peak memory for webs of stated sizes, and of the other programs beside cweave
 # make hostile  refused memory, failing devices, and large webs that no one would write
-# make outside  failing calls of the system with what is told of each, names, folders of CWEBINPUTS, and links
+# make outside  failing calls of the system with what is printed of each, names, folders of CWEBINPUTS, and links
 # make picture  makes docs/hello.png anew
 PREFIX ?= /usr/local
 PROGRAMS = cweave cwlog cwplain cwmini
@@ -19,16 +20,14 @@ MANDIR = $(DESTDIR)$(PREFIX)/share/man/man1
 
 all: $(PROGRAM)
 
-programs: $(BUILT)
+programs:
+	tools/prove $(JOBS:%=--jobs %) $(PROGRAMS)
+	cp $(foreach it,$(PROGRAMS),crates/$(it)/out/$(it)) build
 
 # A change of any crate is proved again before a program is built.
 build/%: $(shell find crates -name '*.rt' -o -name '*.antt' 2>/dev/null) crates.txt
-	rm -f crates/$*/out/$*
-	cd crates/$* && (rt run >run.log 2>&1 </dev/null || true) & proof=$$!; \
-	while kill -0 $$proof 2>/dev/null; do tools/proved; sleep 15; done; wait $$proof
-	test -x crates/$*/out/$* || { cat crates/$*/run.log; exit 1; }
-	rm -f crates/$*/run.log
-	mkdir -p build && cp crates/$*/out/$* $@
+	tools/prove $(JOBS:%=--jobs %) $*
+	cp crates/$*/out/$* $@
 
 try:
 	mkdir -p build

@@ -85,8 +85,8 @@ fn has_notes(alloc: Global, lines: &[&[u8]], kinds: &[NoteKind]) -> Result<bool,
     Ok(are_of_kinds(&book(alloc, lines)?, kinds))
 }
 
-/// Webs, and the notes on each: where a `=` seems to be missing, and four where none is.
-const EQUALS: [(&[&[u8]], &[NoteKind]); 6] = [
+/// Webs, and the notes on each: where a `=` seems to be missing, and five where none is.
+const EQUALS: [(&[&[u8]], &[NoteKind]); 7] = [
     (
         &[b"@ Text.", b"  @<Read@>", b"x=1;"],
         &[
@@ -106,6 +106,15 @@ const EQUALS: [(&[&[u8]], &[NoteKind]); 6] = [
     (
         &[b"@ See @<Read@>."],
         &[NoteKind::NeverDefined, NoteKind::NeverUsed],
+    ),
+    // That the name didn't end is told already.
+    (
+        &[b"@ Text.", b"@<Read", b"x=1;"],
+        &[
+            NoteKind::NameUnended,
+            NoteKind::NeverDefined,
+            NoteKind::NeverUsed,
+        ],
     ),
     (
         &[b"@ The text |", b"@<Read@>", b"| is read."],

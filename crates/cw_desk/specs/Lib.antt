@@ -4,6 +4,7 @@ pub mod Batch
 pub mod BatchLaws
 pub mod Calls
 pub mod Count
+pub mod Drafts
 pub mod File
 pub mod Journal
 pub mod JournalLaws
@@ -12,9 +13,11 @@ pub mod Meaning
 pub mod MeaningLaws
 pub mod Mem
 pub mod Open
+pub mod Places
 pub mod Put
 pub mod Quiet
 pub mod Read
+pub mod Reader
 pub mod System
 pub mod Told
 pub mod Trail

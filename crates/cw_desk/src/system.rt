@@ -1,5 +1,5 @@
 //! The room of the system: its files and outputs, and a note of each answer. What no proof can know stands here and in
-//! the two files below, and nowhere else: that the system was asked, which file was meant, and that the note says what
+//! the three files below, and nowhere else: that the system was asked, which file was meant, and that the note says what
 //! was answered. No other file can reach the notes.
 ghost use Rattle.std.specs.Prelude.{◌≡◌, ◌<◌, length};
 ghost use Rattle.cw_desk.specs.Open.{OpensNext};
@@ -9,30 +9,23 @@ ghost use Rattle.cw_desk.specs.System.{after_draft, after_keep, after_make, afte
 ghost use Rattle.cw_desk.specs.System.{after_replace, untouched};
 
 mod calls;
+mod inputs;
 mod output;
 
 use crate::desk::{Fetched, FileId, MadeOut, Opened, Taken};
 use crate::note::Note;
 use calls::{Calls, Found};
-use cw_base::{Bytes, Out};
+use cw_base::{Bytes, Memory, Out};
+use inputs::{OpenedFile, OpenedFiles};
 use output::Output;
 use std::alloc::Global;
-use std::fs::File;
 use std::marker::Model;
-
-/// A file that was opened by its name, until its end was read.
-#[derive(Drop)]
-struct Input {
-    name: Bytes,
-    is_elsewhere: bool,
-    file: Option<File>,
-}
 
 /// The files and outputs of the system, by their numbers and kinds.
 #[derive(Drop)]
 pub(crate) struct System {
     calls: Calls,
-    opened: Vec<Input>,
+    opened: OpenedFiles,
     tex: Output,
     idx: Output,
     scn: Output,
@@ -45,7 +38,7 @@ impl Model for System {
     ghost Value = { SystemState };
 
     ghost view = { λ s. record {
-      opened = vec_len s.opened;
+      opened = vec_len s.opened.list;
       outputs = record {
         made = record { tex = is_some s.tex.made; idx = is_some s.idx.made; scn = is_some s.scn.made };
         drafts = record { tex = is_some s.tex.draft; idx = is_some s.idx.draft; scn = is_some s.scn.draft };
@@ -61,11 +54,20 @@ impl System {
     {
         System {
             calls: Calls::new(rt, alloc),
-            opened: Vec::new(alloc),
+            opened: OpenedFiles::new(alloc),
             tex: Output::new(),
             idx: Output::new(),
             scn: Output::new(),
         }
+    }
+
+    /// From now on files are looked for in the folders of a list, and no longer in those of the variable.
+    pub(crate) fn look_in(&mut self, list: &[u8]) -> Result<(), Memory>
+        ensures { self.new ≡ self.old }
+    {
+        let list = self.calls.owned(list)?;
+        self.calls.look_in(list);
+        Ok(())
     }
 
     /// Where a call has failed, tells on standard error which file it was about and what the system said, behind the
@@ -79,26 +81,22 @@ impl System {
         ensures next { OpensNext self.old.opened self.new.opened result }
         ensures noted { self.new ≡ after_open name.now result self.old }
     {
-        let index = self.opened.len();
+        let index = self.opened.list.len();
         let Ok(kept) = self.calls.owned(name) else {
             return Opened::Memory;
         };
-        if self.opened.reserve(1).is_err() {
+        if self.opened.list.reserve(1).is_err() {
             return Opened::Memory;
         }
-        let (file, is_elsewhere) = match self.calls.open(index, name) {
-            Found::Here(file) => (file, false),
-            Found::Elsewhere(file) => (file, true),
+        let (found, is_elsewhere) = match self.calls.open(index, name) {
+            Found::Here(found) => (found, false),
+            Found::Elsewhere(found) => (found, true),
             Found::Missing => return Opened::Missing,
             Found::Failed => return Opened::Failed,
             Found::Memory => return Opened::Memory,
         };
-        let input = Input {
-            name: kept,
-            is_elsewhere,
-            file: Some(file),
-        };
-        match self.opened.push(input) {
+        let opened = OpenedFile::new(kept, found, is_elsewhere);
+        match self.opened.list.push(opened) {
             Ok(()) => Opened::File(FileId { index }),
             Err(_) => Opened::Memory,
         }
@@ -111,14 +109,14 @@ impl System {
         ensures some { ReadsSome buffer.new result }
         ensures noted { self.new ≡ after_read id.index buffer.new result self.old }
     {
-        let input = &mut self.opened[id.index];
-        let Some(file) = &mut input.file else {
+        let opened = &mut self.opened.list[id.index];
+        let Some(file) = &mut opened.file else {
             self.calls.trail.note(Note::End(id.index));
             return Fetched::End;
         };
-        let answer = self.calls.read(file, &input.name, id.index, buffer);
+        let answer = self.calls.read(file, &opened.name, id.index, buffer);
         if answer == Fetched::End {
-            input.file = None;
+            opened.file = None;
         }
         answer
     }
@@ -132,9 +130,9 @@ impl System {
                 self.calls.trail.note(Note::Made(out, name));
                 MadeOut::Done
             }
-            Out::Tex => self.tex.make(&mut self.calls, out, name),
-            Out::Idx => self.idx.make(&mut self.calls, out, name),
-            Out::Scn => self.scn.make(&mut self.calls, out, name),
+            Out::Tex => self.tex.make(&mut self.calls, &self.opened, out, name),
+            Out::Idx => self.idx.make(&mut self.calls, &self.opened, out, name),
+            Out::Scn => self.scn.make(&mut self.calls, &self.opened, out, name),
         }
     }
 
@@ -142,24 +140,26 @@ impl System {
     pub(crate) fn draft(&mut self, out: Out, name: &[u8]) -> MadeOut
         ensures noted { self.new ≡ after_draft out name.now result self.old }
     {
-        let is_elsewhere = self.is_elsewhere(name);
+        if self.add_drafted(name).is_err() {
+            return MadeOut::Memory;
+        }
         match out {
             Out::Term => {
                 self.calls.trail.note(Note::Drafted(out, name));
                 MadeOut::Done
             }
-            Out::Tex => self.tex.draft(&mut self.calls, out, name, is_elsewhere),
-            Out::Idx => self.idx.draft(&mut self.calls, out, name, is_elsewhere),
-            Out::Scn => self.scn.draft(&mut self.calls, out, name, is_elsewhere),
+            Out::Tex => self.tex.draft(&mut self.calls, &self.opened, out, name),
+            Out::Idx => self.idx.draft(&mut self.calls, &self.opened, out, name),
+            Out::Scn => self.scn.draft(&mut self.calls, &self.opened, out, name),
         }
     }
 
-    // Whether the file of this name was opened last, and found in another folder.
-    fn is_elsewhere(&self, name: &[u8]) -> bool {
-        match self.opened.last() {
-            Some(input) => input.is_elsewhere && input.name.as_slice() == name,
-            None => false,
-        }
+    // Takes down that an output of this name is drafted.
+    fn add_drafted(&mut self, name: &[u8]) -> Result<(), Memory>
+        ensures { self.new ≡ self.old }
+    {
+        let name = self.calls.owned(name)?;
+        self.opened.add_drafted(name)
     }
 
     /// Gives a draft up: the named file stays as it is.
@@ -168,9 +168,9 @@ impl System {
     {
         match out {
             Out::Term => MadeOut::Failed,
-            Out::Tex => self.tex.keep(&mut self.calls, out),
-            Out::Idx => self.idx.keep(&mut self.calls, out),
-            Out::Scn => self.scn.keep(&mut self.calls, out),
+            Out::Tex => self.tex.keep(&mut self.calls, &self.opened, out),
+            Out::Idx => self.idx.keep(&mut self.calls, &self.opened, out),
+            Out::Scn => self.scn.keep(&mut self.calls, &self.opened, out),
         }
     }
 
@@ -180,9 +180,9 @@ impl System {
     {
         match out {
             Out::Term => MadeOut::Failed,
-            Out::Tex => self.tex.replace(&mut self.calls, out),
-            Out::Idx => self.idx.replace(&mut self.calls, out),
-            Out::Scn => self.scn.replace(&mut self.calls, out),
+            Out::Tex => self.tex.replace(&mut self.calls, &self.opened, out),
+            Out::Idx => self.idx.replace(&mut self.calls, &self.opened, out),
+            Out::Scn => self.scn.replace(&mut self.calls, &self.opened, out),
         }
     }
 

@@ -1,18 +1,14 @@
 -- How much is read of the files that are opened: one call after another, and one file after another.
-use Rattle.std.proofs.Common.{◌≡◌, ◌≢◌, ℕ, ◌+◌, ◌<◌, ◌≤◌, List, [], ◌∷◌, ◌++◌, length, sum_by, ap, ◌∙◌, arith, Some}
-use Rattle.std.proofs.Common.{Result, OnOk}
-use Rattle.std.proofs.lemmas.List.Sums.{sum_by-append}
+use Rattle.std.proofs.Common.{◌≡◌, ◌≢◌, ℕ, ◌+◌, ◌<◌, ◌≤◌, List, [], ◌∷◌, ◌++◌, length, sum_by, ◌∙◌, arith, Some, Result}
+use Rattle.std.proofs.Common.{OnOk}
+use Rattle.std.proofs.{lemmas.List.Sums.sum_by-append, lemmas.Bool.Decides.nat_tests}
 use Rattle.std.specs.FinMap.{get}
 use Rattle.cw_base.specs.declared.limits.TheConstants.{INPUT_LIMIT}
-use Rattle.cw_desk.specs.Meaning.{Files}
-use Rattle.cw_desk.specs.Told.{Told, Narrows, Opens}
-use Rattle.cw_desk.specs.declared.desk.FileId.{FileId}
-use Rattle.cw_desk.specs.declared.desk.Opened.TheVariants.{File}
+use Rattle.cw_desk.specs.{Meaning.Files, Told.Told, Told.Narrows, Told.Opens}
+use Rattle.cw_desk.specs.declared.{desk.FileId.FileId, desk.Opened.TheVariants.File}
 use Rattle.cw_input.specs.Reading.{AreRead, HasRead, ReadsAtMost, ReadsFirst, ReadsOn, ReadsOnly, ReadsTo}
 use Rattle.cw_input.specs.State.{Moves}
-use Rattle.cw_input.specs.declared.error.LoadError.{LoadError}
-use Rattle.cw_input.specs.declared.found.Found.{Found}
-use Rattle.cw_input.specs.declared.merger.Merger.{Merger}
+use Rattle.cw_input.specs.declared.{error.LoadError.LoadError, found.Found.Found, merger.Merger.Merger}
 
 -- all files from the first on have been read
 are_read-count : (files : Files) (told : Told) (first : ℕ) (read : List (List ℕ)) → AreRead files told first read
@@ -77,10 +73,7 @@ reads_on-file sum most {name = name} {id = id} {first = first} {second = second}
       most = λ files is from had.
           let of_file = reads files is in
           let within : sum_by length had.read ≤ sum = had.within in
-          let text : get files name ≡ Some (of_file.0 ++ third.rest files first.opened) =
-          opens.named files (same.narrows files is)
-          ∙ ap (λ (text : List ℕ). Some text) of_file.1
-          ∙ ap (λ (i : ℕ). Some (of_file.0 ++ third.rest files i)) opens.next.0 in
+          let text : get files name ≡ Some (of_file.0 ++ third.rest files first.opened) = grind (arith, nat_tests) in
           record {
             read = had.read ++ of_file.0 ∷ [];
             each = are_read-more files first third from had.read of_file.0

@@ -24,6 +24,7 @@ mod Endings
 mod CutLines
 mod FileEvents
 mod FileLaws
+mod GreetingRun
 mod TexPlaces
 mod QuietParts
 pub mod ProseLaws

@@ -9,4 +9,5 @@ pub mod Longest
 pub mod Ends
 pub mod TexText
 pub mod Files
+pub mod Greeting
 pub mod BookTexts

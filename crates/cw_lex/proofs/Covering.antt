@@ -2,16 +2,11 @@
 use Rattle.std.proofs.Common.{◌≡◌, ℕ, zero, suc, ◌+◌, ◌-◌, ◌≤◌, Bool, true, List, [], ◌∷◌, ◌++◌, length, take, drop}
 use Rattle.std.proofs.Common.{refl, sym, ap, subst, ◌∙◌, arith, append_assoc, length-drop, append-nil}
 use Rattle.std.specs.Prelude.{slice_range}
-use Rattle.std.proofs.lemmas.Bool.{cases_lt}
+use Rattle.std.proofs.{lemmas.Bool.cases_lt, lemmas.Bool.Decides.nat_tests, lemmas.Grind.common_steps}
 use Rattle.std.proofs.lemmas.List.{drop-drop, length-take, drop-take, take-take}
-use Rattle.std.proofs.lemmas.Bool.Decides.{nat_tests}
-use Rattle.std.proofs.lemmas.Grind.{common_steps}
-use Rattle.cw_rules.specs.declared.tokens.Mode.{Mode}
-use Rattle.cw_rules.specs.Bytes.{begins}
+use Rattle.cw_rules.specs.{declared.tokens.Mode.Mode, Bytes.begins, Tokens.all_cut, Apart.found_apart}
 use Rattle.cw_rules.specs.Answers.{Answer, Token, Begin, Finish, Note, Seen, Where, Found}
 use Rattle.cw_lex.specs.Lexing.{still_fresh, answers, fresh_at, last_at, beginning, tokens_of}
-use Rattle.cw_rules.specs.Tokens.{all_cut}
-use Rattle.cw_rules.specs.Apart.{found_apart}
 use Rattle.cw_rules.specs.Order.{begins_space, IsSpace, Stands, Covers}
 use Rattle.cw_rules.proofs.Taking.{AreBare, AreNotes, IsWhole, TakesAll, Takes, bare-all-cut, found-takes}
 use Rattle.cw_rules.proofs.Within.{found-fits}
@@ -35,14 +30,13 @@ bare-covers : (text : List ℕ) (from place end : ℕ) (xs ys : List Answer) →
     → IsSpace text from place
     → ((low : ℕ) → low ≤ place → IsSpace text low place → Covers text low end ys) → Covers text from end (xs ++ ys)
 bare-covers text from place end [] ys h low space rest = rest from low space
-bare-covers text from place end (Token t ∷ xs) ys h low space rest = absurd h
-bare-covers text from place end (Begin t ∷ xs) ys h low space rest = absurd h
 bare-covers text from place end (Finish t ∷ xs) ys h low space rest = grind (
   arith,
   bare-covers text t.span.end place end xs ys h.3 (omega (arith, h.1)) (no-space text place t.span.end h.1) rest,
 )
 bare-covers text from place end (Note kind about ∷ xs) ys h low space rest =
     bare-covers text from place end xs ys h low space rest
+bare-covers text from place end (_ ∷ xs) ys h low space rest = absurd h
 
 notes-cover : (text : List ℕ) (from end : ℕ) (xs ys : List Answer) → AreNotes xs → Covers text from end ys
     → Covers text from end (xs ++ ys)

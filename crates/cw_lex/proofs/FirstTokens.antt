@@ -3,8 +3,7 @@ use Rattle.std.proofs.Common.{◌≡◌, ℕ, List, [], ◌∷◌, ◌++◌, ref
 use Rattle.std.proofs.lemmas.Bool.Decides.{nat_tests}
 use Rattle.cw_rules.specs.Answers.{Answer, Token, Begin, Finish, Note, Seen, has_sign}
 use Rattle.cw_lex.specs.Openings.{tokens_in}
-use Rattle.cw_rules.proofs.CodeStarts.{code_in}
-use Rattle.cw_rules.proofs.Taking.{AreBare, AreNotes, IsWhole, TakesAll}
+use Rattle.cw_rules.proofs.{CodeStarts.code_in, Taking.AreBare, Taking.AreNotes, Taking.IsWhole, Taking.TakesAll}
 
 pub bare-tokens : (place : ℕ) (xs : List Answer) → AreBare place xs → tokens_in xs ≡ []
 bare-tokens place [] h = refl
@@ -53,14 +52,13 @@ pub no-token-bare : (place : ℕ) (ls xs : List Answer) (t : Seen) (zs : List An
     → ls ≡ xs ++ Token t ∷ zs → ⊥
 no-token-bare place [] [] t zs h e = cc
 no-token-bare place [] (x ∷ xs) t zs h e = cc
-no-token-bare place (Token s ∷ ls) xs t zs h e = absurd h
-no-token-bare place (Begin s ∷ ls) xs t zs h e = absurd h
 no-token-bare place (Finish s ∷ ls) [] t zs h e = let k : Finish s ≡ Token t = head-is _ _ ls zs e in cc
 no-token-bare place (Finish s ∷ ls) (x ∷ xs) t zs h e =
     no-token-bare place ls xs t zs h.3 (tail-is _ x ls (xs ++ Token t ∷ zs) e)
 no-token-bare place (Note kind about ∷ ls) [] t zs h e = let k : Note kind about ≡ Token t = head-is _ _ ls zs e in cc
 no-token-bare place (Note kind about ∷ ls) (x ∷ xs) t zs h e =
     no-token-bare place ls xs t zs h (tail-is _ x ls (xs ++ Token t ∷ zs) e)
+no-token-bare place (_ ∷ ls) _ t zs h e = absurd h
 
 no-token-notes : (ls xs : List Answer) (t : Seen) (zs : List Answer) → AreNotes ls → ls ≡ xs ++ Token t ∷ zs → ⊥
 no-token-notes [] [] t zs h e = cc
@@ -81,12 +79,10 @@ begun-whole : (place : ℕ) (bytes : List ℕ) (more : ℕ) (ls xs : List Answer
 begun-whole place bytes more [] [] t zs h e = absurd cc
 begun-whole place bytes more [] (x ∷ xs) t zs h e = absurd cc
 begun-whole place bytes more (Token s ∷ ls) [] t zs h e = grind (arith, nat_tests, token-is, head-is, tail-is)
-begun-whole place bytes more (Token s ∷ ls) (x ∷ xs) t zs h e = grind (arith, nat_tests, no-token-notes, tail-is)
 begun-whole place bytes more (Begin s ∷ ls) [] t zs h e = absurd (let k : Begin s ≡ Token t = head-is _ _ ls zs e in cc)
-begun-whole place bytes more (Begin s ∷ ls) (x ∷ xs) t zs h e = grind (arith, nat_tests, no-token-notes, tail-is)
 begun-whole place bytes more (Finish s ∷ ls) [] t zs h e = grind (arith, nat_tests, head-is)
-begun-whole place bytes more (Finish s ∷ ls) (x ∷ xs) t zs h e = grind (arith, nat_tests, no-token-notes, tail-is)
 begun-whole place bytes more (Note kind about ∷ ls) xs t zs h e = absurd h
+begun-whole place bytes more (_ ∷ ls) _ t zs h e = grind (arith, nat_tests, no-token-notes, tail-is)
 
 pub begun : (place : ℕ) (bytes : List ℕ) (more : ℕ) (first rest xs : List Answer) (t : Seen) (zs : List Answer)
     → AreBare place first → TakesAll place bytes more rest → first ++ rest ≡ xs ++ Token t ∷ zs

@@ -1,19 +1,17 @@
 -- The answers behind a head are nested, and their nest is what stands behind the head.
-use Rattle.std.proofs.Common.{◌≡◌, Bool, true, false, Option, Some, None, List, [], ◌∷◌, refl, sym, ◌∙◌, ap, subst}
-use Rattle.std.proofs.Common.{if◌then◌else◌, arith}
-use Rattle.std.proofs.lemmas.Bool.Decides.{nat_tests}
-use Rattle.std.proofs.lemmas.Grind.{common_steps}
-use Rattle.cw_rules.specs.declared.codes.Code.TheVariants as code
-use Rattle.cw_lex.specs.declared.heads.Wanted.{Wanted}
-use Rattle.cw_lex.specs.declared.heads.Wanted.TheVariants as wants
+use Rattle.std.proofs.Common.{◌≡◌, Bool, true, false, Option, Some, None, List, [], ◌∷◌, refl, sym, ap, if◌then◌else◌}
+use Rattle.std.proofs.Common.{arith}
+use Rattle.std.proofs.{lemmas.Bool.Decides.nat_tests, lemmas.Grind.common_steps}
+use Rattle.cw_lex.specs.{declared.heads.Wanted.Wanted, Nested.Level, Nested.InCode, Nested.after_token, Nested.IsNested}
 use Rattle.cw_rules.specs.declared.tokens.TokKind.{TokKind}
-use Rattle.cw_rules.specs.declared.tokens.TokKind.TheVariants as kind
 use Rattle.cw_rules.specs.Answers.{Answer, Token, Begin, Note, Seen, is_head_sign}
-use Rattle.cw_lex.specs.Nested.{Level, InCode, after_token, IsNested}
 use Rattle.cw_lex.specs.Nest.{Nest, Leaf, leaf, group, nests, first_nest, nest}
 use Rattle.cw_lex.specs.Heads.{head_behind, behind_sign, Words, no_word, word_before, head_words, named_headed}
 use Rattle.cw_lex.specs.Heads.{headed_by, headed, without_words, without_name, without_head_of, without_head}
 use Rattle.cw_lex.proofs.Nests.{some-levels, first-levels, nests-nested}
+use Rattle.cw_rules.specs.declared.codes.Code.TheVariants as code
+use Rattle.cw_lex.specs.declared.heads.Wanted.TheVariants as wants
+use Rattle.cw_rules.specs.declared.tokens.TokKind.TheVariants as kind
 
 stays : (k : TokKind) (l : List Level) → after_token k (InCode ∷ []) ≡ Some l → l ≡ InCode ∷ []
 stays k l h = grind (arith, some-levels)
@@ -47,33 +45,12 @@ words-leave wanted (Token t ∷ answers) h = by (head_behind wanted t.kind t.spa
           | Some next ↦ word_before t (head_words next (nest answers))
           | None ↦ no_word (Leaf t (nest answers))
         ]).rest
-    leaf-words o e =
-        ap (λ n. (head_words wanted n).rest) (nest-token t answers h)
-        ∙ ap (λ o. (elim o as (λ o. Words) [
-          | Some next ↦ word_before t (head_words next (nest answers))
-          | None ↦ no_word (Leaf t (nest answers))
-        ]).rest) e
+    leaf-words o e = grind (arith, nat_tests, nest-token)
 
     by : (o : Option Wanted) → head_behind wanted t.kind t.span ≡ o
         → ((next : Wanted) → Leaves (without_words next answers) (head_words next (nest answers)).rest)
         → Leaves (without_words wanted (Token t ∷ answers)) (head_words wanted (nest (Token t ∷ answers))).rest
-    by (Some next) e rec =
-        let without : without_words wanted (Token t ∷ answers)
-        ≡ without_words next answers = ap (λ o. elim o as (λ o. List Answer) [
-          | Some next ↦
-              without_words next answers
-          | None ↦ Token t ∷ answers
-        ]) e in
-        let P : List Answer → Type 0 = λ l. Leaves l (head_words wanted (nest (Token t ∷ answers))).rest in
-        subst P (sym without) ((rec next).0, (rec next).1 ∙ sym (leaf-words (Some next) e))
-    by None e rec =
-        let without : without_words wanted (Token t ∷ answers)
-        ≡ Token t ∷ answers = ap (λ o. elim o as (λ o. List Answer) [
-          | Some next ↦ without_words next answers
-          | None ↦ Token t ∷ answers
-        ]) e in
-        let P : List Answer → Type 0 = λ l. Leaves l (head_words wanted (nest (Token t ∷ answers))).rest in
-        subst P (sym without) (h, nest-token t answers h ∙ sym (leaf-words None e))
+    by o e rec = grind (arith, nat_tests, leaf-words, nest-token)
 words-leave wanted (Begin t ∷ answers) h = (h, sym (group-words wanted t (nests answers)))
 words-leave wanted (Note note place ∷ answers) h = words-leave wanted answers h
 words-leave _ _ h = (h, refl)

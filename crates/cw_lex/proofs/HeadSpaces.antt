@@ -2,31 +2,22 @@
 use Rattle.std.proofs.Common.{◌≡◌, ℕ, zero, suc, ◌+◌, ◌-◌, ◌<◌, ◌≤◌, Bool, true, false, ◌&&◌, ◌==◌, List, [], ◌∷◌, ◌++◌}
 use Rattle.std.proofs.Common.{length, slice_index, drop, refl, sym, ap, ◌∙◌, arith, add-zero, if◌then◌else◌}
 use Rattle.std.proofs.Common.{length-drop}
-use Rattle.std.proofs.lemmas.Bool.{eqb-true, ltb-true, ltb-false}
-use Rattle.std.proofs.lemmas.List.{drop-drop, drop_all}
-use Rattle.std.proofs.lemmas.Bool.Decides.{nat_tests}
-use Rattle.std.proofs.lemmas.Grind.{common_steps}
-use Rattle.cw_rules.specs.declared.classes.Class.{Class}
-use Rattle.cw_rules.specs.declared.classes.Class.TheVariants as classes
-use Rattle.cw_rules.specs.declared.parts.Part.TheVariants as parts
+use Rattle.std.proofs.{lemmas.Bool.eqb-true, lemmas.Bool.ltb-true, lemmas.Bool.ltb-false, lemmas.List.drop-drop}
+use Rattle.std.proofs.{lemmas.List.drop_all, lemmas.Bool.Decides.nat_tests, lemmas.Grind.common_steps}
+use Rattle.cw_rules.specs.declared.{classes.Class.Class, parts.Part.Part, parts.Opened.Opened}
 use Rattle.cw_rules.specs.Answers.{Where, plain, note_answers}
 use Rattle.cw_rules.specs.Bytes.{is_in, is_letter, run, begins, begins_by}
-use Rattle.cw_rules.specs.Codes.{begins_section}
-use Rattle.cw_lex.specs.Lexing.{fresh_at, last_at, answers_at}
+use Rattle.cw_rules.specs.{Codes.begins_section, Apart.in_text_apart, Cuttings.bytes_at, Pending.pending_notes}
+use Rattle.cw_lex.specs.{Lexing.fresh_at, Lexing.last_at, Lexing.answers_at, declared.state.State.State}
 use Rattle.cw_rules.specs.Tokens.{section, macro_name, format_name, parameter, is_parameter, behind_white}
 use Rattle.cw_rules.specs.Tokens.{behind_format, identifier, skipped_byte, one, moved, is_head_part}
-use Rattle.cw_rules.specs.Apart.{in_text_apart}
+use Rattle.cw_lex.specs.Coming.{found_at, where_of, coming, is_skipped}
+use Rattle.cw_rules.proofs.Runs.{drop-here, run-inside}
+use Rattle.cw_lex.proofs.{Steps.skip-gives, White.other-byte}
+use Rattle.cw_rules.specs.declared.classes.Class.TheVariants as classes
+use Rattle.cw_rules.specs.declared.parts.Part.TheVariants as parts
 use Rattle.cw_rules.specs.declared.signs.Sign.TheVariants as signs
 use Rattle.cw_rules.specs.declared.tokens.TokKind.TheVariants as kinds
-use Rattle.cw_lex.specs.Coming.{found_at, where_of, coming, is_skipped}
-use Rattle.cw_rules.specs.Cuttings.{bytes_at}
-use Rattle.cw_rules.specs.declared.parts.Part.{Part}
-use Rattle.cw_rules.specs.declared.parts.Opened.{Opened}
-use Rattle.cw_lex.specs.declared.state.State.{State}
-use Rattle.cw_rules.specs.Pending.{pending_notes}
-use Rattle.cw_rules.proofs.Runs.{drop-here, run-inside}
-use Rattle.cw_lex.proofs.Steps.{skip-gives}
-use Rattle.cw_lex.proofs.White.{other-byte}
 
 run-some : (class : Class) (bytes : List ℕ) → 0 < run class bytes
     → (0 < length bytes) × (is_in class (slice_index bytes 0) ≡ true)
@@ -191,8 +182,7 @@ pub macro-here : (text : List ℕ) (s : State) (code : ℕ) (at : ℕ) → s.par
     → found_at text (where_of s) at ≡ macro_name code (where_of s) at (slice_index text at) (drop (at + 1) text)
 macro-here text s code at p k e f =
     let size = run classes.White (drop s.at text) in
-    let follows : begins_by is_letter (drop (s.at + size) text) ≡ true =
-    ap (λ n. begins_by is_letter (drop n text)) (sym e) ∙ f in
+    let follows : begins_by is_letter (drop (s.at + size) text) ≡ true = grind (arith, nat_tests) in
     (λ i. found_at text (record { part = p i; comments = k i }) (e i))
     ∙ macro-found text s.at size code (s.at + size) refl follows (omega arith) (omega arith)
     (follows-within text (s.at + size) (begins_by is_letter) refl follows)
@@ -227,8 +217,7 @@ pub format-here : (text : List ℕ) (s : State) (code : ℕ) (second limbo : Boo
     (drop (at + 1) text)
 format-here text s code second limbo at p k e f =
     let size = run classes.White (drop s.at text) in
-    let follows : begins_by is_letter (drop (s.at + size) text) ≡ true =
-    ap (λ n. begins_by is_letter (drop n text)) (sym e) ∙ f in
+    let follows : begins_by is_letter (drop (s.at + size) text) ≡ true = grind (arith, nat_tests) in
     (λ i. found_at text (record { part = p i; comments = k i }) (e i))
     ∙ format-found text s.at size code second limbo (s.at + size) refl follows (omega arith) (omega arith)
     (follows-within text (s.at + size) (begins_by is_letter) refl follows)

@@ -2,28 +2,19 @@
 use Rattle.std.proofs.Common.{◌≡◌, ℕ, zero, suc, ◌+◌, ◌-◌, ◌≤◌, Bool, true, false, ◌==◌, List, [], ◌∷◌, ◌++◌, Option}
 use Rattle.std.proofs.Common.{Some, None, length, take, drop, refl, sym, ap, ◌∙◌, arith, append_assoc, ◌⊎◌, inl, inr}
 use Rattle.std.specs.Prelude.{if◌then◌else◌}
-use Rattle.std.proofs.lemmas.Bool.{eqb-true}
+use Rattle.std.proofs.{lemmas.Bool.eqb-true, lemmas.Bool.Decides.nat_tests, lemmas.Grind.common_steps}
 use Rattle.std.proofs.lemmas.List.{drop-drop, drop_all, take-take, take_all}
-use Rattle.std.proofs.lemmas.Bool.Decides.{nat_tests}
-use Rattle.std.proofs.lemmas.Grind.{common_steps}
-use Rattle.cw_rules.specs.declared.parts.Part.TheVariants as parts
-use Rattle.cw_rules.specs.declared.parts.Opened.{Opened}
-use Rattle.cw_rules.specs.declared.tokens.Mode.TheVariants as modes
-use Rattle.cw_rules.specs.declared.tokens.TokKind.TheVariants as kinds
-use Rattle.cw_rules.specs.Bytes.{begins}
+use Rattle.cw_rules.specs.{declared.parts.Opened.Opened, Bytes.begins, Tokens.is_tex_inner, Apart.found_apart}
 use Rattle.cw_base.specs.Text.{bar}
 use Rattle.cw_rules.specs.Answers.{Answer, Begin, Finish, Where, Found, token_of}
 use Rattle.cw_lex.specs.Lexing.{still_fresh, joined, answers, fresh_after, last_after, fresh_at, last_at, answers_at}
-use Rattle.cw_lex.specs.Lexing.{beginning, tokens_of}
-use Rattle.cw_rules.specs.Tokens.{is_tex_inner}
-use Rattle.cw_rules.specs.Apart.{found_apart}
-use Rattle.cw_lex.specs.Parts.{closing_bar, closing_bar_from}
-use Rattle.cw_rules.proofs.Choices.{if-both, and-none}
-use Rattle.cw_rules.proofs.Ahead.{drop-same, take-same}
-use Rattle.cw_lex.proofs.Walk.{fresh-more, last-more}
-use Rattle.cw_lex.proofs.Covering.{drop-part}
-use Rattle.cw_lex.proofs.PartScans.{begins-byte}
+use Rattle.cw_lex.specs.{Lexing.beginning, Lexing.tokens_of, Parts.closing_bar, Parts.closing_bar_from}
+use Rattle.cw_rules.proofs.{Choices.if-both, Choices.and-none, Ahead.drop-same, Ahead.take-same}
+use Rattle.cw_lex.proofs.{Walk.fresh-more, Walk.last-more, Covering.drop-part, PartScans.begins-byte}
 use Rattle.cw_rules.proofs.InnerTwins.{tex_inner, alone, found-twin}
+use Rattle.cw_rules.specs.declared.parts.Part.TheVariants as parts
+use Rattle.cw_rules.specs.declared.tokens.Mode.TheVariants as modes
+use Rattle.cw_rules.specs.declared.tokens.TokKind.TheVariants as kinds
 
 -- ## Where the bar stands
 
@@ -83,9 +74,7 @@ closed (byte ∷ bytes) w fresh last place zero end h =
         }
     by false false e b rec =
         let f = found_apart w fresh last place byte bytes in
-        let none : ◌≡◌ {A = Option ℕ} None (Some end) =
-        sym (λ i. if e i then closing_bar bytes f.next (still_fresh fresh byte) byte (place + 1) f.more else
-        (if b i then Some place else None)) ∙ h in
+        let none : ◌≡◌ {A = Option ℕ} None (Some end) = grind (arith, nat_tests) in
         absurd cc
 closed (byte ∷ bytes) w fresh last place (suc taken) end h =
     closed-further byte bytes place taken end (closed bytes w (still_fresh fresh byte) byte (place + 1) taken end h)
@@ -227,16 +216,18 @@ behind-bar text start end h =
     let n = length bs in
     let order : start ≤ end = omega (arith, c.place-is) in
     let size : end - start ≡ n = omega (arith, c.place-is) in
-    let part : drop start (take end text) ≡ bs = drop-part text end start order ∙ (λ i. take (size i) (c.split i))
-    ∙ take-same n bs (124 ∷ c.behind) (omega arith) ∙ take_all n bs (omega arith) in
+    let part : drop start (take end text) ≡ bs = grind (arith, nat_tests, drop-part, take-same, take_all) in
     let place : start + n ≡ end = omega (arith, c.place-is) in
     let at-end : drop end text ≡ 124 ∷ c.behind = ap (λ k. drop k text) (sym place) ∙ sym (drop-drop n start text)
     ∙ ap (drop n) c.split ∙ drop-same n bs (124 ∷ c.behind) (omega arith)
     ∙ ap (λ l. l ++ 124 ∷ c.behind) (drop_all n bs (omega arith)) in
     let begun : take start (take end text) ≡ take start text = take-take start end text order in
-    let fresh-end : fresh_after (fresh_at text start) bs ≡ fresh_at text end =
-    ap (fresh_after (fresh_at text start)) (sym part ∙ drop-part text end start order)
-    ∙ fresh-more true text start (end - start) ∙ ap (fresh_at text) (omega (arith, order)) in
+    let fresh-end : fresh_after (fresh_at text start) bs ≡ fresh_at text end = grind (
+      arith,
+      nat_tests,
+      drop-part,
+      fresh-more,
+    ) in
     let rest : drop (end + 1) text ≡ c.behind = sym (drop-drop 1 end text) ∙ ap (drop 1) at-end in
     (λ i. answers (c.split i) (tex_inner []) (fresh_at text start) (last_at text start) start 0)
     ∙ scans c.behind bs [] (fresh_at text start) (last_at text start) start 0

@@ -1,48 +1,36 @@
 -- The scanner's answers over C text are nested.
-use Rattle.std.proofs.Common.{◌≡◌, ℕ, zero, suc, ◌+◌, Bool, true, false, not, ◌&&◌, Option, Some, None, List, []}
-use Rattle.std.proofs.Common.{◌∷◌, ◌++◌, length, refl, sym, ◌∙◌, ap, subst, append-nil, append_assoc, arith}
+use Rattle.std.proofs.Common.{◌≡◌, ℕ, zero, suc, ◌+◌, Bool, true, false, not, ◌&&◌, Option, Some, List, [], ◌∷◌, ◌++◌}
+use Rattle.std.proofs.Common.{length, refl, sym, ◌∙◌, ap, subst, append-nil, append_assoc, arith}
 use Rattle.std.specs.Prelude.{if◌then◌else◌, ◌==◌, nat_lt}
 use Rattle.std.proofs.lemmas.Bool.Decides.{nat_tests}
 use Rattle.cw_base.proofs.TestLaws.{both-left, both-right}
-use Rattle.cw_rules.specs.declared.codes.Code.{Code}
-use Rattle.cw_rules.specs.declared.codes.Code.TheVariants as code
-use Rattle.cw_rules.specs.declared.codes.Effect.{Effect}
-use Rattle.cw_rules.specs.declared.codes.Effect.TheVariants as effects
-use Rattle.cw_rules.specs.declared.bodies.Noted.{Noted}
-use Rattle.cw_rules.specs.declared.parts.Part.{Part}
-use Rattle.cw_rules.specs.declared.parts.Part.TheVariants as parts
-use Rattle.cw_rules.specs.declared.parts.Opened.{Opened}
-use Rattle.cw_rules.specs.declared.parts.Start.{Start}
-use Rattle.cw_rules.specs.declared.parts.Start.TheVariants as start
-use Rattle.cw_rules.specs.declared.tokens.Mode.{Mode}
-use Rattle.cw_rules.specs.declared.tokens.Mode.TheVariants as modes
-use Rattle.cw_rules.specs.declared.tokens.TokKind.{TokKind}
-use Rattle.cw_rules.specs.declared.tokens.TokKind.TheVariants as kind
+use Rattle.cw_rules.specs.declared.{codes.Code.Code, codes.Effect.Effect, bodies.Noted.Noted, parts.Part.Part}
+use Rattle.cw_rules.specs.declared.{parts.Opened.Opened, parts.Start.Start, tokens.Mode.Mode, signs.Sign.Sign}
+use Rattle.cw_rules.specs.{declared.tokens.TokKind.TokKind, Bodies.one_note, Bodies.note_unless, Bodies.noted}
+use Rattle.cw_rules.specs.{Constants.constant, Prefixes.prefix_size, Signs.all_signs, Signs.longest, Signs.spelling}
+use Rattle.cw_rules.specs.{Codes.is_section, Codes.begins_section, Codes.effect_in_c, Tokens.parameter_follows}
+use Rattle.cw_rules.specs.{Tokens.parameter, Tokens.format_name, Apart.behind_head_apart}
 use Rattle.cw_rules.specs.Answers.{Answer, Note, Where, Cut, Found, before, note_answers, plain}
-use Rattle.cw_base.specs.Bytes.{newline}
+use Rattle.cw_base.specs.{Bytes.newline, Text.bar, declared.notes.NoteKind.NoteKind}
 use Rattle.cw_rules.specs.Bytes.{at_sign, begins, is_letter, is_mark, slash, star, hash, less}
-use Rattle.cw_base.specs.Text.{bar}
-use Rattle.cw_rules.specs.Bodies.{one_note, note_unless, noted}
-use Rattle.cw_rules.specs.Constants.{constant}
-use Rattle.cw_rules.specs.Prefixes.{prefix_size}
-use Rattle.cw_rules.specs.Signs.{all_signs, longest, spelling}
-use Rattle.cw_rules.specs.declared.signs.Sign.{Sign}
-use Rattle.cw_base.specs.declared.notes.NoteKind.TheVariants as notes
-use Rattle.cw_base.specs.declared.notes.NoteKind.{NoteKind}
-use Rattle.cw_rules.specs.Codes.{is_section, begins_section, effect_in_c}
 use Rattle.cw_rules.specs.Tokens.{one, skipped_byte, dropped_code, identifier, string, include_name, sign_or_other}
 use Rattle.cw_rules.specs.Tokens.{piece_start, passed, moved, in_hash_line, ends_at_bar, line_end, comment_begin}
 use Rattle.cw_rules.specs.Tokens.{comment_end, inner_cut, comment_cut, part_cut, inner_or_none, all_cut, inner_end}
 use Rattle.cw_rules.specs.Tokens.{effect_in, code_by, code_token, control_or_plain, in_code, start_of, head_text}
 use Rattle.cw_rules.specs.Tokens.{section, section_code, is_name, behind_word, is_include, may_head, is_head, is_space}
 use Rattle.cw_rules.specs.Tokens.{takes_hash_line, behind_include, closes_on_line, is_deep, name_follows, macro_name}
-use Rattle.cw_rules.specs.Tokens.{parameter_follows, parameter, format_name}
 use Rattle.cw_rules.specs.Apart.{code_text_apart, comment_text_apart, part_text_apart, in_text_apart, found_apart}
-use Rattle.cw_rules.specs.Apart.{behind_head_apart}
 use Rattle.cw_lex.specs.Lexing.{answers, joined, tokens_of, still_fresh}
 use Rattle.cw_lex.specs.Nested.{Level, InCode, InComment, after_token, levels_after, all_levels_after, IsNested}
 use Rattle.cw_lex.specs.Nested.{is_section_kind, is_section_answer, begins_section_in, until_section, is_c_mode}
 use Rattle.cw_rules.proofs.Choices.{if-both, or-false, or-first, or-second}
+use Rattle.cw_rules.specs.declared.codes.Code.TheVariants as code
+use Rattle.cw_rules.specs.declared.codes.Effect.TheVariants as effects
+use Rattle.cw_rules.specs.declared.parts.Part.TheVariants as parts
+use Rattle.cw_rules.specs.declared.parts.Start.TheVariants as start
+use Rattle.cw_rules.specs.declared.tokens.Mode.TheVariants as modes
+use Rattle.cw_rules.specs.declared.tokens.TokKind.TheVariants as kind
+use Rattle.cw_base.specs.declared.notes.NoteKind.TheVariants as notes
 
 levels-append : (xs bs : List Answer) (ls ms : List Level) → all_levels_after xs ls ≡ Some ms
     → all_levels_after (xs ++ bs) ls ≡ all_levels_after bs ms
@@ -52,12 +40,7 @@ levels-append (a ∷ xs) bs ls ms h = go (levels_after a ls) refl (λ next. leve
     go : (o : Option (List Level)) → levels_after a ls ≡ o → ((next : List Level) → all_levels_after xs next ≡ Some ms
         → all_levels_after (xs ++ bs) next ≡ all_levels_after bs ms) → all_levels_after (a ∷ xs ++ bs) ls
         ≡ all_levels_after bs ms
-    go None e rec = absurd (let k : ◌≡◌ {A = Option (List Level)} None (Some ms) = sym
-        (ap (λ (o : Option (List Level)). elim o [ None ↦ None | Some next ↦ all_levels_after xs next ]) e) ∙ h in cc)
-    go (Some next) e rec =
-        ap (λ (o : Option (List Level)). elim o [ None ↦ None | Some next ↦ all_levels_after (xs ++ bs) next ]) e
-        ∙ rec next (sym (ap (λ (o : Option (List Level)). elim o [ None ↦ None | Some next ↦ all_levels_after xs next ])
-        e) ∙ h)
+    go o e rec = grind (arith, nat_tests)
 
 pub notes-stay : (ns : List Noted) (ls : List Level) → all_levels_after (note_answers ns) ls ≡ Some ls
 notes-stay [] ls = refl

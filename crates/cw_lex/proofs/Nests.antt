@@ -2,8 +2,7 @@
 -- texts in comments.
 use Rattle.std.proofs.Common.{◌≡◌, Bool, true, false, not, Option, Some, List, [], ◌∷◌, refl, arith}
 use Rattle.std.proofs.lemmas.Bool.Decides.{nat_tests}
-use Rattle.cw_rules.specs.declared.tokens.TokKind.{TokKind}
-use Rattle.cw_rules.specs.Answers.{Answer, Seen}
+use Rattle.cw_rules.specs.{declared.tokens.TokKind.TokKind, Answers.Answer, Answers.Seen}
 use Rattle.cw_lex.specs.Nested.{Level, InCode, InComment, after_token, after_begin, after_finish, levels_after}
 use Rattle.cw_lex.specs.Nested.{all_levels_after, IsNested}
 use Rattle.cw_lex.specs.Nest.{Nest, End, leaf, group, nests, first_nest, nest, is_text_kind, IsGroupOf, IsWell}

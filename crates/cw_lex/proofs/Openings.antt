@@ -3,39 +3,27 @@ use Rattle.std.proofs.Common.{◌≡◌, ℕ, zero, suc, ◌+◌, ◌-◌, ◌<�
 use Rattle.std.proofs.Common.{Option, Some, length, slice_index, take, drop, refl, sym, ap, subst, ◌∙◌, arith}
 use Rattle.std.proofs.Common.{append_assoc, length-drop, inl, inr}
 use Rattle.std.specs.Prelude.{if◌then◌else◌}
-use Rattle.std.proofs.lemmas.Bool.{eqb-true}
+use Rattle.std.proofs.{lemmas.Bool.eqb-true, lemmas.Bool.Decides.nat_tests}
 use Rattle.std.proofs.lemmas.List.{drop-drop, take-take, take_all, drop_all}
-use Rattle.std.proofs.lemmas.Bool.Decides.{nat_tests}
 use Rattle.cw_base.proofs.TestLaws.{both-left, both-right, not-both}
-use Rattle.cw_rules.specs.declared.codes.Code.{Code}
-use Rattle.cw_rules.specs.declared.parts.Part.TheVariants as parts
-use Rattle.cw_rules.specs.declared.tokens.Mode.{Mode}
-use Rattle.cw_rules.specs.declared.tokens.Mode.TheVariants as modes
-use Rattle.cw_rules.specs.declared.tokens.TokKind.{TokKind}
-use Rattle.cw_rules.specs.declared.tokens.TokKind.TheVariants as kinds
-use Rattle.cw_rules.specs.Answers.{Answer, Token, Begin, Finish, Note, Seen, Where, Cut, Found, note_answers, token_of}
-use Rattle.cw_rules.specs.Answers.{has_sign, is_head_sign}
-use Rattle.cw_rules.specs.Bytes.{at_sign, greater, begins}
-use Rattle.cw_lex.specs.Coming.{found_at}
-use Rattle.cw_rules.specs.Codes.{code_at, is_section, begins_section}
+use Rattle.cw_rules.specs.declared.{codes.Code.Code, tokens.Mode.Mode, tokens.TokKind.TokKind}
+use Rattle.cw_rules.specs.Answers.{Answer, Token, Finish, Note, Seen, Where, Cut, Found, note_answers, token_of}
+use Rattle.cw_rules.specs.{Answers.has_sign, Answers.is_head_sign, Bytes.at_sign, Bytes.greater, Bytes.begins}
+use Rattle.cw_rules.specs.{Codes.code_at, Codes.is_section, Codes.begins_section, Tokens.all_cut, Tokens.section}
+use Rattle.cw_rules.specs.{Tokens.section_code, Apart.in_text_apart, Apart.found_apart}
+use Rattle.cw_lex.specs.{Coming.found_at, Lexing.answers_at, Nested.is_section_kind, Nested.begins_section_in}
 use Rattle.cw_lex.specs.Lexing.{beginning, still_fresh, joined, answers, fresh_after, last_after, fresh_at, last_at}
-use Rattle.cw_lex.specs.Lexing.{answers_at}
-use Rattle.cw_lex.specs.Nested.{is_section_kind, begins_section_in}
 use Rattle.cw_lex.specs.Openings.{tokens_in, named, opened_by, is_limbo_mode, EndsBefore}
-use Rattle.cw_rules.specs.Tokens.{all_cut, section, section_code}
-use Rattle.cw_rules.specs.Apart.{in_text_apart, found_apart}
-use Rattle.cw_rules.proofs.Ahead.{drop-same, take-same}
-use Rattle.cw_rules.proofs.Choices.{if-both}
+use Rattle.cw_rules.proofs.{Ahead.drop-same, Ahead.take-same, Choices.if-both, RulesAhead.found-local, Taking.AreBare}
+use Rattle.cw_rules.proofs.{Taking.AreNotes, Taking.bare-all-cut, Taking.found-takes, Runs.drop-here, Within.found-fits}
 use Rattle.cw_rules.proofs.CodeStarts.{kind_code, code_in, is_opener, is_limbo, is_head_where, in-text-tells}
 use Rattle.cw_rules.proofs.CodeTwins.{Twin, Opens, Named, OpensAt, OpensBy, beginning_of, found-twin}
-use Rattle.cw_lex.proofs.Covering.{drop-part}
-use Rattle.cw_rules.proofs.RulesAhead.{found-local}
-use Rattle.cw_rules.proofs.Taking.{AreBare, AreNotes, bare-all-cut, found-takes}
-use Rattle.cw_rules.proofs.Runs.{drop-here}
+use Rattle.cw_lex.proofs.{Covering.drop-part, FirstTokens.no-token-bare, FirstTokens.begun}
 use Rattle.cw_lex.proofs.Walk.{fresh-more, last-more, answers-at}
-use Rattle.cw_rules.proofs.Within.{found-fits}
 use Rattle.cw_lex.proofs.FirstTokens.{bare-tokens, bare-code, notes-sign, head-is, tail-is, token-is, Split, split}
-use Rattle.cw_lex.proofs.FirstTokens.{no-token-bare, begun}
+use Rattle.cw_rules.specs.declared.parts.Part.TheVariants as parts
+use Rattle.cw_rules.specs.declared.tokens.Mode.TheVariants as modes
+use Rattle.cw_rules.specs.declared.tokens.TokKind.TheVariants as kinds
 
 -- ## What begins at a place
 
@@ -74,8 +62,7 @@ opening w fresh last place byte bytes o = by (byte == at_sign && begins_section 
 
     by : (t : Bool) → (byte == at_sign && begins_section bytes) ≡ t → Opening w place byte bytes f
     by true e =
-        let is-section : f ≡ section w place bytes =
-        ap (λ t. if t then section w place bytes else in_text_apart w.part w.comments fresh last place byte bytes) e in
+        let is-section : f ≡ section w place bytes = grind (arith, nat_tests) in
         record {
           byte-is = eqb-true byte at_sign (both-left (byte == at_sign) (begins_section bytes) e);
           opener = section-opens (code_at bytes) (both-right (byte == at_sign) (begins_section bytes) e);
@@ -379,17 +366,13 @@ record SameToken (s t : Seen) (ms ns : List Answer) : Type 0 where
 same-token : (p q : ℕ) (xs ys : List Answer) (s t : Seen) (ms ns : List Answer) → AreBare p xs → AreBare q ys
     → xs ++ Token s ∷ ms ≡ ys ++ Token t ∷ ns → SameToken s t ms ns
 same-token p q [] [] s t ms ns h g e = grind (arith, nat_tests, token-is, head-is, tail-is)
-same-token p q [] (y ∷ ys) s t ms ns h g e = grind (arith, nat_tests, no-token-bare, head-is)
-same-token p q (x ∷ xs) [] s t ms ns h g e = grind (arith, nat_tests, no-token-bare, head-is)
 same-token p q (x ∷ xs) (y ∷ ys) s t ms ns h g e =
     same-token p q xs ys s t ms ns (rest p x xs h) (rest q y ys g)
     (tail-is x y (xs ++ Token s ∷ ms) (ys ++ Token t ∷ ns) e)
   where
     rest : (p : ℕ) (x : Answer) (xs : List Answer) → AreBare p (x ∷ xs) → AreBare p xs
-    rest p (Token t) xs g = absurd g
-    rest p (Begin t) xs g = absurd g
-    rest p (Finish t) xs g = g.3
-    rest p (Note kind about) xs g = g
+    rest p x xs g = grind (arith, nat_tests)
+same-token p q _ _ s t ms ns h g e = grind (arith, nat_tests, no-token-bare, head-is)
 
 notes-bare : (p : ℕ) (xs : List Answer) → AreNotes xs → AreBare p xs
 notes-bare p [] h = tt

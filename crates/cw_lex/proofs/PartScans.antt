@@ -1,25 +1,18 @@
 -- The scan of a part is the scan of the whole there.
 use Rattle.std.proofs.Common.{◌≡◌, ℕ, zero, suc, ◌+◌, ◌-◌, ◌<◌, ◌≤◌, Bool, true, false, List, [], ◌∷◌, ◌++◌, Some}
 use Rattle.std.proofs.Common.{length, take, drop, sym, ap, subst, ◌∙◌, arith, append_assoc, length-drop}
-use Rattle.std.proofs.lemmas.Bool.{eqb-true}
+use Rattle.std.proofs.{lemmas.Bool.eqb-true, lemmas.Bool.Decides.nat_tests, lemmas.Grind.common_steps}
 use Rattle.std.proofs.lemmas.List.{drop-drop, length-take, take-take, take-append-drop, take_all}
-use Rattle.std.proofs.lemmas.Bool.Decides.{nat_tests}
-use Rattle.std.proofs.lemmas.Grind.{common_steps}
 use Rattle.cw_base.proofs.TestLaws.{both-left, both-right}
-use Rattle.cw_rules.specs.declared.parts.Part.TheVariants as parts
-use Rattle.cw_rules.specs.declared.tokens.Mode.{Mode}
-use Rattle.cw_rules.specs.declared.tokens.Mode.TheVariants as modes
-use Rattle.cw_rules.specs.Bytes.{at_sign, greater, begins}
-use Rattle.cw_rules.specs.Codes.{begins_section}
-use Rattle.cw_rules.specs.Answers.{Answer, Where}
+use Rattle.cw_rules.specs.{declared.tokens.Mode.Mode, Bytes.at_sign, Bytes.greater, Bytes.begins, Codes.begins_section}
+use Rattle.cw_rules.specs.{Answers.Answer, Answers.Where, Tokens.all_cut, Tokens.section, Apart.found_apart}
 use Rattle.cw_lex.specs.Lexing.{still_fresh, answers, fresh_after, last_after, fresh_at, last_at, answers_at, beginning}
 use Rattle.cw_lex.specs.Lexing.{tokens_of}
-use Rattle.cw_rules.specs.Tokens.{all_cut, section}
-use Rattle.cw_rules.specs.Apart.{found_apart}
 use Rattle.cw_lex.specs.Parts.{stand, stands_at, answers_to, part_answers, is_section_at, IsCodeAt}
-use Rattle.cw_lex.proofs.Walk.{fresh-more, last-more}
-use Rattle.cw_lex.proofs.Covering.{drop-part}
+use Rattle.cw_lex.proofs.{Walk.fresh-more, Walk.last-more, Covering.drop-part}
 use Rattle.cw_rules.proofs.RulesAhead.{found-local}
+use Rattle.cw_rules.specs.declared.parts.Part.TheVariants as parts
+use Rattle.cw_rules.specs.declared.tokens.Mode.TheVariants as modes
 
 stand-taken : (n : ℕ) (bytes : List ℕ) (w : Where) (fresh : Bool) (last place taken : ℕ) (next : Where)
     → stand n bytes w fresh last place taken ≡ Some next → taken ≤ n
@@ -103,12 +96,14 @@ part-law text start end mode next ys order stands at code behind =
     let fresh : fresh_at cut start ≡ fresh_at text start = ap (fresh_after true) begun in
     let last : last_at cut start ≡ last_at text start = ap (last_after 0) begun in
     let to : start + (end - start) ≡ end = omega arith in
-    let fresh-end : fresh_after (fresh_at cut start) bs ≡ fresh_at text end =
-    (λ i. fresh_after (fresh i) (drop-part text end start order i)) ∙ fresh-more true text start (end - start)
-    ∙ ap (fresh_at text) to in
-    let last-end : last_after (last_at cut start) bs ≡ last_at text end =
-    (λ i. last_after (last i) (drop-part text end start order i)) ∙ last-more 0 text start (end - start)
-    ∙ ap (last_at text) to in
+    let fresh-end : fresh_after (fresh_at cut start) bs ≡ fresh_at text end = grind (
+      arith,
+      nat_tests,
+      drop-part,
+      fresh-more,
+    ) in
+    let last-end : last_after (last_at cut start) bs ≡ last_at text end = grind (arith, nat_tests, drop-part, last-more)
+    in
     let place : start + length bs ≡ end = omega arith in
     let b = subst (λ p. Behind end more next (fresh_after (fresh_at cut start) bs) (last_after (last_at cut start) bs) p
     ys) (sym place)

@@ -3,14 +3,10 @@ use Rattle.std.proofs.Common.{◌≡◌, ℕ, ◌+◌, ◌-◌, ◌<◌, Bool, f
 use Rattle.std.proofs.lemmas.Bool.Decides.{nat_tests}
 use Rattle.cw_base.proofs.TestLaws.{or-true}
 use Rattle.cw_rules.specs.declared.bodies.Body.TheVariants as bodies
-use Rattle.cw_rules.specs.declared.bodies.Inside.{Inside}
-use Rattle.cw_rules.specs.declared.parts.Part.{Part}
-use Rattle.cw_rules.specs.declared.parts.Opened.{Opened}
+use Rattle.cw_rules.specs.declared.{bodies.Inside.Inside, parts.Part.Part, parts.Opened.Opened}
 use Rattle.cw_rules.specs.declared.tokens.TokKind.TheVariants as kinds
-use Rattle.cw_rules.specs.Bodies.{stops, ended, extent, noted}
-use Rattle.cw_rules.specs.Answers.{Found}
+use Rattle.cw_rules.specs.{Bodies.stops, Bodies.ended, Bodies.extent, Bodies.noted, Answers.Found, Cuttings.bytes_at}
 use Rattle.cw_rules.specs.Tokens.{in_hash_line, is_deep, one, piece}
-use Rattle.cw_rules.specs.Cuttings.{bytes_at}
 use Rattle.cw_rules.proofs.Inside.{ended-some}
 use Rattle.cw_lex.proofs.Steps.{bytes-here}
 

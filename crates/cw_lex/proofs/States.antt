@@ -2,14 +2,10 @@
 use Rattle.std.proofs.Common.{◌≡◌, ℕ, ◌+◌, ◌≤◌, Bool, true, false, List, [], ◌∷◌, length, drop, sym, ap, subst, ◌∙◌}
 use Rattle.std.proofs.Common.{arith}
 use Rattle.std.proofs.lemmas.Bool.Decides.{nat_tests}
-use Rattle.cw_rules.specs.declared.parts.Part.{Part}
-use Rattle.cw_rules.specs.declared.parts.Opened.{Opened}
-use Rattle.cw_rules.specs.declared.pending.Pending.{Pending}
-use Rattle.cw_lex.specs.declared.state.State.{State}
-use Rattle.cw_rules.specs.Pending.{IsInside}
-use Rattle.cw_lex.specs.Coming.{IsNested, AllWithin, IsReady}
+use Rattle.cw_rules.specs.declared.{parts.Part.Part, parts.Opened.Opened, pending.Pending.Pending}
+use Rattle.cw_lex.specs.{declared.state.State.State, Coming.IsNested, Coming.AllWithin, Coming.IsReady}
+use Rattle.cw_rules.specs.{Pending.IsInside, Tokens.is_code, Tokens.is_code_part}
 use Rattle.cw_base.specs.Conditions.{one_if}
-use Rattle.cw_rules.specs.Tokens.{is_code, is_code_part}
 use Rattle.cw_lex.proofs.Steps.{AllWithin-more}
 
 one_if-le : (b : Bool) → one_if b ≤ 1

@@ -1,32 +1,27 @@
 -- The scanner's answers over TeX text are nested.
 use Rattle.std.proofs.Common.{◌≡◌, ℕ, zero, suc, ◌+◌, ◌-◌, Bool, true, false, ◌&&◌, Option, Some, None, List, [], ◌∷◌}
-use Rattle.std.proofs.Common.{◌++◌, refl, sym, ◌∙◌, ap, arith}
+use Rattle.std.proofs.Common.{◌++◌, refl, ◌∙◌, ap, arith}
 use Rattle.std.specs.Prelude.{◌==◌}
-use Rattle.cw_rules.specs.declared.bodies.Noted.{Noted}
-use Rattle.cw_rules.specs.declared.codes.Code.{Code}
-use Rattle.cw_rules.specs.declared.codes.Effect.{Effect}
-use Rattle.cw_rules.specs.declared.codes.Effect.TheVariants as effects
-use Rattle.cw_rules.specs.declared.parts.Part.{Part}
-use Rattle.cw_rules.specs.declared.parts.Part.TheVariants as parts
-use Rattle.cw_rules.specs.declared.parts.Opened.{Opened}
-use Rattle.cw_rules.specs.declared.parts.Start.{Start}
-use Rattle.cw_rules.specs.declared.parts.Start.TheVariants as start
-use Rattle.cw_rules.specs.declared.tokens.Mode.TheVariants as modes
-use Rattle.cw_rules.specs.declared.tokens.TokKind.{TokKind}
-use Rattle.cw_rules.specs.declared.tokens.TokKind.TheVariants as kind
-use Rattle.cw_rules.specs.Bytes.{at_sign}
+use Rattle.cw_rules.specs.declared.{bodies.Noted.Noted, codes.Code.Code, codes.Effect.Effect, parts.Part.Part}
+use Rattle.cw_rules.specs.declared.{parts.Opened.Opened, parts.Start.Start, tokens.TokKind.TokKind}
+use Rattle.cw_rules.specs.{Bytes.at_sign, Apart.in_text_apart, Apart.found_apart}
 use Rattle.cw_rules.specs.Codes.{code_at, begins_section, effect_in_tex}
 use Rattle.cw_rules.specs.Answers.{Answer, Where, Cut, Found, note_answers}
 use Rattle.cw_lex.specs.Lexing.{answers, tokens_of, still_fresh}
 use Rattle.cw_rules.specs.Tokens.{one, dropped_code, moved, is_name, is_head, code_token, comment_cut, inner_or_none}
 use Rattle.cw_rules.specs.Tokens.{all_cut, start_of, in_code, tex_by, tex_text, head_text, section}
-use Rattle.cw_rules.specs.Apart.{in_text_apart, found_apart}
 use Rattle.cw_lex.specs.Nested.{Level, InCode, InComment, after_token, after_begin, levels_after, all_levels_after}
 use Rattle.cw_lex.specs.Nested.{tex_levels_after, all_tex_levels_after, IsTexNested, is_section_kind, is_part_kind}
 use Rattle.cw_lex.specs.Nested.{begins_part_in, is_part_answer}
 use Rattle.cw_rules.proofs.Choices.{if-both, or-first, or-second}
 use Rattle.cw_lex.proofs.Nesting.{Goes, levels_in, nested_in, in_tex, Begun, begins-so, in-code-goes, before-code}
 use Rattle.cw_lex.proofs.Nesting.{open-goes, inner-nested, open-levels, cut-one, section-kind}
+use Rattle.std.proofs.lemmas.Bool.Decides.{nat_tests}
+use Rattle.cw_rules.specs.declared.codes.Effect.TheVariants as effects
+use Rattle.cw_rules.specs.declared.parts.Part.TheVariants as parts
+use Rattle.cw_rules.specs.declared.parts.Start.TheVariants as start
+use Rattle.cw_rules.specs.declared.tokens.Mode.TheVariants as modes
+use Rattle.cw_rules.specs.declared.tokens.TokKind.TheVariants as kind
 
 -- ## Levels
 
@@ -64,10 +59,7 @@ tex-append (a ∷ xs) ys ls ms h = go (tex_levels_after a ls) refl (λ next. tex
     go : (o : Option (List Level)) → tex_levels_after a ls ≡ o
         → ((next : List Level) → all_tex_levels_after xs next ≡ Some ms → all_tex_levels_after (xs ++ ys) next
         ≡ all_tex_levels_after ys ms) → all_tex_levels_after (a ∷ xs ++ ys) ls ≡ all_tex_levels_after ys ms
-    go None e rec = absurd (let k : ◌≡◌ {A = Option (List Level)} None (Some ms) = sym
-        (ap (λ (o : Option (List Level)). elim o [ None ↦ None | Some next ↦ all_tex_levels_after xs next ]) e)
-        ∙ h in cc)
-    go (Some next) e rec = tex-step a (xs ++ ys) ls next e ∙ rec next (sym (tex-step a xs ls next e) ∙ h)
+    go o e rec = grind (arith, nat_tests, tex-step)
 
 notes-tex : (ns : List Noted) (ls : List Level) → all_tex_levels_after (note_answers ns) ls ≡ Some ls
 notes-tex [] ls = refl

@@ -3,8 +3,7 @@ use Rattle.std.proofs.Common.{◌≡◌, ℕ, zero, suc, ◌+◌, ◌<◌, ◌�
 use Rattle.std.proofs.Common.{slice_index, refl, ap, arith, if◌then◌else◌}
 use Rattle.std.proofs.lemmas.Bool.Decides.{nat_tests}
 use Rattle.memchr.specs.Find.{Nowhere, NoneBefore, Passes, is_byte2}
-use Rattle.cw_rules.specs.declared.classes.Class.{Class}
-use Rattle.cw_rules.specs.declared.classes.Class.TheVariants.{TexText}
+use Rattle.cw_rules.specs.declared.{classes.Class.Class, classes.Class.TheVariants.TexText}
 use Rattle.cw_rules.specs.Bytes.{is_in, run}
 
 -- a run ends at the first byte of another class, or with the bytes

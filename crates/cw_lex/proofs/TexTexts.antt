@@ -1,56 +1,38 @@
 -- TeX text in which no other part begins goes on token by token, and its inner C texts are whole by themselves.
-use Rattle.std.proofs.Common.{◌≡◌, ℕ, suc, ◌+◌, ◌-◌, ◌<◌, ◌≤◌, Bool, true, false, ◌&&◌, ◌||◌, ◌==◌, nat_lt, List, []}
-use Rattle.std.proofs.Common.{◌∷◌, ◌++◌, Option, Some, None, length, slice_index, take, drop, refl, sym, ap, subst, ◌∙◌}
-use Rattle.std.proofs.Common.{arith, append-nil, length-drop, ◌⊎◌, inl, inr}
+use Rattle.std.proofs.Common.{◌≡◌, ℕ, suc, ◌+◌, ◌-◌, ◌<◌, ◌≤◌, Bool, true, false, ◌&&◌, ◌||◌, ◌==◌, List, [], ◌∷◌, ◌++◌}
+use Rattle.std.proofs.Common.{Option, Some, None, length, slice_index, take, drop, refl, sym, ap, subst, ◌∙◌, arith}
+use Rattle.std.proofs.Common.{append-nil, length-drop, ◌⊎◌, inl, inr}
 use Rattle.std.specs.Prelude.{if◌then◌else◌, is_some}
-use Rattle.std.proofs.lemmas.Bool.{eqb-true}
+use Rattle.std.proofs.{lemmas.Bool.eqb-true, lemmas.Bool.Decides.nat_tests}
 use Rattle.std.proofs.lemmas.List.{drop-drop, length-take}
-use Rattle.std.proofs.lemmas.Bool.Decides.{nat_tests}
 use Rattle.cw_base.proofs.TestLaws.{both-right, one-failed-left, one-failed-right, not-both}
+use Rattle.cw_rules.specs.declared.{bodies.Noted.Noted, codes.Code.Code, codes.Effect.Effect, tokens.TokKind.TokKind}
+use Rattle.cw_rules.specs.Answers.{Answer, Token, Begin, Finish, Note, Seen, Where, Cut, Found, note_answers, token_of}
+use Rattle.cw_rules.specs.{Answers.plain, Answers.has_sign, Bodies.at_start, Bodies.extent, Bytes.at_sign, Bytes.equals}
+use Rattle.cw_rules.specs.{Bytes.run, Bytes.begins, Bytes.is_in, Order.Covers, Apart.found_apart}
+use Rattle.cw_base.specs.Text.{bar}
+use Rattle.cw_rules.specs.Codes.{code_of, code_at, is_section, begins_section, effect_in_tex}
+use Rattle.cw_lex.specs.{Coming.found_at, Limbo.is_name_kind, Parts.closing_bar_from}
+use Rattle.cw_lex.specs.Lexing.{still_fresh, joined, answers, fresh_at, last_at, answers_at, beginning, tokens_of}
+use Rattle.cw_lex.specs.Nested.{is_section_kind, begins_section_in}
+use Rattle.cw_lex.specs.Openings.{opened_by, opens_part_before, opens_part_in}
+use Rattle.cw_lex.specs.TexTexts.{tex_at, are_notes, GoesOn, HoldsInner}
+use Rattle.cw_rules.specs.Tokens.{one, moved, dropped_code, effect_in, section_name, is_name, is_head, is_signed}
+use Rattle.cw_rules.specs.Tokens.{tex_by, tex_text, section, code_by, inner_begin, inner_cut}
+use Rattle.cw_rules.proofs.{CodeStarts.code-kind, CodeTwins.at-code, NameEnds.name-take, InnerTwins.tex_inner}
+use Rattle.cw_rules.proofs.{Sizes.extent-le, Runs.drop-here, Within.found-fits}
+use Rattle.cw_lex.proofs.Covering.{drop-part, covers-le, tokens-cover}
+use Rattle.cw_lex.proofs.{InnerEnds.to-end, InnerScans.inner-ends-at-bar, Openings.section-cuts, Openings.bare-uncut}
+use Rattle.cw_lex.proofs.{FirstTokens.notes-sign, FirstTokens.begun, PartScans.ends-with-text, Walk.answers-at}
+use Rattle.cw_rules.proofs.Taking.{AreNotes, found-takes, bare-all-cut}
 use Rattle.cw_base.specs.declared.notes.NoteKind.TheVariants as notes
 use Rattle.cw_rules.specs.declared.bodies.Body.TheVariants as bodies
-use Rattle.cw_rules.specs.declared.bodies.Noted.{Noted}
 use Rattle.cw_rules.specs.declared.classes.Class.TheVariants as classes
-use Rattle.cw_rules.specs.declared.codes.Code.{Code}
 use Rattle.cw_rules.specs.declared.codes.Code.TheVariants as at
-use Rattle.cw_rules.specs.declared.codes.Effect.{Effect}
 use Rattle.cw_rules.specs.declared.codes.Effect.TheVariants as effects
 use Rattle.cw_rules.specs.declared.parts.Part.TheVariants as parts
 use Rattle.cw_rules.specs.declared.tokens.Mode.TheVariants as modes
-use Rattle.cw_rules.specs.declared.tokens.TokKind.{TokKind}
 use Rattle.cw_rules.specs.declared.tokens.TokKind.TheVariants as kinds
-use Rattle.cw_rules.specs.Answers.{Answer, Token, Begin, Finish, Note, Seen, Where, Cut, Found, note_answers, token_of}
-use Rattle.cw_rules.specs.Answers.{plain, has_sign}
-use Rattle.cw_rules.specs.Bodies.{at_start, extent}
-use Rattle.cw_rules.specs.Bytes.{at_sign, equals, run, begins, is_in}
-use Rattle.cw_base.specs.Text.{bar}
-use Rattle.cw_rules.specs.Codes.{code_of, code_at, is_section, begins_section, effect_in_tex}
-use Rattle.cw_lex.specs.Coming.{found_at}
-use Rattle.cw_lex.specs.Lexing.{still_fresh, joined, answers, fresh_at, last_at, answers_at, beginning, tokens_of}
-use Rattle.cw_lex.specs.Limbo.{is_name_kind}
-use Rattle.cw_lex.specs.Nested.{is_section_kind, begins_section_in}
-use Rattle.cw_lex.specs.Openings.{opened_by, opens_part_before, opens_part_in}
-use Rattle.cw_rules.specs.Order.{Covers}
-use Rattle.cw_lex.specs.Parts.{closing_bar_from}
-use Rattle.cw_lex.specs.TexTexts.{tex_at, are_notes, GoesOn, HoldsInner}
-use Rattle.cw_rules.specs.Tokens.{one, moved, dropped_code, effect_in, section_name, is_name, is_head, is_signed}
-use Rattle.cw_rules.specs.Tokens.{head_sign_size, tex_by, tex_text, section, code_by, inner_begin, inner_cut}
-use Rattle.cw_rules.specs.Apart.{found_apart, code_text_apart}
-use Rattle.cw_rules.proofs.CodeStarts.{code-kind}
-use Rattle.cw_rules.proofs.CodeTwins.{at-code}
-use Rattle.cw_lex.proofs.Covering.{drop-part, covers-le, tokens-cover}
-use Rattle.cw_lex.proofs.InnerEnds.{to-end}
-use Rattle.cw_lex.proofs.InnerScans.{inner-ends-at-bar}
-use Rattle.cw_rules.proofs.NameEnds.{name-take}
-use Rattle.cw_lex.proofs.Openings.{section-cuts, bare-uncut}
-use Rattle.cw_lex.proofs.FirstTokens.{notes-sign, begun}
-use Rattle.cw_rules.proofs.InnerTwins.{tex_inner}
-use Rattle.cw_rules.proofs.Sizes.{extent-le}
-use Rattle.cw_lex.proofs.PartScans.{ends-with-text}
-use Rattle.cw_rules.proofs.Taking.{AreNotes, found-takes, bare-all-cut}
-use Rattle.cw_rules.proofs.Runs.{drop-here}
-use Rattle.cw_lex.proofs.Walk.{answers-at}
-use Rattle.cw_rules.proofs.Within.{found-fits}
 
 abbrev tex : Where
 tex = record { part = parts.Tex; comments = [] }
@@ -71,11 +53,8 @@ opens-uncut more (Token t ∷ answers) h = both (is_section_kind t.kind) (one-fa
     (opens_part_before more answers) (one-failed-right (is_section_kind t.kind) _ h)))
   where
     both : (a : Bool) → a ≡ false → begins_section_in answers ≡ false → (a || begins_section_in answers) ≡ false
-    both true e k = absurd cc
-    both false e k = k
-opens-uncut more (Begin t ∷ answers) h = opens-uncut more answers h
-opens-uncut more (Finish t ∷ answers) h = opens-uncut more answers h
-opens-uncut more (Note kind place ∷ answers) h = opens-uncut more answers h
+    both a e k = grind (arith, nat_tests)
+opens-uncut more (_ ∷ answers) h = opens-uncut more answers h
 
 notes-only : (ns : List Noted) → AreNotes (note_answers ns)
 notes-only [] = tt
@@ -101,9 +80,7 @@ signed (b ∷ bs) fresh last place h = by (is_in classes.Blank b) refl (signed b
         code true k = absurd (let w : true ≡ false = sym e ∙ ap (is_in classes.Blank) (eqb-true b at_sign k) in cc)
         code false k =
             let one-more : suc (run classes.Blank bs) ≡ 1 + run classes.Blank bs = omega arith in
-            let next : is_signed bs ≡ true = ap (λ n. nat_lt 0 (head_sign_size (drop n (b ∷ bs)))) one-more
-            ∙ sym (ap (λ t. nat_lt 0 (head_sign_size (drop (if t then 1 + run classes.Blank bs else 0)
-            (b ∷ bs)))) e) ∙ h in
+            let next : is_signed bs ≡ true = grind (arith, nat_tests) in
             (λ i. has_sign (joined (if k i && begins_section bs then section head place bs else
             (if e i then record { answers = []; more = 0; next = head } else one false
             (moved head (parts.Plain false false)) place (b ∷ bs)
@@ -113,15 +90,7 @@ signed (b ∷ bs) fresh last place h = by (is_in classes.Blank b) refl (signed b
     by false e rec = code (b == at_sign) refl
       where
         code : (t : Bool) → (b == at_sign) ≡ t → has_sign (answers (b ∷ bs) head fresh last place 0) ≡ true
-        code true k =
-            let none : is_signed (b ∷ bs) ≡ false = ap (λ b. is_signed (b ∷ bs)) (eqb-true b at_sign k) in
-            not-both _ h none
-        code false k =
-            (λ i. has_sign (joined (if k i && begins_section bs then section head place bs else
-            (if e i then record { answers = []; more = 0; next = head } else one false
-            (moved head (parts.Plain false false)) place (b ∷ bs)
-            (plain kinds.HeadSign (if begins equals bs then 2 else 1))))
-            (λ next more. answers bs next (still_fresh fresh b) b (place + 1) more)))
+        code t k = grind (arith, nat_tests, eqb-true, not-both)
 
 -- an end among answers that cover a text
 reaches : (text : List ℕ) (from end : ℕ) (xs : List Answer) (finish : Seen) (rest : List Answer)
@@ -170,19 +139,21 @@ name-uncut c d bs fresh last place n h =
     let cut = section_name c place shown in
     let rest : Where → ℕ → List Answer = λ next more. answers (d ∷ ls) next (still_fresh fresh 64) 64 (place + 1)
     more in
-    let is : found_apart inner fresh last place 64 (d ∷ ls) ≡ one false inner place shown cut =
-    ap (λ t. if t then section inner place (d ∷ ls) else code_text_apart inner fresh last place 64 (d ∷ ls))
-    (ap is_section h
-    ∙ name-plain c n)
-    ∙ at-code inner fresh last place (d ∷ ls)
-    ∙ ap (λ c. code_by (effect_in parts.Inner [] c) c inner place shown) h
-    ∙ name-found c place shown n in
+    let is : found_apart inner fresh last place 64 (d ∷ ls) ≡ one false inner place shown cut = grind (
+      arith,
+      nat_tests,
+      name-plain,
+      at-code,
+      name-found,
+    ) in
     let fits : k ≤ length bs = extent-le i bs in
     let size : (2 + (extent i ls).size) - 1 ≡ length (d ∷ ls) =
     omega (arith, name-take i bs refl, length-take k bs, fits) in
-    let behind : begins_section_in (rest inner ((2 + (extent i ls).size) - 1))
-    ≡ false = ap (λ m. begins_section_in (rest inner m)) size
-    ∙ all-taken (d ∷ ls) inner (still_fresh fresh 64) 64 (place + 1) in
+    let behind : begins_section_in (rest inner ((2 + (extent i ls).size) - 1)) ≡ false = grind (
+      arith,
+      nat_tests,
+      all-taken,
+    ) in
     ap (λ (f : Found). begins_section_in (joined f rest)) is
     ∙ ap (λ b. b || begins_section_in (note_answers cut.notes ++ rest inner ((2 + (extent i ls).size) - 1)))
     (name-kind c n)
@@ -196,8 +167,7 @@ name-whole : (text : List ℕ) (start end d : ℕ) (bs : List ℕ) (c : Code) �
 name-whole text start end d bs c here n h e =
     let k = (extent (at_start bodies.SectionName (start + 2)) bs).size in
     let size : end - start ≡ suc (suc k) = omega (arith, e) in
-    let part : drop start (take end text) ≡ 64 ∷ d ∷ take k bs = drop-part text end start (omega (arith, e))
-    ∙ (λ i. take (size i) (here i)) in
+    let part : drop start (take end text) ≡ 64 ∷ d ∷ take k bs = grind (arith, nat_tests, drop-part) in
     ap (λ l. begins_section_in (answers l inner (fresh_at (take end text) start) (last_at (take end text) start) start
     0)) part
     ∙ name-uncut c d bs (fresh_at (take end text) start) (last_at (take end text) start) start n h
@@ -326,9 +296,7 @@ module _ (text : List ℕ) (place : ℕ) (within : place < length text) (quiet :
       let two : drop (place + 2) text ≡ bs = sym (drop-drop 2 place text) ∙ ap (drop 2) (drop-here text place within) in
       let at-next : drop next text ≡ drop x.size bs =
       ap (λ n. drop n text) (to ∙ omega arith) ∙ sym (drop-drop x.size (place + 2) text) ∙ ap (drop x.size) two in
-      let sign : has_sign (answers_at text head next)
-      ≡ true = signed (drop next text) (fresh_at text next) (last_at text next) next (ap is_signed at-next
-      ∙ both-right x.closed (is_signed (drop x.size bs)) h) in
+      let sign : has_sign (answers_at text head next) ≡ true = grind (arith, nat_tests, signed, both-right) in
       let rest = note_answers cut.notes ++ answers_at text head next in
       let all : tex_at text place ≡ Token t ∷ rest = goes
       ∙ ap (λ (f : Found). f.answers ++ answers_at text f.next next) e in
@@ -340,20 +308,14 @@ module _ (text : List ℕ) (place : ℕ) (within : place < length text) (quiet :
       (opens_part_before [] rest) (one-failed-right (is_section_kind (kinds.Code c)) _ unopened))
     where
       named-opens : (c : Code) → is_name c ≡ true → is_some (opened_by (kinds.Code c) true) ≡ true
-      named-opens at.SectionName n = refl
-      named-opens at.FileName n = refl
-      named-opens _ n = absurd cc
+      named-opens c n = grind (arith, nat_tests)
 
   -- a code
   code-goes : (byte == at_sign) ≡ true → GoesOn text place
   code-goes e = by (code-begins (code_at behind) place (byte ∷ behind))
     where
       is : here ≡ tex_by (effect_in_tex (code_at behind)) (code_at behind) tex place (byte ∷ behind)
-      is =
-          here-is ∙ ap (λ t. if t then tex_by (effect_in_tex (code_at behind)) (code_at behind) tex place
-          (byte ∷ behind)
-          else if byte == bar then inner_begin false (moved tex parts.TexInner) place (byte ∷ behind) else one false
-          tex place (byte ∷ behind) (plain kinds.Text (run classes.TexText (byte ∷ behind)))) e
+      is = grind (arith, nat_tests, here-is)
 
       name-goes : (c : Code) (ls : List ℕ) → behind ≡ ls → code_at behind ≡ c → is_name c ≡ true
           → begins_section_in (tokens_of text place (place + (section_name c place (byte ∷ behind)).size) modes.Inner)
@@ -427,14 +389,20 @@ module _ (text : List ℕ) (place : ℕ) (within : place < length text) (quiet :
           let size = length text in
           let start = place + 1 in
           let finish = token_of false kinds.InnerText size 0 [] in
-          let is : here ≡ inner_begin false (tex_inner []) place (byte ∷ behind) = here-is
-          ∙ ap (λ b. tex_text tex place b behind) b
-          ∙ sym (ap (λ b. inner_begin false (tex_inner []) place (b ∷ behind)) b) in
+          let is : here ≡ inner_begin false (tex_inner []) place (byte ∷ behind) = grind (
+            arith,
+            nat_tests,
+            here-is,
+            tex_inner,
+          ) in
           let one : (place + 1) + 0 ≡ start = omega arith in
-          let begun : tex_at text place ≡ Begin opening ∷ answers_at text (tex_inner []) start =
-          goes ∙ ap (λ (f : Found). f.answers ++ answers_at text f.next ((place + 1) + f.more)) is
-          ∙ (λ i. Begin (token_of false kinds.InnerText place 1 (sym (drop-here text place within) i))
-          ∷ answers_at text (tex_inner []) (one i)) in
+          let begun : tex_at text place ≡ Begin opening ∷ answers_at text (tex_inner []) start = grind (
+            arith,
+            nat_tests,
+            goes,
+            drop-here,
+            tex_inner,
+          ) in
           let uncut : begins_section_in (answers_at text (tex_inner []) start) ≡ false =
           ap begins_section_in (sym begun) ∙ opens-uncut [] (tex_at text place) quiet in
           let inside = to-end size (drop start text) [] (fresh_at text start) (last_at text start) start 0

@@ -1,12 +1,7 @@
 -- The tokens of a part of a text lie in it.
 use Rattle.std.proofs.Common.{ℕ, zero, suc, ◌+◌, ◌-◌, ◌≤◌, Bool, List, [], ◌∷◌, length, arith, length-drop}
-use Rattle.std.proofs.lemmas.List.{length-take}
-use Rattle.std.proofs.lemmas.Bool.Decides.{nat_tests}
-use Rattle.cw_rules.specs.declared.tokens.Mode.{Mode}
-use Rattle.cw_rules.specs.Answers.{Where}
-use Rattle.cw_rules.specs.Order.{AreWithin}
-use Rattle.cw_rules.specs.Tokens.{all_cut}
-use Rattle.cw_rules.specs.Apart.{found_apart}
+use Rattle.std.proofs.{lemmas.List.length-take, lemmas.Bool.Decides.nat_tests}
+use Rattle.cw_rules.specs.{declared.tokens.Mode.Mode, Answers.Where, Order.AreWithin, Tokens.all_cut, Apart.found_apart}
 use Rattle.cw_rules.proofs.Within.{append-within, wider, all_cut-within, found-fits}
 use Rattle.cw_lex.specs.Lexing.{still_fresh, answers, tokens_of}
 

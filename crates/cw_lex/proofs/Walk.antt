@@ -1,12 +1,9 @@
 -- How the answers from one place of a text follow from what begins there.
 use Rattle.std.proofs.Common.{◌≡◌, ℕ, zero, suc, ◌+◌, ◌<◌, ◌≤◌, Bool, true, List, [], ◌∷◌, ◌++◌, length, slice_index}
 use Rattle.std.proofs.Common.{take, drop, sym, ap, ◌∙◌, arith, add-zero, zero-add, length-drop}
-use Rattle.std.proofs.lemmas.List.{drop-drop}
-use Rattle.std.proofs.Math.Seq.{take-nil}
+use Rattle.std.proofs.{lemmas.List.drop-drop, Math.Seq.take-nil, lemmas.Grind.common_steps}
 use Rattle.std.proofs.lemmas.Bool.Decides.{nat_tests}
-use Rattle.std.proofs.lemmas.Grind.{common_steps}
-use Rattle.cw_rules.proofs.Runs.{drop-here}
-use Rattle.cw_rules.specs.Answers.{Answer, Where, Found}
+use Rattle.cw_rules.{proofs.Runs.drop-here, specs.Answers.Answer, specs.Answers.Where, specs.Answers.Found}
 use Rattle.cw_lex.specs.Coming.{found_at}
 use Rattle.cw_lex.specs.Lexing.{still_fresh, joined, answers, fresh_after, last_after, fresh_at, last_at, answers_at}
 

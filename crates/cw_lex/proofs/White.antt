@@ -1,21 +1,14 @@
 -- White space of C text, and what the bytes before a place say of it.
-use Rattle.std.proofs.Common.{◌≡◌, ℕ, ◌+◌, ◌-◌, ◌<◌, ◌≤◌, Bool, true, false, not, ◌&&◌, ◌==◌, List, length, slice_index}
-use Rattle.std.proofs.Common.{drop, refl, sym, ap, ◌∙◌, arith, if◌then◌else◌}
-use Rattle.std.proofs.lemmas.Bool.{eqb-true}
-use Rattle.std.proofs.lemmas.Bool.Decides.{nat_tests}
+use Rattle.std.proofs.Common.{◌≡◌, ℕ, ◌+◌, ◌-◌, ◌<◌, ◌≤◌, Bool, true, false, ◌&&◌, ◌==◌, List, length, slice_index}
+use Rattle.std.proofs.Common.{drop, refl, ap, ◌∙◌, arith, if◌then◌else◌}
+use Rattle.std.proofs.{lemmas.Bool.eqb-true, lemmas.Bool.Decides.nat_tests}
 use Rattle.cw_base.proofs.TestLaws.{and-false, not-true}
-use Rattle.cw_rules.specs.declared.classes.Class.TheVariants as classes
-use Rattle.cw_rules.specs.declared.parts.Part.{Part}
-use Rattle.cw_rules.specs.declared.parts.Opened.{Opened}
-use Rattle.cw_rules.specs.Answers.{Where}
-use Rattle.cw_rules.specs.Bytes.{is_in}
-use Rattle.cw_rules.specs.Codes.{begins_section}
-use Rattle.cw_lex.specs.Lexing.{fresh_at, last_at}
+use Rattle.cw_rules.specs.declared.{parts.Part.Part, parts.Opened.Opened}
+use Rattle.cw_rules.specs.{Answers.Where, Bytes.is_in, Codes.begins_section, Apart.in_text_apart, Apart.code_text_apart}
+use Rattle.cw_lex.specs.{Lexing.fresh_at, Lexing.last_at, Coming.ends_line, Coming.is_white_here, Coming.found_at}
 use Rattle.cw_rules.specs.Tokens.{section, line_end, is_space, in_hash_line, skipped_byte, is_code}
-use Rattle.cw_rules.specs.Apart.{in_text_apart, code_text_apart}
-use Rattle.cw_lex.specs.Coming.{ends_line, is_white_here, found_at}
-use Rattle.cw_lex.proofs.Lines.{in_text-code, found-newline}
-use Rattle.cw_lex.proofs.Walk.{fresh-here, last-here}
+use Rattle.cw_lex.proofs.{Lines.in_text-code, Lines.found-newline, Walk.fresh-here, Walk.last-here}
+use Rattle.cw_rules.specs.declared.classes.Class.TheVariants as classes
 
 -- a byte that passes a test is none that fails it
 pub other-byte : (test : ℕ → Bool) (b n : ℕ) → test b ≡ true → test n ≡ false → (b == n) ≡ false
@@ -44,16 +37,11 @@ white-found text part comments place code h = by (slice_index text place == 10) 
         → found_at text (record { part = part; comments = comments }) place
         ≡ skipped_byte (record { part = part; comments = comments })
     by true e =
-        let ends : ends_line part comments (last_at text place) ≡ false =
-        not-true (ends_line part comments (last_at text place))
-        (ap (λ t. if t then not (ends_line part comments (last_at text place)) else is_space part
-        (slice_index text place) (drop (place + 1) text)) (sym e) ∙ h) in
+        let ends : ends_line part comments (last_at text place) ≡ false = grind (arith, nat_tests, not-true) in
         found-newline text part comments place (eqb-true (slice_index text place) 10 e) code
         ∙ line_end-white part comments (last_at text place) place ends
     by false e =
-        let space : is_space part (slice_index text place) (drop (place + 1) text) ≡ true =
-        ap (λ t. if t then not (ends_line part comments (last_at text place)) else is_space part
-        (slice_index text place) (drop (place + 1) text)) (sym e) ∙ h in
+        let space : is_space part (slice_index text place) (drop (place + 1) text) ≡ true = grind (arith, nat_tests) in
         ap (λ t. if t && begins_section (drop (place + 1) text) then section
         (record { part = part; comments = comments }) place (drop (place + 1) text)
         else in_text_apart part comments (fresh_at text place) (last_at text place) place (slice_index text place)

@@ -6,7 +6,7 @@ ghost use Rattle.cw_names.specs.Names.{Entry, AreDistinct, place_of, with_entry,
 ghost use Rattle.cw_names.specs.Words.{BeginsWithWords, built_in_words};
 
 use crate::entry::{Key, Wanted};
-use crate::words::{WORDS, table_of};
+use crate::words::{WORDS, built_in_table};
 use crate::{EntryKind, NameId};
 use cw_base::{Cat, Memory};
 use indexmap::IndexMap;
@@ -86,7 +86,7 @@ impl Names {
     pub fn with_words(alloc: Global) -> Result<Names, Memory>
         ensures { IfOk result (λ names. names ≡ built_in_words) }
     {
-        let categories = table_of(alloc, &WORDS)?;
+        let categories = built_in_table(alloc)?;
         let recent = vec![in alloc; 0; SLOTS]?;
         Ok(Names {
             categories,

@@ -2,6 +2,7 @@
 ghost use Rattle.std.specs.Prelude.{◌≡◌, [], map, IfOk};
 ghost use Rattle.cw_names.specs.Inside.{entry_of};
 ghost use Rattle.cw_names.specs.Table.{row, with_table};
+ghost use Rattle.cw_names.specs.Words.{built_in_words};
 
 use crate::EntryKind;
 use crate::entry::Key;
@@ -127,5 +128,13 @@ pub(crate) fn table_of(alloc: Global, words: &[(&[u8], Cat)]) -> Result<IndexMap
         let kind = EntryKind::Ident;
         table.insert(Key { kind, text }, *category)?;
     }
+    Ok(table)
+}
+
+/// The words that are known from the start.
+pub(crate) fn built_in_table(alloc: Global) -> Result<IndexMap<Key, Cat>, Memory>
+    ensures { IfOk result (λ table. map entry_of table.entries ≡ built_in_words) }
+{
+    let table = table_of(alloc, &WORDS)?;
     Ok(table)
 }

@@ -9,7 +9,6 @@ use Rattle.cw_base.specs.Conditions.{list_if}
 use Rattle.cw_base.specs.Web.{MergedLine}
 use Rattle.cw_base.specs.declared.notes.Note.{Note}
 use Rattle.cw_base.specs.declared.span.Span.{Span}
-use Rattle.cw_rules.specs.Answers.{Seen}
 use Rattle.cw_secnames.specs.Kept.{SecName}
 use Rattle.cw_secnames.specs.Uses.{NameUse}
 use Rattle.cw_phase1.specs.Missing.{has_no_definition, is_undefined, is_undefined_name, lacks_equals, missing_equals}
@@ -34,15 +33,15 @@ undefined-none : (names : List SecName) (name : Option ℕ) → list_any has_no_
     → is_undefined_name names name ≡ false
 undefined-none names name e = grind (arith, defined-at)
 
-not-lacking : (text : List ℕ) (uses : List NameUse) (names : List SecName) (tex : Span) (token : Seen)
-    → list_any has_no_definition names ≡ false → lacks_equals text uses names tex token ≡ false
-not-lacking text uses names tex token e = grind (arith, undefined-none)
+not-lacking : (text : List ℕ) (uses : List NameUse) (names : List SecName) (tex name : Span)
+    → list_any has_no_definition names ≡ false → lacks_equals text uses names tex name ≡ false
+not-lacking text uses names tex name e = grind (arith, undefined-none)
 
-none-lack : (text : List ℕ) (uses : List NameUse) (names : List SecName) (tex : Span) (tokens : List Seen)
-    → list_any has_no_definition names ≡ false → filter (lacks_equals text uses names tex) tokens ≡ []
+none-lack : (text : List ℕ) (uses : List NameUse) (names : List SecName) (tex : Span) (spans : List Span)
+    → list_any has_no_definition names ≡ false → filter (lacks_equals text uses names tex) spans ≡ []
 none-lack text uses names tex [] e = refl
-none-lack text uses names tex (token ∷ tokens) e =
-    rw (not-lacking text uses names tex token e) (none-lack text uses names tex tokens e)
+none-lack text uses names tex (name ∷ spans) e =
+    rw (not-lacking text uses names tex name e) (none-lack text uses names tex spans e)
 
 empty-if : {X : Type 0} (test : Bool) (xs : List X) → xs ≡ [] → list_if test xs ≡ []
 empty-if test xs e = grind arith

@@ -266,6 +266,11 @@ a_missing_equals_sign_behind_the_code : notes_in ((codes "@ @<Read@>") ∷ (code
     ≡ note notes.EqualsMissing 0 0 1 ∷ note notes.NeverDefined 0 0 0 ∷ note notes.NeverUsed 0 0 0 ∷ []
 a_missing_equals_sign_behind_the_code = refl
 
+-- behind a name that didn't end none is missing
+a_name_that_did_not_end : notes_in ((codes "@ Text.") ∷ (codes "@<Read") ∷ (codes "x=1;") ∷ (codes "@ More.") ∷ [])
+    ≡ note notes.NameUnended 0 0 2 ∷ note notes.NeverDefined 0 0 0 ∷ note notes.NeverUsed 0 0 0 ∷ []
+a_name_that_did_not_end = refl
+
 -- none is missing between bars, behind a name that has a definition, and in a section with a C part
 a_name_between_bars : notes_in ((codes "@ The text |") ∷ (codes "@<Read@>") ∷ (codes "| is read.") ∷ [])
     ≡ note notes.NeverDefined 0 0 0 ∷ note notes.NeverUsed 0 0 0 ∷ []

@@ -84,7 +84,8 @@ fn is_silent(kind: TokKind) -> bool
     )
 }
 
-fn is_unended(kind: NoteKind) -> bool
+/// Whether a note tells that a section name didn't end.
+pub(crate) fn is_unended(kind: NoteKind) -> bool
     ensures { result ≡ is_unended kind }
 {
     matches!(kind, NoteKind::NameUnended)

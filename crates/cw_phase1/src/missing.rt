@@ -1,10 +1,10 @@
 //! Section names behind which a `=` seems to be missing.
-ghost use Rattle.std.specs.Prelude.{◌≡◌, ◌<◌, ◌≤◌, ◌&&◌, ◌++◌, [], ◌∷◌, All, IfOk, OnOk, Some, length, reverse};
+ghost use Rattle.std.specs.Prelude.{◌≡◌, ◌<◌, ◌≤◌, ◌&&◌, ◌++◌, [], All, IfOk, IfSome, OnOk, Some, length, reverse};
 ghost use Rattle.std.specs.List.{list_any};
 ghost use Rattle.cw_base.specs.Web.{text_of};
 ghost use Rattle.cw_lex.specs.Limbo.{is_name_kind};
 ghost use Rattle.cw_lex.specs.Lexing.{tokens_of};
-ghost use Rattle.cw_rules.specs.Answers.{Token, seen};
+ghost use Rattle.cw_rules.specs.Answers.{seen};
 ghost use Rattle.cw_rules.specs.Order.{LiesWithin};
 ghost use Rattle.cw_rules.specs.declared.tokens.Mode.TheVariants.{TexText};
 ghost use Rattle.cw_secnames.specs.Uses.{name_at};
@@ -15,11 +15,15 @@ ghost use Rattle.cw_phase1.specs.Missing.{
   missing_among,
   missing_equals,
   missing_in,
+  missing_of,
+  name_before,
+  name_in,
   stands_alone,
 };
 ghost use Rattle.cw_phase1.specs.Sound.{LiesIn};
 
 use crate::Section;
+use crate::held::is_unended;
 use crate::note_list::NoteList;
 use crate::packed::{SectionList, short};
 use cw_base::{Memory, NoteKind, Span, Web};
@@ -85,6 +89,16 @@ fn is_name(kind: TokKind) -> bool
     matches!(kind, TokKind::Code(Code::SectionName | Code::FileName))
 }
 
+// The section name that a token is, where it stands in no inner text.
+fn name_in(depth: usize, token: Tok) -> Option<Span>
+    ensures { result ≡ name_in depth (seen token.entry) }
+{
+    if depth == 0 && is_name(token.kind) {
+        return Some(token.span);
+    }
+    None
+}
+
 impl<'a> Search<'a> {
     // Whether no section defines the name of this position.
     fn has_no_definition(&self, k: usize) -> bool
@@ -129,30 +143,23 @@ impl<'a> Search<'a> {
         Ok(undefined && stands_alone(self.web.text(), tex, name))
     }
 
-    // The note on a token of a TeX part, where so many inner texts are open.
-    fn note_token(
-        &self,
-        tex: Span,
-        depth: usize,
-        token: Tok,
-        notes: &mut NoteList,
-    ) -> Result<(), Memory>
-        requires lies { LiesWithin tex.start tex.«end» token.span }
+    // The note on a name of a TeX part, where there is one.
+    fn note_name(&self, tex: Span, name: Option<Span>, notes: &mut NoteList) -> Result<(), Memory>
+        requires lies { IfSome name (LiesWithin tex.start tex.«end») }
         requires within { tex.«end» ≤ length (text_of self.now.web.now.lines) }
         ensures { OnOk result (notes.new ≡ notes.old
-            ++ missing_among self.now.web.now.lines self.now.uses.now self.now.names.now tex depth
-            (Token (seen token.entry) ∷ [])) }
+            ++ missing_of self.now.web.now.lines self.now.uses.now self.now.names.now tex (name_before name [])) }
     {
-        if depth > 0 || !is_name(token.kind) {
+        let Some(name) = name else {
             return Ok(());
-        }
-        if self.lacks_equals(tex, token.span)? {
-            return notes.add(self.web, NoteKind::EqualsMissing, token.span.start);
+        };
+        if self.lacks_equals(tex, name)? {
+            return notes.add(self.web, NoteKind::EqualsMissing, name.start);
         }
         Ok(())
     }
 
-    // The notes on names of a TeX part.
+    // The notes on names of a TeX part. A name waits for the answer behind it, which may tell that it didn't end.
     fn note_tex(&self, tex: Span, notes: &mut NoteList) -> Result<(), Memory>
         requires order { tex.start ≤ tex.«end» }
         requires within { tex.«end» ≤ length (text_of self.now.web.now.lines) }
@@ -162,13 +169,29 @@ impl<'a> Search<'a> {
     {
         let mut lexer = Lexer::over(self.web.text(), tex.start, tex.end, Mode::TexText);
         let mut depth: usize = 0;
+        let mut name: Option<Span> = None;
         'answers: loop {
             match lexer.next() {
-                Lexed::Token(token) => self.note_token(tex, depth, token, notes)?,
-                Lexed::Begin(_begin) => depth = depth.checked_add(1).ok_or(Memory)?,
-                Lexed::Finish(_finish) => depth = depth.saturating_sub(1),
-                Lexed::Note(_kind, _place) => {}
-                Lexed::End => return Ok(()),
+                Lexed::Token(token) => {
+                    self.note_name(tex, name, notes)?;
+                    name = name_in(depth, token);
+                }
+                Lexed::Begin(_begin) => {
+                    self.note_name(tex, name, notes)?;
+                    name = None;
+                    depth = depth.checked_add(1).ok_or(Memory)?;
+                }
+                Lexed::Finish(_finish) => {
+                    self.note_name(tex, name, notes)?;
+                    name = None;
+                    depth = depth.saturating_sub(1);
+                }
+                Lexed::Note(kind, _place) if is_unended(kind) => name = None,
+                Lexed::Note(_kind, _place) => {
+                    self.note_name(tex, name, notes)?;
+                    name = None;
+                }
+                Lexed::End => return self.note_name(tex, name, notes),
             }
         }
     }

@@ -47,8 +47,7 @@ fn scan<'a>(alloc: Global, web: &'a Web) -> Result<Held<'a>, Memory>
     ensures { IfOk result (λ h. IsScanned web.now.lines (held_of h)) }
 {
     let mut held = Held::new_in(alloc)?;
-    hold_answers(web, &mut held)?;
-    Ok(held)
+    hold_answers(web, &mut held).and(Ok(held))
 }
 
 // The same, where nothing is held yet.
@@ -148,7 +147,14 @@ fn make_book(web: &Web, held: Held) -> Result<Book, Memory>
         ++ name_notes (with_references held.entry.told.named.references held.entry.kept))) }
 {
     let mut held = held;
-    complete(web, &mut held)?;
+    match complete(web, &mut held) {
+        Ok(()) => {}
+        Err(memory) => {
+            // Dropped by a call: in place it would be proved field by field.
+            drop(held);
+            return Err(memory);
+        }
+    }
     let Held {
         standing: _,
         waiting: _,

@@ -3,15 +3,11 @@ use Rattle.std.proofs.Common.{◌≡◌, ℕ, zero, suc, ◌+◌, ◌<◌, ◌�
 use Rattle.std.proofs.Common.{Option, Some, None, map, length, drop, cond, refl, ap, sym, get_or, add-zero, zero-add}
 use Rattle.std.proofs.Common.{arith}
 use Rattle.cw_secnames.specs.declared.kinds.Earliest.TheVariants.{Nobody, One, Several}
-use Rattle.cw_secnames.specs.declared.kinds.RefKind.{RefKind}
-use Rattle.cw_secnames.specs.References.{with_section, with_reference}
-use Rattle.std.specs.List.{position, position_or_len}
-use Rattle.std.specs.Option.{option_map}
-use Rattle.cw_secnames.specs.declared.sec_names.Kept.{Kept}
+use Rattle.cw_secnames.specs.declared.{kinds.RefKind.RefKind, sec_names.Kept.Kept}
+use Rattle.cw_secnames.specs.{References.with_section, References.with_reference, Inside.name_of}
+use Rattle.std.specs.{List.position, List.position_or_len, Option.option_map, Global.Vec}
 use Rattle.cw_secnames.specs.Kept.{SecName, with_text, positions_from, grown, earliest}
-use Rattle.cw_secnames.specs.Inside.{name_of}
 use Rattle.std.specs.Prelude.{slice_set}
-use Rattle.std.specs.Global.{Vec}
 
 pub length-named : (xs : List Kept) → length (map name_of xs) ≡ length xs
 length-named [] = refl

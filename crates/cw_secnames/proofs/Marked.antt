@@ -2,13 +2,10 @@
 use Rattle.std.proofs.Common.{nat_lt, ◌≡◌, ℕ, zero, suc, ◌+◌, ◌<◌, ◌≤◌, ◌&&◌, ◌||◌, ◌==◌, ◌⊎◌, Bool, true, nat_eq, List}
 use Rattle.std.proofs.Common.{[], ◌∷◌, ◌++◌, length, take, get_or, refl, ap, if◌then◌else◌, ◌∙◌, sym, subst, arith, min}
 use Rattle.std.proofs.Common.{length-take, take_all, take-take}
-use Rattle.std.proofs.lemmas.Bool.{ltb-true}
+use Rattle.std.proofs.{lemmas.Bool.ltb-true, lemmas.Cmp.nat_list_eq_equiv, lemmas.List.Folds.list_any-append}
 use Rattle.std.specs.Cmp.Lexicographic.{same_text, pointwise}
-use Rattle.std.proofs.lemmas.Cmp.{nat_list_eq_equiv}
-use Rattle.std.proofs.lemmas.List.Folds.{list_any-append}
 use Rattle.cw_base.proofs.TestLaws.{one-left, one-right}
-use Rattle.cw_secnames.specs.declared.kinds.SecKind.{SecKind}
-use Rattle.cw_secnames.specs.declared.marks.Marks.{Marks}
+use Rattle.cw_secnames.specs.declared.{kinds.SecKind.SecKind, marks.Marks.Marks}
 use Rattle.cw_secnames.specs.Kept.{is_beginning_of}
 use Rattle.cw_secnames.specs.Marks.{first_mark, next_mark, mark_from, mark_of, is_kept_length, last_kept, Has, HasAll}
 use Rattle.cw_secnames.specs.Marks.{positions_at, is_one_of, wholes_at, IsMarked, KeepsMarks, IsNear}

@@ -5,23 +5,15 @@ use Rattle.std.proofs.Common.{option_map, map, length, drop, take, get_or, cond,
 use Rattle.std.proofs.Common.{add-zero, zero-add, length-drop, get_or-drop, eqb-true, lt-ltb, ltb-true, ltb-false}
 use Rattle.std.proofs.Common.{le-ltb, leb-true, le-leb}
 use Rattle.std.specs.List.{position, position_or_len}
-use Rattle.std.proofs.lemmas.List.Sums.{position_or_len_is}
-use Rattle.std.proofs.lemmas.Bool.Decides.{nat_tests}
-use Rattle.std.proofs.lemmas.Grind.{common_steps}
+use Rattle.std.proofs.{lemmas.List.Sums.position_or_len_is, lemmas.Bool.Decides.nat_tests, lemmas.Grind.common_steps}
 use Rattle.cw_base.proofs.TestLaws.{one-left, one-right}
-use Rattle.cw_secnames.specs.declared.kinds.SecKind.{SecKind}
-use Rattle.cw_secnames.specs.declared.kinds.SecKind.TheVariants.{Named}
-use Rattle.cw_secnames.specs.declared.sec_names.Asked.{Asked}
-use Rattle.cw_secnames.specs.declared.sec_names.Kept.{Kept}
-use Rattle.cw_secnames.specs.declared.marks.Marks.{Marks}
-use Rattle.cw_secnames.specs.declared.kinds.RefKind.{RefKind}
-use Rattle.cw_secnames.specs.References.{with_reference, with_section}
-use Rattle.cw_secnames.specs.Inside.{name_of}
+use Rattle.cw_secnames.specs.declared.{kinds.SecKind.SecKind, kinds.SecKind.TheVariants.Named, sec_names.Asked.Asked}
+use Rattle.cw_secnames.specs.declared.{sec_names.Kept.Kept, marks.Marks.Marks, kinds.RefKind.RefKind}
+use Rattle.cw_secnames.specs.{References.with_reference, References.with_section, Inside.name_of}
 use Rattle.cw_secnames.specs.Kept.{SecName, same_name_kind, is_beginning_of, unreferred}
 use Rattle.cw_secnames.specs.Asked.{kind_asked, passes, passes_at, is_below, chosen, is_lesser, least_of}
 use Rattle.cw_secnames.specs.Marks.{is_one_of, is_near, IsNear, IsMarked, KeepsMarks, AreMarked, HoldNear}
-use Rattle.cw_secnames.proofs.Finding.{length-named}
-use Rattle.cw_secnames.proofs.Marked.{both, and-yes, or-yes, begins-self}
+use Rattle.cw_secnames.proofs.{Finding.length-named, Marked.both, Marked.and-yes, Marked.or-yes, Marked.begins-self}
 
 -- ## All names are marked
 

@@ -2,16 +2,11 @@
 use Rattle.std.proofs.Common.{◌≡◌, ℕ, zero, suc, ◌<◌, ◌≤◌, ◌==◌, ◌||◌, ◌+◌, Bool, true, false, List, [], ◌∷◌, ◌++◌}
 use Rattle.std.proofs.Common.{length, refl, ap, sym, ◌∙◌, get_or, map, insert, slice_set, arith, Result, Ok, Err}
 use Rattle.std.proofs.Common.{MatchResult}
-use Rattle.std.specs.List.Sorted.{IsBinarySearchResult}
-use Rattle.std.specs.Ordering.{nat_cmp}
-use Rattle.std.proofs.lemmas.List.Sorted.{searched}
-use Rattle.std.proofs.lemmas.Bool.{eq-eqb, eqb-true}
+use Rattle.std.specs.{List.Sorted.IsBinarySearchResult, Ordering.nat_cmp}
+use Rattle.std.proofs.{lemmas.List.Sorted.searched, lemmas.Bool.eq-eqb, lemmas.Bool.eqb-true}
 use Rattle.cw_base.proofs.TestLaws.{or-false}
-use Rattle.cw_secnames.specs.declared.kinds.RefKind.{RefKind}
-use Rattle.cw_secnames.specs.declared.sec_names.Kept.{Kept}
-use Rattle.cw_secnames.specs.Inside.{listed, lists_of, name_of}
-use Rattle.cw_secnames.specs.Kept.{SecName}
-use Rattle.cw_secnames.specs.Marks.{is_one_of}
+use Rattle.cw_secnames.specs.declared.{kinds.RefKind.RefKind, sec_names.Kept.Kept}
+use Rattle.cw_secnames.specs.{Inside.listed, Inside.lists_of, Inside.name_of, Kept.SecName, Marks.is_one_of}
 use Rattle.cw_secnames.specs.References.{Ascend, AscendFrom, ReferAscending, RefersAscending, with_number}
 use Rattle.cw_secnames.specs.References.{with_reference, with_section}
 use Rattle.cw_secnames.specs.OnceLaws.{with_number-ascends, with_number-is}
@@ -86,8 +81,7 @@ ascend-inserted least (suc i) n (x ∷ ns) up within low before behind =
 
 in-inserted : (i n k : ℕ) (ns : List ℕ) → (is_one_of k ns || (n == k)) ≡ is_one_of k (insert ns i n)
 in-inserted zero n k (x ∷ ns) = or-comm (is_one_of k (x ∷ ns)) (n == k)
-in-inserted (suc i) n k (x ∷ ns) = or-assoc (x == k) (is_one_of k ns) (n == k)
-    ∙ ap (λ b. (x == k) || b) (in-inserted i n k ns)
+in-inserted (suc i) n k (x ∷ ns) = grind (arith, in-inserted i n k ns, or-assoc)
 in-inserted _ n k _ = sym (or-false (n == k))
 
 pub with_inserted : (i n : ℕ) (ns : List ℕ) → Ascend ns → i ≤ length ns

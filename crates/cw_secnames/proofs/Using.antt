@@ -1,17 +1,12 @@
 -- The pair at a place.
 use Rattle.std.proofs.Common.{◌≡◌, ◌≢◌, ℕ, zero, suc, ◌<◌, ◌≤◌, Bool, true, false, List, [], ◌∷◌, ◌++◌, Some, None, map}
 use Rattle.std.proofs.Common.{length, nat_lt, refl, ap, get_or, arith, All, length-append}
-use Rattle.std.proofs.Math.ListN.{get_or-append}
-use Rattle.std.proofs.Math.Seq.{get_or-append_seam}
-use Rattle.std.proofs.Math.Dec.{ltb}
+use Rattle.std.proofs.{Math.ListN.get_or-append, Math.Seq.get_or-append_seam, Math.Dec.ltb, lemmas.Grind.common_steps}
 use Rattle.std.specs.List.Sorted.{IsPartitionPoint, IsPartitionedBy}
 use Rattle.std.proofs.lemmas.Bool.Decides.{nat_tests}
-use Rattle.std.proofs.lemmas.Grind.{common_steps}
 use Rattle.cw_base.proofs.NumberLaws.{apart}
 use borrow.Author.Tests.{eq-eqb, ltb-true}
-use Rattle.cw_secnames.specs.Uses.{name_at}
-use Rattle.cw_secnames.specs.InsideUses.{use_of, AreAscending}
-use Rattle.cw_secnames.specs.declared.name_uses.Pair.{Pair}
+use Rattle.cw_secnames.specs.{Uses.name_at, InsideUses.use_of, InsideUses.AreAscending, declared.name_uses.Pair.Pair}
 
 pub at-first : (place : ℕ) (pairs : List Pair) (i : ℕ) (d : Pair) → i < length pairs
     → ((k : ℕ) → k < i → (get_or pairs k d).place < place) → (get_or pairs i d).place ≡ place

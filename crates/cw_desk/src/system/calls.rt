@@ -7,10 +7,11 @@ ghost use Rattle.cw_desk.specs.Put.{TakesSome};
 ghost use Rattle.cw_desk.specs.Read.{ReadsSome};
 ghost use Rattle.cw_desk.specs.Trail.{nothing};
 
+use super::inputs::{FoundFile, OpenedFiles, is_missing};
 use crate::desk::{Fetched, MadeOut, Taken};
 use crate::failure::Failure;
 use crate::note::Note;
-use crate::places::{folders_of, path_of, place_in};
+use crate::places::{DraftPlaces, Folders, path_of, place_in};
 use crate::trail::Trail;
 use cw_base::{Bytes, Memory, Out};
 use std::alloc::Global;
@@ -22,26 +23,27 @@ const TERMINAL: &[u8] = b"standard output";
 
 /// What is at a place.
 pub(super) enum Look {
-    File(File),
+    File(FoundFile),
     Nothing,
     Failed,
 }
 
 /// What is found by a name: its file, at its own place or in a folder in which files are looked for.
 pub(super) enum Found {
-    Here(File),
-    Elsewhere(File),
+    Here(FoundFile),
+    Elsewhere(FoundFile),
     Missing,
     Failed,
     Memory,
 }
 
-/// The calls, the trail of what they answered, and why the last one failed that did.
+/// The calls, where files are looked for, the trail of what the calls answered, and why the last one failed that did.
 #[derive(Drop)]
 pub(super) struct Calls {
     pub(super) rt: HostRuntime,
     pub(super) alloc: Global,
     pub(super) trail: Trail,
+    folders: Folders,
     failure: Option<Failure>,
 }
 
@@ -54,8 +56,16 @@ impl Calls {
             rt,
             alloc,
             trail: Trail::new(),
+            folders: Folders::OfVariable,
             failure: None,
         }
+    }
+
+    /// From now on files are looked for in the folders of a list, and no longer in those of the variable.
+    pub(super) fn look_in(&mut self, list: Bytes)
+        ensures { self.new.trail ≡ self.old.trail }
+    {
+        self.folders = Folders::Listed(list);
     }
 
     /// Tells on standard error why the last call failed that did.
@@ -109,7 +119,7 @@ impl Calls {
     fn open_elsewhere(&mut self, number: usize, name: &[u8]) -> Found
         ensures { self.new.trail.noted ≡ after_found number name.now result self.old.trail.noted }
     {
-        let Ok(folders) = folders_of(&self.rt, self.alloc, name) else {
+        let Ok(folders) = self.folders.of_name(&self.rt, self.alloc, name) else {
             return Found::Memory;
         };
         for folder in folders.iter() {
@@ -153,15 +163,39 @@ impl Calls {
         }
     }
 
-    /// Makes the file at a place, or empties the one that is there.
-    pub(super) fn create(&mut self, place: &[u8], beginning: Note<'_>) -> Option<File>
+    /// Makes the file at a place, or empties the one that is there, unless that is an input.
+    pub(super) fn create(
+        &mut self,
+        opened: &OpenedFiles,
+        place: &[u8],
+        beginning: Note<'_>,
+    ) -> Option<File>
         ensures { self.new.trail.noted ≡ after_creating beginning.entry result self.old.trail.noted }
     {
-        match create_at(&self.rt, place) {
+        match create_at(&self.rt, opened, place) {
             Ok(file) => {
                 self.trail.note(beginning);
                 Some(file)
             }
+            Err(error) => {
+                self.fail(place, error);
+                None
+            }
+        }
+    }
+
+    /// Makes the file of a draft, unless it would be an input, or be put in the place of one.
+    pub(super) fn create_draft(
+        &mut self,
+        opened: &OpenedFiles,
+        places: &DraftPlaces,
+        beginning: Note<'_>,
+    ) -> Option<File>
+        ensures { self.new.trail.noted ≡ after_creating beginning.entry result self.old.trail.noted }
+    {
+        let place = places.of_file();
+        match spare_at(&self.rt, opened, place) {
+            Ok(()) => self.create(opened, places.of_draft(), beginning),
             Err(error) => {
                 self.fail(place, error);
                 None
@@ -185,17 +219,22 @@ impl Calls {
         }
     }
 
-    /// Gives a file another place.
-    pub(super) fn rename(&mut self, from: &[u8], to: &[u8], end: Note<'_>) -> MadeOut
+    /// Puts the file of a draft in the place of the named one, unless that is an input.
+    pub(super) fn replace(
+        &mut self,
+        opened: &OpenedFiles,
+        places: &DraftPlaces,
+        end: Note<'_>,
+    ) -> MadeOut
         ensures { self.new.trail.noted ≡ after_turn end.entry result self.old.trail.noted }
     {
-        match rename_at(&self.rt, from, to) {
+        match replace_at(&self.rt, opened, places) {
             Ok(()) => {
                 self.trail.note(end);
                 MadeOut::Done
             }
             Err(error) => {
-                self.fail(to, error);
+                self.fail(places.of_file(), error);
                 MadeOut::Failed
             }
         }
@@ -244,27 +283,21 @@ impl Calls {
 
 // ## The calls by the bytes of a path
 
-// Whether there is no such file: none of that name, a path through a file that is no folder, or a name that no file can
-// have.
-fn is_missing(error: io::Error) -> bool {
-    matches!(
-        error.kind(),
-        ErrorKind::NotFound
-            | ErrorKind::NotADirectory
-            | ErrorKind::InvalidInput
-            | ErrorKind::InvalidFilename
-    )
-}
-
 fn no_path() -> io::Error {
     io::Error::from(ErrorKind::InvalidFilename)
 }
 
-fn open_at(rt: &HostRuntime, place: &[u8]) -> io::Result<File> {
-    File::open(rt, path_of(place).ok_or(no_path())?)
+fn open_at(rt: &HostRuntime, place: &[u8]) -> io::Result<FoundFile> {
+    FoundFile::open(rt, path_of(place).ok_or(no_path())?)
 }
 
-fn create_at(rt: &HostRuntime, place: &[u8]) -> io::Result<File> {
+// An error where the file at a place is an input.
+fn spare_at(rt: &HostRuntime, opened: &OpenedFiles, place: &[u8]) -> io::Result<()> {
+    opened.spare_input(rt, path_of(place).ok_or(no_path())?)
+}
+
+fn create_at(rt: &HostRuntime, opened: &OpenedFiles, place: &[u8]) -> io::Result<File> {
+    spare_at(rt, opened, place)?;
     File::create(rt, path_of(place).ok_or(no_path())?)
 }
 
@@ -272,7 +305,9 @@ fn remove_at(rt: &HostRuntime, place: &[u8]) -> io::Result<()> {
     fs::remove_file(rt, path_of(place).ok_or(no_path())?)
 }
 
-fn rename_at(rt: &HostRuntime, from: &[u8], to: &[u8]) -> io::Result<()> {
-    let from = path_of(from).ok_or(no_path())?;
-    fs::rename(rt, from, path_of(to).ok_or(no_path())?)
+fn replace_at(rt: &HostRuntime, opened: &OpenedFiles, places: &DraftPlaces) -> io::Result<()> {
+    let place = places.of_file();
+    spare_at(rt, opened, place)?;
+    let draft = path_of(places.of_draft()).ok_or(no_path())?;
+    fs::rename(rt, draft, path_of(place).ok_or(no_path())?)
 }

@@ -6,6 +6,7 @@ ghost use Rattle.cw_desk.specs.Make.{if_done};
 ghost use Rattle.cw_desk.specs.Put.{TakesSome};
 
 use super::calls::Calls;
+use super::inputs::OpenedFiles;
 use crate::desk::{MadeOut, Taken};
 use crate::note::Note;
 use crate::places::DraftPlaces;
@@ -35,16 +36,17 @@ pub(super) struct Draft {
 }
 
 impl Draft {
-    fn keep(&self, calls: &mut Calls, out: Out) -> MadeOut
+    // The named file has the draft's bytes. Where it was found in another folder, the draft is put in its own place.
+    fn keep(&self, calls: &mut Calls, opened: &OpenedFiles, out: Out) -> MadeOut
         ensures { calls.new.trail.noted ≡ after_event (Kept out) result calls.old.trail.noted }
     {
         match &self.places {
-            DraftPlaces::Beside {
-                draft,
-                place,
-                is_elsewhere: true,
-            } => calls.rename(draft.as_slice(), place.as_slice(), Note::Kept(out)),
-            DraftPlaces::Beside { draft, .. } => calls.remove(draft.as_slice(), Note::Kept(out)),
+            DraftPlaces::Beside { draft, .. } => {
+                if opened.is_elsewhere(self.name.as_slice()) {
+                    return calls.replace(opened, &self.places, Note::Kept(out));
+                }
+                calls.remove(draft.as_slice(), Note::Kept(out))
+            }
             DraftPlaces::Device(_) => {
                 calls.trail.note(Note::Kept(out));
                 MadeOut::Done
@@ -52,12 +54,12 @@ impl Draft {
         }
     }
 
-    fn replace(&self, calls: &mut Calls, out: Out) -> MadeOut
+    fn replace(&self, calls: &mut Calls, opened: &OpenedFiles, out: Out) -> MadeOut
         ensures { calls.new.trail.noted ≡ after_event (Replaced out) result calls.old.trail.noted }
     {
         match &self.places {
-            DraftPlaces::Beside { draft, place, .. } => {
-                calls.rename(draft.as_slice(), place.as_slice(), Note::Replaced(out))
+            DraftPlaces::Beside { .. } => {
+                calls.replace(opened, &self.places, Note::Replaced(out))
             }
             DraftPlaces::Device(_) => {
                 calls.trail.note(Note::Replaced(out));
@@ -79,8 +81,14 @@ impl Output {
         }
     }
 
-    /// Makes the file, or empties the one that is there.
-    pub(super) fn make(&mut self, calls: &mut Calls, out: Out, name: &[u8]) -> MadeOut
+    /// Makes the file, or empties the one that is there, unless that is an input.
+    pub(super) fn make(
+        &mut self,
+        calls: &mut Calls,
+        opened: &OpenedFiles,
+        out: Out,
+        name: &[u8],
+    ) -> MadeOut
         ensures made { is_some self.new.made ≡ if_done result true (is_some self.old.made) }
         ensures draft { self.new.draft ≡ self.old.draft }
         ensures noted { calls.new.trail.noted ≡ after_event (Made out name.now) result calls.old.trail.noted }
@@ -88,7 +96,7 @@ impl Output {
         let Ok(kept) = calls.owned(name) else {
             return MadeOut::Memory;
         };
-        match calls.create(name, Note::Made(out, name)) {
+        match calls.create(opened, name, Note::Made(out, name)) {
             Some(file) => {
                 self.made = Some(MadeFile { file, name: kept });
                 MadeOut::Done
@@ -97,13 +105,13 @@ impl Output {
         }
     }
 
-    /// Makes a file for a draft.
+    /// Makes a file for a draft, unless the named file is an input.
     pub(super) fn draft(
         &mut self,
         calls: &mut Calls,
+        opened: &OpenedFiles,
         out: Out,
         name: &[u8],
-        is_elsewhere: bool,
     ) -> MadeOut
         ensures made { self.new.made ≡ self.old.made }
         ensures draft { is_some self.new.draft ≡ if_done result true (is_some self.old.draft) }
@@ -112,10 +120,10 @@ impl Output {
         let Ok(kept) = calls.owned(name) else {
             return MadeOut::Memory;
         };
-        let Ok(places) = DraftPlaces::of(&calls.rt, calls.alloc, name, is_elsewhere) else {
+        let Ok(places) = DraftPlaces::of(&calls.rt, calls.alloc, name) else {
             return MadeOut::Memory;
         };
-        match calls.create(places.of_draft(), Note::Drafted(out, name)) {
+        match calls.create_draft(opened, &places, Note::Drafted(out, name)) {
             Some(file) => {
                 self.draft = Some(Draft {
                     file,
@@ -130,13 +138,13 @@ impl Output {
 
     /// Gives the draft up: the named file stays as it is. One that stands in another folder gets the same bytes at its
     /// own place.
-    pub(super) fn keep(&mut self, calls: &mut Calls, out: Out) -> MadeOut
+    pub(super) fn keep(&mut self, calls: &mut Calls, opened: &OpenedFiles, out: Out) -> MadeOut
         ensures made { self.new.made ≡ self.old.made }
         ensures draft { is_some self.new.draft ≡ if_done result false (is_some self.old.draft) }
         ensures noted { calls.new.trail.noted ≡ after_event (Kept out) result calls.old.trail.noted }
     {
         let ended = match &self.draft {
-            Some(draft) => draft.keep(calls, out),
+            Some(draft) => draft.keep(calls, opened, out),
             None => MadeOut::Failed,
         };
         if ended == MadeOut::Done {
@@ -146,13 +154,13 @@ impl Output {
     }
 
     /// Puts the draft in the place of the file that it is for.
-    pub(super) fn replace(&mut self, calls: &mut Calls, out: Out) -> MadeOut
+    pub(super) fn replace(&mut self, calls: &mut Calls, opened: &OpenedFiles, out: Out) -> MadeOut
         ensures made { self.new.made ≡ self.old.made }
         ensures draft { is_some self.new.draft ≡ if_done result false (is_some self.old.draft) }
         ensures noted { calls.new.trail.noted ≡ after_event (Replaced out) result calls.old.trail.noted }
     {
         let ended = match &self.draft {
-            Some(draft) => draft.replace(calls, out),
+            Some(draft) => draft.replace(calls, opened, out),
             None => MadeOut::Failed,
         };
         if ended == MadeOut::Done {

@@ -2,12 +2,9 @@
 -- room that was enough at first is enough for what is left.
 use Rattle.std.proofs.Common.{◌≡◌, ◌+◌, ◌-◌, ◌*◌, ◌<◌, ◌≤◌, length}
 use Rattle.std.specs.FinMap.{get}
-use Rattle.cw_base.specs.declared.limits.TheConstants.{INPUT_LIMIT}
-use Rattle.cw_base.specs.Web.{text_of}
-use Rattle.cw_desk.specs.Meaning.{Files}
-use Rattle.cw_desk.specs.Told.{OnlyReads}
-use Rattle.cw_input.specs.Fold.{advance}
-use Rattle.cw_input.specs.Reading.{ReadsOn}
+use Rattle.cw_base.specs.{declared.limits.TheConstants.INPUT_LIMIT, Web.text_of}
+use Rattle.cw_desk.specs.{Meaning.Files, Told.OnlyReads}
+use Rattle.cw_input.specs.{Fold.advance, Reading.ReadsOn}
 use Rattle.cw_input.specs.State.{IsPhase, lines_from, rest_of, state_of}
 use Rattle.cw_input.proofs.changes.advance_change.Given as goal
 

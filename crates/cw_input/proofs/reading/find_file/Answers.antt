@@ -1,8 +1,7 @@
 -- What reading the opened file answers is what looking for it answers, and what was read of it is read.
 use Rattle.std.proofs.Common.{ℕ, ◌+◌, List, length, option_map, sym, ap, ◌∙◌, arith}
 use Rattle.std.specs.FinMap.{get}
-use Rattle.cw_input.specs.declared.found.Found.{Found}
-use Rattle.cw_input.specs.Merged.{found_file}
+use Rattle.cw_input.specs.{declared.found.Found.Found, Merged.found_file}
 use Rattle.cw_input.proofs.AnswerLaws.{Finds-err}
 use Rattle.cw_input.proofs.ReadLaws.{reads_on-file, reads_on-more, reads_on-same}
 use Rattle.cw_input.proofs.reading.find_file.Goals as goal
@@ -18,9 +17,7 @@ returns-in-Err-clause-finds g c = λ files is.
     (c.in-Err.ensures.reads files is)
 
 pub returns-in-Missing-clause-finds : goal.returns-in-Missing-clause-finds
-returns-in-Missing-clause-finds g c = λ files is.
-    let made : List ℕ → Found = λ bytes. record { name = c.args.name; bytes = bytes } in
-    ap (option_map made) (ap (get files) (sym c.as_slice.ensures) ∙ c.in-Missing.ensures.named files is)
+returns-in-Missing-clause-finds g c = grind (arith, option_map)
 
 pub returns-in-Ok-clause-most : goal.returns-in-Ok-clause-most
 returns-in-Ok-clause-most g c sum =
@@ -31,8 +28,7 @@ returns-in-Err-clause-most g c sum =
     reads_on-file sum (c.args.room + 1) c.in-File.ensures c.in-Err.ensures.same c.in-Err.ensures.most
 
 pub returns-in-Missing-clause-most : goal.returns-in-Missing-clause-most
-returns-in-Missing-clause-most g c sum =
-    reads_on-same sum c.in-Missing.ensures.next c.in-Missing.ensures.same_rests
+returns-in-Missing-clause-most g c sum = grind (arith, reads_on-same)
 
 pub returns-in-Failed-clause-most : goal.returns-in-Failed-clause-most
 returns-in-Failed-clause-most g c sum =

@@ -1,15 +1,11 @@
 -- A line's end finishes a short comment and isn't taken: what it ends around the comment comes next.
 use Rattle.std.proofs.Common.{ℕ, ◌≡◌, List, [], ◌∷◌, true, drop, refl, sym, ap, ◌∙◌, arith}
-use Rattle.cw_lex.specs.declared.state.State.{State}
+use Rattle.cw_lex.specs.{declared.state.State.State, Lexing.last_at, Coming.found_at}
 use Rattle.cw_rules.specs.Answers.{seen, before, Finish, note_answers, token_of}
-use Rattle.cw_rules.specs.Pending.{pending_notes}
-use Rattle.cw_lex.specs.Lexing.{last_at}
-use Rattle.cw_lex.proofs.Notes.{one-note, one-inside}
-use Rattle.cw_rules.specs.Tokens.{line_end, is_code}
-use Rattle.cw_lex.specs.Coming.{found_at}
-use Rattle.cw_lex.proofs.Steps.{zero-gives}
+use Rattle.cw_rules.specs.{Pending.pending_notes, Tokens.line_end, Tokens.is_code}
+use Rattle.cw_lex.proofs.{Notes.one-note, Notes.one-inside, Steps.zero-gives, Lines.found-newline}
 use Rattle.cw_lex.proofs.States.{ready-pop, top-nested}
-use Rattle.cw_lex.proofs.Lines.{found-newline}
+use Rattle.std.proofs.lemmas.Bool.Decides.{nat_tests}
 use Rattle.cw_lex.proofs.comment_text.end_short_comment.Goals as goal
 
 pub returns-clause-gives : goal.returns-clause-gives
@@ -27,8 +23,7 @@ returns-clause-gives c =
     } in
     let token = (λ i. token_of (sym c.in_hash_line.ensures i) (sym c.kind_of.ensures i) s.at 0 [])
     ∙ sym c.token-token.ensures in
-    let nested : is_code s.part rest ≡ true = top-nested s.part s.comments comment rest c.requires.step.ready.nested
-    c.requires.top in
+    let nested : is_code s.part rest ≡ true = grind (arith, nat_tests, top-nested) in
     zero-gives text s new _ c.requires.step.quiet c.requires.step.place refl
     (c.requires.found
     ∙ (λ i. before (Finish (token i) ∷ one-note text c.braces_note-state.result _ c.braces_note-state.ensures i)

@@ -1,14 +1,12 @@
 -- A piece of a comment takes the bytes up to where it stops; its notes follow, and the open braces are kept.
 use Rattle.std.proofs.Common.{ℕ, ◌≡◌, ◌≤◌, ◌<◌, ◌-◌, List, ◌∷◌, false, drop, refl, sym, ◌∙◌, arith}
 use Rattle.cw_lex.specs.declared.state.State.{State}
-use Rattle.cw_rules.specs.declared.tokens.TokKind.TheVariants as kinds
 use Rattle.cw_rules.specs.Answers.{Token, note_answers, token_of}
-use Rattle.cw_rules.specs.Pending.{no_notes, body_notes}
-use Rattle.cw_rules.specs.Bodies.{ended}
-use Rattle.cw_lex.proofs.Steps.{step-gives}
-use Rattle.cw_lex.proofs.States.{ready-top, top-within}
+use Rattle.cw_rules.specs.{Pending.no_notes, Pending.body_notes, Bodies.ended, declared.bodies.Inside.Inside}
+use Rattle.cw_lex.proofs.{Steps.step-gives, States.ready-top, States.top-within}
 use Rattle.cw_lex.proofs.Pieces.{piece_found, piece-found, piece-some}
-use Rattle.cw_rules.specs.declared.bodies.Inside.{Inside}
+use Rattle.std.proofs.lemmas.Bool.Decides.{nat_tests}
+use Rattle.cw_rules.specs.declared.tokens.TokKind.TheVariants as kinds
 use Rattle.cw_rules.specs.declared.bodies.Body.TheVariants as bodies
 use Rattle.cw_lex.proofs.comment_text.piece.Goals as goal
 
@@ -49,8 +47,7 @@ returns-clause-ready c =
     let s = c.args.state.now in
     let comment = c.args.comment in
     let end = c.walk-walked.result.stop in
-    let braces : comment.braces ≤ s.at = top-within s.at s.comments comment (drop 1 s.comments)
-    c.requires.step.ready.braces c.requires.top in
+    let braces : comment.braces ≤ s.at = grind (arith, nat_tests, top-within) in
     ready-top c.args.text.now s s.part comment (record {
       start = comment.start;
       long = comment.long;

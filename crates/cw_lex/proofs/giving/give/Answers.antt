@@ -1,13 +1,9 @@
 -- A token that is cut takes its bytes; its notes follow, and then the text goes on in its part.
 use Rattle.std.proofs.Common.{ℕ, ◌+◌, List, ◌∷◌, refl, sym, ap, ◌∙◌, arith}
 use Rattle.cw_rules.specs.Answers.{Token, note_answers, token_of}
-use Rattle.cw_rules.specs.Pending.{pending_notes}
-use Rattle.cw_rules.specs.Tokens.{one, moved}
-use Rattle.cw_lex.specs.Coming.{where_of}
-use Rattle.cw_rules.specs.Cuttings.{bytes_at, cut_of}
-use Rattle.cw_lex.specs.declared.state.State.{State}
-use Rattle.cw_lex.proofs.Steps.{step-gives, bytes-here, AllWithin-more}
-use Rattle.cw_lex.proofs.States.{depth-part}
+use Rattle.cw_rules.specs.{Pending.pending_notes, Tokens.one, Tokens.moved, Cuttings.bytes_at, Cuttings.cut_of}
+use Rattle.cw_lex.specs.{Coming.where_of, declared.state.State.State}
+use Rattle.cw_lex.proofs.{Steps.step-gives, Steps.bytes-here, Steps.AllWithin-more, States.depth-part}
 use Rattle.cw_lex.proofs.giving.give.Goals as goal
 
 pub returns-clause-gives : goal.returns-clause-gives

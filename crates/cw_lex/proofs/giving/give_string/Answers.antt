@@ -1,15 +1,13 @@
 -- A string takes its bytes; its notes follow, and then the C text goes on as it did.
 use Rattle.std.proofs.Common.{◌≡◌, ℕ, ◌+◌, ◌<◌, List, ◌∷◌, length, drop, sym, ap, ◌∙◌, arith}
 use Rattle.cw_rules.specs.Answers.{Token, note_answers, token_of}
-use Rattle.cw_rules.specs.Pending.{pending_notes}
+use Rattle.cw_rules.specs.{Pending.pending_notes, Prefixes.prefix_size, Cuttings.bytes_at, Cuttings.cut_of}
 use Rattle.cw_rules.specs.declared.tokens.TokKind.TheVariants.{Quoted}
-use Rattle.cw_rules.specs.Prefixes.{prefix_size}
 use Rattle.cw_rules.specs.Tokens.{one, moved, passed, string, in_hash_line}
-use Rattle.cw_lex.specs.Coming.{where_of}
-use Rattle.cw_rules.specs.Cuttings.{bytes_at, cut_of}
-use Rattle.cw_lex.specs.declared.state.State.{State}
+use Rattle.cw_lex.specs.{Coming.where_of, declared.state.State.State}
 use Rattle.cw_lex.proofs.Steps.{bytes-here, step-gives, token-here, AllWithin-more}
 use Rattle.cw_lex.proofs.States.{depth-part, nested-part}
+use Rattle.std.proofs.lemmas.Bool.Decides.{nat_tests}
 use Rattle.cw_lex.proofs.giving.give_string.Goals as goal
 
 pub returns-clause-gives : goal.returns-clause-gives
@@ -27,8 +25,7 @@ returns-clause-gives c =
     let next = moved (where_of s) (passed s.part) in
     let bytes = bytes_at text s.at in
     let place : s.at < length text = c.requires.string.0 in
-    let prefix : c.prefix_size-opening.result ≡ prefix_size bytes =
-    c.prefix_size-opening.ensures.value ∙ ap prefix_size (c.from.ensures.value ∙ bytes-here text s.at place) in
+    let prefix : c.prefix_size-opening.result ≡ prefix_size bytes = grind (arith, nat_tests, bytes-here) in
     let found = c.requires.string.1
     ∙ ap (λ n. one (in_hash_line s.part) next s.at bytes (string Quoted (n + 1) c.args.quote s.at bytes)) (sym prefix)
     ∙ ap (one (in_hash_line s.part) next s.at bytes) (sym c.string-cut.ensures.same) in

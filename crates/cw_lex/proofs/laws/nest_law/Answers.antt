@@ -1,6 +1,5 @@
 -- Nested answers are those of one nest, in which all stands where it may, and so are the answers behind a head.
-use Rattle.cw_lex.proofs.Nests.{nests-nested, nest-well}
-use Rattle.cw_lex.proofs.HeadNests.{head-leaves}
+use Rattle.cw_lex.proofs.{Nests.nests-nested, Nests.nest-well, HeadNests.head-leaves}
 use Rattle.cw_lex.proofs.laws.nest_law.Goals as goal
 
 pub returns-clause-one : goal.returns-clause-one

@@ -1,6 +1,5 @@
 -- Answers are nested over C text, up to a section code that cuts it, and over TeX text.
-use Rattle.cw_lex.proofs.Nesting.{c-texts-nested, parts-nested}
-use Rattle.cw_lex.proofs.TexNesting.{tex-texts-nested}
+use Rattle.cw_lex.proofs.{Nesting.c-texts-nested, Nesting.parts-nested, TexNesting.tex-texts-nested}
 use Rattle.cw_lex.proofs.laws.nesting_law.Goals as goal
 
 pub returns-clause-c_texts : goal.returns-clause-c_texts

@@ -4,4 +4,4 @@ use Rattle.cw_phase1.proofs.phase.make_book.Goals as goal
 
 pub invariant_of-result : goal.invariant_of-result
 invariant_of-result c = few-sections c.args.web.now.lines _ c.args.held.told.sections c.complete.new.held.told.sections
-    c.in_ok-complete.ensures.sections c.requires.total
+    c.in-Ok.ensures.sections c.requires.total

@@ -1,7 +1,6 @@
 -- So they do where a scanner begins anew.
 use Rattle.std.proofs.Common.{arith}
-use Rattle.cw_lex.proofs.Covering.{tokens-cover}
-use Rattle.cw_lex.proofs.TokensWithin.{tokens-within}
+use Rattle.cw_lex.proofs.{Covering.tokens-cover, TokensWithin.tokens-within}
 use Rattle.cw_lex.proofs.lexer.Lexer.restart.Goals as goal
 
 pub returns-clause-covers : goal.returns-clause-covers

@@ -7,16 +7,15 @@ use Rattle.cw_base.specs.Category.{is_end}
 use Rattle.cw_names.specs.Words.{built_in_words, BeginsWithWords}
 use Rattle.cw_names.proofs.Ends.{of-view}
 use Rattle.cw_names.proofs.First.{words-first}
-use Rattle.cw_names.proofs.Table.{table-all}
 use Rattle.cw_names.proofs.names.Names.with_words.Goals as goal
 
 pub returns : goal.returns
-returns c = c.in_ok-categories.ensures ∙ table-all
+returns c = c.in_ok-categories.ensures
 
 pub invariant_of-result : goal.invariant_of-result
 invariant_of-result c =
     let entries = c.in_ok-categories.categories.entries in
-    let view : map entry_of entries ≡ built_in_words = c.in_ok-categories.ensures ∙ table-all in
+    let view : map entry_of entries ≡ built_in_words = c.in_ok-categories.ensures in
     record {
       real = of-view entries ∙ ap (list_all (λ (entry : Entry). not (is_end entry.category))) view;
       words = subst BeginsWithWords (sym view) words-first;

@@ -4,12 +4,10 @@ use Rattle.cw_secnames.proofs.Marked.{keeps-all, enter-first, enter-more, enter-
 use Rattle.cw_secnames.proofs.marks.Marks.mark.Goals as goal
 
 pub returns-in_err-put_start-clause-keeps : goal.returns-in_err-put_start-clause-keeps
-returns-in_err-put_start-clause-keeps c = keeps-all _ _ (no-more _ _ _ c.min-self.ensures) (λ mark k h. h)
-    c.put_start.ensures.keeps
+returns-in_err-put_start-clause-keeps c = grind (arith, keeps-all, no-more)
 
 pub loop-count-init : goal.loop-count-init
-loop-count-init c = enter-first _ _ _ _ _ _ c.first_mark-mark.ensures c.min-self.ensures (λ mark k h. h)
-    c.put_start.ensures.keeps c.in_ok-put_start.ensures.ok
+loop-count-init c = grind (arith, enter-first)
 
 pub loop-count-preserved : goal.loop-count-preserved
 loop-count-preserved c =
@@ -18,19 +16,13 @@ loop-count-preserved c =
     c.in_ok-put_start-2.ensures.ok
 
 pub returns-in_err-put_start-2-clause-keeps : goal.returns-in_err-put_start-2-clause-keeps
-returns-in_err-put_start-2-clause-keeps c =
-    keeps-all _ _ (no-more _ _ _ c.loop-count.invariant.shortest) c.loop-count.invariant.wholes
-    (λ mark k h. c.put_start-in-loop-count.ensures.keeps mark k (c.loop-count.invariant.keeps mark k h))
+returns-in_err-put_start-2-clause-keeps c = grind (arith, keeps-all, no-more)
 
 pub returns-in_err-put-clause-keeps : goal.returns-in_err-put-clause-keeps
-returns-in_err-put-clause-keeps c =
-    keeps-all _ _ (no-more _ _ _ c.loop-count.invariant.shortest)
-    (λ mark k h. c.put.ensures.keeps mark k (c.loop-count.invariant.wholes mark k h)) c.loop-count.invariant.keeps
+returns-in_err-put-clause-keeps c = grind (arith, keeps-all, no-more)
 
 pub returns-clause-keeps : goal.returns-clause-keeps
-returns-clause-keeps c =
-    keeps-all _ _ (no-more _ _ _ c.loop-count.invariant.shortest)
-    (λ mark k h. c.put.ensures.keeps mark k (c.loop-count.invariant.wholes mark k h)) c.loop-count.invariant.keeps
+returns-clause-keeps c = grind (arith, keeps-all, no-more)
 
 pub returns-clause-ok : goal.returns-clause-ok
 returns-clause-ok c = enter-last _ _ _ _ _ _ _ _ (let e = c.loop-count.invariant.shortest in

@@ -1,7 +1,6 @@
 -- The names near a text are found by their marks; where these were given back, all positions are there.
 use Rattle.std.proofs.Common.{◌<◌, ◌∙◌, length, subst, zero-add}
-use Rattle.cw_secnames.proofs.NamedMarks.{all-near}
-use Rattle.cw_secnames.proofs.Nearest.{holds}
+use Rattle.cw_secnames.proofs.{NamedMarks.all-near, Nearest.holds}
 use Rattle.cw_secnames.proofs.name_marks.NameMarks.near.Goals as goal
 
 pub returns-then-not-self : goal.returns-then-not-self

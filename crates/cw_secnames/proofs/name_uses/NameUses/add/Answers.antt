@@ -1,7 +1,6 @@
 -- A pair with a greater place keeps the order.
 use Rattle.std.proofs.Common.{◌<◌, All, subst, sym}
-use Rattle.cw_secnames.specs.InsideUses.{AreAscending}
-use Rattle.cw_secnames.specs.Uses.{NameUse}
+use Rattle.cw_secnames.specs.{InsideUses.AreAscending, Uses.NameUse}
 use Rattle.cw_secnames.proofs.Using.{ascending-more}
 use Rattle.cw_secnames.proofs.name_uses.NameUses.add.Goals as goal
 

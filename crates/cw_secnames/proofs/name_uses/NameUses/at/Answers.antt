@@ -1,34 +1,13 @@
 -- The first pair that doesn't stand before a place has it, or none has.
-use Rattle.std.proofs.Common.{◌≡◌, ◌<◌, ◌∙◌, sym, ap, subst, rules, arith, Some, length, get_or, map}
-use Rattle.std.proofs.Math.Dec.{ltb}
-use Rattle.std.specs.Option.{option_map}
-use Rattle.std.proofs.lemmas.List.Sorted.{IsPartitionPoint-from_clause}
-use Rattle.cw_secnames.specs.Kept.{id}
-use Rattle.cw_secnames.specs.Uses.{name_at}
-use Rattle.cw_secnames.specs.InsideUses.{AreAscending, use_of}
-use Rattle.cw_secnames.specs.declared.name_uses.Pair.{Pair}
+use Rattle.std.proofs.Common.{◌∙◌, sym, ap, subst, rules, arith}
+use Rattle.std.{proofs.Math.Dec.ltb, specs.Option.option_map, proofs.lemmas.List.Sorted.IsPartitionPoint-from_clause}
+use Rattle.cw_secnames.specs.{Kept.id, Uses.name_at, InsideUses.AreAscending, declared.name_uses.Pair.Pair}
 use Rattle.cw_secnames.proofs.Using.{IsPoint, parted, point-below, at-first, nowhere-by}
 use Rattle.cw_secnames.proofs.name_uses.NameUses.at.Goals as goal
 
 pub returns-then-pair-place : goal.returns-then-pair-place
 unfolding IsPoint
-returns-then-pair-place c =
-    let ascending : AreAscending c.deref.result.now = subst AreAscending (sym c.deref.ensures.value) c.self.invariant in
-    let there : IsPoint c.args.place c.deref.result.now c.partition_point-first.result =
-    IsPartitionPoint-from_clause (λ (p : Pair). ltb p.place c.args.place) _ _
-    c.partition_point-first.ensures.partitioned (parted c.args.place c.deref.result.now ascending)
-    (λ a r q k. search rules) in
-    let point : IsPoint c.args.place c.self.inside.pairs.items c.partition_point-first.result =
-    subst (λ pairs. IsPoint c.args.place pairs c.partition_point-first.result) c.deref.ensures.value there in
-    let within : c.partition_point-first.result < length c.self.inside.pairs.items =
-    omega (arith, c.if-first-len.true, c.len.ensures, c.self.inside.pairs.ok.0) in
-    let found : name_at c.args.place (map use_of c.self.inside.pairs.items)
-    ≡ Some (get_or c.self.inside.pairs.items c.partition_point-first.result c.index-pair.result.now).name =
-    at-first c.args.place c.self.inside.pairs.items c.partition_point-first.result c.index-pair.result.now within
-    (point-below c.args.place c.self.inside.pairs.items c.partition_point-first.result c.index-pair.result.now point)
-    (ap (λ (p : Pair). p.place) (sym c.index-pair.ensures) ∙ c.if-pair-place.true) in
-    ap (λ (p : Pair). Some (id p.name)) c.index-pair.ensures ∙
-    (sym (ap (option_map id) found) ∙ ap (λ uses. option_map id (name_at c.args.place uses)) c.self.view_is)
+returns-then-pair-place c = grind (arith, parted, at-first, point-below)
 
 pub returns-else-pair-place : goal.returns-else-pair-place
 unfolding IsPoint

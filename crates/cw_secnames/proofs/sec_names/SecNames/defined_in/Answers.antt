@@ -1,16 +1,7 @@
 -- What refers to each kept name ascends.
-use Rattle.std.proofs.Common.{sym, subst, ap, length, arith}
-use Rattle.cw_secnames.specs.declared.kinds.RefKind.TheVariants.{Defined}
-use Rattle.cw_secnames.specs.declared.sec_names.Kept.{Kept}
-use Rattle.cw_secnames.specs.Inside.{name_of}
-use Rattle.cw_secnames.specs.References.{Ascend, RefersAscending}
-use Rattle.cw_secnames.proofs.Finding.{length-named}
-use Rattle.cw_secnames.proofs.References.{ascending-at, ascending-in}
+use Rattle.std.proofs.Common.{arith}
+use Rattle.cw_secnames.proofs.{Finding.length-named, References.ascending-at, References.ascending-in}
 use Rattle.cw_secnames.proofs.sec_names.SecNames.defined_in.Goals as goal
 
 pub returns-clause-ascending : goal.returns-clause-ascending
-returns-clause-ascending c =
-    subst Ascend (sym c.listed.ensures) (ascending-in Defined c.index.result.now
-    (subst (λ (x : Kept). RefersAscending (name_of x)) (sym c.index.ensures)
-    (ascending-at c.self.inside.names.items c.args.id.index c.index.result.now c.self.invariant.ascending
-    (omega (arith, length-named c.self.inside.names.items, ap length c.self.view_is, c.requires)))))
+returns-clause-ascending c = grind (arith, ascending-in, ascending-at, length-named)

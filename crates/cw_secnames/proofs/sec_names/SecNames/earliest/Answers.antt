@@ -1,10 +1,7 @@
 -- From the first position on, the earliest name that passes is the first of all names that pass.
-use Rattle.std.proofs.Common.{◌∙◌}
-use Rattle.std.specs.List.{position}
-use Rattle.cw_secnames.specs.Asked.{passes}
+use Rattle.std.proofs.Common.{arith}
 use Rattle.cw_secnames.proofs.Nearest.{from-first}
 use Rattle.cw_secnames.proofs.sec_names.SecNames.earliest.Goals as goal
 
 pub returns-clause-value : goal.returns-clause-value
-returns-clause-value c = c.earliest_from.ensures.value
-    ∙ from-first (position (passes c.args.asked c.args.text.now) c.args.self.now)
+returns-clause-value c = grind (arith, from-first)

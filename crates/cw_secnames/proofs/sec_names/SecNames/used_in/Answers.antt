@@ -1,11 +1,8 @@
 -- What refers to each kept name ascends.
 use Rattle.std.proofs.Common.{sym, subst, ap, length, arith}
-use Rattle.cw_secnames.specs.declared.kinds.RefKind.TheVariants.{Used}
-use Rattle.cw_secnames.specs.declared.sec_names.Kept.{Kept}
-use Rattle.cw_secnames.specs.Inside.{name_of}
-use Rattle.cw_secnames.specs.References.{Ascend, RefersAscending}
-use Rattle.cw_secnames.proofs.Finding.{length-named}
-use Rattle.cw_secnames.proofs.References.{ascending-at, ascending-in}
+use Rattle.cw_secnames.specs.declared.{kinds.RefKind.TheVariants.Used, sec_names.Kept.Kept}
+use Rattle.cw_secnames.specs.{Inside.name_of, References.Ascend, References.RefersAscending}
+use Rattle.cw_secnames.proofs.{Finding.length-named, References.ascending-at, References.ascending-in}
 use Rattle.cw_secnames.proofs.sec_names.SecNames.used_in.Goals as goal
 
 pub returns-clause-ascending : goal.returns-clause-ascending
