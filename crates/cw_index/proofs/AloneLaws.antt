@@ -1,9 +1,7 @@
 -- A name that stands alone prints as it does among other items.
-use Rattle.std.proofs.Common.{◌≡◌, ℕ, Bool, false, ap, ◌∙◌, List, [], ◌∷◌}
-use Rattle.std.proofs.lemmas.List.{append-nil}
+use Rattle.cw_index.proofs.Terms.{◌≡◌, ℕ, Bool, false, ap, ◌∙◌, List, [], ◌∷◌, append-nil, Printable}
 use Rattle.cw_join.specs.Early.{added, late}
 use Rattle.cw_trees.specs.Flat.{IdentItem, ReservedItem}
-use Rattle.cw_trees.specs.Printing.{Printable}
 
 abbrev pub ident : ℕ → List ℕ → Printable
 ident name bytes = record { item = IdentItem name 0; bytes = bytes }

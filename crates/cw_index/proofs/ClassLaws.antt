@@ -1,11 +1,7 @@
 -- The classes stand in their order, and a class by its value.
-use Rattle.std.proofs.Common.{◌≡◌, ℕ, refl, sym, arith}
-use Rattle.std.specs.declared.cmp.Ordering.TheVariants.{Equal}
-use Rattle.std.specs.Cmp.{nat_cmp_is}
-use Rattle.std.specs.Ordering.{nat_cmp}
+use Rattle.cw_index.proofs.Terms.{◌≡◌, ℕ, refl, sym, arith, Equal, nat_cmp_is, nat_cmp, class_cmp}
 use Rattle.cw_index.specs.declared.collation.Class.{Class}
 use Rattle.cw_index.specs.contracts.collation.ClassOrd.TheImpl as class_ord
-use Rattle.cw_index.specs.Collation.{class_cmp}
 
 pub class_cmp-is : (x y : Class) → (class_ord.ghosts).cmp x y ≡ class_cmp x y
 class_cmp-is x y = grind arith

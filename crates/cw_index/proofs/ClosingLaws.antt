@@ -1,12 +1,8 @@
 -- Whether a section of a list is starred, and what is left of the line of changed sections.
-use Rattle.std.proofs.Common.{◌≡◌, ℕ, ◌+◌, ◌-◌, ◌≤◌, ◌&&◌, Bool, true, false, refl, sym, ◌∙◌, List, [], ◌∷◌, ◌++◌, Some}
-use Rattle.std.proofs.Common.{append_assoc, arith, drop, length}
-use Rattle.std.specs.Prelude.{codes, slice_get, if◌then◌else◌}
-use Rattle.std.specs.List.{flat_map, list_any}
-use Rattle.std.proofs.lemmas.List.{drop_all}
+use Rattle.cw_index.proofs.Terms.{◌≡◌, ℕ, ◌+◌, ◌-◌, ◌≤◌, ◌&&◌, Bool, true, false, refl, sym, ◌∙◌, List, [], ◌∷◌, ◌++◌}
+use Rattle.cw_index.proofs.Terms.{Some, append_assoc, arith, drop, length, codes, slice_get, if◌then◌else◌, flat_map}
+use Rattle.cw_index.proofs.Terms.{list_any, drop_all, Section, change, changed_from, changes_line, printed_changes}
 use Rattle.cw_base.specs.declared.flags.Flags.{Flags}
-use Rattle.cw_phase1.specs.declared.sections.Section.{Section}
-use Rattle.cw_index.specs.Closing.{change, changed_from, changes_line, printed_changes}
 use Rattle.cw_index.proofs.RowLaws.{drop-at}
 
 abbrev any_starred : List Section → Bool
@@ -17,13 +13,11 @@ here : (sections : List Section) (i : ℕ) (s : Section) → slice_get sections 
 here sections i s there = grind (arith, drop-at)
 
 pub starred-here : (sections : List Section) (i : ℕ) (s : Section) → slice_get sections ((i + 1) - 1) ≡ Some s
-    → s.starred ≡ true
-    → true ≡ list_any (λ section. section.starred) (drop i sections)
+    → s.starred ≡ true → true ≡ list_any (λ section. section.starred) (drop i sections)
 starred-here sections i s there is = sym (here sections i s there ∙ rw is refl)
 
 pub starred-later : (sections : List Section) (i : ℕ) (s : Section) → slice_get sections ((i + 1) - 1) ≡ Some s
-    → s.starred ≡ false
-    → list_any (λ section. section.starred) (drop (i + 1) sections)
+    → s.starred ≡ false → list_any (λ section. section.starred) (drop (i + 1) sections)
     ≡ list_any (λ section. section.starred) (drop i sections)
 starred-later sections i s there is = sym (here sections i s there ∙ rw is refl)
 
@@ -43,27 +37,22 @@ left-end first = grind arith
 
 -- Behind the last section the line is ended, if it was begun.
 pub left-behind : (first : Bool) (sections : List Section) (i : ℕ) (bytes : List ℕ) → length sections ≤ i
-    → bytes ≡ (if first then [] else codes ".\n")
-    → changes_left first (changed_from (i + 1) (drop i sections)) ≡ bytes
+    → bytes ≡ (if first then [] else codes ".\n") → changes_left first (changed_from (i + 1) (drop i sections)) ≡ bytes
 left-behind first sections i bytes all is = grind (arith, drop_all, left-end)
 
-left-at : (first : Bool) (sections : List Section) (i : ℕ) (s : Section)
-    → slice_get sections ((i + 1) - 1) ≡ Some s
+left-at : (first : Bool) (sections : List Section) (i : ℕ) (s : Section) → slice_get sections ((i + 1) - 1) ≡ Some s
     → changes_left first (changed_from (i + 1) (drop i sections))
     ≡ changes_left first (changed_from (i + 1) (s ∷ drop (i + 1) sections))
 left-at first sections i s there = grind (arith, drop-at)
 
-pub left-here : (first : Bool) (sections : List Section) (i : ℕ) (s : Section)
-    → slice_get sections ((i + 1) - 1) ≡ Some s → s.changed ≡ true
-    → changes_left first (changed_from (i + 1) (drop i sections))
-    ≡ change first (i + 1) ++ changes_left false (changed_from ((i + 1) + 1) (drop (i + 1) sections))
-left-here first sections i s there is =
-    left-at first sections i s there
+pub left-here : (first : Bool) (sections : List Section) (i : ℕ) (s : Section) → slice_get sections ((i + 1) - 1)
+    ≡ Some s → s.changed ≡ true → changes_left first (changed_from (i + 1) (drop i sections)) ≡ change first (i + 1)
+    ++ changes_left false (changed_from ((i + 1) + 1) (drop (i + 1) sections))
+left-here first sections i s there is = left-at first sections i s there
     ∙ rw is (left-next first (i + 1) (changed_from ((i + 1) + 1) (drop (i + 1) sections)))
 
-pub left-later : (first : Bool) (sections : List Section) (i : ℕ) (s : Section)
-    → slice_get sections ((i + 1) - 1) ≡ Some s → s.changed ≡ false
-    → changes_left first (changed_from (i + 1) (drop i sections))
+pub left-later : (first : Bool) (sections : List Section) (i : ℕ) (s : Section) → slice_get sections ((i + 1) - 1)
+    ≡ Some s → s.changed ≡ false → changes_left first (changed_from (i + 1) (drop i sections))
     ≡ changes_left first (changed_from ((i + 1) + 1) (drop (i + 1) sections))
 left-later first sections i s there is = left-at first sections i s there ∙ rw is refl
 

@@ -1,25 +1,14 @@
 -- The index is complete.
-use Rattle.std.proofs.Common.{◌≡◌, ◌≢◌, ℕ, ◌+◌, ◌<◌, ◌==◌, ◌&&◌, ◌||◌, Bool, true, false, nat_eq, refl, sym, ap, ◌∙◌}
-use Rattle.std.proofs.Common.{subst, List, [], ◌∷◌, ◌++◌, length, filter, fold, arith, eq-eqb, ne_eqb, true≢false}
-use Rattle.std.specs.List.{AllByRecursion, IsDistinct, list_any}
-use Rattle.std.specs.BTreeSet.{insert_key}
-use Rattle.std.specs.declared.cmp.Ordering.{Ordering}
-use Rattle.std.specs.declared.cmp.Ordering.TheVariants.{Equal}
-use Rattle.std.specs.Cmp.{unsigned_ties}
-use Rattle.std.specs.Ordering.{is_eq, ordering_reverse, ordering_then, nat_cmp}
-use Rattle.cw_names.specs.declared.xrefs.Occurrence.{Occurrence}
-use Rattle.cw_names.specs.declared.xrefs.SectionRef.{SectionRef}
-use Rattle.cw_names.specs.MentionLaws.{sections-at}
-use Rattle.cw_names.specs.Mentions.{any_in, mention_of, mentions}
-use Rattle.cw_names.specs.Names.{AreDistinct, Entry, is_entry, same_kind}
+use Rattle.cw_index.proofs.Terms.{◌||◌, ◌≡◌, ◌≢◌, ℕ, ◌+◌, ◌<◌, ◌==◌, ◌&&◌, Bool, true, false, nat_eq, refl, sym, ap}
+use Rattle.cw_index.proofs.Terms.{◌∙◌, subst, List, [], ◌∷◌, ◌++◌, length, filter, fold, arith, eq-eqb, ne_eqb}
+use Rattle.cw_index.proofs.Terms.{true≢false, AllByRecursion, list_any, insert_key, Ordering, Equal, unsigned_ties}
+use Rattle.cw_index.proofs.Terms.{is_eq, ordering_reverse, ordering_then, nat_cmp, Occurrence, SectionRef, sections-at}
+use Rattle.cw_index.proofs.Terms.{any_in, mention_of, mentions, AreDistinct, Entry, is_entry, same_kind, or-false}
+use Rattle.cw_index.proofs.Terms.{EntryKind, classes_cmp, entry_cmp, entry_kind_place, text_cmp, entry_cmp-total, Row}
+use Rattle.cw_index.proofs.Terms.{has_sections, is_listed, listed, needs_underline, row, row_cmp, rows_from, with_row}
+use Rattle.std.specs.List.{IsDistinct}
 use Rattle.std.specs.Cmp.Lexicographic.{lists_ties, pointwise, slice_cmp}
-use Rattle.cw_base.proofs.TestLaws.{or-false}
-use Rattle.cw_names.specs.declared.entry.EntryKind.{EntryKind}
-use Rattle.cw_index.specs.Collation.{classes_cmp, entry_cmp, entry_kind_place, text_cmp}
-use Rattle.cw_index.specs.CollationLaws.{entry_cmp-total}
 use Rattle.cw_index.specs.Completeness.{IndexIsComplete, as_mention, is_at, lists, occurs}
-use Rattle.cw_index.specs.Mentions.{Row, has_sections, is_listed, listed, needs_underline, row, row_cmp, rows_from}
-use Rattle.cw_index.specs.Mentions.{with_row}
 
 -- ## Truth values
 
@@ -29,18 +18,14 @@ or-swap a b c = grind arith
 -- ## The sections of a name
 
 -- the occurrences, as they are listed
-all-mentions : (only : Bool) (section : ℕ) (os : List Occurrence)
-    → (any_in os section && is_listed only (mention_of os section))
-    ≡ list_any (λ (o : Occurrence). is_at only section (as_mention o)) os
-all-mentions true section [] = refl
-all-mentions false section [] = refl
+all-mentions : (only : Bool) (section : ℕ) (os : List Occurrence) → (any_in os section && is_listed only
+    (mention_of os section)) ≡ list_any (λ (o : Occurrence). is_at only section (as_mention o)) os
 all-mentions true section (o ∷ os) = grind (arith, all-mentions true section os)
 all-mentions false section (o ∷ os) = grind (arith, all-mentions false section os)
+all-mentions _ _ _ = refl
 
-pub of-name : (only : Bool) (name section : ℕ) (os : List Occurrence)
-    → list_any (λ (o : Occurrence). is_at only section (as_mention o))
-    (filter (λ (o : Occurrence). o.name.index == name) os)
-    ≡ occurs only name section os
+pub of-name : (only : Bool) (name section : ℕ) (os : List Occurrence) → list_any (λ (o : Occurrence). is_at only section
+    (as_mention o)) (filter (λ (o : Occurrence). o.name.index == name) os) ≡ occurs only name section os
 of-name only name section [] = refl
 of-name only name section (o ∷ os) = grind (arith, of-name only name section os)
 
@@ -49,13 +34,10 @@ in-listed : (only : Bool) (section : ℕ) (ms : List SectionRef)
 in-listed only section [] = refl
 in-listed only section (m ∷ ms) = grind (arith, in-listed only section ms)
 
-pub in-row : (name section : ℕ) (entry : Entry) (os : List Occurrence)
-    → list_any (λ (m : SectionRef). m.section == section) (row name entry os).sections
-    ≡ occurs (needs_underline name entry) name section os
-in-row name section entry os =
-    in-listed (needs_underline name entry) section (mentions name os)
-    ∙ sections-at section (is_listed (needs_underline name entry))
-    (filter (λ (o : Occurrence). o.name.index == name) os)
+pub in-row : (name section : ℕ) (entry : Entry) (os : List Occurrence) → list_any (λ (m : SectionRef). m.section ==
+    section) (row name entry os).sections ≡ occurs (needs_underline name entry) name section os
+in-row name section entry os = in-listed (needs_underline name entry) section (mentions name os) ∙ sections-at section
+    (is_listed (needs_underline name entry)) (filter (λ (o : Occurrence). o.name.index == name) os)
     ∙ all-mentions (needs_underline name entry) section (filter (λ (o : Occurrence). o.name.index == name) os)
     ∙ of-name (needs_underline name entry) name section os
 
@@ -68,9 +50,8 @@ none-later name section n (entry ∷ entries) os less =
     grind (arith, none-later name section (n + 1) entries os (omega (arith, less)), ne_eqb)
 
 -- a row without sections lists none
-empty : (t : Bool) (section : ℕ) (ms : List SectionRef) → has_sections ms ≡ t
-    → (t && list_any (λ (m : SectionRef). m.section == section) ms)
-    ≡ list_any (λ (m : SectionRef). m.section == section) ms
+empty : (t : Bool) (section : ℕ) (ms : List SectionRef) → has_sections ms ≡ t → (t && list_any
+    (λ (m : SectionRef). m.section == section) ms) ≡ list_any (λ (m : SectionRef). m.section == section) ms
 empty t section ms is = grind arith
 
 in-rows : (n section : ℕ) (before after : List Entry) (entry : Entry) (os : List Occurrence)
@@ -131,13 +112,11 @@ same-kinds a b is = grind arith
 
 alike : (first entry : Entry) → entry_cmp first entry ≡ Equal → is_entry first.kind first.text entry ≡ true
 alike first entry same =
-    let parts : (is_eq (text_cmp first.text entry.text) ≡ true)
-    × (is_eq (nat_cmp (entry_kind_place first.kind) (entry_kind_place entry.kind)) ≡ true) =
-    both-equal (text_cmp first.text entry.text) (nat_cmp (entry_kind_place first.kind) (entry_kind_place entry.kind))
-    (ap is_eq same) in
-    let texts : (is_eq (classes_cmp first.text entry.text) ≡ true)
-    × (is_eq (slice_cmp nat_cmp first.text entry.text) ≡ true) =
-    both-equal (classes_cmp first.text entry.text) (slice_cmp nat_cmp first.text entry.text) parts.0 in
+    let parts : (is_eq (text_cmp first.text entry.text) ≡ true) × (is_eq (nat_cmp (entry_kind_place first.kind)
+    (entry_kind_place entry.kind)) ≡ true) = both-equal (text_cmp first.text entry.text)
+    (nat_cmp (entry_kind_place first.kind) (entry_kind_place entry.kind)) (ap is_eq same) in
+    let texts : (is_eq (classes_cmp first.text entry.text) ≡ true) × (is_eq (slice_cmp nat_cmp first.text entry.text)
+    ≡ true) = both-equal (classes_cmp first.text entry.text) (slice_cmp nat_cmp first.text entry.text) parts.0 in
     ap (λ t. t && pointwise nat_eq first.text entry.text) (same-kinds first.kind entry.kind parts.1)
     ∙ lists_ties nat_cmp unsigned_ties first.text entry.text ∙ texts.1
 
@@ -149,8 +128,7 @@ first-differ first n (entry ∷ entries) os r is all =
     by (first-differ first (n + 1) entries os r is all.1) (has_sections (row n entry os).sections)
   where
     here : Apart row_cmp r (row n entry os)
-    here same =
-        true≢false (sym (alike first entry (entry_cmp-total.antisymm first entry
+    here same = true≢false (sym (alike first entry (entry_cmp-total.antisymm first entry
         ∙ ap ordering_reverse (ap (entry_cmp entry) (sym is) ∙ same))) ∙ all.0)
 
     by : AllByRecursion (Apart row_cmp r) (rows_from (n + 1) entries os)
@@ -158,10 +136,9 @@ first-differ first n (entry ∷ entries) os r is all =
     by later true = (here, later)
     by later false = later
 
-with-row-apart : (n : ℕ) (entry : Entry) (entries : List Entry) (os : List Occurrence)
-    → AllByRecursion (Apart row_cmp (row n entry os)) (rows_from (n + 1) entries os)
-    → AreApart row_cmp (rows_from (n + 1) entries os)
-    → (t : Bool) → AreApart row_cmp (with_row t (row n entry os) (rows_from (n + 1) entries os))
+with-row-apart : (n : ℕ) (entry : Entry) (entries : List Entry) (os : List Occurrence) → AllByRecursion (Apart row_cmp
+    (row n entry os)) (rows_from (n + 1) entries os) → AreApart row_cmp (rows_from (n + 1) entries os) → (t : Bool)
+    → AreApart row_cmp (with_row t (row n entry os) (rows_from (n + 1) entries os))
 with-row-apart n entry entries os here later t = grind arith
 
 rows-apart : (n : ℕ) (entries : List Entry) (os : List Occurrence) → AreDistinct entries
@@ -176,8 +153,7 @@ pub index-complete : IndexIsComplete
 index-complete before after entry os section distinct =
     let rows : List Row = rows_from 0 (before ++ entry ∷ after) os in
     any-sorted row_cmp (lists (length before) section) [] rows (none-new row_cmp rows)
-    (rows-apart 0 (before ++ entry ∷ after) os distinct)
-    ∙ or-false (list_any (lists (length before) section) rows)
+    (rows-apart 0 (before ++ entry ∷ after) os distinct) ∙ or-false (list_any (lists (length before) section) rows)
     ∙ subst (λ (name : ℕ). list_any (lists name section) rows ≡ occurs (needs_underline name entry) name section os)
     from_zero (in-rows 0 section before after entry os)
   where

@@ -1,26 +1,15 @@
 -- Each row of the index is one of a name and its entry, and the rows stand in their order.
-use Rattle.std.proofs.Common.{◌≡◌, ℕ, suc, ◌+◌, ◌<◌, ◌==◌, Bool, true, false, Some, List, [], ◌∷◌, All, fold, IsTrue}
-use Rattle.std.proofs.Common.{get_or, slice_get, refl, subst, arith, ne_eqb}
-use Rattle.std.specs.List.{AllByRecursion, filter, range_with_len}
+use Rattle.cw_index.proofs.Terms.{◌≡◌, ℕ, suc, ◌+◌, ◌<◌, ◌==◌, Bool, true, false, Some, List, [], ◌∷◌, All, fold}
+use Rattle.cw_index.proofs.Terms.{IsTrue, get_or, slice_get, refl, subst, arith, ne_eqb, AllByRecursion, filter}
+use Rattle.cw_index.proofs.Terms.{range_with_len, insert_key, IsTotalOrder, Ordering, Less, on_total, tied_itself}
+use Rattle.cw_index.proofs.Terms.{All-cons, All-filter, All-get_or, All-head, All-map, All-nil, All-tail}
+use Rattle.cw_index.proofs.Terms.{All-insert_key, Occurrence, SectionRef, sections-ascending, AreAscending, above_all}
+use Rattle.cw_index.proofs.Terms.{any_in, mention_of, mentions, Entry, entry_cmp-total, Row, has_sections, index_rows}
+use Rattle.cw_index.proofs.Terms.{is_listed, needs_underline, row, row_cmp, rows_from, with_row}
 use Rattle.std.specs.List.Sorted.{IsStrictlySortedBy}
-use Rattle.std.specs.BTreeSet.{insert_key}
-use Rattle.std.specs.Cmp.{IsTotalOrder}
-use Rattle.std.specs.declared.cmp.Ordering.{Ordering}
-use Rattle.std.specs.declared.cmp.Ordering.TheVariants.{Less}
-use Rattle.std.proofs.lemmas.Cmp.{on_total, tied_itself}
-use Rattle.std.proofs.lemmas.List.Elements.{All-cons, All-filter, All-get_or, All-head, All-map, All-nil, All-tail}
 use Rattle.std.proofs.lemmas.List.Kept.{AllPairs-filter}
 use Rattle.std.proofs.lemmas.Map.Keys.{IsDistinct-from_apart, Less-from_sorted}
-use Rattle.std.proofs.lemmas.Map.Views.{All-insert_key}
-use Rattle.cw_names.specs.declared.xrefs.Occurrence.{Occurrence}
-use Rattle.cw_names.specs.declared.xrefs.SectionRef.{SectionRef}
-use Rattle.cw_names.specs.MentionLaws.{sections-ascending}
-use Rattle.cw_names.specs.Mentions.{AreAscending, above_all, any_in, mention_of, mentions}
-use Rattle.cw_names.specs.Names.{Entry}
-use Rattle.cw_index.specs.CollationLaws.{entry_cmp-total}
 use Rattle.cw_index.specs.Completeness.{RowsAreOfNames, are_of_one_name, occurs}
-use Rattle.cw_index.specs.Mentions.{Row, has_sections, index_rows, is_listed, needs_underline, row, row_cmp, rows_from}
-use Rattle.cw_index.specs.Mentions.{with_row}
 use Rattle.cw_index.proofs.Completeness.{each-inserted, of-name}
 
 -- ## What holds of each row
@@ -30,13 +19,11 @@ module _ (os : List Occurrence) (P : Row → Type 0) where
   abbrev HoldsOfRow : ℕ → Entry → Type 0
   HoldsOfRow name entry = has_sections (row name entry os).sections ≡ true → P (row name entry os)
 
-  each-from : (n : ℕ) (entries : List Entry)
-      → ((k : ℕ) (entry : Entry) → slice_get entries k ≡ Some entry → HoldsOfRow (n + k) entry)
-      → All P (rows_from n entries os)
+  each-from : (n : ℕ) (entries : List Entry) → ((k : ℕ) (entry : Entry) → slice_get entries k ≡ Some entry → HoldsOfRow
+      (n + k) entry) → All P (rows_from n entries os)
   each-from n [] each = All-nil P
-  each-from n (entry ∷ entries) each =
-      by (each-from (n + 1) entries (λ k e is. subst (λ (name : ℕ). HoldsOfRow name e) (next k) (each (suc k) e is)))
-      (has_sections (row n entry os).sections) refl
+  each-from n (entry ∷ entries) each = by (each-from (n + 1) entries (λ k e is. subst (λ (name : ℕ). HoldsOfRow name e)
+      (next k) (each (suc k) e is))) (has_sections (row n entry os).sections) refl
     where
       next : (k : ℕ) → n + suc k ≡ n + 1 + k
       next k = omega arith
@@ -54,14 +41,12 @@ module _ (os : List Occurrence) (P : Row → Type 0) where
 
   each-sorted : (rows sorted : List Row) → All P sorted → All P rows → All P (fold (insert_key row_cmp) sorted rows)
   each-sorted [] sorted those all = those
-  each-sorted (one ∷ rows) sorted those all =
-      each-sorted rows (insert_key row_cmp sorted one)
+  each-sorted (one ∷ rows) sorted those all = each-sorted rows (insert_key row_cmp sorted one)
       (All-insert_key row_cmp one P sorted those (All-head P one rows all)) (All-tail P one rows all)
 
   -- What holds of the row of each name that has sections holds of each row of the index.
-  each-row : (names : List Entry)
-      → ((name : ℕ) (entry : Entry) → slice_get names name ≡ Some entry → HoldsOfRow name entry)
-      → All P (index_rows names os)
+  each-row : (names : List Entry) → ((name : ℕ) (entry : Entry) → slice_get names name ≡ Some entry → HoldsOfRow name
+      entry) → All P (index_rows names os)
   each-row names each = grind (arith, each-sorted, each-from)
 
 -- ## The sections of a row
@@ -77,9 +62,8 @@ AsOccurring name os m = m.underlined ≡ occurs true name m.section os
 
 row-underlined : (name : ℕ) (entry : Entry) (os : List Occurrence)
     → All (AsOccurring name os) (row name entry os).sections
-row-underlined name entry os =
-    All-filter (is_listed (needs_underline name entry)) (AsOccurring name os) (mentions name os)
-    (All-map (AsOccurring name os) (mention_of own) (filter (any_in own) (range_with_len 0 (above_all own)))
+row-underlined name entry os = All-filter (is_listed (needs_underline name entry)) (AsOccurring name os) (mentions name
+    os) (All-map (AsOccurring name os) (mention_of own) (filter (any_in own) (range_with_len 0 (above_all own)))
     (λ k d within. of-name true name (get_or (filter (any_in own) (range_with_len 0 (above_all own))) k d) os))
   where
     own : List Occurrence
@@ -113,9 +97,8 @@ row_cmp-total : IsTotalOrder row_cmp
 row_cmp-total = on_total (λ (row : Row). row.entry) entry_cmp-total
 
 -- Of one name there is one entry, so rows that stand apart are of two names.
-names-differ : (names : List Entry) (first second : Row) → slice_get names first.name ≡ Some first.entry
-    → slice_get names second.name ≡ Some second.entry → row_cmp first second ≡ Less
-    → are_of_one_name first second ≡ false
+names-differ : (names : List Entry) (first second : Row) → slice_get names first.name ≡ Some first.entry → slice_get
+    names second.name ≡ Some second.entry → row_cmp first second ≡ Less → are_of_one_name first second ≡ false
 names-differ names first second here there less = grind (arith, ne_eqb, slice_get, tied_itself, entry_cmp-total)
 
 -- ## The law
@@ -123,10 +106,9 @@ names-differ names first second here there less = grind (arith, ne_eqb, slice_ge
 pub rows-of-names : RowsAreOfNames
 rows-of-names names os = record {
   entries = entries;
-  once = IsDistinct-from_apart are_of_one_name rows (λ i j d before within.
-      names-differ names (get_or rows i d) (get_or rows j d)
-      (All-get_or HasEntry rows i d (omega arith) entries) (All-get_or HasEntry rows j d within entries)
-      (Less-from_sorted row_cmp rows i j d order before within));
+  once = IsDistinct-from_apart are_of_one_name rows (λ i j d before within. names-differ names (get_or rows i d)
+      (get_or rows j d) (All-get_or HasEntry rows i d (omega arith) entries)
+      (All-get_or HasEntry rows j d within entries) (Less-from_sorted row_cmp rows i j d order before within));
   order = order;
   some = each-row os (λ (r : Row). IsTrue (has_sections r.sections)) names (λ name entry is has. has);
   ascending = each-row os (λ (r : Row). AreAscending r.sections) names

@@ -1,21 +1,10 @@
 -- A name that is entered stays, and entering it again changes nothing.
-use Rattle.std.proofs.Common.{◌≡◌, ℕ, Bool, true, false, ◌⊎◌, inl, inr, refl, sym, ap, ◌∙◌, subst, List, [], ◌∷◌}
-use Rattle.std.proofs.Common.{Option, Some, None, map, get_or, arith}
-use Rattle.std.specs.Prelude.{slice_get}
-use Rattle.std.specs.BTreeSet.{insert_key}
-use Rattle.std.specs.Cmp.{IsTotalOrder}
-use Rattle.std.specs.declared.cmp.Ordering.{Ordering}
-use Rattle.std.specs.declared.cmp.Ordering.TheVariants.{Less, Equal, Greater}
-use Rattle.std.specs.Ordering.{on}
-use Rattle.std.proofs.lemmas.Cmp.{alike_right, tied_itself}
-use Rattle.cw_secnames.specs.Kept.{SecName}
-use Rattle.cw_index.specs.declared.standing.Listed.{Listed}
-use Rattle.cw_index.specs.declared.standing.Sorting.{Sorting}
-use Rattle.cw_index.specs.declared.standing.Standing.{Standing}
-use Rattle.cw_index.specs.Sorted.{sorted_on}
-use Rattle.cw_index.specs.Standing.{StandingName, has_reference, kept_stand, stand_by, stand_cmp}
-use Rattle.cw_index.specs.StandingForms.{Holds, HoldsName, IsSorting, stand_of, stands_of}
-use Rattle.cw_index.specs.StandingLaws.{stand_cmp-total}
+use Rattle.cw_index.proofs.Terms.{◌≡◌, ℕ, Bool, true, false, ◌⊎◌, inl, inr, refl, sym, ap, ◌∙◌, subst, List, [], ◌∷◌}
+use Rattle.cw_index.proofs.Terms.{Option, Some, None, map, get_or, arith, slice_get, insert_key, IsTotalOrder, Ordering}
+use Rattle.cw_index.proofs.Terms.{Less, Equal, Greater, on, alike_right, tied_itself, SecName, Listed, Standing}
+use Rattle.cw_index.proofs.Terms.{sorted_on, StandingName, has_reference, kept_stand, stand_by, stand_cmp, Holds}
+use Rattle.cw_index.proofs.Terms.{HoldsName, IsSorting, stand_of, stands_of}
+use Rattle.cw_index.specs.{declared.standing.Sorting.Sorting, StandingLaws.stand_cmp-total}
 use Rattle.cw_index.proofs.RowLaws.{inserted}
 
 holds-same : {K : Type 0} (o : K → K → Ordering) (x : K) (keys : List K) → Holds o x keys → insert_key o keys x ≡ keys
@@ -44,9 +33,8 @@ kept-by : (b : Bool) (n : SecName) (listed : Listed) (stands : List StandingName
 kept-by true n listed stands h = grind (arith, holds-same)
 kept-by false n listed stands h = refl
 
-pub entered-same : (found : Option SecName) (listed : Listed) (stands : List StandingName)
-    → ((n : SecName) → found ≡ Some n → HoldsName stands n)
-    → stands ≡ sorted_on stand_cmp stands (kept_stand found listed)
+pub entered-same : (found : Option SecName) (listed : Listed) (stands : List StandingName) → ((n : SecName) → found
+    ≡ Some n → HoldsName stands n) → stands ≡ sorted_on stand_cmp stands (kept_stand found listed)
 entered-same None listed stands f = refl
 entered-same (Some n) listed stands f = kept-by (has_reference n) n listed stands (f n refl)
 
@@ -72,26 +60,22 @@ some-same a b h = cc
 
 -- a name more
 pub sorting-more : (names : List SecName) (old new : Sorting) (stand : Standing) (listed : Listed) → IsSorting names old
-    → new.stands.keys ≡ insert_key (on stand_of stand_cmp) old.stands.keys stand
-    → ((k : ℕ) → get_or new.entered.items k false ≡ true
-    → (k ≡ stand.id.index) ⊎ (get_or old.entered.items k false ≡ true))
-    → stands_of (Some stand) ≡ kept_stand (slice_get names listed.id.index) listed
-    → IsSorting names new
+    → new.stands.keys ≡ insert_key (on stand_of stand_cmp) old.stands.keys stand → ((k : ℕ) → get_or new.entered.items k
+    false ≡ true → (k ≡ stand.id.index) ⊎ (get_or old.entered.items k false ≡ true))
+    → stands_of (Some stand) ≡ kept_stand (slice_get names listed.id.index) listed → IsSorting names new
 sorting-more names old new stand listed s keys entered is k n at here l =
     let before : List StandingName = map stand_of old.stands.keys in
-    let more : map stand_of new.stands.keys ≡ insert_key stand_cmp before (stand_of stand) =
-    ap (map stand_of) keys ∙ inserted stand_of stand_cmp old.stands.keys stand in
+    let more : map stand_of new.stands.keys ≡ insert_key stand_cmp before (stand_of stand) = ap (map stand_of) keys
+    ∙ inserted stand_of stand_cmp old.stands.keys stand in
     let name : StandingName = record { kind = n.kind; text = n.text; listed = l } in
     subst (Holds stand_cmp name) (sym more) (elim (entered k at) [
-      | inl same ↦
-          let one : IsStand (slice_get names listed.id.index) listed (stand_of stand) =
-          stand-is (slice_get names listed.id.index) listed (stand_of stand) is in
-          let place : k ≡ listed.id.index = same ∙ ap (λ (t : StandingName). t.listed.id.index) one.is in
-          let which : one.name ≡ n =
-          some-same one.name n (sym one.here ∙ sym (ap (slice_get names) place) ∙ here) in
-          holds-like stand_cmp (stand_of stand) name (insert_key stand_cmp before (stand_of stand))
-          (λ other. ap (λ (t : StandingName). stand_cmp t other) one.is
-          ∙ ap (λ (m : SecName). stand_cmp (record { kind = m.kind; text = m.text; listed = l }) other) which)
-          (holds-new stand_cmp stand_cmp-total (stand_of stand) before)
+      | inl same ↦ let one : IsStand
+          (slice_get names listed.id.index) listed (stand_of stand) = stand-is (slice_get names listed.id.index) listed
+          (stand_of stand) is in let place : k ≡ listed.id.index = same ∙ ap (λ (t : StandingName). t.listed.id.index) one.is
+          in let which : one.name ≡ n = some-same one.name n (sym one.here ∙ sym (ap (slice_get names) place)
+          ∙ here) in holds-like stand_cmp (stand_of stand) name (insert_key stand_cmp before (stand_of stand))
+          (λ other. ap (λ (t : StandingName). stand_cmp t other) one.is ∙ ap (λ (m : SecName). stand_cmp (record
+          { kind = m.kind; text = m.text; listed = l }) other) which) (holds-new stand_cmp stand_cmp-total (stand_of stand)
+          before)
       | inr earlier ↦ holds-still stand_cmp stand_cmp-total name (stand_of stand) before (s k n earlier here l)
     ])

@@ -1,4 +1,5 @@
 -- The laws of the index and the section list: their order, their rows, and names that are whole.
+mod Terms
 mod ClassLaws
 mod OrderLaws
 mod OrderRows

@@ -1,29 +1,18 @@
 -- A section name that begins at a place is whole by itself.
-use Rattle.std.proofs.Common.{◌≡◌, ℕ, suc, ◌+◌, ◌-◌, ◌≤◌, Bool, true, false, ◌||◌, List, [], ◌∷◌, ◌++◌, length, take}
-use Rattle.std.proofs.Common.{drop, refl, sym, ap, subst, ◌∙◌, arith, length-drop}
-use Rattle.std.proofs.lemmas.List.{length-take, take_all}
-use Rattle.std.proofs.lemmas.Bool.Decides.{nat_tests}
-use Rattle.std.proofs.lemmas.Grind.{common_steps}
+use Rattle.cw_index.proofs.Terms.{◌||◌, ◌≡◌, ℕ, suc, ◌+◌, ◌-◌, ◌≤◌, Bool, true, false, List, [], ◌∷◌, ◌++◌, length}
+use Rattle.cw_index.proofs.Terms.{take, drop, refl, sym, ap, subst, ◌∙◌, arith, length-drop, length-take, take_all}
+use Rattle.cw_index.proofs.Terms.{nat_tests, common_steps, Code, Answer, Where, Found, note_answers, code_of}
+use Rattle.cw_index.proofs.Terms.{still_fresh, joined, answers, fresh_at, last_at, tokens_of, one, effect_in}
+use Rattle.cw_index.proofs.Terms.{section_name, is_name, code_by, found_apart, drop-part, all-taken, or-notes}
+use Rattle.cw_index.proofs.Terms.{name-kind, name-plain, IsWhole, name_span}
+use Rattle.cw_rules.specs.Bodies.{at_start, extent}
+use Rattle.cw_lex.specs.Nested.{begins_section_in}
+use Rattle.cw_rules.proofs.{CodeTwins.at-code, NameEnds.name-take, Sizes.extent-le}
+use Rattle.cw_phase1.specs.Sections.{span}
+use Rattle.cw_index.proofs.NameTokens.{BeginsName}
 use Rattle.cw_rules.specs.declared.bodies.Body.TheVariants as bodies
-use Rattle.cw_rules.specs.declared.codes.Code.{Code}
 use Rattle.cw_rules.specs.declared.parts.Part.TheVariants as parts
 use Rattle.cw_rules.specs.declared.tokens.Mode.TheVariants as modes
-use Rattle.cw_rules.specs.Answers.{Answer, Where, Found, note_answers}
-use Rattle.cw_rules.specs.Bodies.{at_start, extent}
-use Rattle.cw_rules.specs.Codes.{code_of}
-use Rattle.cw_lex.specs.Lexing.{still_fresh, joined, answers, fresh_at, last_at, tokens_of}
-use Rattle.cw_lex.specs.Nested.{begins_section_in}
-use Rattle.cw_rules.specs.Tokens.{one, effect_in, section_name, is_name, code_by}
-use Rattle.cw_rules.specs.Apart.{found_apart}
-use Rattle.cw_rules.proofs.CodeTwins.{at-code}
-use Rattle.cw_lex.proofs.Covering.{drop-part}
-use Rattle.cw_rules.proofs.NameEnds.{name-take}
-use Rattle.cw_lex.proofs.TexTexts.{all-taken, or-notes, name-kind, name-plain}
-use Rattle.cw_rules.proofs.Sizes.{extent-le}
-use Rattle.cw_phase1.specs.Sections.{span}
-use Rattle.cw_texpart.specs.TexParts.{IsWhole}
-use Rattle.cw_index.specs.NameList.{name_span}
-use Rattle.cw_index.proofs.NameTokens.{BeginsName}
 
 abbrev inner : Where
 inner = record { part = parts.Inner; comments = [] }
@@ -72,19 +61,17 @@ name-uncut d bs fresh last place n =
     omega (arith, name-take i bs refl, length-take (name_size place bs) bs, extent-le i bs) in
     let behind : begins_section_in last_bytes ≡ false =
     ap (λ m. begins_section_in (rest inner m)) size ∙ all-taken (d ∷ ls) inner (still_fresh fresh 64) 64 (place + 1) in
-    ap (λ (f : Found). begins_section_in (joined f rest)) (name-found d ls fresh last place n)
-    ∙ ap (λ b. b || begins_section_in (note_answers notes ++ last_bytes)) (name-kind (code_of d) n)
-    ∙ or-notes notes last_bytes behind
+    ap (λ (f : Found). begins_section_in (joined f rest)) (name-found d ls fresh last place n) ∙ ap (λ b. b ||
+    begins_section_in (note_answers notes ++ last_bytes)) (name-kind (code_of d) n) ∙ or-notes notes last_bytes behind
 
 -- a name in its text
 name-alone : (text : List ℕ) (start end : ℕ) (b : BeginsName text start)
     → end ≡ start + (2 + name_size start b.behind) → begins_section_in (tokens_of text start end modes.Inner) ≡ false
 name-alone text start end b e =
-    let here = b.here in
     let cut = take end text in
     let size : end - start ≡ suc (suc (name_size start b.behind)) = omega (arith, e) in
-    let part : drop start cut ≡ 64 ∷ b.next ∷ take (name_size start b.behind) b.behind =
-    drop-part text end start (omega (arith, e)) ∙ (λ i. take (size i) (here i)) in
+    let part : drop start cut ≡ 64 ∷ b.next ∷ take (name_size start b.behind) b.behind = drop-part text end start
+    (omega (arith, e)) ∙ (λ i. take (size i) (b.here i)) in
     ap (λ l. begins_section_in (answers l inner (fresh_at cut start) (last_at cut start) start 0)) part
     ∙ name-uncut b.next b.behind (fresh_at cut start) (last_at cut start) start b.name
 
@@ -93,8 +80,7 @@ begun-whole text place b =
     let k = name_size place b.behind in
     let fits : k ≤ length b.behind = extent-le (at_start bodies.SectionName (place + 2)) b.behind in
     let size : length text - place ≡ suc (suc (length b.behind)) = sym (length-drop place text) ∙ ap length b.here in
-    subst (IsWhole text) (sym (name-spans text place b))
-    (record {
+    subst (IsWhole text) (sym (name-spans text place b)) (record {
       order = omega arith;
       within = omega (arith, fits, size);
       uncut = name-alone text place (place + (2 + k)) b refl;

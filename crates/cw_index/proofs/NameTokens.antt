@@ -1,24 +1,14 @@
 -- Each section name among the answers of a text stands where the bytes begin one.
-use Rattle.std.proofs.Common.{◌≡◌, ℕ, zero, suc, ◌+◌, ◌-◌, Bool, true, false, ◌&&◌, ◌==◌, List, [], ◌∷◌, ◌++◌, length}
-use Rattle.std.proofs.Common.{drop, refl, sym, ap, subst, ◌∙◌, arith, append_assoc, append-nil}
-use Rattle.std.specs.Prelude.{if◌then◌else◌}
-use Rattle.std.proofs.lemmas.List.{take_all}
-use Rattle.cw_rules.specs.declared.codes.Code.{Code}
-use Rattle.cw_rules.specs.declared.tokens.Mode.{Mode}
-use Rattle.cw_rules.specs.declared.tokens.TokKind.{TokKind}
-use Rattle.cw_rules.specs.Answers.{Answer, Token, Begin, Finish, Note, Where, Found}
-use Rattle.cw_rules.specs.Bytes.{at_sign}
-use Rattle.cw_rules.specs.Codes.{code_of, code_at, is_section, begins_section}
-use Rattle.cw_lex.specs.Lexing.{still_fresh, answers, tokens_of}
-use Rattle.cw_lex.specs.Limbo.{is_name_kind}
-use Rattle.cw_lex.proofs.TexTexts.{name-plain}
+use Rattle.cw_index.proofs.Terms.{◌≡◌, ℕ, zero, suc, ◌+◌, ◌-◌, Bool, true, false, ◌&&◌, ◌==◌, List, [], ◌∷◌, ◌++◌}
+use Rattle.cw_index.proofs.Terms.{length, drop, refl, sym, ap, subst, ◌∙◌, arith, append_assoc, append-nil}
+use Rattle.cw_index.proofs.Terms.{if◌then◌else◌, take_all, Code, TokKind, Answer, Token, Begin, Finish, Note, Where}
+use Rattle.cw_index.proofs.Terms.{Found, code_of, code_at, is_section, begins_section, still_fresh, answers, tokens_of}
+use Rattle.cw_index.proofs.Terms.{is_name_kind, name-plain, drop-on, all_cut, is_name, section, section_code}
+use Rattle.cw_index.proofs.Terms.{found_apart, in_text_apart, not-both}
+use Rattle.cw_rules.specs.{declared.tokens.Mode.Mode, Bytes.at_sign}
 use Rattle.cw_lex.proofs.FirstTokens.{bare-code}
-use Rattle.cw_lex.proofs.Covering.{drop-on}
-use Rattle.cw_rules.specs.Tokens.{all_cut, is_name, section, section_code}
-use Rattle.cw_rules.specs.Apart.{found_apart, in_text_apart}
 use Rattle.cw_rules.proofs.Choices.{if-both}
 use Rattle.cw_rules.proofs.CodeStarts.{kind_code, code_in, is_opener, in-text-tells}
-use Rattle.cw_base.proofs.TestLaws.{not-both}
 use Rattle.cw_rules.proofs.Taking.{AreBare, AreNotes, TakesAll, bare-all-cut, found-takes}
 
 -- A section name begins at a place of a text.
@@ -48,8 +38,7 @@ kind-name k h = grind arith
 section-kind : (bytes : List ℕ) → is_section (kind_code (section_code bytes).kind) ≡ true
 section-kind bytes = grind (arith, if-both, kind_code)
 
-section-found : (w : Where) (place : ℕ) (bytes : List ℕ)
-    → is_section (code_in (section w place bytes).answers) ≡ true
+section-found : (w : Where) (place : ℕ) (bytes : List ℕ) → is_section (code_in (section w place bytes).answers) ≡ true
 section-found w place bytes = grind (arith, bare-code, bare-all-cut, section-kind)
 
 -- The first byte is that of codes, and the others tell this code.
@@ -99,15 +88,12 @@ notes-names _ _ _ h _ = absurd h
 
 -- what takes the bytes at a place
 taken-names : (text : List ℕ) (place byte : ℕ) (bytes : List ℕ) (more : ℕ) (xs ys : List Answer)
-    → drop place text ≡ byte ∷ bytes → TakesAll place (byte ∷ bytes) more xs
-    → ((c : Code) → code_in xs ≡ c → is_name c ≡ true → TellsCode byte bytes c)
-    → HaveNames text ys → HaveNames text (xs ++ ys)
+    → drop place text ≡ byte ∷ bytes → TakesAll place (byte ∷ bytes) more xs → ((c : Code) → code_in xs ≡ c → is_name c
+    ≡ true → TellsCode byte bytes c) → HaveNames text ys → HaveNames text (xs ++ ys)
 taken-names text place byte bytes more [] ys here h told g = g
 taken-names text place byte bytes more (Token t ∷ xs) ys here h told g = (
-  λ k.
-      let n = kind-name t.kind k in
-      let begun = name-begins text place byte bytes (kind_code t.kind) here n (told (kind_code t.kind) refl n) in
-      subst (BeginsName text) (sym h.0.from) begun,
+  λ k. let n = kind-name t.kind k in let begun = name-begins text place byte bytes (kind_code t.kind) here n
+      (told (kind_code t.kind) refl n) in subst (BeginsName text) (sym h.0.from) begun,
   notes-names text xs ys h.1 g,
 )
 taken-names text place byte bytes more (Begin t ∷ xs) ys here h told g = notes-names text xs ys h.1 g
@@ -122,9 +108,8 @@ found-names text w fresh last place byte bytes ys here g =
     let t = found-takes w fresh last place byte bytes in
     let code : code_in f.answers ≡ code_in t.rest = ap code_in t.split ∙ bare-code place t.first t.rest t.bare in
     subst (HaveNames text) (sym (ap (λ l. l ++ ys) t.split ∙ append_assoc t.first t.rest ys))
-    (bare-names text place t.first (t.rest ++ ys) t.bare
-    (taken-names text place byte bytes f.more t.rest ys here t.whole
-    (λ c is n. found-tells w fresh last place byte bytes c (code ∙ is) n) g))
+    (bare-names text place t.first (t.rest ++ ys) t.bare (taken-names text place byte bytes f.more t.rest ys here
+    t.whole (λ c is n. found-tells w fresh last place byte bytes c (code ∙ is) n) g))
 
 answers-names : (text bytes : List ℕ) (w : Where) (fresh : Bool) (last place taken : ℕ) → drop place text ≡ bytes
     → HaveNames text (answers bytes w fresh last place taken)
@@ -134,14 +119,11 @@ answers-names text [] w fresh last place taken here =
     (bare-names text place cut [] (bare-all-cut w.part w.comments place (place - 1)) tt)
 answers-names text (byte ∷ bytes) w fresh last place zero here =
     let f = found_apart w fresh last place byte bytes in
-    let on = drop-on text place byte bytes here in
-    found-names text w fresh last place byte bytes _ here
-    (answers-names text bytes f.next (still_fresh fresh byte) byte (place + 1) f.more on)
+    found-names text w fresh last place byte bytes _ here (answers-names text bytes f.next (still_fresh fresh byte) byte
+    (place + 1) f.more (drop-on text place byte bytes here))
 answers-names text (byte ∷ bytes) w fresh last place (suc taken) here =
-    let on = drop-on text place byte bytes here in
-    answers-names text bytes w (still_fresh fresh byte) byte (place + 1) taken on
+    answers-names text bytes w (still_fresh fresh byte) byte (place + 1) taken (drop-on text place byte bytes here)
 
 -- the answers over a text from a place on
-pub text-names : (text : List ℕ) (place : ℕ) (mode : Mode)
-    → HaveNames text (tokens_of text place (length text) mode)
+pub text-names : (text : List ℕ) (place : ℕ) (mode : Mode) → HaveNames text (tokens_of text place (length text) mode)
 text-names text place mode = grind (arith, take_all, answers-names)

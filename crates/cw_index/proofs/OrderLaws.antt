@@ -1,11 +1,7 @@
 -- Texts are compared byte by byte.
-use Rattle.std.proofs.Common.{◌≡◌, ℕ, ◌+◌, ◌-◌, ◌<◌, ◌≤◌, true, false, refl, List, [], ◌∷◌, length, drop, arith}
-use Rattle.std.proofs.lemmas.Bool.Decides.{nat_tests}
-use Rattle.std.proofs.lemmas.List.{drop_all, drop_more, length-drop}
-use Rattle.std.specs.Prelude.{slice_index}
-use Rattle.std.specs.declared.cmp.Ordering.{Ordering}
-use Rattle.std.specs.Ordering.{is_ne, nat_cmp, ordering_then}
-use Rattle.cw_index.specs.Collation.{class_of, class_cmp, classes_cmp}
+use Rattle.cw_index.proofs.Terms.{◌≡◌, ℕ, ◌+◌, ◌-◌, ◌<◌, ◌≤◌, true, false, refl, List, [], ◌∷◌, length, drop, arith}
+use Rattle.cw_index.proofs.Terms.{nat_tests, drop_all, drop_more, length-drop, slice_index, Ordering, is_ne, nat_cmp}
+use Rattle.cw_index.proofs.Terms.{ordering_then, class_of, class_cmp, classes_cmp}
 
 -- An answer decides where it isn't Equal, and else the rest does.
 then-ne : (o rest : Ordering) → is_ne o ≡ true → ordering_then o rest ≡ o
@@ -30,8 +26,7 @@ pub from-decided : (i : ℕ) (xs ys : List ℕ) (o : Ordering) → i < length xs
 from-decided i xs ys o first second is ne = grind (arith, then-ne, from-more)
 
 pub from-next : (i : ℕ) (xs ys : List ℕ) (o : Ordering) → i < length xs → i < length ys → o ≡ at i xs ys
-    → is_ne o ≡ false
-    → from (i + 1) xs ys ≡ from i xs ys
+    → is_ne o ≡ false → from (i + 1) xs ys ≡ from i xs ys
 from-next i xs ys o first second is eq = grind (arith, then-eq, from-more)
 
 -- Where one text has ended the lengths decide.

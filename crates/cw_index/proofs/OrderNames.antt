@@ -1,11 +1,6 @@
 -- The names of headings, one behind the other.
-use Rattle.std.proofs.Common.{◌≡◌, ℕ, ◌<◌, List, [], ◌∷◌, ◌++◌, append_assoc, length, map, arith}
-use Rattle.std.proofs.lemmas.List.{map-append}
-use Rattle.std.proofs.lemmas.Option.{slice_get_within}
-use Rattle.cw_names.specs.Names.{Entry}
-use Rattle.cw_names.specs.declared.entry.NameId.{NameId}
-use Rattle.cw_index.specs.declared.heading.Heading.{Heading}
-use Rattle.cw_index.specs.Headings.{IsNamed, entry_of, row_of}
+use Rattle.cw_index.proofs.Terms.{◌≡◌, ℕ, ◌<◌, List, [], ◌∷◌, ◌++◌, append_assoc, length, map, arith, map-append}
+use Rattle.cw_index.proofs.Terms.{slice_get_within, Entry, NameId, Heading, IsNamed, entry_of, row_of}
 
 -- the names so far, and those of the headings that are still to come
 abbrev pub names_with : List NameId → List Heading → List ℕ

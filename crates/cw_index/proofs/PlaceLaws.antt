@@ -1,9 +1,6 @@
 -- A name that is whole stands in the text.
-use Rattle.std.proofs.Common.{◌≡◌, ℕ, ◌≤◌, List, length, arith}
+use Rattle.cw_index.proofs.Terms.{◌≡◌, ℕ, ◌≤◌, List, length, arith, drop_all, take_all, Listed, IsWholeName, name_span}
 use Rattle.std.proofs.lemmas.Bool.{cases_lt}
-use Rattle.std.proofs.lemmas.List.{drop_all, take_all}
-use Rattle.cw_index.specs.declared.standing.Listed.{Listed}
-use Rattle.cw_index.specs.NameList.{IsWholeName, name_span}
 
 -- behind a text no name begins
 behind-end : (text : List ℕ) (place : ℕ) → length text ≤ place → (name_span text place).«end» ≡ place

@@ -1,12 +1,7 @@
 -- Bytes are printed piece by piece.
-use Rattle.std.proofs.Common.{◌≡◌, ℕ, sym, ap, ◌∙◌, List, ◌++◌, append_assoc, arith}
-use Rattle.std.specs.Prelude.{Result, Ok, Err, IsErrAnd}
-use Rattle.std.proofs.lemmas.List.{append-nil}
-use Rattle.cw_part.proofs.PrintLaws.{Printing}
-use Rattle.cw_desk.specs.Told.{Told}
-use Rattle.cw_lines.specs.SheetLaws.{prints-bytes, prints-none, prints-stop, prints-then}
-use Rattle.cw_lines.specs.Sheets.{Prints}
-use Rattle.cw_lines.specs.declared.put_error.PutError.{PutError}
+use Rattle.cw_index.proofs.Terms.{◌≡◌, ℕ, sym, ap, ◌∙◌, List, ◌++◌, append_assoc, arith, Result, Ok, Err, IsErrAnd}
+use Rattle.cw_index.proofs.Terms.{append-nil, Printing, Told, prints-bytes, prints-none, prints-stop, prints-then}
+use Rattle.cw_index.proofs.Terms.{Prints, PutError}
 use Rattle.cw_lines.specs.declared.sheet.Sheet.{Sheet}
 
 -- the same bytes, by a call that gives another value
@@ -21,9 +16,8 @@ printing-next xs ys p prints =
     grind (arith, print-giving (tt {0}) (prints-then p.put prints), prints-then p.put prints, append_assoc p.done xs ys)
 
 pub printing-stop : {D T U : Type 0} {told : D → Told} (xs ys : List ℕ) {all : List ℕ} {old mid new : Sheet D}
-    {error : PutError} {result : Result U PutError} → Printing told (xs ++ ys) all old mid
-    → Prints {T = T} told xs mid new (Err error) → IsErrAnd result (λ found. found ≡ error)
-    → Prints told all old new result
+    {error : PutError} {result : Result U PutError} → Printing told (xs ++ ys) all old mid → Prints {T = T} told xs mid
+    new (Err error) → IsErrAnd result (λ found. found ≡ error) → Prints told all old new result
 printing-stop xs ys p prints is =
     prints-bytes (append_assoc p.done xs ys ∙ p.goes) (prints-stop ys (prints-then p.put prints) is)
 

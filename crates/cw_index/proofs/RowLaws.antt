@@ -1,24 +1,13 @@
 -- The rows of the names are entered one after another.
-use Rattle.std.proofs.Common.{◌≡◌, ℕ, ◌+◌, Bool, true, refl, sym, ap, ◌∙◌, subst, List, [], ◌∷◌, All, Some, drop, map}
-use Rattle.std.proofs.Common.{fold, arith}
-use Rattle.std.specs.Prelude.{slice_get}
-use Rattle.std.proofs.lemmas.List.{drop_more}
-use Rattle.std.proofs.lemmas.Option.{get_or_from_slice_get, slice_get_within}
-use Rattle.std.proofs.lemmas.Map.Views.{All-insert_key}
-use Rattle.std.specs.BTreeSet.{insert_key}
-use Rattle.std.specs.declared.cmp.Ordering.{Ordering}
-use Rattle.std.specs.Ordering.{match_ordering, on}
-use Rattle.cw_names.specs.declared.xrefs.Occurrence.{Occurrence}
-use Rattle.cw_names.specs.Names.{Entry}
-use Rattle.cw_index.specs.declared.heading.Heading.{Heading}
-use Rattle.cw_index.specs.Collation.{entry_cmp}
-use Rattle.cw_index.specs.Headings.{IsNamed, entered, entered_by, entry_of, row_of}
-use Rattle.cw_index.specs.Mentions.{Row, has_sections, row, row_cmp, rows_from, with_row}
+use Rattle.cw_index.proofs.Terms.{◌≡◌, ℕ, ◌+◌, Bool, true, refl, ap, ◌∙◌, List, [], ◌∷◌, All, Some, drop, map, fold}
+use Rattle.cw_index.proofs.Terms.{arith, slice_get, drop_more, get_or_from_slice_get, slice_get_within, All-insert_key}
+use Rattle.cw_index.proofs.Terms.{insert_key, Ordering, match_ordering, on, Occurrence, Entry, Heading, entry_cmp}
+use Rattle.cw_index.proofs.Terms.{IsNamed, entered, entered_by, entry_of, row_of, Row, has_sections, row, row_cmp}
+use Rattle.cw_index.proofs.Terms.{rows_from, with_row}
 
 -- What keys are mapped to is in the same order.
-inserted-by : {X Y : Type 0} (f : X → Y) (o : Ordering) (k x : X) (xs ys : List X)
-    → map f (match_ordering o (k ∷ x ∷ xs) (x ∷ xs) (x ∷ ys))
-    ≡ match_ordering o (f k ∷ f x ∷ map f xs) (f x ∷ map f xs) (f x ∷ map f ys)
+inserted-by : {X Y : Type 0} (f : X → Y) (o : Ordering) (k x : X) (xs ys : List X) → map f (match_ordering o
+    (k ∷ x ∷ xs) (x ∷ xs) (x ∷ ys)) ≡ match_ordering o (f k ∷ f x ∷ map f xs) (f x ∷ map f xs) (f x ∷ map f ys)
 inserted-by f o k x xs ys = grind arith
 
 pub inserted : {X Y : Type 0} (f : X → Y) (order : Y → Y → Ordering) (xs : List X) (k : X)
@@ -50,11 +39,9 @@ pub entered-listed : (h : Heading) (old new : List Heading) → has_sections (ro
     → new ≡ insert_key (on entry_of entry_cmp) old h → map row_of new ≡ entered (row_of h) (map row_of old)
 entered-listed h old new listed is = grind (arith, inserted row_of row_cmp old h)
 
-pub named-more : (names : List Entry) (h : Heading) (old new : List Heading)
-    → new ≡ insert_key (on entry_of entry_cmp) old h
-    → All (IsNamed names) old → IsNamed names h → All (IsNamed names) new
-named-more names h old new is all one =
-    subst (All (IsNamed names)) (sym is) (All-insert_key (on entry_of entry_cmp) h (IsNamed names) old all one)
+pub named-more : (names : List Entry) (h : Heading) (old new : List Heading) → new
+    ≡ insert_key (on entry_of entry_cmp) old h → All (IsNamed names) old → IsNamed names h → All (IsNamed names) new
+named-more names h old new is all one = rw is (All-insert_key (on entry_of entry_cmp) h (IsNamed names) old all one)
 
 pub drop-at : {X : Type 0} (xs : List X) (i : ℕ) (x : X) → slice_get xs i ≡ Some x → drop i xs ≡ x ∷ drop (i + 1) xs
 drop-at xs i x here = drop_more xs i x (slice_get_within xs i x here)

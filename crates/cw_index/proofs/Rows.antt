@@ -1,33 +1,24 @@
 -- Worked rows: lines of the index, and the closing lines.
-use Rattle.std.proofs.Common.{◌≡◌, ℕ, Bool, true, false, List, [], ◌∷◌, ◌++◌, None, codes, refl}
+use Rattle.cw_index.proofs.Terms.{◌≡◌, ℕ, Bool, true, false, List, [], ◌∷◌, ◌++◌, None, codes, refl, Exp, RawInt}
+use Rattle.cw_index.proofs.Terms.{EntryKind, Ident, Roman, Typewriter, User, Occurrence, Entry, Section, entry_bytes}
+use Rattle.cw_index.proofs.Terms.{index_bytes, closing_lines}
 use Rattle.std.specs.Fmt.{digits}
-use Rattle.cw_base.specs.declared.category.Cat.TheVariants.{Exp, RawInt}
-use Rattle.cw_names.specs.declared.entry.EntryKind.{EntryKind}
-use Rattle.cw_names.specs.declared.entry.EntryKind.TheVariants.{Ident, Roman, Typewriter, User}
-use Rattle.cw_names.specs.declared.xrefs.Occurrence.{Occurrence}
-use Rattle.cw_names.specs.Names.{Entry}
 use Rattle.cw_names.specs.Words.{built_in_words}
 use Rattle.cw_phase1.specs.declared.sections.Depth.TheVariants.{Zero}
-use Rattle.cw_phase1.specs.declared.sections.Section.{Section}
-use Rattle.cw_index.specs.Index.{entry_bytes, index_bytes}
 use Rattle.cw_base.specs.Flags.{start_flags}
-use Rattle.cw_index.specs.Closing.{closing_lines}
 
 abbrev entry : EntryKind → List ℕ → Entry
 entry kind text = record { kind = kind; text = text; category = Exp }
 
 -- ## The index
 
-reserved_row : entry_bytes (record { kind = Ident; text = codes "i_o"; category = RawInt }) ≡ codes "\\&{i\\_o}"
-reserved_row = refl
-
-capitals_row : entry_bytes (entry Ident (codes "EOF")) ≡ codes "\\.{EOF}"
-capitals_row = refl
+word_rows : (entry_bytes (record { kind = Ident; text = codes "i_o"; category = RawInt }) ≡ codes "\\&{i\\_o}")
+    × (entry_bytes (entry Ident (codes "EOF")) ≡ codes "\\.{EOF}")
+word_rows = (refl, refl)
 
 -- Texts of index codes are TeX's: they stay as they are.
-codes_row : entry_bytes (entry Roman (codes "$x_1$"))
-    ++ (entry_bytes (entry Typewriter (codes "a_b")) ++ entry_bytes (entry User (codes "z")))
-    ≡ codes "{$x_1$}\\.{a_b}\\9{z}"
+codes_row : entry_bytes (entry Roman (codes "$x_1$")) ++ (entry_bytes (entry Typewriter (codes "a_b")) ++ entry_bytes
+    (entry User (codes "z"))) ≡ codes "{$x_1$}\\.{a_b}\\9{z}"
 codes_row = refl
 
 abbrev at : ℕ → ℕ → Occurrence
@@ -56,15 +47,13 @@ index entries occurrences = index_bytes three (built_in_words ++ entries) occurr
 
 -- Sections ascend, each once, whatever the order of the occurrences; a changed one has its mark.
 sections_row : index (entry Ident (codes "main") ∷ [])
-    (at 102 3 ∷ at 102 1 ∷ at 102 3 ∷ defined_at 102 2 ∷ at 102 2 ∷ [])
-    ≡ codes "\\I\\\\{main}, 1, \\[2\\*], 3.\n"
+    (at 102 3 ∷ at 102 1 ∷ at 102 3 ∷ defined_at 102 2 ∷ at 102 2 ∷ []) ≡ codes "\\I\\\\{main}, 1, \\[2\\*], 3.\n"
 unfolding digits
 sections_row = refl
 
 -- An identifier of one byte has only the sections in which it is underlined; so has a built-in word, here `int`.
-one_byte_row : index (entry Ident (codes "i") ∷ [])
-    (at 102 1 ∷ defined_at 102 2 ∷ at 102 3 ∷ at 3 1 ∷ defined_at 3 3 ∷ [])
-    ≡ codes "\\I\\|i, \\[2\\*].\n\\I\\&{int}, \\[3].\n"
+one_byte_row : index (entry Ident (codes "i") ∷ []) (at 102 1 ∷ defined_at 102 2 ∷ at 102 3 ∷ at 3 1 ∷ defined_at 3 3
+    ∷ []) ≡ codes "\\I\\|i, \\[2\\*].\n\\I\\&{int}, \\[3].\n"
 unfolding digits
 one_byte_row = refl
 
@@ -74,29 +63,22 @@ unfolding digits
 one_byte_code_row = refl
 
 -- Entries stand in their order, and one without sections is left out.
-entries_row : index
-    (entry Ident (codes "x1") ∷ entry Ident (codes "xa") ∷ entry Typewriter (codes "Xa") ∷ entry Ident
-    (codes "q") ∷ entry Roman (codes "xa") ∷ [])
-    (at 102 1 ∷ at 103 1 ∷ at 104 1 ∷ at 105 1 ∷ at 106 1 ∷ [])
+entries_row : index (entry Ident (codes "x1") ∷ entry Ident (codes "xa") ∷ entry Typewriter (codes "Xa") ∷ entry Ident
+    (codes "q") ∷ entry Roman (codes "xa") ∷ []) (at 102 1 ∷ at 103 1 ∷ at 104 1 ∷ at 105 1 ∷ at 106 1 ∷ [])
     ≡ codes "\\I\\.{Xa}, 1.\n\\I\\\\{xa}, 1.\n\\I{xa}, 1.\n\\I\\\\{x1}, 1.\n"
 unfolding digits
 entries_row = refl
 
 -- ## The closing lines
 
-contents_row : closing_lines start_flags three ≡ codes "\\inx\n\\fin\n\\con\n"
-contents_row = refl
-
-end_row : closing_lines start_flags (section false false ∷ []) ≡ codes "\\inx\n\\fin\n\\end\n"
-end_row = refl
-
-no_index_row : closing_lines (record start_flags { index = false }) three ≡ codes "\\end\n"
-no_index_row = refl
+closing_rows : (closing_lines start_flags three ≡ codes "\\inx\n\\fin\n\\con\n")
+    × (closing_lines start_flags (section false false ∷ []) ≡ codes "\\inx\n\\fin\n\\end\n")
+    × (closing_lines (record start_flags { index = false }) three ≡ codes "\\end\n")
+closing_rows = (refl, refl, refl)
 
 -- With flag r the changed sections are listed before the index.
-changes_row : closing_lines (record start_flags { ranged = true })
-    (section false true ∷ section false false ∷ section false true ∷ [])
-    ≡ codes "\\ch 1\\*, 3\\*.\n\\inx\n\\fin\n\\end\n"
+changes_row : closing_lines (record start_flags { ranged = true }) (section false true ∷ section false false ∷ section
+    false true ∷ []) ≡ codes "\\ch 1\\*, 3\\*.\n\\inx\n\\fin\n\\end\n"
 unfolding digits
 changes_row = refl
 

@@ -1,12 +1,7 @@
 -- The sections that are listed are printed one after another.
-use Rattle.std.proofs.Common.{◌≡◌, ℕ, ◌+◌, ◌<◌, Bool, true, false, refl, List, [], ◌∷◌, ◌++◌, drop, length, arith}
-use Rattle.std.specs.Prelude.{slice_index_or}
-use Rattle.std.specs.List.{flat_map}
-use Rattle.std.proofs.lemmas.Grind.{flat_map-append}
-use Rattle.std.proofs.lemmas.List.{append-nil, drop_more}
-use Rattle.std.proofs.lemmas.List.Elements.{filter-append}
-use Rattle.cw_names.specs.declared.xrefs.SectionRef.{SectionRef}
-use Rattle.cw_index.specs.Mentions.{is_listed, listed}
+use Rattle.cw_index.proofs.Terms.{◌≡◌, ℕ, ◌+◌, ◌<◌, Bool, true, false, refl, List, [], ◌∷◌, ◌++◌, drop, length, arith}
+use Rattle.cw_index.proofs.Terms.{slice_index_or, flat_map, flat_map-append, append-nil, drop_more, filter-append}
+use Rattle.cw_index.proofs.Terms.{SectionRef, is_listed, listed}
 
 -- what the sections of a list print, of those that are listed
 abbrev pub listed_bytes : (SectionRef → List ℕ) → Bool → List SectionRef → List ℕ
@@ -17,8 +12,7 @@ printed-append : (f : SectionRef → List ℕ) (only : Bool) (xs ys : List Secti
 printed-append f only xs ys = grind (arith, filter-append, flat_map-append)
 
 pub printed-more : (f : SectionRef → List ℕ) (only : Bool) (ms : List SectionRef) (i : ℕ) (d : SectionRef)
-    → i < length ms
-    → listed_bytes f only (drop i ms) ≡ listed_bytes f only (slice_index_or ms i d ∷ [])
+    → i < length ms → listed_bytes f only (drop i ms) ≡ listed_bytes f only (slice_index_or ms i d ∷ [])
     ++ listed_bytes f only (drop (i + 1) ms)
 printed-more f only ms i d within =
     grind (arith, drop_more ms i d within, printed-append f only (slice_index_or ms i d ∷ []) (drop (i + 1) ms))

@@ -1,15 +1,8 @@
 -- The names for which section names stand are sorted one after another.
-use Rattle.std.proofs.Common.{◌≡◌, ℕ, ◌+◌, ap, ◌∙◌, List, ◌++◌, Some, drop, map, arith}
-use Rattle.std.specs.Prelude.{slice_get}
-use Rattle.std.specs.Ordering.{on}
-use Rattle.std.specs.BTreeSet.{insert_key}
+use Rattle.cw_index.proofs.Terms.{◌≡◌, ℕ, ◌+◌, ap, ◌∙◌, List, ◌++◌, Some, drop, map, arith, slice_get, on, insert_key}
+use Rattle.cw_index.proofs.Terms.{SecName, NameUse, Standing, sorted_on, StandingName, named_stands, stand_at}
+use Rattle.cw_index.proofs.Terms.{stand_cmp, stand_of, stands_of}
 use Rattle.std.proofs.lemmas.List.Sums.{fold-append}
-use Rattle.cw_secnames.specs.Kept.{SecName}
-use Rattle.cw_secnames.specs.Uses.{NameUse}
-use Rattle.cw_index.specs.declared.standing.Standing.{Standing}
-use Rattle.cw_index.specs.Sorted.{sorted_on}
-use Rattle.cw_index.specs.Standing.{StandingName, named_stands, stand_at, stand_cmp}
-use Rattle.cw_index.specs.StandingForms.{stand_of, stands_of}
 use Rattle.cw_index.proofs.RowLaws.{drop-at, inserted}
 
 -- The names so far, with those that are still to come, are all.

@@ -1,30 +1,19 @@
 -- The names of a section list are whole.
-use Rattle.std.proofs.Common.{arith, ◌≡◌, ℕ, Bool, true, false, List, [], ◌∷◌, ◌++◌, All, Option, None}
-use Rattle.std.specs.Prelude.{slice_get}
-use Rattle.std.specs.BTreeSet.{insert_key}
-use Rattle.std.proofs.lemmas.List.Elements.{All-append, All-head, All-map, All-nil, All-tail}
-use Rattle.std.proofs.lemmas.Map.Views.{All-insert_key}
+use Rattle.cw_index.proofs.Terms.{arith, ◌≡◌, ℕ, Bool, true, false, List, [], ◌∷◌, ◌++◌, All, Option, None, slice_get}
+use Rattle.cw_index.proofs.Terms.{insert_key, All-append, All-head, All-map, All-nil, All-tail, All-insert_key, TokKind}
+use Rattle.cw_index.proofs.Terms.{Answer, Token, Begin, Finish, Note, Seen, has_sign, is_name_kind, SecName, id}
+use Rattle.cw_index.proofs.Terms.{NameUse, Listed, IsWholeName, sorted_on, StandingName, kept_stand, named_stands}
+use Rattle.cw_index.proofs.Terms.{stand_at, stand_by, stand_cmp}
 use Rattle.cw_base.specs.Web.{text_of}
-use Rattle.cw_rules.specs.declared.tokens.Mode.TheVariants as modes
-use Rattle.cw_rules.specs.declared.tokens.TokKind.{TokKind}
-use Rattle.cw_rules.specs.Answers.{Answer, Token, Begin, Finish, Note, Seen, has_sign}
-use Rattle.cw_lex.specs.Limbo.{is_name_kind}
-use Rattle.cw_phase1.specs.declared.roles.Standing.{Standing}
-use Rattle.cw_phase1.specs.Book.{answers_of, book}
-use Rattle.cw_phase1.specs.Entering.{entered_name, kept_behind}
+use Rattle.cw_phase1.specs.{declared.roles.Standing.Standing, Book.answers_of, Book.book, Entering.entered_name}
+use Rattle.cw_phase1.specs.{Entering.kept_behind, Uses.use_by, Uses.uses_of}
 use Rattle.cw_phase1.specs.Roles.{at_limbo, behind_begin, placed_from, token_step}
-use Rattle.cw_phase1.specs.Uses.{use_by, uses_of}
 use Rattle.cw_phase1.proofs.Passing.{void-by}
 use Rattle.cw_secnames.specs.declared.kinds.SecId.{SecId}
-use Rattle.cw_secnames.specs.Kept.{SecName, id}
-use Rattle.cw_secnames.specs.Uses.{NameUse}
-use Rattle.cw_index.specs.declared.standing.Listed.{Listed}
-use Rattle.cw_index.specs.NameList.{IsWholeName}
-use Rattle.cw_index.specs.Sorted.{sorted_on}
-use Rattle.cw_index.specs.Standing.{StandingName, kept_stand, named_stands, stand_at, stand_by, stand_cmp}
 use Rattle.cw_index.specs.WholeNames.{NamesAreWhole}
 use Rattle.cw_index.proofs.NameSpans.{begun-whole}
 use Rattle.cw_index.proofs.NameTokens.{BeginsName, HaveNames, text-names}
+use Rattle.cw_rules.specs.declared.tokens.Mode.TheVariants as modes
 
 -- ## Where the names of a book stand
 
@@ -61,8 +50,7 @@ by-reference : (text : List ℕ) (t : Bool) (n : SecName) (l : Listed) → IsWho
     → All (Whole text) (stand_by t n l)
 by-reference text t n l whole = grind arith
 
-by-kept : (text : List ℕ) (n : Option SecName) (l : Listed) → IsWholeName text l
-    → All (Whole text) (kept_stand n l)
+by-kept : (text : List ℕ) (n : Option SecName) (l : Listed) → IsWholeName text l → All (Whole text) (kept_stand n l)
 by-kept text n l whole = grind (arith, by-reference)
 
 stands-whole : (text : List ℕ) (kept : List SecName) (uses : List NameUse) → NamesBegin text uses
@@ -76,18 +64,15 @@ stands-whole text kept (u ∷ uses) h =
 sorted-whole : (text : List ℕ) (xs stands : List StandingName) → All (Whole text) stands → All (Whole text) xs
     → All (Whole text) (sorted_on stand_cmp stands xs)
 sorted-whole text [] stands all more = all
-sorted-whole text (x ∷ xs) stands all more =
-    sorted-whole text xs (insert_key stand_cmp stands x)
-    (All-insert_key stand_cmp x (Whole text) stands all (All-head (Whole text) x xs more))
-    (All-tail (Whole text) x xs more)
+sorted-whole text (x ∷ xs) stands all more = sorted-whole text xs (insert_key stand_cmp stands x) (All-insert_key
+    stand_cmp x (Whole text) stands all (All-head (Whole text) x xs more)) (All-tail (Whole text) x xs more)
 
 pub names-whole : NamesAreWhole
 names-whole lines =
     let text = text_of lines in
     let kept = (book lines).sec_names in
     let uses = (book lines).name_uses in
-    let begin : NamesBegin text uses =
-    uses-begin text at_limbo [] (answers_of lines) (text-names text 0 modes.Limbo) in
+    let begin : NamesBegin text uses = uses-begin text at_limbo [] (answers_of lines) (text-names text 0 modes.Limbo) in
     let stands = named_stands kept uses in
     All-map (IsWholeName text) (λ (s : StandingName). s.listed) (sorted_on stand_cmp [] stands)
     (sorted-whole text stands [] (All-nil (Whole text)) (stands-whole text kept uses begin))

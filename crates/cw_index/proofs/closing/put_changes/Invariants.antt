@@ -1,12 +1,8 @@
 -- The changed sections so far are put, and those that are left follow.
-use Rattle.std.proofs.Common.{◌+◌, drop}
-use Rattle.cw_index.specs.Closing.{changed_from, printed_changes}
+use Rattle.cw_index.proofs.Terms.{◌+◌, drop, changed_from, printed_changes, Printing}
 use Rattle.cw_index.proofs.ClosingLaws.{changes_left}
-use Rattle.cw_part.proofs.PrintLaws.{Printing}
 use Rattle.cw_index.proofs.closing.put_changes.Given as goal
 
 abbrev pub invariant-loop-before : goal.invariant-loop-before
-invariant-loop-before g l =
-    Printing g.D.Desk.told (changes_left l.first (changed_from (l.before + 1) (drop l.before l.book.outline.sections)))
-    (printed_changes (changed_from 1 l.book.outline.sections))
-    l.fn.sheet l.sheet
+invariant-loop-before g l = Printing g.D.Desk.told (changes_left l.first (changed_from (l.before + 1) (drop l.before
+    l.book.outline.sections))) (printed_changes (changed_from 1 l.book.outline.sections)) l.fn.sheet l.sheet

@@ -1,6 +1,5 @@
 -- `class_of`: answer on one of its ways; said here, so that a wrong one fails at once.
-use Rattle.std.proofs.Common.{arith}
-use Rattle.std.proofs.lemmas.Grind.{common_steps}
+use Rattle.cw_index.proofs.Terms.{arith, common_steps}
 use Rattle.cw_index.proofs.collation.class_of.Goals as goal
 
 pub returns-in-65-to-90 : goal.returns-in-65-to-90

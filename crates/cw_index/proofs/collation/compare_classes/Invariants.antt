@@ -1,6 +1,5 @@
 -- The bytes so far are of the same classes: what is behind them decides.
-use Rattle.std.proofs.Common.{length, ◌-◌, ◌≡◌, ◌≤◌, drop}
-use Rattle.cw_index.specs.Collation.{classes_cmp}
+use Rattle.cw_index.proofs.Terms.{length, ◌-◌, ◌≡◌, ◌≤◌, drop, classes_cmp}
 use Rattle.cw_index.proofs.collation.compare_classes.Given as goal
 
 abbrev pub invariant-loop-i : goal.invariant-loop-i

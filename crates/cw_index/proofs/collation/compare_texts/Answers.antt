@@ -1,6 +1,5 @@
 -- `compare_texts`: answer; said here, so that a wrong one fails at once.
-use Rattle.std.proofs.Common.{arith}
-use Rattle.std.proofs.lemmas.Grind.{common_steps}
+use Rattle.cw_index.proofs.Terms.{arith, common_steps}
 use Rattle.cw_index.proofs.collation.compare_texts.Goals as goal
 
 pub returns : goal.returns

@@ -1,7 +1,5 @@
 -- The names so far are entered.
-use Rattle.std.proofs.Common.{◌≡◌, All, drop, map}
-use Rattle.cw_index.specs.Headings.{IsNamed, row_of}
-use Rattle.cw_index.specs.Mentions.{index_rows}
+use Rattle.cw_index.proofs.Terms.{◌≡◌, All, drop, map, IsNamed, row_of, index_rows}
 use Rattle.cw_index.proofs.RowLaws.{with_later}
 use Rattle.cw_index.proofs.headings.headings.Given as goal
 

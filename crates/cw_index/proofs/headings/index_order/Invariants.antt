@@ -1,7 +1,5 @@
 -- The names so far, with those that are still to come, are those of the index.
-use Rattle.std.proofs.Common.{◌≡◌, ◌<◌, All, length, map}
-use Rattle.cw_index.specs.Headings.{IsNamed}
-use Rattle.cw_index.specs.Mentions.{index_rows}
+use Rattle.cw_index.proofs.Terms.{◌≡◌, ◌<◌, All, length, map, IsNamed, index_rows}
 use Rattle.cw_index.proofs.OrderNames.{names_with}
 use Rattle.cw_index.proofs.headings.index_order.Given as goal
 

@@ -1,8 +1,6 @@
 -- The dollars and the name, one behind another.
-use Rattle.std.proofs.Common.{List, ℕ, ◌++◌, codes, refl}
-use Rattle.cw_join.specs.Tokens.{word_at}
-use Rattle.cw_lines.specs.SheetLaws.{prints-failing, prints-longer, prints-then}
-use Rattle.cw_trees.specs.Printing.{reserved_bytes}
+use Rattle.cw_index.proofs.Terms.{List, ℕ, ◌++◌, codes, refl, word_at, prints-failing, prints-longer, prints-then}
+use Rattle.cw_index.proofs.Terms.{reserved_bytes}
 use Rattle.cw_index.proofs.index.put_formula.Goals as goal
 
 pub returns-in_err-put_all : goal.returns-in_err-put_all
@@ -11,10 +9,8 @@ returns-in_err-put_all g c =
     prints-failing refl (prints-longer later c.in_err-put_all.ensures) c.from_residual.ensures.1
 
 pub returns-in_err-put_reserved : goal.returns-in_err-put_reserved
-returns-in_err-put_reserved g c =
-    prints-failing refl (prints-longer (codes "$") (prints-then c.in_ok-put_all.ensures c.in_err-put_reserved.ensures))
-    c.from_residual-in_err-put_reserved.ensures.1
+returns-in_err-put_reserved g c = prints-failing refl (prints-longer (codes "$")
+    (prints-then c.in_ok-put_all.ensures c.in_err-put_reserved.ensures)) c.from_residual-in_err-put_reserved.ensures.1
 
 pub returns : goal.returns
-returns g c =
-    prints-then c.in_ok-put_all.ensures (prints-then c.in_ok-put_reserved.ensures c.put_all-2.ensures)
+returns g c = prints-then c.in_ok-put_all.ensures (prints-then c.in_ok-put_reserved.ensures c.put_all-2.ensures)

@@ -1,9 +1,5 @@
 -- The headings so far are put.
-use Rattle.std.proofs.Common.{All, map}
-use Rattle.std.specs.List.{flat_map}
-use Rattle.cw_index.specs.Headings.{IsNamed, row_of}
-use Rattle.cw_index.specs.Index.{row_bytes}
-use Rattle.cw_part.proofs.PrintLaws.{Printing}
+use Rattle.cw_index.proofs.Terms.{All, map, flat_map, IsNamed, row_of, row_bytes, Printing}
 use Rattle.cw_index.proofs.index.put_headings.Given as goal
 
 abbrev pub invariant-loop-heading : goal.invariant-loop-heading

@@ -1,9 +1,6 @@
 -- The joiner prints the name, and at the end nothing more.
-use Rattle.std.proofs.Common.{ℕ, List, [], ◌∷◌, ◌++◌, refl, ◌∙◌}
-use Rattle.std.proofs.lemmas.List.{append-nil}
-use Rattle.cw_join.specs.Tokens.{word_at}
-use Rattle.cw_lines.specs.WritesLaws.{can-after, puts-bytes, puts-failing, puts-then}
-use Rattle.cw_trees.specs.Printing.{ident_bytes}
+use Rattle.cw_index.proofs.Terms.{ℕ, List, [], ◌∷◌, ◌++◌, refl, ◌∙◌, append-nil, word_at, can-after, puts-bytes}
+use Rattle.cw_index.proofs.Terms.{puts-failing, puts-then, ident_bytes}
 use Rattle.cw_index.proofs.AloneLaws.{added-ident, ident, late-ident}
 use Rattle.cw_index.proofs.index.put_ident.Goals as goal
 
@@ -12,8 +9,7 @@ push-requires-clause-come g c = record { named = c.requires.name; room = tt {0};
 
 pub returns-in_err-push : goal.returns-in_err-push
 returns-in_err-push g c = record {
-  puts = puts-failing
-      (added-ident c.new-joiner.result.inner c.args.id.index
+  puts = puts-failing (added-ident c.new-joiner.result.inner c.args.id.index
       (word_at ident_bytes c.args.names.now c.args.id.index) c.new-joiner.ensures.inner)
       (c.in_err-push.ensures.puts [] c.new-joiner.ensures.stands) c.from_residual.ensures.1;
   same = record { line = refl; desk = refl };
@@ -29,11 +25,9 @@ pub returns : goal.returns
 returns g c = record {
   puts = let bytes : List ℕ = word_at ident_bytes c.args.names.now c.args.id.index in
       puts-bytes
-      ((λ i. added-ident c.new-joiner.result.inner c.args.id.index bytes c.new-joiner.ensures.inner i
-      ++ late-ident c.push.new.self.inner c.args.id.index bytes
-      (c.in_ok-push.ensures.inner ∙ c.new-joiner.ensures.inner) i) ∙ append-nil bytes)
-      (puts-then (c.in_ok-push.ensures.puts [] c.new-joiner.ensures.stands)
-      (c.finish.ensures.puts (ident c.args.id.index bytes ∷ [])
-      (c.in_ok-push.ensures.stands [] c.new-joiner.ensures.stands)));
+      ((λ i. added-ident c.new-joiner.result.inner c.args.id.index bytes c.new-joiner.ensures.inner i ++ late-ident
+      c.push.new.self.inner c.args.id.index bytes (c.in_ok-push.ensures.inner ∙ c.new-joiner.ensures.inner) i)
+      ∙ append-nil bytes) (puts-then (c.in_ok-push.ensures.puts [] c.new-joiner.ensures.stands) (c.finish.ensures.puts
+      (ident c.args.id.index bytes ∷ []) (c.in_ok-push.ensures.stands [] c.new-joiner.ensures.stands)));
   same = record { line = refl; desk = refl };
 }

@@ -1,5 +1,5 @@
 -- The comma is put, and then the section as it is referred to; a failure of the first ends both.
-use Rattle.cw_lines.specs.SheetLaws.{prints-stop, prints-then}
+use Rattle.cw_index.proofs.Terms.{prints-stop, prints-then}
 use Rattle.cw_index.proofs.index.put_listed.Goals as goal
 
 pub returns-in_err-put_all : goal.returns-in_err-put_all

@@ -1,7 +1,5 @@
 -- A section's number is put with its mark where the book has the section as changed.
-use Rattle.std.proofs.Common.{Bool, ap, refl}
-use Rattle.cw_lines.specs.WritesLaws.{puts-bytes}
-use Rattle.cw_print.specs.Walk.{section_number}
+use Rattle.cw_index.proofs.Terms.{Bool, ap, refl, puts-bytes, section_number}
 use Rattle.cw_index.proofs.index.put_section_number.Goals as goal
 
 pub returns : goal.returns

@@ -1,8 +1,5 @@
 -- A macro of TeX, an identifier or a reserved word, by the category.
-use Rattle.std.proofs.Common.{sym, ◌∙◌}
-use Rattle.std.proofs.lemmas.Option.{slice_get_within}
-use Rattle.cw_lines.specs.SheetLaws.{prints-bytes}
-use Rattle.cw_index.specs.Headings.{entry_of}
+use Rattle.cw_index.proofs.Terms.{sym, ◌∙◌, slice_get_within, prints-bytes, entry_of}
 use Rattle.cw_index.specs.WordLaws.{ident-word, reserved-word, tex-word}
 use Rattle.cw_index.proofs.index.put_word.Goals as goal
 
@@ -11,30 +8,23 @@ put_formula-requires-clause-name g c =
     slice_get_within c.args.names.now c.args.heading.now.id.index (entry_of c.args.heading.now) c.requires.name
 
 pub returns-then-is_tex_like : goal.returns-then-is_tex_like
-returns-then-is_tex_like g c =
-    prints-bytes
-    (tex-word c.args.names.now c.args.heading.now.id.index (entry_of c.args.heading.now) c.requires.name
-    (sym c.is_tex_like.ensures ∙ c.if-is_tex_like.true))
-    c.put_formula.ensures
+returns-then-is_tex_like g c = prints-bytes (tex-word c.args.names.now c.args.heading.now.id.index (entry_of
+    c.args.heading.now) c.requires.name (sym c.is_tex_like.ensures ∙ c.if-is_tex_like.true)) c.put_formula.ensures
 
 pub put_ident-requires-clause-name : goal.put_ident-requires-clause-name
 put_ident-requires-clause-name g c =
     slice_get_within c.args.names.now c.args.heading.now.id.index (entry_of c.args.heading.now) c.requires.name
 
 pub returns-then-is_exp : goal.returns-then-is_exp
-returns-then-is_exp g c =
-    prints-bytes
+returns-then-is_exp g c = prints-bytes
     (ident-word c.args.names.now c.args.heading.now.id.index (entry_of c.args.heading.now) c.requires.name
-    (sym c.is_tex_like.ensures ∙ c.if-is_tex_like.false) (sym c.is_exp.ensures ∙ c.if-is_exp.true))
-    c.put_ident.ensures
+    (sym c.is_tex_like.ensures ∙ c.if-is_tex_like.false) (sym c.is_exp.ensures ∙ c.if-is_exp.true)) c.put_ident.ensures
 
 pub put_reserved-requires-clause-name : goal.put_reserved-requires-clause-name
 put_reserved-requires-clause-name g c =
     slice_get_within c.args.names.now c.args.heading.now.id.index (entry_of c.args.heading.now) c.requires.name
 
 pub returns : goal.returns
-returns g c =
-    prints-bytes
-    (reserved-word c.args.names.now c.args.heading.now.id.index (entry_of c.args.heading.now) c.requires.name
-    (sym c.is_tex_like.ensures ∙ c.if-is_tex_like.false) (sym c.is_exp.ensures ∙ c.if-is_exp.false))
-    c.put_reserved.ensures
+returns g c = prints-bytes (reserved-word c.args.names.now c.args.heading.now.id.index
+    (entry_of c.args.heading.now) c.requires.name (sym c.is_tex_like.ensures ∙ c.if-is_tex_like.false)
+    (sym c.is_exp.ensures ∙ c.if-is_exp.false)) c.put_reserved.ensures

@@ -1,13 +1,8 @@
 -- Each name goes behind those before it.
-use Rattle.std.proofs.Common.{ℕ, ◌+◌, List, drop, subst, sym, arith}
-use Rattle.cw_lines.specs.SheetLaws.{same-sheet, same-then}
-use Rattle.cw_lines.specs.WritesLaws.{can-after}
-use Rattle.cw_part.proofs.WovenLaws.{weaving-begun, weaving-next, weaving-stopped, weaving-wanting}
+use Rattle.cw_index.proofs.Terms.{◌+◌, drop, subst, sym, arith, same-sheet, same-then, can-after, weaving-begun}
+use Rattle.cw_index.proofs.Terms.{weaving-next, weaving-stopped, weaving-wanting, Lasting, Setting, lasting}
+use Rattle.cw_index.proofs.Terms.{list_setting, all_listed, listed_done}
 use Rattle.cw_translator.specs.NameParts.{AreNamesOf}
-use Rattle.cw_texpart.specs.Texts.{Lasting, Setting, lasting}
-use Rattle.cw_index.specs.declared.standing.Listed.{Listed}
-use Rattle.cw_index.specs.ListForms.{list_setting}
-use Rattle.cw_index.specs.NameList.{all_listed, listed_done}
 use Rattle.cw_index.proofs.ListingLaws.{listed-end, listed-next, moved, sums}
 use Rattle.cw_index.proofs.names.put_all_listed.Goals as goal
 
@@ -30,33 +25,24 @@ put_listed-requires g c = record {
 pub returns-in_err-more-clause-weaves : goal.returns-in_err-more-clause-weaves
 returns-in_err-more-clause-weaves g c =
     let s : Setting = list_setting c.args.t (lasting c.args.book.now) in
-    let ls : List Listed = c.args.listed.now in
-    let i : ℕ = c.loop-one.one-index in
-    weaving-stopped (listed_done s _) (all_listed s (drop (i + 1) ls))
-    (listed-next ls i _ c.loop-one-test.true c.loop-one.invariant.woven)
-    (moved c.args.t _ c.loop-one.book.names c.loop-one.invariant.woven.woven.same c.in_err-more.ensures.weaves)
-    c.from_residual.ensures.1
+    weaving-stopped (listed_done s _) (all_listed s (drop (c.loop-one.one-index + 1) c.args.listed.now)) (listed-next
+    c.args.listed.now c.loop-one.one-index _ c.loop-one-test.true c.loop-one.invariant.woven) (moved c.args.t _
+    c.loop-one.book.names c.loop-one.invariant.woven.woven.same c.in_err-more.ensures.weaves) c.from_residual.ensures.1
 
 pub returns-in_err-counts-clause-weaves : goal.returns-in_err-counts-clause-weaves
 returns-in_err-counts-clause-weaves g c =
     let s : Setting = list_setting c.args.t (lasting c.args.book.now) in
-    let ls : List Listed = c.args.listed.now in
-    let i : ℕ = c.loop-one.one-index in
-    weaving-wanting
-    (weaving-next (listed_done s _) (all_listed s (drop (i + 1) ls))
-    (listed-next ls i _ c.loop-one-test.true c.loop-one.invariant.woven)
+    weaving-wanting (weaving-next (listed_done s _) (all_listed s (drop (c.loop-one.one-index + 1) c.args.listed.now))
+    (listed-next c.args.listed.now c.loop-one.one-index _ c.loop-one-test.true c.loop-one.invariant.woven)
     (moved c.args.t _ c.loop-one.book.names c.loop-one.invariant.woven.woven.same c.in_ok-more.ensures.weaves)
-    (sums c.loop-one.counts c.in_ok-more.more))
-    c.from_residual-in_err-counts.ensures.1
+    (sums c.loop-one.counts c.in_ok-more.more)) c.from_residual-in_err-counts.ensures.1
 
 pub loop-one-preserved : goal.loop-one-preserved
 loop-one-preserved g c =
     let s : Setting = list_setting c.args.t (lasting c.args.book.now) in
-    let ls : List Listed = c.args.listed.now in
-    let i : ℕ = c.loop-one.one-index in
     record {
-      woven = weaving-next (listed_done s _) (all_listed s (drop (i + 1) ls))
-          (listed-next ls i _ c.loop-one-test.true c.loop-one.invariant.woven)
+      woven = weaving-next (listed_done s _) (all_listed s (drop (c.loop-one.one-index + 1) c.args.listed.now))
+          (listed-next c.args.listed.now c.loop-one.one-index _ c.loop-one-test.true c.loop-one.invariant.woven)
           (moved c.args.t _ c.loop-one.book.names c.loop-one.invariant.woven.woven.same c.in_ok-more.ensures.weaves)
           (record { scraps = c.in_ok-counts.ensures.scraps; productions = c.in_ok-counts.ensures.productions });
       same = same-then c.loop-one.invariant.same c.in_ok-more.ensures.same;

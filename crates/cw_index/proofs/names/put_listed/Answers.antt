@@ -1,13 +1,9 @@
 -- The text stands between what is put before it and behind it.
-use Rattle.std.proofs.Common.{false, ap, refl, subst, sym}
+use Rattle.cw_index.proofs.Terms.{false, ap, refl, subst, sym, can-after, puts-bytes, puts-longer, puts-then, weaves-as}
+use Rattle.cw_index.proofs.Terms.{Lasting, Setting, lasting, text_done, IsWhole, list_setting, name_ending, name_span}
+use Rattle.cw_index.proofs.Terms.{use_notes}
 use Rattle.cw_base.specs.declared.span.Span.{Span}
 use Rattle.cw_rules.specs.declared.tokens.Mode.TheVariants.{Inner}
-use Rattle.cw_lines.specs.WritesLaws.{can-after, puts-bytes, puts-longer, puts-then}
-use Rattle.cw_texpart.proofs.WeavingLaws.{weaves-as}
-use Rattle.cw_texpart.specs.Texts.{Lasting, Setting, lasting, text_done}
-use Rattle.cw_texpart.specs.TexParts.{IsWhole}
-use Rattle.cw_index.specs.ListForms.{list_setting}
-use Rattle.cw_index.specs.NameList.{name_ending, name_span, use_notes}
 use Rattle.cw_index.proofs.ListedLaws.{back-refused, front-refused, listed-woven, text-refused}
 use Rattle.cw_index.proofs.PlaceLaws.{whole-within}
 use Rattle.cw_index.proofs.names.put_listed.Goals as goal
@@ -36,43 +32,31 @@ pub returns-in_err-counts-clause-weaves : goal.returns-in_err-counts-clause-weav
 returns-in_err-counts-clause-weaves g c =
     let s : Setting = list_setting c.args.t (lasting c.args.book.now) in
     text-refused (name_ending s c.args.listed) c.in_ok-put_all.ensures.puts
-    (weaves-as
-    (ap (λ (span : Span). text_done s Inner false span c.args.book.now.names) c.name_span.ensures)
-    c.in_err-counts.ensures)
-    c.from_residual-in_err-counts.ensures.1
+    (weaves-as (ap (λ (span : Span). text_done s Inner false span c.args.book.now.names) c.name_span.ensures)
+    c.in_err-counts.ensures) c.from_residual-in_err-counts.ensures.1
 
 pub returns-in_err-put_all-2-clause-weaves : goal.returns-in_err-put_all-2-clause-weaves
 returns-in_err-put_all-2-clause-weaves g c =
     let s : Setting = list_setting c.args.t (lasting c.args.book.now) in
     back-refused (text_done s Inner false (name_span c.args.t.text.now c.args.listed.place))
-    (name_ending s c.args.listed) c.in_ok-put_all.ensures.puts
-    (weaves-as
-    (ap (λ (span : Span). text_done s Inner false span c.args.book.now.names) c.name_span.ensures)
-    c.in_ok-counts.ensures)
-    (puts-longer (use_notes (lasting c.args.book.now) c.args.listed) c.in_err-put_all-2.ensures.puts)
-    c.from_residual-in_err-put_all-2.ensures.1
+    (name_ending s c.args.listed) c.in_ok-put_all.ensures.puts (weaves-as (ap (λ (span : Span). text_done s Inner false
+    span c.args.book.now.names) c.name_span.ensures) c.in_ok-counts.ensures) (puts-longer (use_notes
+    (lasting c.args.book.now) c.args.listed) c.in_err-put_all-2.ensures.puts) c.from_residual-in_err-put_all-2.ensures.1
 
 pub returns-in_err-put_use_footnotes-clause-weaves : goal.returns-in_err-put_use_footnotes-clause-weaves
 returns-in_err-put_use_footnotes-clause-weaves g c =
     let s : Setting = list_setting c.args.t (lasting c.args.book.now) in
     back-refused (text_done s Inner false (name_span c.args.t.text.now c.args.listed.place))
-    (name_ending s c.args.listed) c.in_ok-put_all.ensures.puts
-    (weaves-as
-    (ap (λ (span : Span). text_done s Inner false span c.args.book.now.names) c.name_span.ensures)
-    c.in_ok-counts.ensures)
-    (puts-then c.in_ok-put_all-2.ensures.puts
-    (puts-bytes
-    (ap (λ (l : Lasting). use_notes l c.args.listed) c.in_ok-counts.ensures.same) c.in_err-put_use_footnotes.ensures))
-    c.from_residual-in_err-put_use_footnotes.ensures.1
+    (name_ending s c.args.listed) c.in_ok-put_all.ensures.puts (weaves-as (ap
+    (λ (span : Span). text_done s Inner false span c.args.book.now.names) c.name_span.ensures) c.in_ok-counts.ensures)
+    (puts-then c.in_ok-put_all-2.ensures.puts (puts-bytes (ap (λ (l : Lasting). use_notes l c.args.listed)
+    c.in_ok-counts.ensures.same) c.in_err-put_use_footnotes.ensures)) c.from_residual-in_err-put_use_footnotes.ensures.1
 
 pub returns-clause-weaves : goal.returns-clause-weaves
 returns-clause-weaves g c =
     let s : Setting = list_setting c.args.t (lasting c.args.book.now) in
     listed-woven (text_done s Inner false (name_span c.args.t.text.now c.args.listed.place))
-    (name_ending s c.args.listed) c.in_ok-put_all.ensures.puts
-    (weaves-as
-    (ap (λ (span : Span). text_done s Inner false span c.args.book.now.names) c.name_span.ensures)
-    c.in_ok-counts.ensures)
-    (puts-then c.in_ok-put_all-2.ensures.puts
-    (puts-bytes
+    (name_ending s c.args.listed) c.in_ok-put_all.ensures.puts (weaves-as (ap
+    (λ (span : Span). text_done s Inner false span c.args.book.now.names) c.name_span.ensures) c.in_ok-counts.ensures)
+    (puts-then c.in_ok-put_all-2.ensures.puts (puts-bytes
     (ap (λ (l : Lasting). use_notes l c.args.listed) c.in_ok-counts.ensures.same) c.in_ok-put_use_footnotes.ensures))

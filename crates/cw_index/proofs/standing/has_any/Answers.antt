@@ -1,6 +1,5 @@
 -- `has_any`: answer on one of its ways; said here, so that a wrong one fails at once.
-use Rattle.std.proofs.Common.{arith}
-use Rattle.std.proofs.lemmas.Grind.{common_steps}
+use Rattle.cw_index.proofs.Terms.{arith, common_steps}
 use Rattle.cw_index.proofs.standing.has_any.Goals as goal
 
 pub returns-in-empty : goal.returns-in-empty

@@ -1,7 +1,5 @@
 -- What is listed, with the names that are still to be listed, is the list.
-use Rattle.std.proofs.Common.{◌≡◌, ◌++◌, map}
-use Rattle.cw_index.specs.Standing.{listed_names}
-use Rattle.cw_index.specs.StandingForms.{stand_of}
+use Rattle.cw_index.proofs.Terms.{◌≡◌, ◌++◌, map, listed_names, stand_of}
 use Rattle.cw_index.proofs.standing.listed_names.Given as goal
 
 abbrev pub invariant-loop-stand : goal.invariant-loop-stand

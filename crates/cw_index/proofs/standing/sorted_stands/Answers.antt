@@ -1,7 +1,5 @@
 -- The name of the next pair is sorted too.
-use Rattle.std.proofs.Common.{List, ap, ◌∙◌, map}
-use Rattle.cw_index.specs.declared.standing.Standing.{Standing}
-use Rattle.cw_index.specs.StandingForms.{stand_of}
+use Rattle.cw_index.proofs.Terms.{List, ap, ◌∙◌, map, Standing, stand_of}
 use Rattle.cw_index.proofs.StandLaws.{stands-step, with_stands}
 use Rattle.cw_index.proofs.standing.sorted_stands.Goals as goal
 
@@ -14,10 +12,9 @@ loop-i-init c = (
 
 pub loop-i-preserved : goal.loop-i-preserved
 loop-i-preserved c = (
-  stands-step c.args.names.now c.args.uses.now c.loop-i.i
-      (record { place = c.pair-place.result.0; name = c.pair-place.result.1.index })
-      (map stand_of c.loop-i.sorting.stands.keys) (map stand_of c.enter.new.self.stands.keys) c.pair-place.ensures
-      c.in_ok-enter.ensures.stands
+  stands-step c.args.names.now c.args.uses.now c.loop-i.i (record
+      { place = c.pair-place.result.0; name = c.pair-place.result.1.index }) (map stand_of c.loop-i.sorting.stands.keys)
+      (map stand_of c.enter.new.self.stands.keys) c.pair-place.ensures c.in_ok-enter.ensures.stands
       ∙ c.loop-i.invariant.0,
   c.in_ok-enter.ensures.entered,
 )

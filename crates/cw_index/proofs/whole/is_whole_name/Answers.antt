@@ -1,5 +1,5 @@
 -- A name behind the text isn't whole.
-use Rattle.std.proofs.Common.{arith}
+use Rattle.cw_index.proofs.Terms.{arith}
 use Rattle.cw_index.proofs.PlaceLaws.{whole-within}
 use Rattle.cw_index.proofs.whole.is_whole_name.Goals as goal
 

@@ -1,11 +1,8 @@
 -- The mark on the last section changes no span.
-use Rattle.std.proofs.Common.{◌∙◌, sym, subst, All}
-use Rattle.cw_base.specs.Web.{text_of}
-use Rattle.cw_phase1.specs.declared.book.Book.{Book}
-use Rattle.cw_weave.specs.Pressing.{IsWholeSection}
+use Rattle.cw_weave.proofs.Terms.{◌∙◌, sym, subst, All, text_of, Book, IsWholeSection}
 use Rattle.cw_weave.proofs.MarkLaws.{all_whole}
-use Rattle.cw_weave.proofs.reading.book_of.Goals as goal
 use Rattle.cw_weave.proofs.reading.book_of.Goals.{then-flags, else-flags}
+use Rattle.cw_weave.proofs.reading.book_of.Goals as goal
 
 pub returns-clause-whole : goal.returns-clause-whole
 returns-clause-whole c = elim c.if-flags.branch [
