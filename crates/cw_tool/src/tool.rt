@@ -168,7 +168,7 @@ fn run_words<T: Tool, D: Desk, L: Ledger>(
 }
 
 /// Reads the words of a command line and does what they ask a tool for: reads a web over the files of the desk, writes
-/// the tool's file of it, and answers the status of the run. It prints nothing after a fault or want of memory, and
+/// the tool's file of it, and answers the status of the run. It prints nothing after a fault or out of memory, and
 /// tries no failed call again.
 ///
 /// Whatever the desk is: over all files that would have given the answers that it gave, it has done what these files
