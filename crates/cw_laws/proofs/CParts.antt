@@ -1,54 +1,40 @@
 -- In a C part an identifier begins no string; outside its comments a `#` that is the first byte of its line but for
 -- blanks begins a `#` line; the tokens of these lines are marked, and include names stand behind their word `include`.
 use Rattle.std.proofs.Common.{◌≡◌, ℕ, zero, suc, ◌+◌, ◌-◌, ◌≤◌, Bool, true, false, ◌&&◌, ◌||◌, not, ◌==◌, nat_lt, List}
-use Rattle.std.proofs.Common.{[], ◌∷◌, ◌++◌, Option, Some, None, if◌then◌else◌, drop, take, length, slice_index, refl}
-use Rattle.std.proofs.Common.{sym, ap, subst, ◌∙◌, arith, append_assoc}
-use Rattle.std.proofs.lemmas.List.{append-nil}
-use Rattle.std.proofs.lemmas.Bool.Decides.{nat_tests}
-use Rattle.cw_base.proofs.TestLaws.{both-failed, both-left, both-right, not-both, or-true}
-use Rattle.cw_base.specs.Bytes.{newline, backslash}
-use Rattle.cw_base.specs.Text.{bar}
-use Rattle.cw_base.specs.declared.notes.NoteKind.{NoteKind}
-use Rattle.cw_rules.specs.declared.bodies.Noted.{Noted}
-use Rattle.cw_rules.specs.declared.classes.Class.TheVariants as classes
-use Rattle.cw_rules.specs.declared.codes.Code.{Code}
-use Rattle.cw_rules.specs.declared.codes.Code.TheVariants as code
-use Rattle.cw_rules.specs.declared.codes.Effect.{Effect}
-use Rattle.cw_rules.specs.declared.codes.Effect.TheVariants as effects
-use Rattle.cw_rules.specs.declared.parts.Part.{Part}
-use Rattle.cw_rules.specs.declared.parts.Part.TheVariants as parts
-use Rattle.cw_rules.specs.declared.parts.Opened.{Opened}
-use Rattle.cw_rules.specs.declared.parts.Start.{Start}
-use Rattle.cw_rules.specs.declared.parts.Start.TheVariants as start
-use Rattle.cw_rules.specs.declared.signs.Sign.{Sign}
-use Rattle.cw_rules.specs.declared.signs.Sign.TheVariants as signs
-use Rattle.cw_rules.specs.declared.tokens.Mode.TheVariants as modes
-use Rattle.cw_rules.specs.declared.tokens.TokKind.{TokKind}
-use Rattle.cw_rules.specs.declared.tokens.TokKind.TheVariants as kinds
+use Rattle.std.proofs.Common.{[], ◌∷◌, ◌++◌, if◌then◌else◌, drop, take, length, refl, sym, ap, subst, ◌∙◌, arith}
+use Rattle.std.proofs.Common.{append_assoc}
+use Rattle.std.proofs.{lemmas.List.append-nil, lemmas.Bool.Decides.nat_tests}
+use Rattle.cw_base.proofs.TestLaws.{both-failed, both-left, not-both, or-true}
+use Rattle.cw_base.specs.{Bytes.backslash, declared.notes.NoteKind.NoteKind}
+use Rattle.cw_rules.specs.declared.{bodies.Noted.Noted, codes.Code.Code, codes.Effect.Effect, parts.Part.Part}
+use Rattle.cw_rules.specs.declared.{parts.Opened.Opened, signs.Sign.Sign, tokens.TokKind.TokKind}
 use Rattle.cw_rules.specs.Answers.{Answer, Where, Cut, Found, note_answers, plain}
-use Rattle.cw_rules.specs.Apart.{code_text_apart, comment_text_apart, part_text_apart, in_text_apart, found_apart}
+use Rattle.cw_rules.specs.Apart.{part_text_apart, in_text_apart, found_apart}
 use Rattle.cw_rules.specs.Bodies.{ended, extent, noted, note_unless, one_note}
-use Rattle.cw_rules.specs.Bytes.{apostrophe, at_sign, equals, hash, less, slash, star, begins, begins_with, is_in}
-use Rattle.cw_rules.specs.Bytes.{is_letter, is_mark}
+use Rattle.cw_rules.specs.Bytes.{apostrophe, at_sign, equals, hash, less, begins, begins_with, is_in}
 use Rattle.cw_rules.specs.Codes.{begins_section, code_at, effect_in_c, effect_at_begin, has_control_text}
-use Rattle.cw_rules.specs.Constants.{constant}
-use Rattle.cw_rules.specs.Prefixes.{prefix_size}
-use Rattle.cw_rules.specs.Signs.{all_signs, longest, spelling}
-use Rattle.cw_rules.specs.Tokens.{all_cut, alone_size, behind_include, behind_word, closes_on_line, code_by, code_token}
-use Rattle.cw_rules.specs.Tokens.{comment_begin, control_or_plain, control_text, dropped_code, effect_in, ends_at_bar}
-use Rattle.cw_rules.specs.Tokens.{identifier, in_code, in_hash_line, include_name, inner_end, is_deep, is_head}
-use Rattle.cw_rules.specs.Tokens.{is_include, is_name, is_quote, is_space, line_end, may_head, moved, one, passed}
-use Rattle.cw_rules.specs.Tokens.{piece_start, section, section_code, section_name, sign_or_other, start_of, string}
-use Rattle.cw_rules.specs.Tokens.{comment_cut, inner_or_none, part_cut, takes_hash_line}
+use Rattle.cw_rules.specs.{Prefixes.prefix_size, Signs.all_signs, Signs.spelling}
+use Rattle.cw_rules.specs.Tokens.{all_cut, alone_size, behind_include, behind_word, closes_on_line, code_token}
+use Rattle.cw_rules.specs.Tokens.{comment_begin, control_or_plain, control_text, effect_in, ends_at_bar, identifier}
+use Rattle.cw_rules.specs.Tokens.{in_hash_line, include_name, inner_end, is_include, is_name, is_quote, line_end}
+use Rattle.cw_rules.specs.Tokens.{may_head, moved, one, passed, piece_start, section, section_code, section_name}
+use Rattle.cw_rules.specs.Tokens.{string, comment_cut, inner_or_none, part_cut, takes_hash_line}
 use Rattle.cw_rules.proofs.Choices.{if-both}
+use Rattle.cw_rules.proofs.Rules.{IsAlone, CPart, IsPassed, IncludeName, OfSign, Standing, CodeRule, LineEnd, Space}
+use Rattle.cw_rules.proofs.Rules.{HashLine, Word, Passed, Heading, Beginning, Comment, InnerEnd, CommentRule, Closed}
+use Rattle.cw_rules.proofs.Rules.{EndedLine, InnerBegin, Piece, within, code-rule, comment-rule}
 use Rattle.cw_lex.specs.Lexing.{still_fresh, answers, beginning, fresh_after, fresh_at, last_at, tokens_of}
 use Rattle.cw_lex.specs.Nested.{is_section_kind}
-use Rattle.cw_lex.proofs.Covering.{drop-on}
-use Rattle.cw_lex.proofs.Nesting.{section-kind}
-use Rattle.cw_lex.proofs.Walk.{fresh-more}
-use Rattle.cw_laws.specs.Longest.{AllFitC, FitsC, names_file}
-use Rattle.cw_laws.specs.WhiteSpace.{hash_line_by}
+use Rattle.cw_lex.proofs.{Covering.drop-on, Nesting.section-kind, Walk.fresh-more}
+use Rattle.cw_laws.specs.{Longest.AllFitC, Longest.FitsC, Longest.names_file, WhiteSpace.hash_line_by}
 use Rattle.cw_laws.proofs.LongestSigns.{Fits, longest-fits}
+use Rattle.cw_rules.specs.declared.classes.Class.TheVariants as classes
+use Rattle.cw_rules.specs.declared.codes.Code.TheVariants as code
+use Rattle.cw_rules.specs.declared.codes.Effect.TheVariants as effects
+use Rattle.cw_rules.specs.declared.parts.Part.TheVariants as parts
+use Rattle.cw_rules.specs.declared.signs.Sign.TheVariants as signs
+use Rattle.cw_rules.specs.declared.tokens.Mode.TheVariants as modes
+use Rattle.cw_rules.specs.declared.tokens.TokKind.TheVariants as kinds
 
 -- ## How much is open
 
@@ -66,8 +52,7 @@ opens-twice [] depth h = omega arith
 opens-twice (c ∷ comments) depth h = by c.inner
   where
     by : (t : Bool) → (if t then 2 else 1) + (length comments + length comments) ≤ depth
-    by true = omega arith
-    by false = omega arith
+    by t = grind (arith, nat_tests)
 
 opens-with : (c : Opened) (comments : List Opened) (depth : ℕ) (inner : Bool) → c.inner ≡ inner
     → opens (c ∷ comments) ≤ depth → (if inner then 2 else 1) + twice comments ≤ depth
@@ -154,12 +139,6 @@ BeginsNone line effect = Unit {0}
 
 c-none : (line : Bool) (c : Code) → BeginsNone line (effect_in_c c)
 c-none line code.Define = tt
-c-none line code.Format = tt
-c-none line code.SilentFormat = tt
-c-none line code.Program = tt
-c-none line code.At = tt
-c-none line code.Letters = tt
-c-none line code.Unknown = tt
 c-none line _ = tt
 
 begin-none : (c : Code) → BeginsNone false (effect_at_begin c)
@@ -183,8 +162,7 @@ goes-on-already part (c ∷ comments) fresh line named s o h f =
     absurd (by c.inner o)
   where
     by : (t : Bool) → (if t then 2 else 1) + (length comments + length comments) ≤ 0 → ⊥
-    by true o = omega arith
-    by false o = omega arith
+    by t o = grind (arith, nat_tests)
 goes-on-already _ [] fresh line named s o h f = not-both false s.c refl
 
 no-part-cut : (part : Part) (comments : List Opened) (place about : ℕ) → is_part part comments ≡ true
@@ -224,12 +202,6 @@ token-quiet c place bytes =
     (λ h. quiet)
     (λ h. if-both P (has_control_text c) (control_text c place bytes) (plain (kinds.Code c) (alone_size bytes))
     (λ h. quiet) (λ h. quiet)))
-
-quiet-constant : IsQuiet kinds.Constant
-quiet-constant = record { line = λ line. refl; file = λ line bytes. refl; other = λ line named depth before bytes. tt }
-
-quiet-quoted : IsQuiet kinds.Quoted
-quiet-quoted = record { line = λ line. refl; file = λ line bytes. refl; other = λ line named depth before bytes. tt }
 
 module _ (text : List ℕ) where
   abbrev Signs : Bool → Bool → ℕ → List Answer → Type 0
@@ -293,19 +265,7 @@ module _ (text : List ℕ) where
       by : (inner : Bool) → ((depth : ℕ) → Signs line false depth (all_cut part comments place about ++ later))
           → Signs line named depth ((inner_or_none inner (in_hash_line part) place about
           ++ (comment_cut (in_hash_line part) c place about ++ all_cut part comments place about)) ++ later)
-      by true more = (
-        m,
-        (
-          m,
-          notes-between line false ((depth - 1) - 1) (missing c about) (all_cut part comments place about) later
-              (more ((depth - 1) - 1)),
-        ),
-      )
-      by false more = (
-        m,
-        notes-between line false (depth - 1) (missing c about) (all_cut part comments place about) later (more
-            (depth - 1)),
-      )
+      by inner more = grind (arith, nat_tests, notes-between)
 
   -- behind a section code nothing is said
   section-goes : (w : Where) (place : ℕ) (bytes : List ℕ) (line named : Bool) (depth : ℕ)
@@ -355,35 +315,9 @@ module _ (text : List ℕ) where
       quiet-goes line named depth hash_line (moved w part) place bytes cut m (opens-twice w.comments depth o)
       (behind-stands line part w.comments k) q
 
-  code-by-goes : (effect : Effect) (c : Code) (w : Where) (place : ℕ) (bytes : List ℕ) (line named : Bool) (depth : ℕ)
-      → InText line named w.part → twice w.comments ≤ depth → BeginsNone (in_hash_line w.part) effect
-      → Goes line named depth (code_by effect c w place bytes)
-  code-by-goes effects.Stands c w place bytes line named depth k o n =
-      let heads = may_head w.part w.comments && is_head place bytes in
-      let next = if is_name c && heads then moved w parts.Head else moved w (passed w.part) in
-      let P : Where → Type 0 = λ n. (opens n.comments ≤ depth) × Stands line false n.part n.comments in
-      let stands : P next = if-both P (is_name c && heads) (moved w parts.Head) (moved w (passed w.part))
-      (λ h. (
-        opens-twice w.comments depth o,
-        head-stands line named w.part w.comments k
-            (both-left (may_head w.part w.comments) (is_head place bytes) (both-right (is_name c) heads h)),
-      ))
-      (λ h. (
-        opens-twice w.comments depth o,
-        behind-stands line (passed w.part) w.comments (passed-text line named w.part k),
-      )) in
-      quiet-goes line named depth (in_hash_line w.part) next place bytes (code_token c place bytes) k.hash_line stands.0
-      stands.1 (token-quiet c place bytes)
-  code-by-goes (effects.Drops note) c w place bytes line named depth k o n =
-      moved-goes w line named depth (in_hash_line w.part) (passed w.part) place bytes (dropped_code note c place bytes)
-      k.hash_line (passed-text line named w.part k) o
-      (record { line = λ line. refl; file = λ line bytes. refl; other = λ line named depth before bytes. tt })
-  code-by-goes effects.Defines c w place bytes line named depth k o n = absurd n
-  code-by-goes effects.Formats c w place bytes line named depth k o n = absurd n
-  code-by-goes effects.BeginsC c w place bytes line named depth k o n =
-      let none : false ≡ line = sym n ∙ k.hash_line in
-      moved-goes w line named depth false (parts.Plain false false) place bytes (plain (kinds.Code c) 2) none
-      (plain-text line none) o (code-quiet c)
+  begins-none : (w : Where) (code : Code) (effect : Effect) → is_text w.part ≡ true
+      → effect_in w.part w.comments code ≡ effect → BeginsNone (in_hash_line w.part) effect
+  begins-none w code effect c e = subst (BeginsNone (in_hash_line w.part)) e (none-in w.part w.comments code c)
 
   begin-goes : (long : Bool) (w : Where) (place : ℕ) (bytes : List ℕ) (line named : Bool) (depth : ℕ)
       → InText line named w.part
@@ -399,25 +333,57 @@ module _ (text : List ℕ) where
   inner-end-goes part comments place bytes line named depth k o h later rest =
       grind (arith, nat_tests, not-both, behind-stands, passed-text)
 
-  in-code-goes : (w : Where) (place byte : ℕ) (bytes : List ℕ) (fresh line named : Bool) (depth : ℕ)
+  sign-says : (w : Where) (fresh : Bool) (place byte : ℕ) (bytes : List ℕ) (line named : Bool) (depth : ℕ)
       → drop place text ≡ byte ∷ bytes → fresh_at text place ≡ fresh → InText line named w.part
-      → twice w.comments ≤ depth
-      → IsInner w.comments → (byte == hash && (takes_hash_line w.part w.comments && fresh)) ≡ false
-      → (byte == less && (behind_include w.part && closes_on_line bytes)) ≡ false
-      → Goes line named depth (in_code (start_of (ends_at_bar w.part w.comments) byte bytes) w place (byte ∷ bytes))
-  in-code-goes w place byte bytes fresh line named depth here f k o q n m =
+      → twice w.comments ≤ depth → IsAlone w fresh byte bytes → (sign : Sign)
+      → begins_with (spelling sign) (byte ∷ bytes) ≡ true
+      → FitsC line named depth (take place text) (drop place text) (kinds.Sign sign)
+  sign-says w fresh place byte bytes line named depth here f k o b signs.Hash e = λ none first.
+      goes-on-already w.part w.comments fresh line named k
+      (subst (λ d. opens w.comments ≤ d) none (opens-twice w.comments depth o))
+      (both-failed (byte == hash) (takes_hash_line w.part w.comments && fresh) b.hash (both-left (byte == hash) true e))
+      (sym f ∙ first)
+  sign-says w fresh place byte bytes line named depth here f k o b signs.Less e = λ n.
+      ap (λ l. closes_on_line (drop 1 l)) here
+      ∙ both-failed (behind_include w.part) (closes_on_line bytes)
+      (both-failed (byte == less) (behind_include w.part && closes_on_line bytes) b.less
+      (both-left (byte == less) true e)) (k.include ∙ n)
+  sign-says w fresh place byte bytes line named depth here f k o b _ e = tt
+
+  passed-goes : (w : Where) (fresh : Bool) (place byte : ℕ) (bytes : List ℕ) (line named : Bool) (depth : ℕ)
+      → drop place text ≡ byte ∷ bytes → fresh_at text place ≡ fresh → InText line named w.part
+      → twice w.comments ≤ depth → (cut : Cut) → IsPassed w fresh place byte bytes cut
+      → Goes line named depth (one (in_hash_line w.part) (moved w (passed w.part)) place (byte ∷ bytes) cut)
+  passed-goes w fresh place byte bytes line named depth here f k o _ (IncludeName h behind closes) =
+      one-goes line named depth (in_hash_line w.part) (moved w (passed w.part)) place (byte ∷ bytes)
+      (include_name place (byte ∷ bytes)) (k.hash_line ∙ sym (or-same line)) (opens-twice w.comments depth o)
+      (behind-stands line (passed w.part) w.comments (passed-text line named w.part k)) (sym k.include ∙ behind)
+  passed-goes w fresh place byte bytes line named depth here f k o _ (OfSign sign e b) =
+      one-goes line named depth (in_hash_line w.part) (moved w (passed w.part)) place (byte ∷ bytes)
+      (plain (kinds.Sign sign) (length (spelling sign))) (k.hash_line ∙ sym (or-same line))
+      (opens-twice w.comments depth o)
+      (behind-stands line (passed w.part) w.comments (passed-text line named w.part k))
+      (sign-says w fresh place byte bytes line named depth here f k o b sign
+      (subst (Fits (byte ∷ bytes)) e (longest-fits all_signs (byte ∷ bytes))))
+  passed-goes w fresh place byte bytes line named depth here f k o _ (Standing at e) =
+      moved-goes w line named depth (in_hash_line w.part) (passed w.part) place (byte ∷ bytes)
+      (code_token (code_at bytes) place (byte ∷ bytes)) k.hash_line (passed-text line named w.part k) o
+      (token-quiet (code_at bytes) place (byte ∷ bytes))
+  passed-goes w fresh place byte bytes line named depth here f k o cut _ =
+      moved-goes w line named depth (in_hash_line w.part) (passed w.part) place (byte ∷ bytes) cut k.hash_line
+      (passed-text line named w.part k) o
+      (record { line = λ line. refl; file = λ line bytes. refl; other = λ line named depth before bytes. tt })
+
+  word-goes : (w : Where) (place byte : ℕ) (bytes : List ℕ) (line named : Bool) (depth : ℕ)
+      → drop place text ≡ byte ∷ bytes → InText line named w.part → twice w.comments ≤ depth → IsInner w.comments
+      → nat_lt 0 (prefix_size (byte ∷ bytes)) ≡ false
+      → Goes line named depth (one (in_hash_line w.part) (moved w (behind_word w.part (byte ∷ bytes))) place
+      (byte ∷ bytes) (identifier (byte ∷ bytes)))
+  word-goes w place byte bytes line named depth here k o q bare =
       let all = byte ∷ bytes in
-      let ends = ends_at_bar w.part w.comments in
       let hash_line = in_hash_line w.part in
-      let on = passed-text line named w.part k in
-      let P : Start → Type 0 = λ s. Goes line named depth (in_code s w place all) in
-      let string-at : ℕ → Cut = λ mark. string kinds.Quoted (prefix_size all + 1) mark place all in
-      if-both P (nat_lt 0 (prefix_size all)) (start.Quoted (slice_index all (prefix_size all))) _
-      (λ h. moved-goes w line named depth hash_line (passed w.part) place all (string-at (slice_index all
-      (prefix_size all)))
-      k.hash_line on o quiet-quoted)
-      (λ bare. if-both P (is_letter byte) start.Identifier _
-      (λ h. one-goes line named depth hash_line (moved w (behind_word w.part all)) place all (identifier all)
+      let word : (hash_line && is_include all) ≡ (line && is_include (drop place text)) = grind (arith, nat_tests) in
+      one-goes line named depth hash_line (moved w (behind_word w.part all)) place all (identifier all)
       (k.hash_line ∙ sym (or-same line)) (opens-twice w.comments depth o)
       (text-stands line (line && is_include (drop place text)) (behind_word w.part all) w.comments
       (if-both (InText line (line && is_include (drop place text))) (hash_line && is_include all)
@@ -427,128 +393,78 @@ module _ (text : List ℕ) where
         hash_line = sym (both-left hash_line (is_include all) h) ∙ k.hash_line;
         include = sym h ∙ word;
       })
-      (λ h. subst (λ n. InText line n (passed w.part)) (sym h ∙ word) on))
+      (λ h. subst (λ n. InText line n (passed w.part)) (sym h ∙ word) (passed-text line named w.part k)))
       (quiet-inner (line && is_include (drop place text)) w.comments q))
-      (ap prefix_size here ∙ none-below (prefix_size all) bare))
-      (λ h. if-both P (nat_lt 0 (constant all)) start.Constant _
-      (λ h. moved-goes w line named depth hash_line (passed w.part) place all (plain kinds.Constant (constant all))
-      k.hash_line on o quiet-constant)
-      (λ h. if-both P (is_mark byte) (start.Quoted byte) _
-      (λ h. moved-goes w line named depth hash_line (passed w.part) place all
-      (string-at byte) k.hash_line on o quiet-quoted)
-      (λ h. if-both P (byte == slash && begins star bytes) start.LongComment _
-      (λ h. begin-goes true w place all line named depth k o)
-      (λ h. if-both P (byte == slash && begins slash bytes) start.ShortComment _
-      (λ h. begin-goes false w place all line named depth k o)
-      (λ h. if-both P (byte == at_sign) (start.Code (code_at bytes)) _
-      (λ h. code-by-goes (effect_in w.part w.comments (code_at bytes)) (code_at bytes) w place all line named depth k o
-      (none-in w.part w.comments (code_at bytes) k.c))
-      (λ h. if-both P (byte == bar && (ends && not (begins bar bytes))) start.EndOfInner
-      (sign_or_other (longest all_signs all))
-      (λ h. inner-end-goes w.part w.comments place all line named depth k o
-      (both-left ends (not (begins bar bytes)) (both-right (byte == bar) (ends && not (begins bar bytes)) h)))
-      (λ h. by (longest all_signs all) (longest-fits all_signs all)))))))))
-    where
-      word : (in_hash_line w.part && is_include (byte ∷ bytes)) ≡ (line && is_include (drop place text))
-      word i = k.hash_line i && is_include (sym here i)
+      (ap prefix_size here ∙ none-below (prefix_size all) bare)
 
-      says : (sign : Sign) → begins_with (spelling sign) (byte ∷ bytes) ≡ true
-          → FitsC line named depth (take place text) (drop place text) (kinds.Sign sign)
-      says signs.Hash e = λ none first.
-          goes-on-already w.part w.comments fresh line named k
-          (subst (λ d. opens w.comments ≤ d) none (opens-twice w.comments depth o))
-          (both-failed (byte == hash) (takes_hash_line w.part w.comments && fresh) n
-          (both-left (byte == hash) true e)) (sym f ∙ first)
-      says signs.Less e = λ n.
-          ap (λ l. closes_on_line (drop 1 l)) here
-          ∙ both-failed (behind_include w.part) (closes_on_line bytes)
-          (both-failed (byte == less) (behind_include w.part && closes_on_line bytes) m
-          (both-left (byte == less) true e)) (k.include ∙ n)
-      says _ e = tt
-
-      by : (o : Option Sign) → Fits (byte ∷ bytes) o
-          → Goes line named depth (in_code (sign_or_other o) w place (byte ∷ bytes))
-      by None e =
-          moved-goes w line named depth (in_hash_line w.part) (passed w.part) place (byte ∷ bytes)
-          (plain kinds.OtherByte 1)
-          k.hash_line (passed-text line named w.part k) o
-          (record { line = λ line. refl; file = λ line bytes. refl; other = λ line named depth before bytes. tt })
-      by (Some sign) e =
-          one-goes line named depth (in_hash_line w.part) (moved w (passed w.part)) place (byte ∷ bytes)
-          (plain (kinds.Sign sign) (length (spelling sign))) (k.hash_line ∙ sym (or-same line))
-          (opens-twice w.comments depth o)
-          (behind-stands line (passed w.part) w.comments (passed-text line named w.part k)) (says sign e)
-
-  code-text-goes : (w : Where) (fresh : Bool) (last place byte : ℕ) (bytes : List ℕ) (line named : Bool) (depth : ℕ)
+  code-goes : (w : Where) (fresh : Bool) (last place byte : ℕ) (bytes : List ℕ) (line named : Bool) (depth : ℕ)
       → drop place text ≡ byte ∷ bytes → fresh_at text place ≡ fresh → InText line named w.part
-      → twice w.comments ≤ depth
-      → IsInner w.comments → Goes line named depth (code_text_apart w fresh last place byte bytes)
-  code-text-goes w fresh last place byte bytes line named depth here f k o q =
-      let all = byte ∷ bytes in
-      let P : Found → Type 0 = Goes line named depth in
-      if-both P (byte == newline) _ _
-      (λ h. line-end-goes w.part w.comments last place line named depth k (quiet-inner named w.comments q) o)
-      (λ h. if-both P (is_space w.part byte bytes) _ _
-      (λ h later rest. rest line named depth (opens-twice w.comments depth o)
-      (text-stands line named w.part w.comments k (quiet-inner named w.comments q)))
-      (λ h. if-both P (byte == hash && (takes_hash_line w.part w.comments && fresh)) _ _
-      (λ h later rest plain. (
+      → twice w.comments ≤ depth → IsInner w.comments → (f : Found) → CodeRule w fresh last place byte bytes f
+      → Goes line named depth f
+  code-goes w fresh last place byte bytes line named depth here f k o q _ (LineEnd h) =
+      line-end-goes w.part w.comments last place line named depth k (quiet-inner named w.comments q) o
+  code-goes w fresh last place byte bytes line named depth here f k o q _ (Space end h) = λ later rest.
+      rest line named depth (opens-twice w.comments depth o)
+      (text-stands line named w.part w.comments k (quiet-inner named w.comments q))
+  code-goes w fresh last place byte bytes line named depth here f k o q _ (HashLine h takes first) =
+      λ later rest plain. (
         sym (or-true line),
         tt,
         rest true false depth (opens-twice w.comments depth o)
             (behind-stands true (parts.Plain true false) w.comments
             (record { c = refl; hash_line = refl; include = refl })),
-      ))
-      (λ n. if-both P (byte == less && (behind_include w.part && closes_on_line bytes)) _ _
-      (λ h. one-goes line named depth (in_hash_line w.part) (moved w (passed w.part)) place all (include_name place all)
-      (k.hash_line ∙ sym (or-same line)) (opens-twice w.comments depth o)
-      (behind-stands line (passed w.part) w.comments (passed-text line named w.part k))
-      (sym k.include ∙ both-left (behind_include w.part) (closes_on_line bytes)
-      (both-right (byte == less) (behind_include w.part && closes_on_line bytes) h)))
-      (λ m. in-code-goes w place byte bytes fresh line named depth here f k o q n m))))
+      )
+  code-goes w fresh last place byte bytes line named depth here f k o q _ (Word bare h) =
+      word-goes w place byte bytes line named depth here k o q bare
+  code-goes w fresh last place byte bytes line named depth here f k o q _ (Passed cut p) =
+      passed-goes w fresh place byte bytes line named depth here f k o cut p
+  code-goes w fresh last place byte bytes line named depth here f k o q _ (Heading at e name may headed) =
+      quiet-goes line named depth (in_hash_line w.part) (moved w parts.Head) place (byte ∷ bytes)
+      (code_token (code_at bytes) place (byte ∷ bytes)) k.hash_line
+      (opens-twice w.comments depth o) (head-stands line named w.part w.comments k may)
+      (token-quiet (code_at bytes) place (byte ∷ bytes))
+  code-goes w fresh last place byte bytes line named depth here f k o q _ (Beginning _ _ at e CPart) =
+      let none : false ≡ line = sym (begins-none w (code_at bytes) effects.BeginsC k.c e) ∙ k.hash_line in
+      moved-goes w line named depth false (parts.Plain false false) place (byte ∷ bytes)
+      (plain (kinds.Code (code_at bytes)) 2) none (plain-text line none) o
+      (code-quiet (code_at bytes))
+  code-goes w fresh last place byte bytes line named depth here f k o q _ (Beginning effect _ at e _) =
+      absurd (begins-none w (code_at bytes) effect k.c e)
+  code-goes w fresh last place byte bytes line named depth here f k o q _ (Comment long h) =
+      begin-goes long w place (byte ∷ bytes) line named depth k o
+  code-goes w fresh last place byte bytes line named depth here f k o q _ (InnerEnd h ends) =
+      inner-end-goes w.part w.comments place (byte ∷ bytes) line named depth k o ends
 
   -- ## The text of a comment
 
-  comment-text-goes : (part : Part) (c : Opened) (comments : List Opened) (last place byte : ℕ) (bytes : List ℕ)
+  comment-goes : (part : Part) (c : Opened) (comments : List Opened) (last place byte : ℕ) (bytes : List ℕ)
       (line named : Bool) (depth : ℕ) → InText line false part → opens (c ∷ comments) ≤ depth
-      → 1 + twice comments ≤ depth
-      → Goes line named depth (comment_text_apart part c comments last place byte bytes)
-  comment-text-goes part c comments last place byte bytes line named depth k o n =
-      let all = byte ∷ bytes in
-      let P : Found → Type 0 = Goes line named depth in
-      let more = line_end part comments last place in
-      if-both P (c.long && (byte == star && begins slash bytes)) _ _
-      (λ h later rest. (
-        k.hash_line,
-        notes-so line false (depth - 1) (missing c place) later
-            (rest line false (depth - 1) (opens-twice comments (depth - 1) (omega arith))
-            (behind-stands line part comments k)),
-      ))
-      (λ h. if-both P (not c.long && byte == newline) _ _
-      (λ h later rest. (
-        k.hash_line,
-        notes-between line false (depth - 1) (missing c place) more.answers later
-            (line-end-goes part comments last place line false (depth - 1) k (quiet-none comments)
-            (omega arith) later rest),
-      ))
-      (λ h. if-both P (byte == bar && not (is_deep part (c ∷ comments))) _ _
-      (λ h later rest. (k.hash_line, rest line false (depth + 1) (omega arith) (behind-stands line part _ k)))
-      (λ h. quiet-goes line named depth (in_hash_line part)
-      (record {
-        part = part;
-        comments = record c { braces = (ended (piece_start part comments c place) all).braces } ∷ comments;
-      }) place all
-      (record {
-        kind = kinds.Text;
-        size = (extent (piece_start part comments c place) all).size;
-        notes = noted (piece_start part comments c place) all;
-      }) k.hash_line o (behind-stands line part _ k)
-      (record { line = λ line. refl; file = λ line bytes. refl; other = λ line named depth before bytes. tt }))))
+      → 1 + twice comments ≤ depth → (f : Found) → CommentRule part c comments last place byte bytes f
+      → Goes line named depth f
+  comment-goes part c comments last place byte bytes line named depth k o n _ (Closed long h) = λ later rest. (
+    k.hash_line,
+    notes-so line false (depth - 1) (missing c place) later
+        (rest line false (depth - 1) (opens-twice comments (depth - 1) (omega arith))
+        (behind-stands line part comments k)),
+  )
+  comment-goes part c comments last place byte bytes line named depth k o n _ (EndedLine short h) = λ later rest. (
+    k.hash_line,
+    notes-between line false (depth - 1) (missing c place) (line_end part comments last place).answers later
+        (line-end-goes part comments last place line false (depth - 1) k (quiet-none comments)
+        (omega arith) later rest),
+  )
+  comment-goes part c comments last place byte bytes line named depth k o n _ (InnerBegin h deep) =
+      λ later rest. (k.hash_line, rest line false (depth + 1) (omega arith) (behind-stands line part _ k))
+  comment-goes part c comments last place byte bytes line named depth k o n _ (Piece closes end opens) =
+      let i = piece_start part comments c place in
+      quiet-goes line named depth (in_hash_line part)
+      (record { part = part; comments = record c { braces = (ended i (byte ∷ bytes)).braces } ∷ comments }) place
+      (byte ∷ bytes)
+      (record { kind = kinds.Text; size = (extent i (byte ∷ bytes)).size; notes = noted i (byte ∷ bytes) }) k.hash_line o
+      (behind-stands line part _ k)
+      (record { line = λ line. refl; file = λ line bytes. refl; other = λ line named depth before bytes. tt })
 
   -- ## Any text of a C part
-
-  abbrev within : Part → Where
-  within part = record { part = part; comments = [] }
 
   part-text-goes : (part : Part) (fresh : Bool) (last place byte : ℕ) (bytes : List ℕ) (line named : Bool) (depth : ℕ)
       → drop place text ≡ byte ∷ bytes → fresh_at text place ≡ fresh → Stands line named part []
@@ -561,11 +477,13 @@ module _ (text : List ℕ) where
       (behind-stands line (parts.Plain false false) [] (plain-text line k.hash_line))
       (record { line = λ line. refl; file = λ line bytes. refl; other = λ line named depth before bytes. tt }))
   part-text-goes parts.Begin fresh last place byte bytes line named depth here f k =
-      code-text-goes (within parts.Begin) fresh last place byte bytes line named depth here f
-      (record { c = refl; hash_line = k.hash_line; include = k.include }) (omega arith) tt
+      code-goes (within parts.Begin) fresh last place byte bytes line named depth here f
+      (record { c = refl; hash_line = k.hash_line; include = k.include }) (omega arith) tt _
+      (code-rule (within parts.Begin) fresh last place byte bytes)
   part-text-goes (parts.Plain hash_line include) fresh last place byte bytes line named depth here f k =
-      code-text-goes (within (parts.Plain hash_line include)) fresh last place byte bytes line named depth here f
-      (record { c = refl; hash_line = k.hash_line; include = k.include }) (omega arith) tt
+      code-goes (within (parts.Plain hash_line include)) fresh last place byte bytes line named depth here f
+      (record { c = refl; hash_line = k.hash_line; include = k.include }) (omega arith) tt _
+      (code-rule (within (parts.Plain hash_line include)) fresh last place byte bytes)
   part-text-goes _ fresh last place byte bytes line named depth here f k = not-both false k.c refl
 
   in-comment : (line named : Bool) (part : Part) (c : Opened) (comments : List Opened)
@@ -580,13 +498,14 @@ module _ (text : List ℕ) where
   in-text-goes part [] fresh last place byte bytes line named depth here f o k =
       part-text-goes part fresh last place byte bytes line named depth here f k
   in-text-goes part (c ∷ comments) fresh last place byte bytes line named depth here f o k =
+      let w : Where = record { part = part; comments = c ∷ comments } in
       if-both (Goes line named depth) c.inner _ _
-      (λ h. code-text-goes
-      (record { part = part; comments = c ∷ comments }) fresh last place byte bytes line named depth here
-      f (in-comment line named part c comments k) (omega (arith, opens-with c comments depth true h o)) h)
-      (λ h. comment-text-goes part c comments last place byte bytes line named depth
+      (λ h. code-goes w fresh last place byte bytes line named depth here f
+      (in-comment line named part c comments k) (omega (arith, opens-with c comments depth true h o)) h _
+      (code-rule w fresh last place byte bytes))
+      (λ h. comment-goes part c comments last place byte bytes line named depth
       (subst (λ n. InText line n part) (k.quiet h) (in-comment line named part c comments k)) o
-      (opens-with c comments depth false h o))
+      (opens-with c comments depth false h o) _ (comment-rule part c comments last place byte bytes))
 
   fresh-on : (fresh : Bool) (place byte : ℕ) (bytes : List ℕ) → drop place text ≡ byte ∷ bytes
       → fresh_at text place ≡ fresh → fresh_at text (place + 1) ≡ still_fresh fresh byte

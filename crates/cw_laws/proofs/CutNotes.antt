@@ -1,26 +1,19 @@
 -- The notes of single tokens are about bytes of these tokens.
-use Rattle.std.proofs.Common.{ℕ, ◌+◌, ◌<◌, ◌≤◌, Bool, true, false, List, [], ◌∷◌, ◌++◌, Option, length, drop, take}
-use Rattle.std.proofs.Common.{not, arith, length-drop, if◌then◌else◌}
-use Rattle.std.proofs.lemmas.Bool.Decides.{nat_tests}
-use Rattle.std.proofs.lemmas.Grind.{common_steps}
+use Rattle.std.proofs.Common.{ℕ, ◌+◌, ◌<◌, ◌≤◌, Bool, List, [], ◌∷◌, ◌++◌, Option, length, drop, take, not, arith}
+use Rattle.std.proofs.Common.{length-drop, if◌then◌else◌}
+use Rattle.std.proofs.{lemmas.Bool.Decides.nat_tests, lemmas.Grind.common_steps}
 use Rattle.cw_base.specs.declared.notes.NoteKind.{NoteKind}
-use Rattle.cw_base.specs.declared.notes.NoteKind.TheVariants as notes
-use Rattle.cw_rules.specs.declared.bodies.Body.TheVariants as bodies
-use Rattle.cw_rules.specs.declared.bodies.Inside.{Inside}
-use Rattle.cw_rules.specs.declared.bodies.Noted.{Noted}
-use Rattle.cw_rules.specs.declared.codes.Code.{Code}
-use Rattle.cw_rules.specs.declared.tokens.TokKind.{TokKind}
-use Rattle.cw_rules.specs.declared.tokens.TokKind.TheVariants as kinds
-use Rattle.cw_rules.specs.Answers.{Cut, note_answers}
-use Rattle.cw_rules.specs.Bytes.{apostrophe}
+use Rattle.cw_rules.specs.declared.{bodies.Inside.Inside, bodies.Noted.Noted, codes.Code.Code, tokens.TokKind.TokKind}
+use Rattle.cw_rules.specs.{Answers.Cut, Answers.note_answers, Bytes.apostrophe, Names.is_void}
 use Rattle.cw_rules.specs.Bodies.{at_start, goes_on, note_here, stepped, with_note, noted, extent, note_unless}
 use Rattle.cw_rules.specs.Bodies.{one_note, and_last, all_notes}
-use Rattle.cw_rules.specs.Names.{is_void}
 use Rattle.cw_rules.specs.Tokens.{string, include_name, control_text, section_name, is_name, is_quote, control_or_plain}
 use Rattle.cw_rules.specs.Tokens.{code_token, dropped_code, section_code}
-use Rattle.cw_rules.proofs.Choices.{if-both}
-use Rattle.cw_rules.proofs.Sizes.{ended-most}
+use Rattle.cw_rules.proofs.{Choices.if-both, Sizes.ended-most}
 use Rattle.cw_laws.specs.NotePlaces.{NotesLie}
+use Rattle.cw_base.specs.declared.notes.NoteKind.TheVariants as notes
+use Rattle.cw_rules.specs.declared.bodies.Body.TheVariants as bodies
+use Rattle.cw_rules.specs.declared.tokens.TokKind.TheVariants as kinds
 
 -- Notes lie from one place up to another.
 abbrev pub NotedIn : ℕ → ℕ → List Noted → Type 0
@@ -66,9 +59,7 @@ noted-in low i (b ∷ bs) l =
         → NotedIn low (i.place + length (b ∷ bs)) (if t then
         with_note (note_here i b bs) i.place (noted (stepped i b bs) bs)
         else [])
-    by true rest = with-in (note_here i b bs) low (i.place + length (b ∷ bs)) i.place (noted (stepped i b bs) bs) l
-        (omega arith) rest
-    by false rest = tt
+    by t rest = grind (arith, nat_tests, with-in)
 
 -- where a body stopped
 stop-in : (low : ℕ) (i : Inside) (bytes : List ℕ) → low < i.place

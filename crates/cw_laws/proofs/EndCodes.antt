@@ -1,36 +1,26 @@
 -- Each code goes up to its end.
 use Rattle.std.proofs.Common.{◌≡◌, ℕ, ◌+◌, ◌-◌, Bool, true, false, ◌==◌, List, [], ◌∷◌, ◌++◌, drop, length, take}
 use Rattle.std.proofs.Common.{if◌then◌else◌, refl, sym, ap, subst, ◌∙◌, arith}
-use Rattle.std.proofs.lemmas.Bool.{eqb-true}
-use Rattle.std.proofs.lemmas.Bool.Decides.{nat_tests}
+use Rattle.std.proofs.{lemmas.Bool.eqb-true, lemmas.Bool.Decides.nat_tests}
 use Rattle.cw_base.specs.declared.notes.NoteKind.{NoteKind}
-use Rattle.cw_rules.specs.declared.bodies.Body.TheVariants as bodies
-use Rattle.cw_rules.specs.declared.codes.Code.{Code}
-use Rattle.cw_rules.specs.declared.codes.Code.TheVariants as at
-use Rattle.cw_rules.specs.declared.codes.Effect.{Effect}
-use Rattle.cw_rules.specs.declared.codes.Effect.TheVariants as effects
-use Rattle.cw_rules.specs.declared.parts.Part.{Part}
-use Rattle.cw_rules.specs.declared.parts.Part.TheVariants as parts
-use Rattle.cw_rules.specs.declared.parts.Opened.{Opened}
-use Rattle.cw_rules.specs.declared.tokens.Mode.{Mode}
-use Rattle.cw_rules.specs.declared.tokens.TokKind.{TokKind}
-use Rattle.cw_rules.specs.declared.tokens.TokKind.TheVariants as kinds
+use Rattle.cw_rules.specs.declared.{codes.Code.Code, codes.Effect.Effect, parts.Part.Part, parts.Opened.Opened}
+use Rattle.cw_rules.specs.declared.{tokens.Mode.Mode, tokens.TokKind.TokKind}
 use Rattle.cw_rules.specs.Answers.{Answer, Note, Cut, note_answers, plain, dropped}
-use Rattle.cw_rules.specs.Bodies.{at_start, extent}
-use Rattle.cw_rules.specs.Bytes.{apostrophe, at_sign}
+use Rattle.cw_rules.specs.{Bodies.at_start, Bodies.extent, Bytes.apostrophe, Bytes.at_sign}
 use Rattle.cw_rules.specs.Codes.{code_at, code_of, is_section, effect_in_limbo, effect_in_tex, effect_in_c}
 use Rattle.cw_rules.specs.Codes.{effect_in_definition, effect_at_begin, has_control_text}
 use Rattle.cw_rules.specs.Tokens.{section_name, string, control_text, alone_size, is_quote, control_or_plain, effect_in}
 use Rattle.cw_rules.specs.Tokens.{code_token, is_name, may_head, dropped_code}
 use Rattle.cw_rules.proofs.Choices.{if-both}
-use Rattle.cw_lex.specs.Nested.{is_section_kind}
-use Rattle.cw_lex.specs.Openings.{is_limbo_mode}
-use Rattle.cw_laws.specs.Strings.{IsString}
+use Rattle.cw_lex.specs.{Nested.is_section_kind, Openings.is_limbo_mode}
+use Rattle.cw_laws.{specs.Strings.IsString, proofs.Insides.control-whole, proofs.Insides.name-whole}
 use Rattle.cw_laws.specs.Ends.{BeginsCode, CodeGoesToEnd, GoesToEnd, HasName, HasOwnText}
-use Rattle.cw_laws.proofs.Insides.{control-whole, name-whole}
-use Rattle.cw_laws.proofs.QuoteCodes.{quote-byte}
-use Rattle.cw_laws.proofs.StillOpen.{IsOrdinary}
-use Rattle.cw_laws.proofs.Strings.{string-is}
+use Rattle.cw_laws.proofs.{QuoteCodes.quote-byte, StillOpen.IsOrdinary, Strings.string-is}
+use Rattle.cw_rules.specs.declared.bodies.Body.TheVariants as bodies
+use Rattle.cw_rules.specs.declared.codes.Code.TheVariants as at
+use Rattle.cw_rules.specs.declared.codes.Effect.TheVariants as effects
+use Rattle.cw_rules.specs.declared.parts.Part.TheVariants as parts
+use Rattle.cw_rules.specs.declared.tokens.TokKind.TheVariants as kinds
 
 pub not-both : {A : Type 0} (b : Bool) → b ≡ true → b ≡ false → A
 not-both true h k = absurd cc
@@ -97,12 +87,6 @@ Suits effect part code = Unit {0}
 
 c-suits : (part : Part) (code : Code) → Suits (effect_in_c code) part code
 c-suits part at.Define = tt
-c-suits part at.Format = tt
-c-suits part at.SilentFormat = tt
-c-suits part at.Program = tt
-c-suits part at.At = tt
-c-suits part at.Letters = tt
-c-suits part at.Unknown = tt
 c-suits part _ = tt
 
 definition-suits : (code : Code) → Suits (effect_in_definition code) parts.Definition code
@@ -197,8 +181,7 @@ own-text code place byte [] later is = record {
   where
     none : (t : Bool) → t ≡ false
         → (if t then control_text code place (byte ∷ []) else plain (kinds.Code code) (alone_size (byte ∷ []))).size ≡ 1
-    none true h = absurd cc
-    none false h = refl
+    none t h = grind (arith, nat_tests)
 own-text code place byte (next ∷ bytes) later is = by (has_control_text code)
   where
     cut : Bool → Cut

@@ -4,23 +4,16 @@ use Rattle.std.proofs.Common.{if◌then◌else◌, refl, sym, subst, ap, ◌∙�
 use Rattle.std.proofs.Common.{length}
 use Rattle.std.proofs.lemmas.Bool.Decides.{nat_tests}
 use Rattle.cw_base.specs.declared.notes.NoteKind.{NoteKind}
-use Rattle.cw_rules.specs.declared.bodies.Body.{Body}
-use Rattle.cw_rules.specs.declared.bodies.Body.TheVariants as bodies
-use Rattle.cw_rules.specs.declared.bodies.Inside.{Inside}
-use Rattle.cw_rules.specs.declared.bodies.Noted.{Noted}
-use Rattle.cw_rules.specs.Answers.{Answer, note_answers}
-use Rattle.cw_rules.specs.declared.codes.Code.{Code}
-use Rattle.cw_rules.specs.Bytes.{at_sign, greater, begins, begins_with}
-use Rattle.cw_rules.specs.Codes.{begins_section}
+use Rattle.cw_rules.specs.declared.{bodies.Body.Body, bodies.Inside.Inside, bodies.Noted.Noted, codes.Code.Code}
+use Rattle.cw_rules.specs.declared.{tokens.Mode.Mode, tokens.TokKind.TokKind}
+use Rattle.cw_rules.specs.{Answers.Answer, Answers.note_answers, Bytes.at_sign, Bytes.greater, Bytes.begins}
+use Rattle.cw_rules.specs.{Bytes.begins_with, Codes.begins_section, Tokens.comment_kind, Tokens.section_name}
 use Rattle.cw_rules.specs.Bodies.{stops, takes_next, stepped, goes_on, ended, and_last, note_unless, at_start, extent}
 use Rattle.cw_rules.specs.Bodies.{noted, note_here, note_on, is_single, with_note, all_notes, closing_bytes, one_note}
-use Rattle.cw_rules.specs.declared.tokens.Mode.{Mode}
-use Rattle.cw_rules.specs.declared.tokens.TokKind.{TokKind}
-use Rattle.cw_rules.specs.Tokens.{comment_kind, section_name}
 use Rattle.cw_laws.specs.Ends.{begins_two, before_end, ends_control, is_double_at, ends_piece, is_pair, ends_name}
 use Rattle.cw_laws.specs.Ends.{is_single_at, before_single, IsNoted, HasControlText, HasName, is_closed, closed_size}
-use Rattle.cw_laws.specs.Ends.{piece_size, bars_begin, IsPieceIn}
-use Rattle.cw_laws.proofs.Strings.{step-size}
+use Rattle.cw_laws.{specs.Ends.piece_size, specs.Ends.bars_begin, specs.Ends.IsPieceIn, proofs.Strings.step-size}
+use Rattle.cw_rules.specs.declared.bodies.Body.TheVariants as bodies
 
 -- the ends and the pairs of a body, said of the bytes
 record Rules (body : Body) (ends pairs : List ℕ → Bool) : Type 0 where
@@ -43,8 +36,7 @@ module _ (body : Body) (ends pairs : List ℕ → Bool) (r : Rules body ends pai
   none : (i : Inside) (byte : ℕ) (bytes : List ℕ) → goes_on i (byte ∷ bytes) ≡ false
       → (ended i (byte ∷ bytes)).place - i.place ≡ 0
   none i byte bytes h =
-      let same : ended i (byte ∷ bytes) ≡ i =
-      ap (λ t. if t then ended (stepped i byte bytes) bytes else i) h in
+      let same : ended i (byte ∷ bytes) ≡ i = grind (arith, nat_tests) in
       omega (arith, ap (λ (j : Inside). j.place) same)
 
   nothing : (i : Inside) → (ended i []).place - i.place ≡ 0
@@ -56,8 +48,7 @@ module _ (body : Body) (ends pairs : List ℕ → Bool) (r : Rules body ends pai
   before-size i (x ∷ []) b a = by (ends (x ∷ [])) refl
     where
       by : (e : Bool) → ends (x ∷ []) ≡ e → (ended i (x ∷ [])).place - i.place ≡ (if e then 0 else 1)
-      by true k = none i x [] (goes i x [] b a ∙ ap not k)
-      by false k = step-size i x [] (goes i x [] b a ∙ ap not k) ∙ ap (λ n. 1 + n) (nothing (stepped i x []))
+      by e k = grind (arith, nat_tests, none, goes, step-size, nothing)
   before-size i (x ∷ y ∷ ys) b a =
       by (ends (x ∷ y ∷ ys)) (pairs (x ∷ y ∷ ys)) refl refl (λ e. before-size (stepped i x (y ∷ ys)) (y ∷ ys) b e)
       (λ e. before-size (stepped (stepped i x (y ∷ ys)) y ys) ys b e)
@@ -100,8 +91,7 @@ name-rules = record {
 }
   where
     by : (t a b : Bool) → (t && (a || b)) ≡ ((t && a) || (t && b))
-    by true a b = refl
-    by false a b = refl
+    by t a b = grind (arith, nat_tests)
 
 piece-rules : (long deep : Bool) → Rules (bodies.Piece long deep) (ends_piece long (not deep)) (is_pair long)
 piece-rules long deep = record { stop = λ before byte bytes. refl; takes = λ byte bytes. refl }
@@ -131,14 +121,11 @@ piece-whole mode false deep braces place bytes rest h = piece-is false deep _ br
 
 two-with : (first second : ℕ) (bytes : List ℕ)
     → begins_with (first ∷ second ∷ []) bytes ≡ begins_two first second bytes
-two-with first second [] = refl
-two-with first second (x ∷ []) = refl
 two-with first second (x ∷ y ∷ ys) = by (x == first) (y == second)
   where
     by : (a b : Bool) → (a && (b && true)) ≡ (a && b)
-    by true true = refl
-    by true false = refl
-    by false b = refl
+    by a b = grind (arith, nat_tests)
+two-with first second _ = refl
 
 noted-behind : (kind : NoteKind) (ns : List Noted) (n : Noted) (later : List Answer) → n.kind ≡ kind
     → IsNoted kind (note_answers (ns ++ n ∷ []) ++ later)
@@ -186,10 +173,7 @@ module _ (body : Body) (ends pairs : List ℕ → Bool) (r : Rules body ends pai
       (inl refl)
     where
       here : note_here i byte bytes ≡ Some kind
-      here =
-          (λ k. if a k then None else note_on (b k) i.braces byte bytes)
-          ∙ notes i.braces byte bytes
-          ∙ ap (λ t. if t then Some kind else None) s
+      here = grind (arith, nat_tests)
 
   on : (i : Inside) (byte : ℕ) (bytes : List ℕ) → i.body ≡ body → i.along ≡ false → ends (byte ∷ bytes) ≡ false
       → goes_on i (byte ∷ bytes) ≡ true
@@ -202,9 +186,7 @@ module _ (body : Body) (ends pairs : List ℕ → Bool) (r : Rules body ends pai
     where
       by : (e s : Bool) → ends (x ∷ []) ≡ e → is_single_at (x ∷ []) ≡ s
           → (if e || s then 0 else 1) < (if e then 0 else 1) → HasNote kind (noted i (x ∷ []))
-      by true s k l less = absurd (omega (arith, less))
-      by false true k l less = here-step i x [] b a (on i x [] b a k) l
-      by false false k l less = absurd (omega (arith, less))
+      by e s k l less = grind (arith, nat_tests, here-step, on)
   single-noted i (x ∷ y ∷ ys) b a less =
       by (ends (x ∷ y ∷ ys)) (is_single_at (x ∷ y ∷ ys)) (pairs (x ∷ y ∷ ys)) refl refl refl less
       (λ e. single-noted (stepped i x (y ∷ ys)) (y ∷ ys) b e)
@@ -221,16 +203,7 @@ module _ (body : Body) (ends pairs : List ℕ → Bool) (r : Rules body ends pai
           → HasNote kind (noted one (y ∷ ys)))
           → ((stepped one y ys).along ≡ false → before_single ends pairs ys < before_end ends pairs ys
           → HasNote kind (noted (stepped one y ys) ys)) → HasNote kind (noted i (x ∷ y ∷ ys))
-      by true s p k l m less rest behind = absurd (omega (arith, less))
-      by false true p k l m less rest behind = here-step i x (y ∷ ys) b a (on i x (y ∷ ys) b a k) l
-      by false false true k l m less rest behind =
-          let al : one.along ≡ true = along body ends pairs r i x (y ∷ ys) b a ∙ m in
-          behind-step kind i x (y ∷ ys) (on i x (y ∷ ys) b a k)
-          (behind-step kind one y ys (ap (λ t. t || not (stops i.body x y ys)) al)
-          (behind (ap (λ t. not t && takes_next i.body y ys) al) (omega (arith, less))))
-      by false false false k l m less rest behind =
-          behind-step kind i x (y ∷ ys) (on i x (y ∷ ys) b a k)
-          (rest (along body ends pairs r i x (y ∷ ys) b a ∙ m) (omega (arith, less)))
+      by e s p k l m less rest behind = grind (arith, nat_tests, here-step, on, along, behind-step, one)
 
 note-in : (kind : NoteKind) (ns : List Noted) (later : List Answer) → HasNote kind ns
     → IsNoted kind (note_answers ns ++ later)
@@ -270,8 +243,7 @@ is-cut ends pairs i bytes by size = record {
 }
   where
     closed : (extent i bytes).closed ≡ is_closed ends pairs bytes
-    closed = (λ k. begins_with (by k) (drop (size k) bytes))
-        ∙ two-with at_sign greater (drop (before_end ends pairs bytes) bytes)
+    closed = grind (arith, nat_tests, two-with)
 
 control-cut : (place : ℕ) (bytes : List ℕ)
     → IsCut ends_control is_double_at (at_start bodies.ControlText place) bytes
@@ -323,5 +295,4 @@ name-whole code place byte next bytes later =
   where
     unended : (closed : Bool) → closed ≡ false
         → HasNote NoteKind.NameUnended (one_note (note_unless closed NoteKind.NameUnended place))
-    unended true e = absurd cc
-    unended false e = inl refl
+    unended closed e = grind (arith, nat_tests)

@@ -1,16 +1,13 @@
 -- The longest sign of the table is one with which the bytes begin, and none of those is longer.
 use Rattle.std.proofs.Common.{◌≡◌, ℕ, ◌≤◌, Bool, true, false, ◌==◌, nat_lt, codes, List, [], ◌∷◌, ◌++◌, Option, Some}
 use Rattle.std.proofs.Common.{None, if◌then◌else◌, length, drop, refl, sym, subst, arith}
-use Rattle.std.proofs.lemmas.Bool.{eqb-true}
-use Rattle.std.proofs.lemmas.Bool.Decides.{nat_tests}
+use Rattle.std.proofs.{lemmas.Bool.eqb-true, lemmas.Bool.Decides.nat_tests}
 use Rattle.cw_base.proofs.TestLaws.{both-left, both-right}
-use Rattle.cw_rules.specs.declared.signs.Sign.{Sign}
-use Rattle.cw_rules.specs.declared.signs.Sign.TheVariants as signs
-use Rattle.cw_rules.specs.Bytes.{begins_with}
-use Rattle.cw_rules.specs.Constants.{constant}
+use Rattle.cw_rules.specs.{declared.signs.Sign.Sign, Bytes.begins_with, Constants.constant}
 use Rattle.cw_rules.specs.Signs.{all_signs, longer, longest, spelling}
 use Rattle.cw_rules.proofs.Choices.{if-both}
 use Rattle.cw_laws.specs.Longest.{NoneIsLonger, begins_comment, IsSign}
+use Rattle.cw_rules.specs.declared.signs.Sign.TheVariants as signs
 
 longer-sizes : (more : List Sign) (bytes : List ℕ) (small large : ℕ) → small ≤ large → NoneIsLonger more bytes small
     → NoneIsLonger more bytes large
@@ -47,11 +44,7 @@ longest-most (sign ∷ more) bytes =
     by : (fits : Bool) (o : Option Sign) → NoneIsLonger more bytes (size_of o)
         → (fits ≡ true → length (spelling sign) ≤ size_of (longer fits sign o))
         × NoneIsLonger more bytes (size_of (longer fits sign o))
-    by true None rest = (λ k. omega arith, longer-sizes more bytes 0 (length (spelling sign)) (omega arith) rest)
-    by false None rest = (λ k. absurd cc, rest)
-    by true (Some other) rest =
-        longer-of (nat_lt (length (spelling other)) (length (spelling sign))) other refl rest
-    by false (Some other) rest = (λ k. absurd cc, rest)
+    by fits o rest = grind (arith, nat_tests, longer-sizes, longer-of)
 
 longest-of : (bytes : List ℕ) (sign : Sign) → longest all_signs bytes ≡ Some sign
     → NoneIsLonger all_signs bytes (length (spelling sign))
@@ -69,12 +62,7 @@ longest-fits (sign ∷ more) bytes =
   where
     by : (fits : Bool) (o : Option Sign) → begins_with (spelling sign) bytes ≡ fits → Fits bytes o
         → Fits bytes (longer fits sign o)
-    by true None e h = e
-    by false None e h = tt
-    by true (Some other) e h =
-        if-both (Fits bytes) (nat_lt (length (spelling other)) (length (spelling sign))) (Some sign) (Some other)
-        (λ k. e) (λ k. h)
-    by false (Some other) e h = h
+    by fits o e h = grind (arith, nat_tests, if-both)
 
 -- the longest of the table, where no constant and no comment begins
 pub sign-is : (bytes : List ℕ) (sign : Sign) → longest all_signs bytes ≡ Some sign → constant bytes ≡ 0

@@ -1,67 +1,45 @@
 -- Each note is about a byte of what was scanned: of the token that begins, or of what is open.
-use Rattle.std.proofs.Common.{◌≡◌, ℕ, zero, suc, ◌+◌, ◌-◌, ◌<◌, ◌≤◌, Bool, true, false, ◌&&◌, not, ◌==◌, nat_lt, List}
-use Rattle.std.proofs.Common.{[], ◌∷◌, ◌++◌, Option, Some, None, length, drop, take, refl, sym, subst, arith}
-use Rattle.std.proofs.Common.{length-drop}
-use Rattle.std.proofs.lemmas.List.{length-take}
-use Rattle.std.proofs.lemmas.Bool.Decides.{nat_tests}
-use Rattle.cw_base.specs.declared.notes.NoteKind.{NoteKind}
-use Rattle.cw_base.specs.declared.notes.NoteKind.TheVariants as notes
-use Rattle.cw_rules.specs.declared.classes.Class.TheVariants as classes
-use Rattle.cw_rules.specs.declared.codes.Code.{Code}
-use Rattle.cw_rules.specs.declared.codes.Code.TheVariants as at
-use Rattle.cw_rules.specs.declared.codes.Effect.{Effect}
-use Rattle.cw_rules.specs.declared.codes.Effect.TheVariants as effects
-use Rattle.cw_rules.specs.declared.parts.Part.{Part}
-use Rattle.cw_rules.specs.declared.parts.Part.TheVariants as parts
-use Rattle.cw_rules.specs.declared.parts.Opened.{Opened}
-use Rattle.cw_rules.specs.declared.parts.Start.{Start}
-use Rattle.cw_rules.specs.declared.parts.Start.TheVariants as start
-use Rattle.cw_rules.specs.declared.signs.Sign.{Sign}
-use Rattle.cw_rules.specs.declared.tokens.Mode.{Mode}
-use Rattle.cw_rules.specs.declared.tokens.Mode.TheVariants as modes
-use Rattle.cw_rules.specs.declared.tokens.TokKind.TheVariants as kinds
-use Rattle.cw_rules.specs.Answers.{Answer, Token, Begin, Finish, Note, Where, Cut, Found, before, plain}
-use Rattle.cw_rules.specs.Bodies.{note_unless, one_note, noted, extent}
-use Rattle.cw_base.specs.Bytes.{newline, backslash}
-use Rattle.cw_rules.specs.Bytes.{slash, star, at_sign, hash, less, comma, right_paren, left_paren, run, begins}
-use Rattle.cw_rules.specs.Bytes.{is_letter, is_mark, is_in}
-use Rattle.cw_base.specs.Text.{bar}
+use Rattle.std.proofs.Common.{◌≡◌, ℕ, zero, suc, ◌+◌, ◌-◌, ◌<◌, ◌≤◌, Bool, true, false, ◌&&◌, not, ◌==◌, List, [], ◌∷◌}
+use Rattle.std.proofs.Common.{◌++◌, length, drop, take, refl, sym, ap, ◌∙◌, arith, length-drop}
+use Rattle.std.proofs.{lemmas.List.length-take, lemmas.Bool.Decides.nat_tests}
+use Rattle.cw_base.specs.{declared.notes.NoteKind.NoteKind, Bytes.newline, Bytes.backslash}
+use Rattle.cw_rules.specs.declared.{codes.Code.Code, codes.Effect.Effect, parts.Part.Part, tokens.Mode.Mode}
+use Rattle.cw_rules.specs.{declared.parts.Opened.Opened, Bodies.note_unless, Bodies.one_note, Bodies.noted}
+use Rattle.cw_rules.specs.{Bytes.at_sign, Prefixes.prefix_size, Apart.in_text_apart, Apart.found_apart}
+use Rattle.cw_rules.specs.Answers.{Answer, Note, Where, Cut, Found, before, plain}
 use Rattle.cw_rules.specs.Codes.{code_at, begins_section, effect_in_limbo, effect_in_tex}
-use Rattle.cw_rules.specs.Constants.{constant}
-use Rattle.cw_rules.specs.Prefixes.{prefix_size}
-use Rattle.cw_rules.proofs.StringPrefixes.{prefix-below}
-use Rattle.cw_rules.specs.Signs.{all_signs, longest, spelling}
-use Rattle.cw_rules.specs.Tokens.{in_hash_line, behind_include, takes_hash_line, is_space, is_deep, ends_at_bar}
-use Rattle.cw_rules.specs.Tokens.{closes_on_line, moved, passed, one, skipped_byte, missing_brace, comment_end}
-use Rattle.cw_rules.specs.Tokens.{inner_cut, comment_cut, part_cut, inner_or_none, all_cut, section, section_code}
-use Rattle.cw_rules.specs.Tokens.{line_end, sign_or_other, start_of, is_include, behind_word, behind_inner, effect_in}
-use Rattle.cw_rules.specs.Tokens.{may_head, is_head, code_by, in_code, identifier, string, code_token, dropped_code}
-use Rattle.cw_rules.specs.Tokens.{include_name, piece_start, limbo_by, limbo_text, tex_by, tex_text, head_text}
-use Rattle.cw_rules.specs.Tokens.{name_follows, macro_name, parameter_follows, parameter, behind_format, format_name}
-use Rattle.cw_rules.specs.Tokens.{is_name}
-use Rattle.cw_rules.specs.Apart.{code_text_apart, comment_text_apart, behind_head_apart, part_text_apart, in_text_apart}
-use Rattle.cw_rules.specs.Apart.{found_apart}
-use Rattle.cw_rules.proofs.Choices.{if-both}
+use Rattle.cw_rules.proofs.{StringPrefixes.prefix-below, Choices.if-both}
+use Rattle.cw_rules.specs.Tokens.{in_hash_line, moved, passed, one, skipped_byte, missing_brace, comment_end, inner_cut}
+use Rattle.cw_rules.specs.Tokens.{comment_cut, part_cut, inner_or_none, all_cut, section, section_code, line_end}
+use Rattle.cw_rules.specs.Tokens.{is_include, behind_inner, effect_in, string, code_token, dropped_code, piece_start}
 use Rattle.cw_lex.specs.Lexing.{still_fresh, answers, fresh_at, last_at, beginning, tokens_of}
-use Rattle.cw_lex.specs.Starts.{CodeIs}
+use Rattle.cw_rules.proofs.Rules.{BeginsPart, CPart, IsPassed, IncludeName, Prefixed, Quoted, Standing, Dropping}
+use Rattle.cw_rules.proofs.Rules.{CodeRule, LineEnd, Space, HashLine, Word, Passed, Heading, Beginning, Comment}
+use Rattle.cw_rules.proofs.Rules.{InnerEnd, CommentRule, Closed, EndedLine, InnerBegin, Piece, LimboRule, LimboCode}
+use Rattle.cw_rules.proofs.Rules.{LimboFormat, LimboDropped, LimboText, PartRule, OfCode, OfLimbo, TexCode, TexHeading}
+use Rattle.cw_rules.proofs.Rules.{TexDropped, TexBeginning, TexInner, White, HeadWord, BeforeParameters, OfParameters}
+use Rattle.cw_rules.proofs.Rules.{FirstOfFormat, Opening, ParameterSign, Closes, Improper, ImproperMacro}
+use Rattle.cw_rules.proofs.Rules.{ImproperInLimbo, within, code-rule, comment-rule, part-rule}
 use Rattle.cw_laws.specs.NotePlaces.{NotesLie, NotesLieInTheirText}
 use Rattle.cw_laws.proofs.CutNotes.{NotedIn, answers-lie, one-in, noted-in, string-in, include-in, code-token-in}
 use Rattle.cw_laws.proofs.CutNotes.{dropped-in, section-in}
+use Rattle.cw_base.specs.declared.notes.NoteKind.TheVariants as notes
+use Rattle.cw_rules.specs.declared.codes.Code.TheVariants as at
+use Rattle.cw_rules.specs.declared.codes.Effect.TheVariants as effects
+use Rattle.cw_rules.specs.declared.parts.Part.TheVariants as parts
+use Rattle.cw_rules.specs.declared.tokens.Mode.TheVariants as modes
+use Rattle.cw_rules.specs.declared.tokens.TokKind.TheVariants as kinds
 
 append-lie : (low high : ℕ) (xs ys : List Answer) → NotesLie low high xs → NotesLie low high ys
     → NotesLie low high (xs ++ ys)
 append-lie low high [] ys h g = g
-append-lie low high (Token t ∷ xs) ys h g = append-lie low high xs ys h g
-append-lie low high (Begin t ∷ xs) ys h g = append-lie low high xs ys h g
-append-lie low high (Finish t ∷ xs) ys h g = append-lie low high xs ys h g
 append-lie low high (Note kind place ∷ xs) ys h g = (h.0, h.1, append-lie low high xs ys h.2 g)
+append-lie low high (_ ∷ xs) ys h g = append-lie low high xs ys h g
 
 wider-lie : (low high last : ℕ) (xs : List Answer) → high ≤ last → NotesLie low high xs → NotesLie low last xs
 wider-lie low high last [] w h = tt
-wider-lie low high last (Token t ∷ xs) w h = wider-lie low high last xs w h
-wider-lie low high last (Begin t ∷ xs) w h = wider-lie low high last xs w h
-wider-lie low high last (Finish t ∷ xs) w h = wider-lie low high last xs w h
 wider-lie low high last (Note kind place ∷ xs) w h = (h.0, omega (arith, h.1, w), wider-lie low high last xs w h.2)
+wider-lie low high last (_ ∷ xs) w h = wider-lie low high last xs w h
 
 -- ## What is open
 
@@ -98,8 +76,6 @@ later : (low place : ℕ) (w : Where) → Open low place w → Open low (place +
 later low place w h = (part-later low place w.part h.0, comments-later low place w.comments h.1)
 
 passed-open : (low place : ℕ) (part : Part) → PartOpen low place part → PartOpen low place (passed part)
-passed-open low place parts.Begin h = tt
-passed-open low place (parts.Plain hash_line include) h = tt
 passed-open low place (parts.MacroName code) h = h
 passed-open low place (parts.MacroParen code) h = h
 passed-open low place (parts.Parameters code) h = h
@@ -192,23 +168,6 @@ line-end-lies low place left part (c ∷ comments) last l some p o =
 
 -- ## C text
 
-start-code : (bar_ends : Bool) (byte : ℕ) (bytes : List ℕ) → CodeIs (start_of bar_ends byte bytes) (code_at bytes)
-start-code bar_ends byte bytes =
-    let P : Start → Type 0 = λ s. CodeIs s (code_at bytes) in
-    if-both P (nat_lt 0 (prefix_size (byte ∷ bytes))) _ _ (λ h. tt)
-    (λ h. if-both P (is_letter byte) _ _ (λ h. tt)
-    (λ h. if-both P (nat_lt 0 (constant (byte ∷ bytes))) _ _ (λ h. tt)
-    (λ h. if-both P (is_mark byte) _ _ (λ h. tt)
-    (λ h. if-both P (byte == slash && begins star bytes) _ _ (λ h. tt)
-    (λ h. if-both P (byte == slash && begins slash bytes) _ _ (λ h. tt)
-    (λ h. if-both P (byte == at_sign) _ _ (λ h. refl)
-    (λ h. if-both P (byte == bar && (bar_ends && not (begins bar bytes))) _ _ (λ h. tt)
-    (λ h. by (longest all_signs (byte ∷ bytes))))))))))
-  where
-    by : (s : Option Sign) → CodeIs (sign_or_other s) (code_at bytes)
-    by None = tt
-    by (Some sign) = tt
-
 moved-open : (low place : ℕ) (w : Where) (part : Part) → PartOpen low place part → Open low place w
     → Open low place (moved w part)
 moved-open low place w part p o = (p, o.1)
@@ -216,278 +175,170 @@ moved-open low place w part p o = (p, o.1)
 passed-on : (low place : ℕ) (w : Where) → Open low place w → Open low place (moved w (passed w.part))
 passed-on low place w o = (passed-open low place w.part o.0, o.1)
 
-code-by-lies : (low place : ℕ) (effect : Effect) (code : Code) (w : Where) (byte next : ℕ) (bytes : List ℕ)
-    → low ≤ place → Open low (place + 1) w
-    → Lies low place (length (byte ∷ next ∷ bytes)) (code_by effect code w place (byte ∷ next ∷ bytes))
-code-by-lies low place effects.Stands code w byte next bytes l o =
-    one-lies low place (length (byte ∷ next ∷ bytes)) (in_hash_line w.part) _ (byte ∷ next ∷ bytes)
-    (code_token code place (byte ∷ next ∷ bytes)) (code-token-in low code place byte next bytes l)
-    (if-both (Open low (place + 1)) (is_name code && (may_head w.part w.comments && is_head place (byte ∷ next
-    ∷ bytes))) (moved w parts.Head) (moved w (passed w.part)) (λ h. (tt, o.1)) (λ h. passed-on low (place + 1) w o))
-code-by-lies low place (effects.Drops note) code w byte next bytes l o =
-    one-lies low place (length (byte ∷ next ∷ bytes)) (in_hash_line w.part) (moved w (passed w.part))
-    (byte ∷ next ∷ bytes) (dropped_code note code place (byte ∷ next ∷ bytes))
-    (dropped-in low note code place byte next bytes l) (passed-on low (place + 1) w o)
-code-by-lies low place effects.Defines code w byte next bytes l o = grind (arith, nat_tests, one-lies)
-code-by-lies low place effects.Formats code w byte next bytes l o = grind (arith, nat_tests, one-lies)
-code-by-lies low place effects.BeginsC code w byte next bytes l o = grind (arith, nat_tests, one-lies)
+known-in : (part : Part) (comments : List Opened) (code : Code) → effect_in part comments code ≡ effects.Stands
+    → code ≡ at.Unknown → ⊥
+known-in part comments code e u = grind (arith, nat_tests)
 
-effect-unknown : (part : Part) (comments : List Opened)
-    → effect_in part comments at.Unknown ≡ effects.Drops notes.UnknownCode
-effect-unknown parts.Definition [] = refl
-effect-unknown parts.Begin [] = refl
-effect-unknown part comments = refl
+module _ (low place byte : ℕ) (bytes : List ℕ) (l : low ≤ place) where
+  abbrev LiesHere : Found → Type 0
+  LiesHere f = Lies low place (length (byte ∷ bytes)) f
 
--- a code, which may be the last byte
-code-lies : (low place : ℕ) (w : Where) (code : Code) (byte : ℕ) (bytes : List ℕ) → low ≤ place
-    → Open low (place + 1) w → code ≡ code_at bytes
-    → Lies low place (length (byte ∷ bytes)) (code_by (effect_in w.part w.comments code) code w place (byte ∷ bytes))
-code-lies low place w code byte (next ∷ bytes) l o e =
-    code-by-lies low place (effect_in w.part w.comments code) code w byte next bytes l o
-code-lies low place w code byte [] l o e =
-    let P : Code → Type 0 = λ code. Lies low place 1 (code_by (effect_in w.part w.comments code) code w place
-    (byte ∷ [])) in
-    let Q : Effect → Type 0 = λ effect. Lies low place 1 (code_by effect at.Unknown w place (byte ∷ [])) in
-    subst P (sym e) (subst Q (sym (effect-unknown w.part w.comments))
-    (one-lies low place 1 (in_hash_line w.part) (moved w (passed w.part)) (byte ∷ [])
-    (dropped_code notes.UnknownCode at.Unknown place (byte ∷ [])) (l, omega arith, tt)
-    (passed-on low (place + 1) w o)))
+  abbrev InHere : Cut → Type 0
+  InHere cut = NotedIn low (place + length (byte ∷ bytes)) cut.notes
 
-in-code-lies : (low place : ℕ) (begins : Start) (w : Where) (byte : ℕ) (bytes : List ℕ) → low ≤ place
-    → Open low (place + 1) w → CodeIs begins (code_at bytes)
-    → Lies low place (length (byte ∷ bytes)) (in_code begins w place (byte ∷ bytes))
-in-code-lies low place start.Identifier w byte bytes l o e =
-    one-lies low place (length (byte ∷ bytes)) (in_hash_line w.part) (moved w (behind_word w.part (byte ∷ bytes)))
-    (byte ∷ bytes) (identifier (byte ∷ bytes)) tt
-    (moved-open low (place + 1) w (behind_word w.part (byte ∷ bytes))
-    (if-both (PartOpen low (place + 1)) (in_hash_line w.part && is_include (byte ∷ bytes)) (parts.Plain true true)
-    (passed w.part) (λ h. tt) (λ h. passed-open low (place + 1) w.part o.0)) o)
-in-code-lies low place start.Constant w byte bytes l o e =
-    one-lies low place (length (byte ∷ bytes)) (in_hash_line w.part) (moved w (passed w.part)) (byte ∷ bytes)
-    (plain kinds.Constant (constant (byte ∷ bytes))) tt (passed-on low (place + 1) w o)
-in-code-lies low place (start.Quoted quote) w byte bytes l o e =
-    let opening = prefix_size (byte ∷ bytes) + 1 in
-    one-lies low place (length (byte ∷ bytes)) (in_hash_line w.part) (moved w (passed w.part)) (byte ∷ bytes)
-    (string kinds.Quoted opening quote place (byte ∷ bytes))
-    (string-in low kinds.Quoted opening quote place (byte ∷ bytes) l (omega arith)
-    (omega (arith, prefix-below byte bytes)))
-    (passed-on low (place + 1) w o)
-in-code-lies low place start.LongComment w byte bytes l o e =
+  one-here : (hash_line : Bool) (next : Where) (cut : Cut) → InHere cut → Open low (place + 1) next
+      → LiesHere (one hash_line next place (byte ∷ bytes) cut)
+  one-here hash_line next cut n o = one-lies low place (length (byte ∷ bytes)) hash_line next (byte ∷ bytes) cut n o
+
+  begun-open : (effect : Effect) (part : Part) → BeginsPart place effect part → PartOpen low (place + 1) part
+  begun-open _ _ CPart = tt
+  begun-open _ _ _ = (l, omega arith)
+
+token-in : (low place byte : ℕ) (bytes : List ℕ) → low ≤ place → (code_at bytes ≡ at.Unknown → ⊥)
+    → NotedIn low (place + length (byte ∷ bytes)) (code_token (code_at bytes) place (byte ∷ bytes)).notes
+token-in low place byte [] l known = absurd (known refl)
+token-in low place byte (next ∷ bytes) l known = code-token-in low (code_at (next ∷ bytes)) place byte next bytes l
+
+drop-in : (low place byte : ℕ) (bytes : List ℕ) (note : NoteKind) → low ≤ place
+    → NotedIn low (place + length (byte ∷ bytes)) (dropped_code note (code_at bytes) place (byte ∷ bytes)).notes
+drop-in low place byte [] note l = (l, omega arith, tt)
+drop-in low place byte (next ∷ bytes) note l =
+    dropped-in low note (code_at (next ∷ bytes)) place byte next bytes l
+
+quoted-in : (low place byte quote : ℕ) (bytes : List ℕ) → low ≤ place
+    → NotedIn low (place + length (byte ∷ bytes))
+    (string kinds.Quoted (prefix_size (byte ∷ bytes) + 1) quote place (byte ∷ bytes)).notes
+quoted-in low place byte quote bytes l =
+    string-in low kinds.Quoted (prefix_size (byte ∷ bytes) + 1) quote place (byte ∷ bytes) l (omega arith)
+    (omega (arith, prefix-below byte bytes))
+
+passed-in : (low place byte : ℕ) (bytes : List ℕ) → low ≤ place → (w : Where) (fresh : Bool) (cut : Cut)
+    → IsPassed w fresh place byte bytes cut → NotedIn low (place + length (byte ∷ bytes)) cut.notes
+passed-in low place byte bytes l w fresh _ (IncludeName h behind closes) = include-in low place byte bytes l
+passed-in low place byte bytes l w fresh _ (Prefixed h) = quoted-in low place byte _ bytes l
+passed-in low place byte bytes l w fresh _ (Quoted letter h) = quoted-in low place byte byte bytes l
+passed-in low place byte bytes l w fresh _ (Standing at e) =
+    token-in low place byte bytes l (known-in w.part w.comments (code_at bytes) e)
+passed-in low place byte bytes l w fresh _ (Dropping note at e) = drop-in low place byte bytes note l
+passed-in low place byte bytes l w fresh _ _ = tt
+
+code-lies : (low place byte : ℕ) (bytes : List ℕ) → low ≤ place → (w : Where) (fresh : Bool) (last : ℕ)
+    → Open low (place + 1) w → (f : Found) → CodeRule w fresh last place byte bytes f
+    → Lies low place (length (byte ∷ bytes)) f
+code-lies low place byte bytes l w fresh last o _ (LineEnd h) =
+    line-end-lies low place (length (byte ∷ bytes)) w.part w.comments last l (omega arith) o.0 o.1
+code-lies low place byte bytes l w fresh last o _ (Space line h) = record { notes = tt; next = o }
+code-lies low place byte bytes l w fresh last o _ (HashLine h takes first) = record { notes = tt; next = (tt, o.1) }
+code-lies low place byte bytes l w fresh last o _ (Word bare h) = record {
+  notes = tt;
+  next = (
+    if-both (PartOpen low (place + 1)) (in_hash_line w.part && is_include (byte ∷ bytes)) (parts.Plain true true)
+        (passed w.part) (λ h. tt) (λ h. passed-open low (place + 1) w.part o.0),
+    o.1,
+  );
+}
+code-lies low place byte bytes l w fresh last o _ (Passed cut p) =
+    one-here low place byte bytes l (in_hash_line w.part) (moved w (passed w.part)) cut
+    (passed-in low place byte bytes l w fresh cut p) (passed-on low (place + 1) w o)
+code-lies low place byte bytes l w fresh last o _ (Heading at e name may headed) =
+    one-here low place byte bytes l (in_hash_line w.part) (moved w parts.Head) (code_token (code_at bytes) place (byte ∷ bytes))
+    (token-in low place byte bytes l (known-in w.part w.comments (code_at bytes) e)) (tt, o.1)
+code-lies low place byte bytes l w fresh last o _ (Beginning effect part at e begun) =
+    record { notes = tt; next = (begun-open low place byte bytes l effect part begun, o.1) }
+code-lies low place byte bytes l w fresh last o _ (Comment long h) =
     record { notes = tt; next = (passed-open low (place + 1) w.part o.0, (l, omega arith, o.1)) }
-in-code-lies low place start.ShortComment w byte bytes l o e =
-    record { notes = tt; next = (passed-open low (place + 1) w.part o.0, (l, omega arith, o.1)) }
-in-code-lies low place (start.Code code) w byte bytes l o e = code-lies low place w code byte bytes l o e
-in-code-lies low place start.EndOfInner w byte bytes l o e =
+code-lies low place byte bytes l w fresh last o _ (InnerEnd h ends) =
     record { notes = tt; next = behind w.part w.comments o.0 o.1 }
   where
     behind : (part : Part) (comments : List Opened) → PartOpen low (place + 1) part
         → CommentsOpen low (place + 1) comments → Open low (place + 1) (behind_inner part comments)
-    behind part [] p o = (tt, tt)
-    behind part (c ∷ comments) p o = (passed-open low (place + 1) part p, o)
-in-code-lies low place (start.Sign sign) w byte bytes l o e =
-    one-lies low place (length (byte ∷ bytes)) (in_hash_line w.part) (moved w (passed w.part)) (byte ∷ bytes)
-    (plain (kinds.Sign sign) (length (spelling sign))) tt (passed-on low (place + 1) w o)
-in-code-lies low place start.OtherByte w byte bytes l o e =
-    one-lies low place (length (byte ∷ bytes)) (in_hash_line w.part) (moved w (passed w.part)) (byte ∷ bytes)
-    (plain kinds.OtherByte 1) tt (passed-on low (place + 1) w o)
+    behind part comments p o = grind (arith, nat_tests, passed-open)
 
-code-text-lies : (low place : ℕ) (w : Where) (fresh : Bool) (last byte : ℕ) (bytes : List ℕ) → low ≤ place
-    → Open low (place + 1) w → Lies low place (length (byte ∷ bytes)) (code_text_apart w fresh last place byte bytes)
-code-text-lies low place w fresh last byte bytes l o =
+-- ## Comments, limbo, TeX text and heads
+
+comment-lies : (low place byte : ℕ) (bytes : List ℕ) → low ≤ place → (part : Part) (c : Opened)
+    (comments : List Opened) (last : ℕ) → PartOpen low (place + 1) part → CommentsOpen low (place + 1) (c ∷ comments)
+    → (f : Found) → CommentRule part c comments last place byte bytes f → Lies low place (length (byte ∷ bytes)) f
+comment-lies low place byte bytes l part c comments last p o _ (Closed long h) =
+    record { notes = missing-lie low (place + length (byte ∷ bytes)) c place l (omega arith); next = (p, o.2) }
+comment-lies low place byte bytes l part c comments last p o _ (EndedLine short h) =
     let left = length (byte ∷ bytes) in
-    let P : Found → Type 0 = Lies low place left in
-    if-both P (byte == newline) _ _
-    (λ h. line-end-lies low place left w.part w.comments last l (omega arith) o.0 o.1)
-    (λ h. if-both P (is_space w.part byte bytes) _ _ (λ h. skipped-lies low place left w o)
-    (λ h. if-both P (byte == hash && (takes_hash_line w.part w.comments && fresh)) _ _
-    (λ h. one-lies low place left true (moved w (parts.Plain true false)) (byte ∷ bytes) (plain kinds.HashLine 1) tt
-    (tt, o.1))
-    (λ h. if-both P (byte == less && (behind_include w.part && closes_on_line bytes)) _ _
-    (λ h. one-lies low place left (in_hash_line w.part) (moved w (passed w.part)) (byte ∷ bytes)
-    (include_name place (byte ∷ bytes)) (include-in low place byte bytes l) (passed-on low (place + 1) w o))
-    (λ h. in-code-lies low place (start_of (ends_at_bar w.part w.comments) byte bytes) w byte bytes l o
-    (start-code (ends_at_bar w.part w.comments) byte bytes)))))
-
--- ## Comments
-
-comment-text-lies : (low place : ℕ) (part : Part) (c : Opened) (comments : List Opened) (last byte : ℕ)
-    (bytes : List ℕ) → low ≤ place → PartOpen low (place + 1) part → CommentsOpen low (place + 1) (c ∷ comments)
-    → Lies low place (length (byte ∷ bytes)) (comment_text_apart part c comments last place byte bytes)
-comment-text-lies low place part c comments last byte bytes l p o =
-    let left = length (byte ∷ bytes) in
-    let P : Found → Type 0 = Lies low place left in
-    if-both P (c.long && (byte == star && begins slash bytes)) _ _
-    (λ h. record { notes = missing-lie low (place + left) c place l (omega arith); next = (p, o.2) })
-    (λ h. if-both P (not c.long && byte == newline) _ _
-    (λ h. before-lies low place left (comment_end (in_hash_line part) c place 0 []) (line_end part comments last place)
+    before-lies low place left (comment_end (in_hash_line part) c place 0 []) (line_end part comments last place)
     (missing-lie low (place + left) c place l (omega arith))
-    (line-end-lies low place left part comments last l (omega arith) p o.2))
-    (λ h. if-both P (byte == bar && not (is_deep part (c ∷ comments))) _ _
-    (λ h. record { notes = tt; next = (p, o) })
-    (λ h. let i = piece_start part comments c place in
-    one-lies low place left (in_hash_line part) _ (byte ∷ bytes) (record {
-      kind = kinds.Text;
-      size = (extent i (byte ∷ bytes)).size;
-      notes = noted i (byte ∷ bytes);
-    }) (noted-in low i (byte ∷ bytes) l) (p, o))))
+    (line-end-lies low place left part comments last l (omega arith) p o.2)
+comment-lies low place byte bytes l part c comments last p o _ (InnerBegin h deep) =
+    record { notes = tt; next = (p, o) }
+comment-lies low place byte bytes l part c comments last p o _ (Piece closes line opens) =
+    let i = piece_start part comments c place in
+    record {
+      notes = answers-lie low (place + length (byte ∷ bytes)) (noted i (byte ∷ bytes)) (noted-in low i (byte ∷ bytes) l);
+      next = (p, o);
+    }
 
--- ## Limbo, TeX text and heads
+limbo-lies : (low place byte : ℕ) (bytes : List ℕ) → low ≤ place → (f : Found) → LimboRule place byte bytes f
+    → Lies low place (length (byte ∷ bytes)) f
+limbo-lies low place byte bytes l _ (LimboCode at e) =
+    one-here low place byte bytes l false (within parts.Limbo) (code_token (code_at bytes) place (byte ∷ bytes))
+    (token-in low place byte bytes l
+    (λ u. let wrong : effects.Drops notes.CodeInLimbo ≡ effects.Stands = ap effect_in_limbo (sym u) ∙ e in cc)) (tt, tt)
+limbo-lies low place byte bytes l _ (LimboFormat at e) = record { notes = tt; next = ((l, omega arith), tt) }
+limbo-lies low place byte bytes l _ (LimboDropped note at e) = record { notes = (l, omega arith, tt); next = (tt, tt) }
+limbo-lies low place byte bytes l _ (LimboText h) = record { notes = tt; next = (tt, tt) }
 
-limbo-code-lies : (low place : ℕ) (w : Where) (byte : ℕ) (bytes : List ℕ) → low ≤ place → Open low (place + 1) w
-    → Lies low place (length (byte ∷ bytes)) (limbo_by (effect_in_limbo (code_at bytes)) (code_at bytes) w place
-    (byte ∷ bytes))
-limbo-code-lies low place w byte [] l o =
-    record { notes = (l, omega arith, tt); next = o }
-limbo-code-lies low place w byte (next ∷ bytes) l o =
-    by (effect_in_limbo (code_at (next ∷ bytes))) (code_at (next ∷ bytes))
-  where
-    by : (effect : Effect) (code : Code) → Lies low place (length (byte ∷ next ∷ bytes))
-        (limbo_by effect code w place (byte ∷ next ∷ bytes))
-    by effects.Stands code = one-lies low place (length (byte ∷ next ∷ bytes)) false w (byte ∷ next ∷ bytes)
-        (code_token code place (byte ∷ next ∷ bytes)) (code-token-in low code place byte next bytes l) o
-    by effects.Formats code = record { notes = tt; next = ((l, omega arith), o.1) }
-    by (effects.Drops note) code = record { notes = (l, omega arith, tt); next = o }
-    by effects.Defines code = record { notes = tt; next = o }
-    by effects.BeginsC code = record { notes = tt; next = o }
-
-limbo-text-lies : (low place : ℕ) (w : Where) (byte : ℕ) (bytes : List ℕ) → low ≤ place → Open low (place + 1) w
-    → Lies low place (length (byte ∷ bytes)) (limbo_text w place byte bytes)
-limbo-text-lies low place w byte bytes l o =
-    if-both (Lies low place (length (byte ∷ bytes))) (byte == at_sign) _ _
-    (λ h. limbo-code-lies low place w byte bytes l o) (λ h. record { notes = tt; next = o })
-
-tex-code-lies : (low place : ℕ) (w : Where) (byte : ℕ) (bytes : List ℕ) → low ≤ place → Open low (place + 1) w
-    → Lies low place (length (byte ∷ bytes)) (tex_by (effect_in_tex (code_at bytes)) (code_at bytes) w place
-    (byte ∷ bytes))
-tex-code-lies low place w byte [] l o =
-    record { notes = (l, omega arith, tt); next = o }
-tex-code-lies low place w byte (next ∷ bytes) l o =
-    by (effect_in_tex (code_at (next ∷ bytes))) (code_at (next ∷ bytes))
-  where
-    by : (effect : Effect) (code : Code) → Lies low place (length (byte ∷ next ∷ bytes))
-        (tex_by effect code w place (byte ∷ next ∷ bytes))
-    by effects.Stands code = one-lies low place (length (byte ∷ next ∷ bytes)) false _ (byte ∷ next ∷ bytes)
-        (code_token code place (byte ∷ next ∷ bytes)) (code-token-in low code place byte next bytes l)
-        (if-both (Open low (place + 1)) (is_name code && is_head place (byte ∷ next ∷ bytes)) (moved w parts.Head) w
-        (λ h. (tt, o.1)) (λ h. o))
-    by (effects.Drops note) code = one-lies low place (length (byte ∷ next ∷ bytes)) false w (byte ∷ next ∷ bytes)
-        (dropped_code note code place (byte ∷ next ∷ bytes)) (dropped-in low note code place byte next bytes l) o
-    by effects.Defines code = record { notes = tt; next = ((l, omega arith), o.1) }
-    by effects.Formats code = record { notes = tt; next = ((l, omega arith), o.1) }
-    by effects.BeginsC code = record { notes = tt; next = (tt, o.1) }
-
-tex-text-lies : (low place : ℕ) (w : Where) (byte : ℕ) (bytes : List ℕ) → low ≤ place → Open low (place + 1) w
-    → Lies low place (length (byte ∷ bytes)) (tex_text w place byte bytes)
-tex-text-lies low place w byte bytes l o =
-    let P : Found → Type 0 = Lies low place (length (byte ∷ bytes)) in
-    if-both P (byte == at_sign) _ _ (λ h. tex-code-lies low place w byte bytes l o)
-    (λ h. if-both P (byte == bar) _ _ (λ h. record { notes = tt; next = (omega (arith, l), o.1) })
-    (λ h. record { notes = tt; next = o }))
-
-head-text-lies : (low place : ℕ) (w : Where) (byte : ℕ) (bytes : List ℕ) → Open low (place + 1) w
-    → Lies low place (length (byte ∷ bytes)) (head_text w place byte bytes)
-head-text-lies low place w byte bytes o =
-    if-both (Lies low place (length (byte ∷ bytes))) (is_in classes.Blank byte) _ _
-    (λ h. record { notes = tt; next = o }) (λ h. record { notes = tt; next = (tt, o.1) })
-
-macro-name-lies : (low place : ℕ) (code : ℕ) (w : Where) (byte : ℕ) (bytes : List ℕ)
-    → (low ≤ code) × (code < place + 1) → Open low (place + 1) w
-    → Lies low place (length (byte ∷ bytes)) (macro_name code w place byte bytes)
-macro-name-lies low place code w byte bytes c o =
-    if-both (Lies low place (length (byte ∷ bytes))) (is_in classes.White byte) _ _
-    (λ h. record { notes = tt; next = o })
-    (λ h. record {
-      notes = tt;
-      next = if-both (Open low (place + 1)) (begins left_paren (drop (run classes.Word (byte ∷ bytes)) (byte ∷ bytes)))
-          (moved w (parts.MacroParen code)) (moved w parts.Definition) (λ h. (c, o.1)) (λ h. (tt, o.1));
-    })
-
-parameter-lies : (low place : ℕ) (w : Where) (byte : ℕ) (bytes : List ℕ) → Open low (place + 1) w
-    → Lies low place (length (byte ∷ bytes)) (parameter w place byte bytes)
-parameter-lies low place w byte bytes o =
-    let P : Found → Type 0 = Lies low place (length (byte ∷ bytes)) in
-    if-both P (is_in classes.White byte) _ _ (λ h. record { notes = tt; next = o })
-    (λ h. if-both P (is_letter byte) _ _ (λ h. record { notes = tt; next = o })
-    (λ h. if-both P (byte == comma) _ _ (λ h. record { notes = tt; next = o })
-    (λ h. if-both P (byte == right_paren) _ _ (λ h. record { notes = tt; next = (tt, o.1) })
-    (λ h. record { notes = tt; next = o }))))
-
-format-name-lies : (low place : ℕ) (code : ℕ) (second limbo : Bool) (w : Where) (byte : ℕ) (bytes : List ℕ)
-    → (low ≤ code) × (code < place + 1) → Open low (place + 1) w
-    → Lies low place (length (byte ∷ bytes)) (format_name code second limbo w place byte bytes)
-format-name-lies low place code second limbo w byte bytes c o =
-    if-both (Lies low place (length (byte ∷ bytes))) (is_in classes.White byte) _ _
-    (λ h. record { notes = tt; next = o })
-    (λ h. record {
-      notes = tt;
-      next = if-both (Open low (place + 1)) second (behind_format limbo w) (moved w (parts.FormatName code true limbo))
-          (λ h. behind limbo) (λ h. (c, o.1));
-    })
-  where
-    behind : (limbo : Bool) → Open low (place + 1) (behind_format limbo w)
-    behind true = (tt, o.1)
-    behind false = (tt, o.1)
-
--- behind a head that is improper, with the note on its code
-improper-lies : (low place : ℕ) (note : NoteKind) (code : ℕ) (limbo : Bool) (w : Where) (fresh : Bool) (last byte : ℕ)
-    (bytes : List ℕ) → low ≤ place → (low ≤ code) × (code < place + 1) → Open low (place + 1) w
-    → Lies low place (length (byte ∷ bytes)) (before (Note note code ∷ [])
-    (behind_head_apart limbo w fresh last place byte bytes))
-improper-lies low place note code limbo w fresh last byte bytes l c o =
-    before-lies low place (length (byte ∷ bytes)) (Note note code ∷ []) (behind_head_apart limbo w fresh last place byte
-    bytes) (c.0, omega (arith, c.1), tt) (behind limbo)
-  where
-    behind : (limbo : Bool) → Lies low place (length (byte ∷ bytes))
-        (behind_head_apart limbo w fresh last place byte bytes)
-    behind true = limbo-text-lies low place (moved w parts.Limbo) byte bytes l (tt, o.1)
-    behind false = code-text-lies low place (moved w parts.Definition) fresh last byte bytes l (tt, o.1)
-
--- ## Any text
-
-part-text-lies : (low place : ℕ) (part : Part) (fresh : Bool) (last byte : ℕ) (bytes : List ℕ) → low ≤ place
-    → PartOpen low (place + 1) part
-    → Lies low place (length (byte ∷ bytes)) (part_text_apart part (record { part = part; comments = [] }) fresh last
-    place
-    byte bytes)
-part-text-lies low place parts.Limbo fresh last byte bytes l p = limbo-text-lies low place _ byte bytes l (tt, tt)
-part-text-lies low place parts.Tex fresh last byte bytes l p = tex-text-lies low place _ byte bytes l (tt, tt)
-part-text-lies low place parts.Head fresh last byte bytes l p = head-text-lies low place _ byte bytes (tt, tt)
-part-text-lies low place (parts.MacroName code) fresh last byte bytes l p =
-    let w : Where = record { part = parts.MacroName code; comments = [] } in
-    if-both (Lies low place (length (byte ∷ bytes))) (name_follows (byte ∷ bytes)) _ _
-    (λ h. macro-name-lies low place code w byte bytes p (p, tt))
-    (λ h. improper-lies low place notes.ImproperMacro code false w fresh last byte bytes l p (p, tt))
-part-text-lies low place (parts.MacroParen code) fresh last byte bytes l p = record { notes = tt; next = (p, tt) }
-part-text-lies low place (parts.Parameters code) fresh last byte bytes l p =
-    let w : Where = record { part = parts.Parameters code; comments = [] } in
-    if-both (Lies low place (length (byte ∷ bytes))) (parameter_follows (byte ∷ bytes)) _ _
-    (λ h. parameter-lies low place w byte bytes (p, tt))
-    (λ h. improper-lies low place notes.ImproperMacro code false w fresh last byte bytes l p (p, tt))
-part-text-lies low place (parts.FormatName code second limbo) fresh last byte bytes l p =
-    let w : Where = record { part = parts.FormatName code second limbo; comments = [] } in
-    if-both (Lies low place (length (byte ∷ bytes))) (name_follows (byte ∷ bytes)) _ _
-    (λ h. format-name-lies low place code second limbo w byte bytes p (p, tt))
-    (λ h. improper-lies low place notes.ImproperFormat code limbo w fresh last byte bytes l p (p, tt))
-part-text-lies low place parts.TexInner fresh last byte bytes l p =
-    code-text-lies low place (record { part = parts.TexInner; comments = [] }) fresh last byte bytes l (p, tt)
-part-text-lies low place parts.Begin fresh last byte bytes l p =
-    code-text-lies low place (record { part = parts.Begin; comments = [] }) fresh last byte bytes l (tt, tt)
-part-text-lies low place (parts.Plain hash_line include) fresh last byte bytes l p =
-    code-text-lies low place (record { part = parts.Plain hash_line include; comments = [] }) fresh last byte bytes l
-    (tt, tt)
-part-text-lies low place parts.Definition fresh last byte bytes l p =
-    code-text-lies low place (record { part = parts.Definition; comments = [] }) fresh last byte bytes l (tt, tt)
-part-text-lies low place parts.Inner fresh last byte bytes l p =
-    code-text-lies low place (record { part = parts.Inner; comments = [] }) fresh last byte bytes l (tt, tt)
+part-lies : (low place byte : ℕ) (bytes : List ℕ) → low ≤ place → (fresh : Bool) (last : ℕ) (part : Part)
+    → PartOpen low (place + 1) part → (f : Found) → PartRule fresh last place byte bytes part f
+    → Lies low place (length (byte ∷ bytes)) f
+part-lies low place byte bytes l fresh last _ p _ (OfCode part f is r) =
+    code-lies low place byte bytes l (within part) fresh last (p, tt) f r
+part-lies low place byte bytes l fresh last _ p _ (OfLimbo f r) = limbo-lies low place byte bytes l f r
+part-lies low place byte bytes l fresh last _ p _ (TexCode at e) =
+    one-here low place byte bytes l false (within parts.Tex) (code_token (code_at bytes) place (byte ∷ bytes))
+    (token-in low place byte bytes l
+    (λ u. let wrong : effects.Drops notes.UnknownCode ≡ effects.Stands = ap effect_in_tex (sym u) ∙ e in cc)) (tt, tt)
+part-lies low place byte bytes l fresh last _ p _ (TexHeading at e name headed) =
+    one-here low place byte bytes l false (within parts.Head) (code_token (code_at bytes) place (byte ∷ bytes))
+    (token-in low place byte bytes l
+    (λ u. let wrong : effects.Drops notes.UnknownCode ≡ effects.Stands = ap effect_in_tex (sym u) ∙ e in cc)) (tt, tt)
+part-lies low place byte bytes l fresh last _ p _ (TexDropped note at e) =
+    one-here low place byte bytes l false (within parts.Tex) (dropped_code note (code_at bytes) place (byte ∷ bytes))
+    (drop-in low place byte bytes note l) (tt, tt)
+part-lies low place byte bytes l fresh last _ p _ (TexBeginning effect part at e begun) =
+    record { notes = tt; next = (begun-open low place byte bytes l effect part begun, tt) }
+part-lies low place byte bytes l fresh last _ p _ (TexInner h) = record { notes = tt; next = (omega (arith, l), tt) }
+part-lies low place byte bytes l fresh last _ p _ (White part h wanted) = record { notes = tt; next = (p, tt) }
+part-lies low place byte bytes l fresh last _ p _ (HeadWord _ _ h (BeforeParameters code k)) =
+    record { notes = tt; next = (p, tt) }
+part-lies low place byte bytes l fresh last _ p _ (HeadWord _ _ h (OfParameters code)) =
+    record { notes = tt; next = (p, tt) }
+part-lies low place byte bytes l fresh last _ p _ (HeadWord _ _ h (FirstOfFormat code limbo)) =
+    record { notes = tt; next = (p, tt) }
+part-lies low place byte bytes l fresh last _ p _ (HeadWord _ _ h _) = record { notes = tt; next = (tt, tt) }
+part-lies low place byte bytes l fresh last _ p _ (Opening code) = record { notes = tt; next = (p, tt) }
+part-lies low place byte bytes l fresh last _ p _ (ParameterSign _ _ _ (Closes h)) =
+    record { notes = tt; next = (tt, tt) }
+part-lies low place byte bytes l fresh last _ p _ (ParameterSign _ _ _ _) = record { notes = tt; next = (p, tt) }
+part-lies low place byte bytes l fresh last _ p _ (Improper _ kind _ f (ImproperMacro code) r) =
+    before-lies low place (length (byte ∷ bytes)) (Note kind code ∷ []) f (p.0, omega (arith, p.1), tt)
+    (code-lies low place byte bytes l (within parts.Definition) fresh last (tt, tt) f r)
+part-lies low place byte bytes l fresh last _ p _ (Improper _ kind code f _ r) =
+    before-lies low place (length (byte ∷ bytes)) (Note kind code ∷ []) f (p.0, omega (arith, p.1), tt)
+    (code-lies low place byte bytes l (within parts.Definition) fresh last (tt, tt) f r)
+part-lies low place byte bytes l fresh last _ p _ (ImproperInLimbo code second f r) =
+    before-lies low place (length (byte ∷ bytes)) (Note notes.ImproperFormat code ∷ []) f (p.0, omega (arith, p.1), tt)
+    (limbo-lies low place byte bytes l f r)
+part-lies low place byte bytes l fresh last _ p _ _ = record { notes = tt; next = (tt, tt) }
 
 in-text-lies : (low place : ℕ) (part : Part) (comments : List Opened) (fresh : Bool) (last byte : ℕ) (bytes : List ℕ)
     → low ≤ place → PartOpen low (place + 1) part → CommentsOpen low (place + 1) comments
     → Lies low place (length (byte ∷ bytes)) (in_text_apart part comments fresh last place byte bytes)
-in-text-lies low place part [] fresh last byte bytes l p o = part-text-lies low place part fresh last byte bytes l p
+in-text-lies low place part [] fresh last byte bytes l p o =
+    part-lies low place byte bytes l fresh last part p _ (part-rule fresh last place byte bytes part)
 in-text-lies low place part (c ∷ comments) fresh last byte bytes l p o =
+    let w : Where = record { part = part; comments = c ∷ comments } in
     if-both (Lies low place (length (byte ∷ bytes))) c.inner _ _
-    (λ h. code-text-lies low place (record { part = part; comments = c ∷ comments }) fresh last byte bytes l (p, o))
-    (λ h. comment-text-lies low place part c comments last byte bytes l p o)
+    (λ h. code-lies low place byte bytes l w fresh last (p, o) _ (code-rule w fresh last place byte bytes))
+    (λ h. comment-lies low place byte bytes l part c comments last p o _
+    (comment-rule part c comments last place byte bytes))
 
 found-lies : (low place : ℕ) (w : Where) (fresh : Bool) (last byte : ℕ) (bytes : List ℕ) → low ≤ place
     → Open low (place + 1) w
@@ -517,10 +368,7 @@ all-lie low (byte ∷ bytes) w fresh last place (suc taken) l o =
 
 begins-open : (low place : ℕ) (mode : Mode) → Open low place (beginning mode)
 begins-open low place modes.Limbo = (tt, tt)
-begins-open low place modes.TexText = (tt, tt)
-begins-open low place modes.CPart = (tt, tt)
-begins-open low place modes.Definition = (tt, tt)
-begins-open low place modes.Inner = (tt, tt)
+begins-open low place _ = (tt, tt)
 
 pub notes-lie : NotesLieInTheirText
 notes-lie text start end mode order within =

@@ -1,10 +1,7 @@
 -- The byte behind the `@` of a string.
 use Rattle.std.proofs.Common.{◌≡◌, ℕ, true, ◌==◌, arith}
 use Rattle.std.proofs.lemmas.Bool.Decides.{nat_tests}
-use Rattle.cw_rules.specs.declared.codes.Code.{Code}
-use Rattle.cw_rules.specs.Bytes.{apostrophe}
-use Rattle.cw_rules.specs.Codes.{code_of}
-use Rattle.cw_rules.specs.Tokens.{is_quote}
+use Rattle.cw_rules.specs.{declared.codes.Code.Code, Bytes.apostrophe, Codes.code_of, Tokens.is_quote}
 use Rattle.cw_rules.proofs.Choices.{if-both}
 
 abbrev IsQuote : ℕ → Code → Type 0

@@ -1,25 +1,17 @@
 -- Each section code among the answers is the one that the bytes at its place make.
-use Rattle.std.proofs.Common.{◌≡◌, ℕ, zero, suc, ◌+◌, Bool, true, false, ◌&&◌, ◌==◌, List, [], ◌∷◌, ◌++◌, drop}
-use Rattle.std.proofs.Common.{refl, sym, ap, subst, ◌∙◌, arith}
+use Rattle.std.proofs.Common.{◌≡◌, ℕ, zero, suc, ◌+◌, Bool, true, false, ◌&&◌, ◌==◌, List, [], ◌∷◌, ◌++◌, drop, refl}
+use Rattle.std.proofs.Common.{sym, ap, subst, ◌∙◌, arith}
 use Rattle.std.specs.Prelude.{if◌then◌else◌}
-use Rattle.std.proofs.lemmas.Bool.{eqb-true}
-use Rattle.std.proofs.lemmas.Bool.Decides.{nat_tests}
+use Rattle.std.proofs.{lemmas.Bool.eqb-true, lemmas.Bool.Decides.nat_tests}
 use Rattle.cw_base.proofs.TestLaws.{both-left, both, not-both}
-use Rattle.cw_rules.specs.declared.bodies.Noted.{Noted}
+use Rattle.cw_rules.specs.{declared.bodies.Noted.Noted, Bytes.at_sign, Bytes.begins, Codes.is_section}
+use Rattle.cw_rules.specs.{Codes.begins_section, Apart.in_text_apart, Apart.found_apart}
 use Rattle.cw_rules.specs.Answers.{Answer, Token, Begin, Finish, Note, Seen, Where, Found, note_answers, token_of}
-use Rattle.cw_rules.specs.Bytes.{at_sign, begins}
-use Rattle.cw_rules.specs.Codes.{is_section, begins_section}
 use Rattle.cw_rules.specs.Tokens.{all_cut, section, section_code}
-use Rattle.cw_rules.specs.Apart.{in_text_apart, found_apart}
-use Rattle.cw_rules.proofs.Choices.{if-both}
-use Rattle.cw_rules.proofs.CodeStarts.{code_in, in-text-tells}
+use Rattle.cw_rules.proofs.{Choices.if-both, CodeStarts.code_in, CodeStarts.in-text-tells}
 use Rattle.cw_rules.proofs.Taking.{AreBare, AreNotes, TakesAll, Takes, bare-all-cut, found-takes}
-use Rattle.cw_lex.specs.Lexing.{answers, still_fresh}
-use Rattle.cw_lex.specs.Nested.{is_section_kind}
-use Rattle.cw_lex.specs.Parts.{is_section_at}
-use Rattle.cw_lex.proofs.FirstTokens.{bare-code}
-use Rattle.cw_lex.proofs.Openings.{section-opens, section-kind-is}
-use Rattle.cw_lex.proofs.Covering.{drop-on}
+use Rattle.cw_lex.specs.{Lexing.answers, Lexing.still_fresh, Nested.is_section_kind, Parts.is_section_at}
+use Rattle.cw_lex.proofs.{FirstTokens.bare-code, Openings.section-opens, Openings.section-kind-is, Covering.drop-on}
 
 -- A token is the section code at its place.
 pub record IsCodeAt (text : List ℕ) (t : Seen) : Type 0 where
@@ -38,9 +30,7 @@ AreCoded text (Note kind place ∷ answers) = AreCoded text answers
 append-coded : (text : List ℕ) (xs ys : List Answer) → AreCoded text xs → AreCoded text ys → AreCoded text (xs ++ ys)
 append-coded text [] ys h g = g
 append-coded text (Token t ∷ xs) ys h g = (h.0, append-coded text xs ys h.1 g)
-append-coded text (Begin t ∷ xs) ys h g = append-coded text xs ys h g
-append-coded text (Finish t ∷ xs) ys h g = append-coded text xs ys h g
-append-coded text (Note kind place ∷ xs) ys h g = append-coded text xs ys h g
+append-coded text (_ ∷ xs) ys h g = append-coded text xs ys h g
 
 bare-coded : (text : List ℕ) (place : ℕ) (xs : List Answer) → AreBare place xs → AreCoded text xs
 bare-coded text place [] h = tt
@@ -105,8 +95,7 @@ plain-coded : (text : List ℕ) (w : Where) (fresh : Bool) (last place byte : �
 plain-coded text w fresh last place byte bytes h =
     let g = in_text_apart w.part w.comments fresh last place byte bytes in
     let plain : found_apart w fresh last place byte bytes ≡ g = ap (λ t. if t then section w place bytes else g) h in
-    let t : Takes place (byte ∷ bytes) g = subst (Takes place (byte ∷ bytes)) plain
-    (found-takes w fresh last place byte bytes) in
+    let t : Takes place (byte ∷ bytes) g = grind (arith, nat_tests, found-takes) in
     let code : code_in g.answers ≡ code_in t.rest = ap code_in t.split ∙ bare-code place t.first t.rest t.bare in
     subst (AreCoded text) (sym t.split)
     (append-coded text t.first t.rest (bare-coded text place t.first t.bare)

@@ -1,25 +1,19 @@
 -- What is open among the answers, where the scanner stands so.
 use Rattle.std.proofs.Common.{◌≡◌, ℕ, ◌+◌, Bool, true, false, not, ◌&&◌, List, [], ◌∷◌, refl, sym, ap, ◌∙◌, arith}
 use Rattle.std.proofs.Common.{length, nat_lt, if◌then◌else◌}
-use Rattle.std.proofs.lemmas.List.Sums.{sum_by-cons}
+use Rattle.std.proofs.{lemmas.List.Sums.sum_by-cons, lemmas.Bool.Decides.nat_tests}
 use Rattle.std.specs.List.{count_by}
 use Rattle.std.specs.Prelude.{cond}
-use Rattle.std.proofs.lemmas.Bool.Decides.{nat_tests}
 use Rattle.cw_base.proofs.TestLaws.{both-left}
-use Rattle.cw_rules.specs.declared.parts.Part.{Part}
-use Rattle.cw_rules.specs.declared.parts.Part.TheVariants as parts
-use Rattle.cw_rules.specs.declared.parts.Opened.{Opened}
-use Rattle.cw_rules.specs.declared.tokens.Mode.{Mode}
-use Rattle.cw_rules.specs.declared.tokens.Mode.TheVariants as modes
-use Rattle.cw_rules.specs.declared.tokens.TokKind.{TokKind}
-use Rattle.cw_rules.specs.declared.tokens.TokKind.TheVariants as kinds
-use Rattle.cw_rules.specs.Answers.{Where}
+use Rattle.cw_rules.specs.declared.{parts.Part.Part, parts.Opened.Opened, tokens.Mode.Mode, tokens.TokKind.TokKind}
+use Rattle.cw_rules.specs.{Answers.Where, Tokens.moved}
 use Rattle.cw_rules.specs.Tokens.{in_hash_line, is_deep, passed, first_depth, behind_word, is_include, comment_kind}
-use Rattle.cw_rules.specs.Tokens.{moved}
 use Rattle.cw_rules.proofs.Choices.{if-both}
-use Rattle.cw_lex.specs.Lexing.{beginning}
-use Rattle.cw_lex.specs.Openings.{is_limbo_mode}
+use Rattle.cw_lex.specs.{Lexing.beginning, Openings.is_limbo_mode}
 use Rattle.cw_laws.specs.Ends.{is_inner_text, inner_depth, bars_begin}
+use Rattle.cw_rules.specs.declared.parts.Part.TheVariants as parts
+use Rattle.cw_rules.specs.declared.tokens.Mode.TheVariants as modes
+use Rattle.cw_rules.specs.declared.tokens.TokKind.TheVariants as kinds
 
 -- ## The part
 
@@ -188,13 +182,7 @@ deep-in part c cs mode rest a f =
     ))
   where
     less : (m n : ℕ) → n ≡ 1 + m → nat_lt m 20 ≡ not (nat_lt 20 n)
-    less m n h = by (nat_lt m 20) (nat_lt 20 n) refl refl
-      where
-        by : (a b : Bool) → nat_lt m 20 ≡ a → nat_lt 20 n ≡ b → a ≡ not b
-        by true true e f = absurd (grind (arith, h))
-        by true false e f = refl
-        by false true e f = refl
-        by false false e f = absurd (grind (arith, h))
+    less m n h = grind (arith, nat_tests)
 
 -- ## Modes
 

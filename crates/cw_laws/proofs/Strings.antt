@@ -1,21 +1,18 @@
 -- A string ends with its quote, before a line's end or with the text.
 use Rattle.std.proofs.Common.{◌≡◌, ℕ, ◌+◌, ◌-◌, Bool, true, false, ◌&&◌, ◌||◌, not, ◌==◌, List, [], ◌∷◌, ◌++◌, nat_lt}
 use Rattle.std.proofs.Common.{codes, true≢false, slice_index, if◌then◌else◌, length, drop, refl, sym, ap, subst, ◌∙◌}
-use Rattle.std.proofs.Common.{arith, ◌⊎◌, inl, inr}
-use Rattle.std.proofs.lemmas.Bool.{eqb-true}
+use Rattle.std.proofs.Common.{arith, ◌⊎◌}
+use Rattle.std.proofs.{lemmas.Bool.eqb-true, lemmas.Bool.Decides.nat_tests}
 use Rattle.std.specs.List.{AllByRecursion, concat}
-use Rattle.cw_base.proofs.TestLaws.{both-left, both-right}
+use Rattle.cw_base.{proofs.TestLaws.both-left, proofs.TestLaws.both-right, specs.Bytes.newline, specs.Bytes.backslash}
 use Rattle.std.proofs.Math.Seq.{drop-append_seam, drop-append-add}
-use Rattle.std.proofs.lemmas.Bool.Decides.{nat_tests}
-use Rattle.cw_rules.specs.declared.bodies.Body.TheVariants as bodies
-use Rattle.cw_rules.specs.declared.bodies.Inside.{Inside}
-use Rattle.cw_base.specs.Bytes.{newline, backslash}
+use Rattle.cw_rules.specs.{declared.bodies.Inside.Inside, Prefixes.is_prefix_letter, Prefixes.prefix_size}
 use Rattle.cw_rules.specs.Bytes.{at_sign, quote, apostrophe, begins, begins_by, begins_with, is_mark}
-use Rattle.cw_rules.specs.Prefixes.{is_prefix_letter, prefix_size}
 use Rattle.cw_rules.specs.Bodies.{stops, takes_next, stepped, goes_on, ended, at_start, extent}
 use Rattle.cw_rules.proofs.Inside.{ended-le}
 use Rattle.cw_lex.specs.Lexing.{last_after}
 use Rattle.cw_laws.specs.Strings.{LinesGoOn, is_piece, is_prefix, StringEnds, IsString}
+use Rattle.cw_rules.specs.declared.bodies.Body.TheVariants as bodies
 
 -- where the inside stops, before these bytes
 abbrev Stops : ℕ → ℕ → ℕ → ℕ → List ℕ → Type 0
@@ -121,10 +118,7 @@ split mark k i [] b a = split-none mark i
 split mark k i (x ∷ []) b a = by (goes_on i (x ∷ [])) refl
   where
     kind : (t : Bool) → (x == backslash) ≡ t → goes_on i (x ∷ []) ≡ true → Split mark i (x ∷ [])
-    kind true e h = last-on mark i x h (eqb-true x backslash e)
-    kind false e h = one-on mark i x [] h (piece-one mark x e (going mark i x [] b a h).not-mark)
-        (going mark i x [] b a h).line
-        (split-none mark (stepped i x []))
+    kind t e h = grind (arith, nat_tests, last-on, eqb-true, one-on, piece-one, going, split-none)
 
     by : (t : Bool) → goes_on i (x ∷ []) ≡ t → Split mark i (x ∷ [])
     by true h = kind (x == backslash) refl h
@@ -149,8 +143,7 @@ split mark k i (x ∷ y ∷ ys) b a =
         → Split mark (stepped (stepped i x (y ∷ ys)) y ys) ys) → Split mark i (x ∷ y ∷ ys)
     kind true u e f h one two =
         let g = going mark i x (y ∷ ys) b a h in
-        let along : (stepped i x (y ∷ ys)).along ≡ true =
-        g.along ∙ ap (λ t. t || (x == at_sign && y == at_sign)) e in
+        let along : (stepped i x (y ∷ ys)).along ≡ true = grind (arith, nat_tests) in
         two-on mark i x y ys h (taken along) e g.line (two (then-free along))
     kind false true e f h one two =
         let g = going mark i x (y ∷ ys) b a h in
@@ -203,8 +196,7 @@ string-is prefix prefixed mark place bytes h =
 
     closed-or-not : (rest : List ℕ) (t : Bool) → drop inside bytes ≡ rest → begins_with (mark ∷ []) rest ≡ t
         → size ≡ (if t then inside + 1 else inside)
-    closed-or-not rest t e f =
-        ap (λ t. if t then inside + 1 else inside) (ap (begins_with (mark ∷ [])) e ∙ f)
+    closed-or-not rest t e f = grind (arith, nat_tests, inside)
 
     rest-is : (front rest : List ℕ) → bytes ≡ front ++ rest → inside ≡ length front → drop inside bytes ≡ rest
     rest-is front rest w e =
@@ -227,30 +219,8 @@ string-is prefix prefixed mark place bytes h =
 
     ends : (front rest : List ℕ) → bytes ≡ front ++ rest → Stops mark (last_after 0 front) (length front) inside rest
         → StringEnds mark (last_after mark front) ((length prefix + 1) + length front) ((length prefix + 1) + size) rest
-    ends front [] w e = omega (arith, e, closed-or-not [] false (rest-is front [] w e) refl)
-    ends front (y ∷ ys) w (inl e) = inl (
-      e.0,
-      omega (
-        arith,
-        e.1,
-        closed-or-not (y ∷ ys) true (rest-is front (y ∷ ys) w e.1)
-            (ap (λ b. b == mark && true) e.0 ∙ mark-is (λ m. (m == m && true) ≡ true) mark h refl refl),
-      ),
-    )
-    ends front (y ∷ ys) w (inr (inl e)) = inr (inl (
-      e.0,
-      last-behind front e.1,
-      omega (
-        arith,
-        e.2,
-        closed-or-not (y ∷ ys) false (rest-is front (y ∷ ys) w e.2)
-            (ap (λ b. b == mark && true) e.0 ∙ ap (λ t. t && true) newline-other),
-      ),
-    ))
-    ends front (y ∷ ys) w (inr (inr e)) =
-        let none : drop inside bytes ≡ [] =
-        ap (λ n. drop n bytes) e.2 ∙ ap (drop (length front + 1)) w ∙ drop-append-add front (y ∷ ys) 1 ∙ e.1 in
-        inr (inr (e.0, e.1, omega (arith, e.2, closed-or-not [] false none refl)))
+    ends front rest w e =
+        grind (arith, nat_tests, closed-or-not, rest-is, mark-is, last-behind, newline-other, inside, drop-append-add)
 
 -- ## Strings with a prefix
 

@@ -1,32 +1,23 @@
 -- Between the bytes of answers stands only white space, and a backslash only in a `#` line.
 use Rattle.std.proofs.Common.{◌≡◌, ℕ, zero, suc, ◌+◌, ◌-◌, ◌≤◌, Bool, true, false, ◌&&◌, ◌||◌, ◌==◌, List, [], ◌∷◌}
-use Rattle.std.proofs.Common.{◌++◌, Option, Some, None, length, take, drop, refl, sym, ap, subst, ◌∙◌}
-use Rattle.std.proofs.Common.{arith, append_assoc, length-drop, append-nil}
+use Rattle.std.proofs.Common.{◌++◌, Option, Some, None, length, take, drop, refl, sym, ap, subst, ◌∙◌, arith}
+use Rattle.std.proofs.Common.{append_assoc, length-drop, append-nil}
 use Rattle.std.proofs.lemmas.Bool.{cases_lt, eqb-true}
-use Rattle.std.proofs.lemmas.List.{length-take}
-use Rattle.std.proofs.lemmas.Bool.Decides.{nat_tests}
+use Rattle.std.proofs.{lemmas.List.length-take, lemmas.Bool.Decides.nat_tests}
 use Rattle.cw_base.proofs.TestLaws.{both, not-both}
-use Rattle.cw_rules.specs.declared.tokens.Mode.{Mode}
-use Rattle.cw_rules.specs.declared.tokens.TokKind.{TokKind}
+use Rattle.cw_rules.specs.declared.{tokens.Mode.Mode, tokens.TokKind.TokKind}
 use Rattle.cw_rules.specs.Answers.{Answer, Token, Begin, Finish, Note, Where, Found}
-use Rattle.cw_rules.specs.Bytes.{at_sign}
-use Rattle.cw_rules.specs.Codes.{is_section, begins_section}
-use Rattle.cw_rules.specs.Order.{begins_space, AreWithin}
-use Rattle.cw_rules.specs.Tokens.{all_cut, in_hash_line, section}
-use Rattle.cw_rules.specs.Apart.{in_text_apart, found_apart}
-use Rattle.cw_rules.proofs.Choices.{if-both}
-use Rattle.cw_rules.proofs.CodeStarts.{code_in}
+use Rattle.cw_rules.specs.{Bytes.at_sign, Codes.is_section, Codes.begins_section, Order.begins_space, Order.AreWithin}
+use Rattle.cw_rules.specs.{Tokens.all_cut, Tokens.in_hash_line, Tokens.section, Apart.in_text_apart, Apart.found_apart}
+use Rattle.cw_rules.proofs.{Choices.if-both, CodeStarts.code_in, Within.found-fits}
 use Rattle.cw_rules.proofs.Taking.{AreBare, AreNotes, TakesAll, Takes, bare-all-cut, found-takes}
-use Rattle.cw_rules.proofs.Within.{found-fits}
 use Rattle.cw_lex.specs.Lexing.{still_fresh, answers, fresh_at, last_at, beginning, tokens_of}
 use Rattle.cw_lex.specs.Nested.{is_section_kind}
 use Rattle.cw_lex.proofs.Covering.{drop-part, begins-take, drop-on}
-use Rattle.cw_lex.proofs.TokensWithin.{tokens-within}
+use Rattle.cw_lex.proofs.{TokensWithin.tokens-within, Openings.section-kind-is}
 use Rattle.cw_laws.specs.WhiteSpace.{hash_line_by, hash_line_behind, begins_space_in, IsSpaceIn, LeavesSpace}
-use Rattle.cw_laws.specs.WhiteSpace.{BackslashesContinueHashLines}
+use Rattle.cw_laws.{specs.WhiteSpace.BackslashesContinueHashLines, proofs.SectionCodes.no-section}
 use Rattle.cw_laws.proofs.HashLines.{kind_in, line_with, in-text-lined, has_start, found-starts}
-use Rattle.cw_laws.proofs.SectionCodes.{no-section}
-use Rattle.cw_lex.proofs.Openings.{section-kind-is}
 
 -- ## What begins at a place
 
@@ -167,14 +158,9 @@ found-leaves : (text : List ℕ) (line : Bool) (from place end : ℕ) (bytes : L
     → LeavesSpace text line from end (f.answers ++ ys)
 found-leaves text line from place end bytes f ys t s low space rest =
     let kind : kind_in f.answers ≡ kind_in t.rest = ap kind_in t.split ∙ bare-kind place t.first t.rest t.bare in
-    let start : has_start f.answers ≡ has_start t.rest =
-    ap has_start t.split ∙ bare-start place t.first t.rest t.bare in
-    let onward : (low : ℕ) → low ≤ (place + 1) + f.more
-    → IsSpaceIn text (line_after line (kind_in t.rest)) low ((place + 1) + f.more)
-    → LeavesSpace text (line_after line (kind_in t.rest)) low end ys =
-    subst (λ o. (low : ℕ) → low ≤ (place + 1) + f.more
-    → IsSpaceIn text (line_after line o) low ((place + 1) + f.more)
-    → LeavesSpace text (line_after line o) low end ys) kind rest in
+    let start : has_start f.answers ≡ has_start t.rest = grind (arith, nat_tests, has_start, bare-start) in
+    let onward : (low : ℕ) → low ≤ (place + 1) + f.more → IsSpaceIn text (line_after line (kind_in t.rest)) low ((place
+    + 1) + f.more) → LeavesSpace text (line_after line (kind_in t.rest)) low end ys = grind (arith, nat_tests) in
     subst (LeavesSpace text line from end) (sym (ap (λ l. l ++ ys) t.split ∙ append_assoc t.first t.rest ys))
     (bare-leaves text line from place end t.first (t.rest ++ ys) t.bare low space
     (λ low least space. whole-leaves text line low place f.more end bytes t.rest ys t.whole (λ k. s (start ∙ k)) least
