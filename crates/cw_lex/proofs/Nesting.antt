@@ -1,25 +1,20 @@
 -- The scanner's answers over C text are nested.
 use Rattle.std.proofs.Common.{◌≡◌, ℕ, zero, suc, ◌+◌, Bool, true, false, not, ◌&&◌, Option, Some, List, [], ◌∷◌, ◌++◌}
-use Rattle.std.proofs.Common.{length, refl, sym, ◌∙◌, ap, subst, append-nil, append_assoc, arith}
-use Rattle.std.specs.Prelude.{if◌then◌else◌, ◌==◌, nat_lt}
+use Rattle.std.proofs.Common.{refl, sym, ◌∙◌, ap, subst, append-nil, append_assoc, arith}
+use Rattle.std.specs.Prelude.{if◌then◌else◌, ◌==◌}
 use Rattle.std.proofs.lemmas.Bool.Decides.{nat_tests}
-use Rattle.cw_base.proofs.TestLaws.{both-left, both-right}
+use Rattle.cw_base.{proofs.TestLaws.both-left, proofs.TestLaws.both-right, specs.declared.notes.NoteKind.NoteKind}
 use Rattle.cw_rules.specs.declared.{codes.Code.Code, codes.Effect.Effect, bodies.Noted.Noted, parts.Part.Part}
-use Rattle.cw_rules.specs.declared.{parts.Opened.Opened, parts.Start.Start, tokens.Mode.Mode, signs.Sign.Sign}
-use Rattle.cw_rules.specs.{declared.tokens.TokKind.TokKind, Bodies.one_note, Bodies.note_unless, Bodies.noted}
-use Rattle.cw_rules.specs.{Constants.constant, Prefixes.prefix_size, Signs.all_signs, Signs.longest, Signs.spelling}
-use Rattle.cw_rules.specs.{Codes.is_section, Codes.begins_section, Codes.effect_in_c, Tokens.parameter_follows}
-use Rattle.cw_rules.specs.{Tokens.parameter, Tokens.format_name, Apart.behind_head_apart}
+use Rattle.cw_rules.specs.declared.{parts.Opened.Opened, tokens.Mode.Mode, tokens.TokKind.TokKind}
+use Rattle.cw_rules.specs.{Bodies.one_note, Bodies.note_unless, Bodies.noted, Apart.found_apart, Bytes.at_sign}
+use Rattle.cw_rules.specs.Codes.{is_section, begins_section, effect_in_c, code_at}
+use Rattle.cw_rules.specs.Tokens.{parameter_follows, parameter, format_name, one, skipped_byte, identifier, piece_start}
+use Rattle.cw_rules.specs.Tokens.{passed, moved, in_hash_line, ends_at_bar, line_end, comment_begin, comment_end}
+use Rattle.cw_rules.specs.Tokens.{inner_cut, comment_cut, part_cut, inner_or_none, all_cut, inner_end, effect_in}
+use Rattle.cw_rules.specs.Tokens.{code_token, control_or_plain, head_text, section, section_code, behind_word}
+use Rattle.cw_rules.specs.Tokens.{is_include, may_head, takes_hash_line, name_follows, macro_name}
+use Rattle.cw_rules.specs.Apart.{behind_head_apart, code_text_apart, comment_text_apart, part_text_apart, in_text_apart}
 use Rattle.cw_rules.specs.Answers.{Answer, Note, Where, Cut, Found, before, note_answers, plain}
-use Rattle.cw_base.specs.{Bytes.newline, Text.bar, declared.notes.NoteKind.NoteKind}
-use Rattle.cw_rules.specs.Bytes.{at_sign, begins, is_letter, is_mark, slash, star, hash, less}
-use Rattle.cw_rules.specs.Tokens.{one, skipped_byte, dropped_code, identifier, string, include_name, sign_or_other}
-use Rattle.cw_rules.specs.Tokens.{piece_start, passed, moved, in_hash_line, ends_at_bar, line_end, comment_begin}
-use Rattle.cw_rules.specs.Tokens.{comment_end, inner_cut, comment_cut, part_cut, inner_or_none, all_cut, inner_end}
-use Rattle.cw_rules.specs.Tokens.{effect_in, code_by, code_token, control_or_plain, in_code, start_of, head_text}
-use Rattle.cw_rules.specs.Tokens.{section, section_code, is_name, behind_word, is_include, may_head, is_head, is_space}
-use Rattle.cw_rules.specs.Tokens.{takes_hash_line, behind_include, closes_on_line, is_deep, name_follows, macro_name}
-use Rattle.cw_rules.specs.Apart.{code_text_apart, comment_text_apart, part_text_apart, in_text_apart, found_apart}
 use Rattle.cw_lex.specs.Lexing.{answers, joined, tokens_of, still_fresh}
 use Rattle.cw_lex.specs.Nested.{Level, InCode, InComment, after_token, levels_after, all_levels_after, IsNested}
 use Rattle.cw_lex.specs.Nested.{is_section_kind, is_section_answer, begins_section_in, until_section, is_c_mode}
@@ -27,10 +22,12 @@ use Rattle.cw_rules.proofs.Choices.{if-both, or-false, or-first, or-second}
 use Rattle.cw_rules.specs.declared.codes.Code.TheVariants as code
 use Rattle.cw_rules.specs.declared.codes.Effect.TheVariants as effects
 use Rattle.cw_rules.specs.declared.parts.Part.TheVariants as parts
-use Rattle.cw_rules.specs.declared.parts.Start.TheVariants as start
 use Rattle.cw_rules.specs.declared.tokens.Mode.TheVariants as modes
 use Rattle.cw_rules.specs.declared.tokens.TokKind.TheVariants as kind
 use Rattle.cw_base.specs.declared.notes.NoteKind.TheVariants as notes
+use Rattle.cw_rules.proofs.Rules.{BeginsPart, Macro, IsPassed, Standing, CodeRule, LineEnd, Space, HashLine, Word}
+use Rattle.cw_rules.proofs.Rules.{Passed, Heading, Beginning, Comment, InnerEnd, CommentRule, Closed, EndedLine}
+use Rattle.cw_rules.proofs.Rules.{InnerBegin, Piece, code-rule, comment-rule}
 
 levels-append : (xs bs : List Answer) (ls ms : List Level) → all_levels_after xs ls ≡ Some ms
     → all_levels_after (xs ++ bs) ls ≡ all_levels_after bs ms
@@ -195,18 +192,6 @@ inner-ends : (part : Part) (cs : List Opened) (place : ℕ) (bytes : List ℕ) �
     bytes)
 inner-ends part cs place bytes p inner opens = grind (arith, nat_tests, passed-c, passed-tex, both-right, both-left)
 
--- codes
-abbrev is_kept : Effect → Bool
-is_kept effects.Stands = true
-is_kept (effects.Drops note) = true
-is_kept _ = false
-
-kept-in-c : (c : Code) → is_kept (effect_in_c c) ≡ true
-kept-in-c c = grind arith
-
-kept : (part : Part) (cs : List Opened) (c : Code) → in_tex part ≡ true → is_kept (effect_in part cs c) ≡ true
-kept part cs c h = grind (arith, kept-in-c)
-
 record InC (x : Cut) : Type 0 where
   pub is : in_c x.kind ≡ true
 
@@ -219,68 +204,26 @@ control-kind c place bytes h = grind (arith, nat_tests, if-both, code-in-c)
 code-kind : (c : Code) (place : ℕ) (bytes : List ℕ) → is_section c ≡ false → InC (code_token c place bytes)
 code-kind c place bytes h = grind (arith, nat_tests, if-both, code-in-c, control-kind)
 
+-- no code with which a part begins stands in inner C text of TeX text
+abbrev is_kept : Effect → Bool
+is_kept effects.Stands = true
+is_kept (effects.Drops note) = true
+is_kept _ = false
+
+kept-in-c : (c : Code) → is_kept (effect_in_c c) ≡ true
+kept-in-c c = grind arith
+
+kept : (part : Part) (cs : List Opened) (c : Code) → in_tex part ≡ true → is_kept (effect_in part cs c) ≡ true
+kept part cs c h = grind (arith, kept-in-c)
+
+begun-c : (place : ℕ) (effect : Effect) (part : Part) → BeginsPart place effect part
+    → (is_c part ≡ true) × ((in_tex part ≡ false) × (is_kept effect ≡ false))
+begun-c place _ _ Macro = (refl, (refl, refl))
+begun-c place _ _ _ = (refl, (refl, refl))
+
 -- where inner text of TeX text stays, another part's text isn't it
 other-tex : (b t : Bool) → (b ≡ true → t ≡ true) → t ≡ false → false ≡ b
 other-tex b t f e = grind arith
-
-code-goes : (effect : Effect) (c : Code) (w : Where) (place : ℕ) (bytes : List ℕ)
-    → (in_tex w.part ≡ true → is_kept effect ≡ true) → is_section c ≡ false → is_c w.part ≡ true → all_inner w.comments
-    ≡ true → Goes (in_tex w.part) (levels_in w.comments) (code_by effect c w place bytes)
-code-goes effects.Stands c w place bytes k s p inner =
-    if-both (λ (next : Where). Goes (in_tex w.part) (levels_in w.comments)
-    (one (in_hash_line w.part) next place bytes (code_token c place bytes)))
-    (is_name c && (may_head w.part w.comments && is_head place bytes)) (moved w parts.Head)
-    (moved w (passed w.part))
-    (λ e. one-goes (in_tex w.part) (in_hash_line w.part) (moved w parts.Head) place bytes (code_token c place bytes)
-    (head-tex w.part w.comments (both-left (may_head w.part w.comments) (is_head place bytes)
-    (both-right (is_name c) (may_head w.part w.comments && is_head place bytes) e))) (code-kind c place bytes s).is
-    refl inner)
-    (λ e. one-goes (in_tex w.part) (in_hash_line w.part) (moved w (passed w.part)) place bytes
-    (code_token c place bytes) (passed-tex w.part) (code-kind c place bytes s).is (passed-c w.part p) inner)
-code-goes (effects.Drops note) c w place bytes k s p inner = one-goes (in_tex w.part) (in_hash_line w.part)
-    (moved w (passed w.part)) place bytes (dropped_code note c place bytes) (passed-tex w.part) refl (passed-c w.part p)
-    inner
-code-goes effects.BeginsC c w place bytes k s p inner = one-goes (in_tex w.part) false
-    (moved w (parts.Plain false false)) place bytes (plain (kind.Code c) 2) (other-tex (in_tex w.part) false k refl)
-    (code-in-c c s) refl inner
-code-goes effects.Defines c w place bytes k s p inner = one-goes (in_tex w.part) false (moved w (parts.MacroName place))
-    place bytes (plain (kind.Code c) 2) (other-tex (in_tex w.part) false k refl) (code-in-c c s) refl inner
-code-goes effects.Formats c w place bytes k s p inner = one-goes (in_tex w.part) false
-    (moved w (parts.FormatName place false false)) place bytes (plain (kind.Code c) 2)
-    (other-tex (in_tex w.part) false k refl) (code-in-c c s) refl inner
-
--- a bar ends only what a bar may end, and a section code is none of C text
-abbrev pub Begun : Bool → Start → Type 0
-Begun ends start.EndOfInner = ends ≡ true
-Begun ends (start.Code c) = is_section c ≡ false
-Begun ends _ = Unit {0}
-
-pub record Begins (ends : Bool) (s : Start) : Type 0 where
-  pub is : Begun ends s
-
-sign-begins : (ends : Bool) (o : Option Sign) → Begun ends (sign_or_other o)
-sign-begins ends o = grind arith
-
-pub begins-so : (ends : Bool) (byte : ℕ) (bytes : List ℕ) → (byte == at_sign && begins_section bytes) ≡ false
-    → Begins ends (start_of ends byte bytes)
-begins-so ends byte bytes section =
-    if-both (Begins ends) (nat_lt 0 (prefix_size (byte ∷ bytes))) _ _ (λ e. record { is = tt })
-    (λ e. if-both (Begins ends) (is_letter byte) _ _ (λ e. record { is = tt })
-    (λ e. if-both (Begins ends) (nat_lt 0 (constant (byte ∷ bytes))) _ _ (λ e. record { is = tt })
-    (λ e. if-both (Begins ends) (is_mark byte) _ _ (λ e. record { is = tt })
-    (λ e. if-both (Begins ends) (byte == slash && begins star bytes) _ _ (λ e. record { is = tt })
-    (λ e. if-both (Begins ends) (byte == slash && begins slash bytes) _ _ (λ e. record { is = tt })
-    (λ e. if-both (Begins ends) (byte == at_sign) _ _ (λ e. record {
-      is = ap (λ t. t && begins_section bytes) (sym e)
-          ∙ section;
-    })
-    (λ e. if-both (Begins ends) (byte == bar && (ends && not (begins bar bytes))) start.EndOfInner
-    (sign_or_other (longest all_signs (byte ∷ bytes)))
-    (λ e. record {
-      is = both-left ends (not (begins bar bytes))
-          (both-right (byte == bar) (ends && not (begins bar bytes)) e);
-    })
-    (λ e. record { is = sign-begins ends (longest all_signs (byte ∷ bytes)) }))))))))
 
 word-c : (p : Part) (bytes : List ℕ) → is_c p ≡ true → is_c (behind_word p bytes) ≡ true
 word-c p bytes h = if-both (λ (q : Part). is_c q ≡ true) (in_hash_line p && is_include bytes) (parts.Plain true true)
@@ -291,54 +234,51 @@ word-tex p bytes = if-both (λ (q : Part). in_tex q ≡ in_tex p) (in_hash_line 
     (parts.Plain true true) (passed p) (λ e. hash-tex p (both-left (in_hash_line p) (is_include bytes) e))
     (λ e. passed-tex p)
 
-pub in-code-goes : (s : Start) (part : Part) (cs : List Opened) (place : ℕ) (bytes : List ℕ) → is_c part ≡ true
-    → all_inner cs ≡ true → (s ≡ start.EndOfInner → is_open cs ≡ true) → Begun (ends_at_bar part cs) s
-    → Goes (in_tex part) (levels_in cs) (in_code s (record { part = part; comments = cs }) place bytes)
-in-code-goes start.Identifier part cs place bytes p inner bar_ends b = one-goes (in_tex part) (in_hash_line part)
-    (record { part = behind_word part bytes; comments = cs }) place bytes (identifier bytes) (word-tex part bytes) refl
-    (word-c part bytes p) inner
-in-code-goes start.LongComment part cs place bytes p inner bar_ends b =
-    comment-goes true (record { part = part; comments = cs }) place bytes p inner
-in-code-goes start.ShortComment part cs place bytes p inner bar_ends b =
-    comment-goes false (record { part = part; comments = cs }) place bytes p inner
-in-code-goes (start.Code c) part cs place bytes p inner bar_ends b =
-    code-goes (effect_in part cs c) c (record { part = part; comments = cs }) place bytes (kept part cs c) b p inner
-in-code-goes start.EndOfInner part cs place bytes p inner bar_ends b = grind (arith, inner-ends)
-in-code-goes start.Constant part cs place bytes p inner bar_ends b = one-goes (in_tex part) (in_hash_line part)
-    (record { part = passed part; comments = cs }) place bytes (plain kind.Constant (constant bytes)) (passed-tex part)
-    refl (passed-c part p) inner
-in-code-goes (start.Quoted q) part cs place bytes p inner bar_ends b = one-goes (in_tex part) (in_hash_line part)
-    (record { part = passed part; comments = cs }) place bytes (string kind.Quoted (prefix_size bytes + 1) q place
-    bytes)
-    (passed-tex part) refl (passed-c part p) inner
-in-code-goes (start.Sign s) part cs place bytes p inner bar_ends b = one-goes (in_tex part) (in_hash_line part)
-    (record { part = passed part; comments = cs }) place bytes (plain (kind.Sign s) (length (spelling s)))
-    (passed-tex part) refl (passed-c part p) inner
-in-code-goes start.OtherByte part cs place bytes p inner bar_ends b = one-goes (in_tex part) (in_hash_line part)
-    (record { part = passed part; comments = cs }) place bytes (plain kind.OtherByte 1) (passed-tex part) refl
-    (passed-c part p) inner
+-- no section code
+plain-code : (byte : ℕ) (bytes : List ℕ) → (byte == at_sign && begins_section bytes) ≡ false → (byte == at_sign) ≡ true
+    → is_section (code_at bytes) ≡ false
+plain-code byte bytes section at = ap (λ t. t && begins_section bytes) (sym at) ∙ section
 
--- C text, but for what begins as a token of code
-pub before-code : (P : Found → Type 0) (part : Part) (cs : List Opened) (fresh : Bool) (last place byte : ℕ)
-    (bytes : List ℕ) → is_c part ≡ true → all_inner cs ≡ true
-    → ((f : Found) → Goes (in_tex part) (levels_in cs) f → P f)
-    → P (in_code (start_of (ends_at_bar part cs) byte bytes) (record { part = part; comments = cs }) place
-    (byte ∷ bytes))
-    → P (code_text_apart (record { part = part; comments = cs }) fresh last place byte bytes)
-before-code P part cs fresh last place byte bytes p inner goes code =
-    let w : Where = record { part = part; comments = cs } in
-    if-both P (byte == newline) _ _ (λ e. goes (line_end part cs last place) (line-goes part cs last place p inner))
-    (λ e. if-both P (is_space part byte bytes) _ _ (λ e. goes (skipped_byte w) (skip-goes w p inner))
-    (λ e. if-both P (byte == hash && (takes_hash_line part cs && fresh)) _ _
-    (λ e. goes (one true (moved w (parts.Plain true false)) place (byte ∷ bytes) (plain kind.HashLine 1))
-    (one-goes (in_tex part) true (moved w (parts.Plain true false)) place (byte ∷ bytes) (plain kind.HashLine 1)
-    (takes-tex part cs (both-left (takes_hash_line part cs) fresh
-    (both-right (byte == hash) (takes_hash_line part cs && fresh) e))) refl refl inner))
-    (λ e. if-both P (byte == less && (behind_include part && closes_on_line bytes)) _ _
-    (λ e. goes (one (in_hash_line part) (moved w (passed part)) place (byte ∷ bytes)
-    (include_name place (byte ∷ bytes))) (one-goes (in_tex part) (in_hash_line part) (moved w (passed part)) place
-    (byte ∷ bytes) (include_name place (byte ∷ bytes)) (passed-tex part) refl (passed-c part p) inner))
-    (λ e. code))))
+passed-in-c : (w : Where) (fresh : Bool) (place byte : ℕ) (bytes : List ℕ)
+    → (byte == at_sign && begins_section bytes) ≡ false → (cut : Cut) → IsPassed w fresh place byte bytes cut
+    → in_c cut.kind ≡ true
+passed-in-c w fresh place byte bytes section _ (Standing at e) =
+    (code-kind (code_at bytes) place (byte ∷ bytes) (plain-code byte bytes section at)).is
+passed-in-c w fresh place byte bytes section _ _ = refl
+
+-- What begins at a byte of C text, but for a bar that ends it.
+pub rule-goes : (P : Found → Type 0) (w : Where) (fresh : Bool) (last place byte : ℕ) (bytes : List ℕ)
+    → (byte == at_sign && begins_section bytes) ≡ false → is_c w.part ≡ true → all_inner w.comments ≡ true
+    → ((f : Found) → Goes (in_tex w.part) (levels_in w.comments) f → P f)
+    → (ends_at_bar w.part w.comments ≡ true → P (inner_end w place (byte ∷ bytes))) → (f : Found)
+    → CodeRule w fresh last place byte bytes f → P f
+rule-goes P w fresh last place byte bytes section p inner goes ends _ (LineEnd h) =
+    goes (line_end w.part w.comments last place) (line-goes w.part w.comments last place p inner)
+rule-goes P w fresh last place byte bytes section p inner goes ends _ (Space line h) =
+    goes (skipped_byte w) (skip-goes w p inner)
+rule-goes P w fresh last place byte bytes section p inner goes ends _ (HashLine h takes first) =
+    goes _ (one-goes (in_tex w.part) true (moved w (parts.Plain true false)) place (byte ∷ bytes)
+    (plain kind.HashLine 1) (takes-tex w.part w.comments takes) refl refl inner)
+rule-goes P w fresh last place byte bytes section p inner goes ends _ (Word bare h) =
+    goes _ (one-goes (in_tex w.part) (in_hash_line w.part) (moved w (behind_word w.part (byte ∷ bytes))) place
+    (byte ∷ bytes) (identifier (byte ∷ bytes)) (word-tex w.part (byte ∷ bytes)) refl (word-c w.part (byte ∷ bytes) p)
+    inner)
+rule-goes P w fresh last place byte bytes section p inner goes ends _ (Passed cut k) =
+    goes _ (one-goes (in_tex w.part) (in_hash_line w.part) (moved w (passed w.part)) place (byte ∷ bytes) cut
+    (passed-tex w.part) (passed-in-c w fresh place byte bytes section cut k) (passed-c w.part p) inner)
+rule-goes P w fresh last place byte bytes section p inner goes ends _ (Heading at e name may headed) =
+    goes _ (one-goes (in_tex w.part) (in_hash_line w.part) (moved w parts.Head) place (byte ∷ bytes)
+    (code_token (code_at bytes) place (byte ∷ bytes)) (head-tex w.part w.comments may)
+    (code-kind (code_at bytes) place (byte ∷ bytes) (plain-code byte bytes section at)).is refl inner)
+rule-goes P w fresh last place byte bytes section p inner goes ends _ (Beginning effect part at e begun) =
+    let b = begun-c place effect part begun in
+    let keeps = λ (h : in_tex w.part ≡ true). ap is_kept (sym e) ∙ kept w.part w.comments (code_at bytes) h in
+    goes _ (one-goes (in_tex w.part) false (moved w part) place (byte ∷ bytes) (plain (kind.Code (code_at bytes)) 2)
+    (b.1.0 ∙ other-tex (in_tex w.part) (is_kept effect) keeps b.1.1)
+    (code-in-c (code_at bytes) (plain-code byte bytes section at)) b.0 inner)
+rule-goes P w fresh last place byte bytes section p inner goes ends _ (Comment long h) =
+    goes _ (comment-goes long w place (byte ∷ bytes) p inner)
+rule-goes P w fresh last place byte bytes section p inner goes ends _ (InnerEnd h e) = ends e
 
 text-goes : (part : Part) (cs : List Opened) (fresh : Bool) (last place byte : ℕ) (bytes : List ℕ)
     → (byte == at_sign && begins_section bytes) ≡ false → is_c part ≡ true → all_inner cs ≡ true
@@ -346,40 +286,35 @@ text-goes : (part : Part) (cs : List Opened) (fresh : Bool) (last place byte : �
     → Goes (in_tex part) (levels_in cs) (code_text_apart (record { part = part; comments = cs }) fresh last place byte
     bytes)
 text-goes part cs fresh last place byte bytes section p inner opens =
-    let s = start_of (ends_at_bar part cs) byte bytes in
-    let b = (begins-so (ends_at_bar part cs) byte bytes section).is in
-    before-code (Goes (in_tex part) (levels_in cs)) part cs fresh last place byte bytes p inner (λ f g. g)
-    (in-code-goes s part cs place (byte ∷ bytes) p inner (λ e. opens (subst (Begun (ends_at_bar part cs)) e b)) b)
+    let w : Where = record { part = part; comments = cs } in
+    rule-goes (Goes (in_tex part) (levels_in cs)) w fresh last place byte bytes section p inner (λ f g. g)
+    (λ e. inner-ends part cs place (byte ∷ bytes) p inner (opens e)) _ (code-rule w fresh last place byte bytes)
 
 -- the text of a comment
-comment-text-goes : (part : Part) (c : Opened) (cs : List Opened) (last place byte : ℕ) (bytes : List ℕ) → is_c part
-    ≡ true → all_inner cs ≡ true → c.inner ≡ false
-    → Goes (in_tex part) (InComment ∷ levels_in cs) (comment_text_apart part c cs last place byte bytes)
-comment-text-goes part c cs last place byte bytes p inner f =
-    let P : Found → Type 0 = Goes (in_tex part) (InComment ∷ levels_in cs) in
-    if-both P (c.long && (byte == star && begins slash bytes)) _ _
-    (λ e. record {
-      part = p;
-      same = refl;
-      nested = inner-nested cs inner;
-      levels = end-levels (in_hash_line part) c
-          place 2 (byte ∷ bytes) cs inner;
-      uncut = end-uncut (in_hash_line part) c place 2 (byte ∷ bytes);
-    })
-    (λ e. if-both P (not c.long && byte == newline) _ _
-    (λ e. before-goes (in_tex part) (comment_end (in_hash_line part) c place 0 []) (InComment ∷ levels_in cs)
+comment-text-goes : (part : Part) (c : Opened) (cs : List Opened) (last place byte : ℕ) (bytes : List ℕ)
+    → is_c part ≡ true → all_inner cs ≡ true → c.inner ≡ false → (f : Found)
+    → CommentRule part c cs last place byte bytes f → Goes (in_tex part) (InComment ∷ levels_in cs) f
+comment-text-goes part c cs last place byte bytes p inner f _ (Closed long h) = record {
+  part = p;
+  same = refl;
+  nested = inner-nested cs inner;
+  levels = end-levels (in_hash_line part) c place 2 (byte ∷ bytes) cs inner;
+  uncut = end-uncut (in_hash_line part) c place 2 (byte ∷ bytes);
+}
+comment-text-goes part c cs last place byte bytes p inner f _ (EndedLine short h) =
+    before-goes (in_tex part) (comment_end (in_hash_line part) c place 0 []) (InComment ∷ levels_in cs)
     (levels_in cs) (line_end part cs last place) (end-levels (in_hash_line part) c place 0 [] cs inner)
-    (end-uncut (in_hash_line part) c place 0 []) (line-goes part cs last place p inner))
-    (λ e. if-both P (byte == bar && not (is_deep part (c ∷ cs))) _ _
-    (λ e. record { part = p; same = refl; nested = inner; levels = refl; uncut = refl })
-    (λ e. record {
-      part = p;
-      same = refl;
-      nested = inner;
-      levels = notes-stay (noted (piece_start part cs c place) (byte ∷ bytes)) (InComment ∷ levels_in cs)
-          ∙ ap (λ b. Some (with_code b (InComment ∷ levels_in cs))) (sym f);
-      uncut = notes-uncut (noted (piece_start part cs c place) (byte ∷ bytes));
-    })))
+    (end-uncut (in_hash_line part) c place 0 []) (line-goes part cs last place p inner)
+comment-text-goes part c cs last place byte bytes p inner f _ (InnerBegin h deep) =
+    record { part = p; same = refl; nested = inner; levels = refl; uncut = refl }
+comment-text-goes part c cs last place byte bytes p inner f _ (Piece closes line opens) = record {
+  part = p;
+  same = refl;
+  nested = inner;
+  levels = notes-stay (noted (piece_start part cs c place) (byte ∷ bytes)) (InComment ∷ levels_in cs)
+      ∙ ap (λ b. Some (with_code b (InComment ∷ levels_in cs))) (sym f);
+  uncut = notes-uncut (noted (piece_start part cs c place) (byte ∷ bytes));
+}
 
 -- heads
 head-goes : (place byte : ℕ) (bytes : List ℕ) → Goes false (InCode ∷ [])
@@ -449,7 +384,7 @@ open-goes part c cs fresh last place byte bytes section p n =
     (λ e. text-goes part (c ∷ cs) fresh last place byte bytes section p (ap (λ b. b && all_inner cs) e ∙ n) (λ e. refl))
     (λ e. subst (λ b. Goes (in_tex part) (with_code b (InComment ∷ levels_in cs))
     (comment_text_apart part c cs last place byte bytes)) (sym e) (comment-text-goes part c cs last place byte bytes p n
-    e))
+    e _ (comment-rule part c cs last place byte bytes)))
 
 in-text-goes : (part : Part) (cs : List Opened) (fresh : Bool) (last place byte : ℕ) (bytes : List ℕ)
     → (byte == at_sign && begins_section bytes) ≡ false → is_c part ≡ true → in_tex part ≡ false → nested_in cs ≡ true

@@ -3,23 +3,21 @@ use Rattle.std.proofs.Common.{◌≡◌, ℕ, zero, suc, ◌+◌, ◌-◌, Bool,
 use Rattle.std.proofs.Common.{◌++◌, refl, ◌∙◌, ap, arith}
 use Rattle.std.specs.Prelude.{◌==◌}
 use Rattle.cw_rules.specs.declared.{bodies.Noted.Noted, codes.Code.Code, codes.Effect.Effect, parts.Part.Part}
-use Rattle.cw_rules.specs.declared.{parts.Opened.Opened, parts.Start.Start, tokens.TokKind.TokKind}
+use Rattle.cw_rules.specs.declared.{parts.Opened.Opened, tokens.TokKind.TokKind}
 use Rattle.cw_rules.specs.{Bytes.at_sign, Apart.in_text_apart, Apart.found_apart}
 use Rattle.cw_rules.specs.Codes.{code_at, begins_section, effect_in_tex}
 use Rattle.cw_rules.specs.Answers.{Answer, Where, Cut, Found, note_answers}
-use Rattle.cw_lex.specs.Lexing.{answers, tokens_of, still_fresh}
+use Rattle.cw_lex.{specs.Lexing.answers, specs.Lexing.tokens_of, specs.Lexing.still_fresh, specs.Nested.begins_part_in}
+use Rattle.cw_lex.{specs.Nested.is_part_answer, proofs.Nesting.cut-one, proofs.Nesting.section-kind}
 use Rattle.cw_rules.specs.Tokens.{one, dropped_code, moved, is_name, is_head, code_token, comment_cut, inner_or_none}
-use Rattle.cw_rules.specs.Tokens.{all_cut, start_of, in_code, tex_by, tex_text, head_text, section}
+use Rattle.cw_rules.specs.Tokens.{all_cut, tex_by, tex_text, head_text, section}
 use Rattle.cw_lex.specs.Nested.{Level, InCode, InComment, after_token, after_begin, levels_after, all_levels_after}
 use Rattle.cw_lex.specs.Nested.{tex_levels_after, all_tex_levels_after, IsTexNested, is_section_kind, is_part_kind}
-use Rattle.cw_lex.specs.Nested.{begins_part_in, is_part_answer}
-use Rattle.cw_rules.proofs.Choices.{if-both, or-first, or-second}
-use Rattle.cw_lex.proofs.Nesting.{Goes, levels_in, nested_in, in_tex, Begun, begins-so, in-code-goes, before-code}
-use Rattle.cw_lex.proofs.Nesting.{open-goes, inner-nested, open-levels, cut-one, section-kind}
+use Rattle.cw_rules.proofs.{Choices.if-both, Choices.or-first, Choices.or-second, Rules.code-rule}
+use Rattle.cw_lex.proofs.Nesting.{Goes, levels_in, nested_in, in_tex, rule-goes, open-goes, inner-nested, open-levels}
 use Rattle.std.proofs.lemmas.Bool.Decides.{nat_tests}
 use Rattle.cw_rules.specs.declared.codes.Effect.TheVariants as effects
 use Rattle.cw_rules.specs.declared.parts.Part.TheVariants as parts
-use Rattle.cw_rules.specs.declared.parts.Start.TheVariants as start
 use Rattle.cw_rules.specs.declared.tokens.Mode.TheVariants as modes
 use Rattle.cw_rules.specs.declared.tokens.TokKind.TheVariants as kind
 
@@ -136,30 +134,14 @@ head-goes : (place byte : ℕ) (bytes : List ℕ) → Unless [] (head_text (reco
     byte bytes)
 head-goes place byte bytes = grind (arith, if-both, part-begins)
 
--- inner C text, which its bar ends
-start-goes : (s : Start) (place : ℕ) (bytes : List ℕ) → Begun true s
-    → Unless (InCode ∷ []) (in_code s (record { part = parts.TexInner; comments = [] }) place bytes)
-start-goes start.EndOfInner place bytes b = record { goes = λ h. record { stays = refl; levels = refl } }
-start-goes start.Identifier place bytes b = grind (arith, inner-goes, in-code-goes)
-start-goes start.Constant place bytes b = grind (arith, inner-goes, in-code-goes)
-start-goes (start.Quoted q) place bytes b = inner-goes (InCode ∷ [])
-    (in_code (start.Quoted q) (record { part = parts.TexInner; comments = [] }) place bytes)
-    (in-code-goes (start.Quoted q) parts.TexInner [] place bytes refl refl (λ e. absurd cc) b)
-start-goes start.LongComment place bytes b = grind (arith, inner-goes, in-code-goes)
-start-goes start.ShortComment place bytes b = grind (arith, inner-goes, in-code-goes)
-start-goes (start.Code c) place bytes b = inner-goes (InCode ∷ [])
-    (in_code (start.Code c) (record { part = parts.TexInner; comments = [] }) place bytes)
-    (in-code-goes (start.Code c) parts.TexInner [] place bytes refl refl (λ e. absurd cc) b)
-start-goes (start.Sign s) place bytes b = grind (arith, inner-goes, in-code-goes)
-start-goes start.OtherByte place bytes b = grind (arith, inner-goes, in-code-goes)
-
 text-goes : (part : Part) (cs : List Opened) (fresh : Bool) (last place byte : ℕ) (bytes : List ℕ)
     → (byte == at_sign && begins_section bytes) ≡ false → stands part cs ≡ true
     → Unless (tex_levels part cs) (in_text_apart part cs fresh last place byte bytes)
 text-goes parts.TexInner [] fresh last place byte bytes section s =
-    before-code (Unless (InCode ∷ [])) parts.TexInner [] fresh last place byte bytes refl refl
-    (λ f g. inner-goes (InCode ∷ []) f g)
-    (start-goes (start_of true byte bytes) place (byte ∷ bytes) (begins-so true byte bytes section).is)
+    let w : Where = record { part = parts.TexInner; comments = [] } in
+    rule-goes (Unless (InCode ∷ [])) w fresh last place byte bytes section refl refl
+    (λ f g. inner-goes (InCode ∷ []) f g) (λ e. record { goes = λ h. record { stays = refl; levels = refl } }) _
+    (code-rule w fresh last place byte bytes)
 text-goes parts.TexInner (c ∷ cs) fresh last place byte bytes section s =
     inner-goes (levels_in (c ∷ cs)) (in_text_apart parts.TexInner (c ∷ cs) fresh last place byte bytes)
     (open-goes parts.TexInner c cs fresh last place byte bytes section refl s)
