@@ -460,7 +460,8 @@ module _ (text : List ℕ) where
       quiet-goes line named depth (in_hash_line part)
       (record { part = part; comments = record c { braces = (ended i (byte ∷ bytes)).braces } ∷ comments }) place
       (byte ∷ bytes)
-      (record { kind = kinds.Text; size = (extent i (byte ∷ bytes)).size; notes = noted i (byte ∷ bytes) }) k.hash_line o
+      (record { kind = kinds.Text; size = (extent i (byte ∷ bytes)).size; notes = noted i (byte ∷ bytes) })
+      k.hash_line o
       (behind-stands line part _ k)
       (record { line = λ line. refl; file = λ line bytes. refl; other = λ line named depth before bytes. tt })
 

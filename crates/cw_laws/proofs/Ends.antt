@@ -349,7 +349,8 @@ module _ (text : List ℕ) where
       → drop place text ≡ byte ∷ bytes → (byte == at_sign && begins_section bytes) ≡ false
       → Stands (bare parts.Limbo) mode opened → (f : Found) → LimboRule place byte bytes f → Goes mode opened f
   limbo-goes place byte bytes mode opened here other s _ (LimboCode at e) =
-      one-goes mode opened false (bare parts.Limbo) place (byte ∷ bytes) (code_token (code_at bytes) place (byte ∷ bytes)) s
+      one-goes mode opened false (bare parts.Limbo) place (byte ∷ bytes)
+      (code_token (code_at bytes) place (byte ∷ bytes)) s
       (standing-whole place byte bytes mode opened here other at)
   limbo-goes place byte bytes mode opened here other s _ (LimboFormat at e) =
       one-goes mode opened false (bare (parts.FormatName place false true)) place (byte ∷ bytes)
@@ -408,7 +409,8 @@ module _ (text : List ℕ) where
   part-goes fresh last place byte bytes mode opened here other _ s _ (OfLimbo f r) =
       limbo-goes place byte bytes mode opened here other s f r
   part-goes fresh last place byte bytes mode opened here other _ s _ (TexCode at e) =
-      one-goes mode opened false (bare parts.Tex) place (byte ∷ bytes) (code_token (code_at bytes) place (byte ∷ bytes)) s
+      one-goes mode opened false (bare parts.Tex) place (byte ∷ bytes)
+      (code_token (code_at bytes) place (byte ∷ bytes)) s
       (standing-whole place byte bytes mode opened here other at)
   part-goes fresh last place byte bytes mode opened here other _ s _ (TexHeading at e name headed) =
       one-goes mode opened false (bare parts.Head) place (byte ∷ bytes)
@@ -430,7 +432,8 @@ module _ (text : List ℕ) where
       bar-goes place byte bytes mode opened here h s
   part-goes fresh last place byte bytes mode opened here other _ s _ (TexText at h) =
       text-goes parts.Tex place (byte ∷ bytes) mode opened refl here s
-  part-goes fresh last place byte bytes mode opened here other _ s _ (Blank h) = skip-goes mode opened (bare parts.Head) s
+  part-goes fresh last place byte bytes mode opened here other _ s _ (Blank h) =
+      skip-goes mode opened (bare parts.Head) s
   part-goes fresh last place byte bytes mode opened here other _ s _ (HeadSign h) =
       one-goes mode opened false (bare (parts.Plain false false)) place (byte ∷ bytes)
       (plain kinds.HeadSign (if begins equals bytes then 2 else 1))

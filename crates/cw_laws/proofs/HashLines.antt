@@ -99,7 +99,8 @@ comment-lined part c comments last place byte bytes _ (Closed long h) =
     λ e. ap (line_with (in_hash_line part)) (kind-none (one_note (note_unless (c.braces == 0) MissingBrace place))) ∙ e
 comment-lined part c comments last place byte bytes _ (EndedLine short h) =
     λ e. ap (line_with (in_hash_line part))
-    (kind-behind (one_note (note_unless (c.braces == 0) MissingBrace place)) (line_end part comments last place).answers)
+    (kind-behind (one_note (note_unless (c.braces == 0) MissingBrace place))
+    (line_end part comments last place).answers)
     ∙ line-end-lined part comments last place e
 comment-lined part c comments last place byte bytes _ _ = λ e. e
 

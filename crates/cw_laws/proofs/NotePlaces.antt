@@ -241,7 +241,8 @@ code-lies low place byte bytes l w fresh last o _ (Passed cut p) =
     one-here low place byte bytes l (in_hash_line w.part) (moved w (passed w.part)) cut
     (passed-in low place byte bytes l w fresh cut p) (passed-on low (place + 1) w o)
 code-lies low place byte bytes l w fresh last o _ (Heading at e name may headed) =
-    one-here low place byte bytes l (in_hash_line w.part) (moved w parts.Head) (code_token (code_at bytes) place (byte ∷ bytes))
+    one-here low place byte bytes l (in_hash_line w.part) (moved w parts.Head)
+    (code_token (code_at bytes) place (byte ∷ bytes))
     (token-in low place byte bytes l (known-in w.part w.comments (code_at bytes) e)) (tt, o.1)
 code-lies low place byte bytes l w fresh last o _ (Beginning effect part at e begun) =
     record { notes = tt; next = (begun-open low place byte bytes l effect part begun, o.1) }
@@ -271,7 +272,8 @@ comment-lies low place byte bytes l part c comments last p o _ (InnerBegin h dee
 comment-lies low place byte bytes l part c comments last p o _ (Piece closes line opens) =
     let i = piece_start part comments c place in
     record {
-      notes = answers-lie low (place + length (byte ∷ bytes)) (noted i (byte ∷ bytes)) (noted-in low i (byte ∷ bytes) l);
+      notes = answers-lie low (place + length (byte ∷ bytes)) (noted i (byte ∷ bytes))
+          (noted-in low i (byte ∷ bytes) l);
       next = (p, o);
     }
 

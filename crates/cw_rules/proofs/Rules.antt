@@ -389,7 +389,8 @@ module _ (fresh : Bool) (last place byte : ℕ) (bytes : List ℕ) where
   part-rule (parts.MacroParen code) = Opening code
   part-rule (parts.Parameters code) =
       if-both (In (parts.Parameters code)) (parameter_follows (byte ∷ bytes)) _ _ (parameter-rule code)
-      (λ h. Improper _ _ _ _ (ImproperParameters code) (code-rule (within parts.Definition) fresh last place byte bytes))
+      (λ h. Improper _ _ _ _ (ImproperParameters code)
+      (code-rule (within parts.Definition) fresh last place byte bytes))
   part-rule (parts.FormatName code second limbo) =
       if-both (In (parts.FormatName code second limbo)) (name_follows (byte ∷ bytes)) _ _
       (format-rule code second limbo) (λ h. by limbo)

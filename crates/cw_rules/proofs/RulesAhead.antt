@@ -112,9 +112,12 @@ module _ (more : List ℕ) (code : begins greater more ≡ false) where
     nat_tests,
     common_steps,
     simple-local At more code false w place byte bs _ _ (word-same byte bs),
-    simple-local At more code false w place byte bs (plain (kinds.Sign signs.Comma) 1) (plain (kinds.Sign signs.Comma) 1) refl,
-    simple-local At more code false (moved w parts.Definition) place byte bs (plain (kinds.Sign signs.RightParen) 1) (plain (kinds.Sign signs.RightParen) 1) refl,
-    simple-local At more code false w place byte bs (plain (kinds.Sign signs.Ellipsis) 3) (plain (kinds.Sign signs.Ellipsis) 3) refl,
+    simple-local At more code false w place byte bs (plain (kinds.Sign signs.Comma) 1)
+        (plain (kinds.Sign signs.Comma) 1) refl,
+    simple-local At more code false (moved w parts.Definition) place byte bs (plain (kinds.Sign signs.RightParen) 1)
+        (plain (kinds.Sign signs.RightParen) 1) refl,
+    simple-local At more code false w place byte bs (plain (kinds.Sign signs.Ellipsis) 3)
+        (plain (kinds.Sign signs.Ellipsis) 3) refl,
     word-same byte bs,
     if-local,
     same-local,
