@@ -1,7 +1,7 @@
 -- Identifiers that are added to a list of names: those that are there keep their places, and each has one.
-use Rattle.std.proofs.Common.{◌≡◌, ℕ, zero, suc, ◌<◌, ◌≤◌, Bool, true, false, not, if◌then◌else◌, nat_lt, List, []}
-use Rattle.std.proofs.Common.{◌∷◌, ◌++◌, length, map, slice_get, slice_index_or, All, Option, Some, None, refl, sym}
-use Rattle.std.proofs.Common.{◌∙◌, ap, subst, arith}
+use Rattle.std.proofs.Common.{◌≡◌, ℕ, zero, suc, ◌<◌, ◌≤◌, Bool, true, false, not, if◌then◌else◌, nat_lt, List, [], ◌∷◌}
+use Rattle.std.proofs.Common.{◌++◌, length, map, slice_get, slice_index_or, All, Option, Some, None, refl, sym, ◌∙◌, ap}
+use Rattle.std.proofs.Common.{subst, arith}
 use Rattle.std.specs.Cmp.Lexicographic.{bytes_decides}
 use Rattle.std.proofs.lemmas.Bool.{ltb-true, ltb-false}
 use Rattle.std.proofs.lemmas.List.Sums.{prefix_len-le-length}
@@ -48,8 +48,7 @@ texts-kept old new [] x h = refl
 texts-kept old new (id ∷ ids) x h =
     let one : text_at new id.index ≡ text_at old id.index =
     ap text_by (ap (λ es. slice_get es id.index) x.is ∙ slots-kept x.added old id.index (h 0 id (omega arith))) in
-    ap (λ t. t ∷ map (λ i. text_at new i.index) ids) one
-    ∙ ap (λ ts. text_at old id.index ∷ ts) (texts-kept old new ids x (λ k d lt. h (suc k) d (omega arith)))
+    grind (arith, texts-kept old new ids x (λ k d lt. h (suc k) d (omega arith)))
 
 pub spelled-kept : (old new : List Entry) (leaf : LeafLine) → IsExtended old new → AreIdents old leaf.names
     → spelled new leaf ≡ spelled old leaf
@@ -103,10 +102,8 @@ kind-is : (kind : EntryKind) → same_kind kinds.Ident kind ≡ true → kind �
 kind-is kind h = grind arith
 
 entry-named : (text : List ℕ) (e : Entry) → is_entry kinds.Ident text e ≡ true → IsNamed text (Some e)
-entry-named text e h = (
-  kind-is e.kind (both-left (same_kind kinds.Ident e.kind) _ h),
-  sym ((bytes_decides text e.text).0 (both-right (same_kind kinds.Ident e.kind) _ h)),
-)
+entry-named text e h =
+    (kind-is _ (both-left (same_kind kinds.Ident _) _ h), sym ((bytes_decides text _).0 (both-right _ _ h)))
 
 place-there : (text : List ℕ) (es : List Entry) → place_of kinds.Ident text es < length es
     → IsNamed text (slice_get es (place_of kinds.Ident text es))
@@ -134,9 +131,7 @@ entry-there text es = by (nat_lt (place_of kinds.Ident text es) (length es)) ref
     by true h = place-there text es (ltb-true _ _ h)
     by false h =
         let last : place_of kinds.Ident text es ≡ length es = omega (arith, most, ltb-false _ _ h) in
-        subst (IsNamed text) (sym (ap (slice_get (es
-        ++ record { kind = kinds.Ident; text = text; category = Exp } ∷ []))
-        last ∙ slot-last es (record { kind = kinds.Ident; text = text; category = Exp }))) (refl, refl)
+        grind (arith, slice_get, slot-last)
 
 named-ident : (text : List ℕ) (o : Option Entry) → IsNamed text o → IsIdentEntry o
 named-ident text o h = grind arith

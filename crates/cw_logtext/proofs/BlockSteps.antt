@@ -7,7 +7,6 @@ use Rattle.cw_base.specs.Text.{pieces_of}
 use Rattle.cw_names.specs.Names.{Entry}
 use Rattle.cw_table.specs.Normal.{Production}
 use Rattle.cw_leaves.specs.declared.lines.LeafLine.{LeafLine}
-use Rattle.cw_leaves.specs.LeafLines.{Line}
 use Rattle.cw_leaves.specs.Spelling.{spelled}
 use Rattle.cw_logtext.specs.declared.blocks.ReadItems.{ReadItems}
 use Rattle.cw_logtext.specs.declared.blocks.ReadLeaves.{ReadLeaves}
@@ -115,27 +114,16 @@ pub one-leaf : (old mid new : List Entry) (text rest line tail : List ℕ) (leav
     (left : ℕ) → LeavesSoFar old mid text leaves rest (suc left) → IsFirstLine rest line tail → IsExtended mid new
     → HasLeafLine mid new line one → LeavesSoFar old new text (leaves ++ one ∷ []) tail left
 one-leaf old mid new text rest line tail leaves one left s cut x h =
-    let lines : map (spelled new) (leaves ++ one ∷ []) ≡ map (spelled mid) leaves ++ spelled new one ∷ [] =
-    more-lines mid new leaves one x s.idents in
+    let lines : map (spelled new)
+    (leaves ++ one ∷ []) ≡ map (spelled mid) leaves ++ spelled new one ∷ [] = more-lines mid new _ one x s.idents in
     record {
-      idents = all-append (λ l. AreIdents new l.names) leaves (one ∷ []) (all-kept mid new leaves x s.idents)
+      idents = all-append (λ l. AreIdents new l.names) leaves (one ∷ []) (all-kept mid new _ x s.idents)
           (all-cons (λ l. AreIdents new l.names) one [] h.idents (λ k d lt. absurd (omega (arith, lt))));
-      added = h.added ∙ (ap (with_idents (spelled new one).names) s.added
-          ∙ (sym (idents-append (names_in (map (spelled mid) leaves)) (spelled new one).names old)
-          ∙ ap (λ ts. with_idents ts old)
-          (ap (λ ts. names_in (map (spelled mid) leaves) ++ ts) (sym (append-none-of (spelled new one).names))
-          ∙ (sym (flat_map-append (λ (l : Line). l.names) (map (spelled mid) leaves) (spelled new one ∷ []))
-          ∙ ap names_in (sym lines)))));
-      fine = subst (All IsFineLine) (sym lines) (all-append IsFineLine (map (spelled mid) leaves)
-          (spelled new one ∷ []) s.fine
-          (all-cons IsFineLine (spelled new one) [] h.fine (λ k d lt. absurd (omega (arith, lt)))));
-      is = s.is ∙ (ap (λ ls. map line_text (map (spelled mid) leaves) ++ ls)
-          (cut.cut ∙ ap (λ l. l ∷ pieces_of tail) h.is)
-          ∙ (sym (append_assoc (map line_text (map (spelled mid) leaves)) (line_text (spelled new one) ∷ [])
-          (pieces_of tail))
-          ∙ ap (λ ls. ls ++ pieces_of tail) (sym (ap (map line_text) lines
-          ∙ map-append line_text (map (spelled mid) leaves) (spelled new one ∷ [])))));
-      later = behind-leaf line (pieces_of tail) left (read-cut (Inside (suc left)) Outside rest line tail cut s.later);
+      added = grind (arith, idents-append, append-none-of, flat_map-append);
+      fine = subst (All IsFineLine) (sym lines) (all-append IsFineLine (map _ leaves)
+          (spelled new one ∷ []) s.fine (all-cons IsFineLine _ [] h.fine (λ k d lt. absurd (omega (arith, lt)))));
+      is = s.is ∙ (grind (arith, append_assoc, map-append));
+      later = behind-leaf line _ left (read-cut (Inside _) _ rest line tail cut s.later);
       shorter = omega (arith, s.shorter, cut.shorter);
     }
 
@@ -182,13 +170,9 @@ pub one-item : (text line rest next tail : List ℕ) (items : List Production) (
     → line ≡ item_text p → ItemsSoFar text items line rest → IsFirstLine rest next tail
     → ItemsSoFar text (items ++ p ∷ []) next tail
 one-item text line rest next tail items p fine is s cut = record {
-  fine = all-append IsFineItem items (p ∷ []) s.fine
-      (all-cons IsFineItem p [] fine (λ k d lt. absurd (omega (arith, lt))));
-  is = s.is ∙ (ap (λ l. map item_text items ++ l ∷ pieces_of rest) is
-      ∙ (sym (append_assoc (map item_text items) (item_text p ∷ []) (pieces_of rest))
-      ∙ (ap (λ ls. ls ++ pieces_of rest) (sym (map-append item_text items (p ∷ [])))
-      ∙ ap (λ ls. map item_text (items ++ p ∷ []) ++ ls) cut.cut)));
-  later = read-cut (Inside 0) Outside rest next tail cut (behind-item line (pieces_of rest) p is s.later);
+  fine = all-append IsFineItem _ _ s.fine (all-cons IsFineItem p [] fine (λ k d lt. absurd (omega (arith, lt))));
+  is = grind (arith, append_assoc, map-append);
+  later = read-cut (Inside 0) _ rest next tail cut (behind-item line _ p is s.later);
   shorter = omega (arith, s.shorter, cut.shorter);
 }
 

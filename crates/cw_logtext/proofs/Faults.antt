@@ -31,12 +31,8 @@ earlier-fault lines m n lt (wrong l b none) f = none (begins-fewer lines (suc m)
 earlier-fault lines m n lt (cut_off last b none) f = omega (arith, lt, last, fault-within lines n f)
 
 fault-log : (lines : List (List ℕ)) (n : ℕ) → IsFault lines n → IsLog lines → ⊥
-fault-log lines n (wrong lt b none) is =
-    none (begins-fewer lines (suc n) (length lines) (omega (arith, lt)) (record {
-      later = [];
-      whole = subst IsLog (sym (append-nil (take (length lines) lines)
-          ∙ take_all (length lines) lines (omega arith))) is;
-    }))
+fault-log lines n (wrong lt b none) is = none (begins-fewer lines (suc n) (length lines) (omega (arith, lt))
+    (record { later = []; whole = subst IsLog (sym (append-nil _ ∙ take_all (length lines) lines (omega arith))) is }))
 fault-log lines n (cut_off last b none) is = none is
 
 -- the first line that no log has is one

@@ -1,5 +1,5 @@
 -- The lines of a log tell its blocks.
-use Rattle.std.proofs.Common.{◌≡◌, ℕ, suc, true, not, List, [], ◌∷◌, ◌++◌, if◌then◌else◌, length, eqb, nat_eq, map, All}
+use Rattle.std.proofs.Common.{◌≡◌, ℕ, suc, true, List, [], ◌∷◌, ◌++◌, if◌then◌else◌, length, eqb, nat_eq, map, All}
 use Rattle.std.proofs.Common.{refl, sym, ◌∙◌, ap, arith}
 use Rattle.std.specs.List.{flat_map}
 use Rattle.std.specs.Fmt.{decimal}
@@ -67,10 +67,8 @@ blanked-same [] [] zs ws h k p q e = record { front = refl; back = e }
 blanked-same [] (y ∷ ys) zs ws h k p q e = absurd (never-byte zs y ys (ys ++ ws) p k e)
 blanked-same (x ∷ xs) [] zs ws h k p q e = absurd (never-byte ws x xs (xs ++ zs) q h (sym e))
 blanked-same (x ∷ xs) (y ∷ ys) zs ws h k p q e =
-    let s : Same xs ys zs ws =
-    blanked-same xs ys zs ws (both-right (not (eqb x 32)) _ h) (both-right (not (eqb y 32)) _ k)
-    p q (tail-of x y (xs ++ zs) (ys ++ ws) e) in
-    let a : x ≡ y = head-of x y (xs ++ zs) (ys ++ ws) e in
+    let s = blanked-same xs ys zs ws (both-right _ _ h) (both-right _ _ k) p q (tail-of x y (xs ++ zs) (ys ++ ws) e) in
+    let a = head-of x y _ _ e in
     record { front = ap (λ c. c ∷ xs) a ∙ ap (λ cs. y ∷ cs) s.front; back = s.back }
 
 -- names
@@ -85,36 +83,26 @@ names-same [] [] h k e = refl
 names-same [] (m ∷ ms) h k e = absurd cc
 names-same (n ∷ ns) [] h k e = absurd cc
 names-same (n ∷ ns) (m ∷ ms) h k e =
-    let s : Same n m (flat_map blank_and ns) (flat_map blank_and ms) =
-    blanked-same n m (flat_map blank_and ns) (flat_map blank_and ms) (name-lacks 32 refl n (h 0 n (omega arith)))
-    (name-lacks 32 refl m (k 0 m (omega arith))) (names-blanked ns) (names-blanked ms) (tail-of 32 32 _ _ e) in
-    ap (λ x. x ∷ ns) s.front
-    ∙ ap (λ xs. m ∷ xs) (names-same ns ms (λ i d lt. h (suc i) d (omega arith))
-    (λ i d lt. k (suc i) d (omega arith)) s.back)
+    let s = blanked-same n m (flat_map blank_and ns) (flat_map blank_and ms) (name-lacks 32 refl n (h 0 n (omega
+    arith))) (name-lacks 32 refl m (k 0 m (omega arith))) (names-blanked ns) (names-blanked ms) (tail-of 32 32 _ _ e) in
+    ap (λ x. x ∷ ns) s.front ∙ ap
+    (λ xs. m ∷ xs) (names-same ns ms (λ i d lt. h (suc i) d (omega arith)) (λ i d lt. k (suc i) d (omega arith)) s.back)
 
 pub line-injective : (l m : Line) → IsFineLine l → IsFineLine m → line_text l ≡ line_text m → l ≡ m
 line-injective l m h k e =
-    let kind : l.kind ≡ m.kind = letter-injective l.kind m.kind (head-of (letter l.kind) (letter m.kind) _ _ e) in
-    let rest : cat_text l.cat ++ flat_map blank_and l.names ≡ cat_text m.cat ++ flat_map blank_and m.names =
-    tail-of 32 32 _ _ (tail-of (letter l.kind) (letter m.kind) _ _ e) in
-    let s : Same (cat_text l.cat) (cat_text m.cat) (flat_map blank_and l.names) (flat_map blank_and m.names) =
-    blanked-same (cat_text l.cat) (cat_text m.cat) (flat_map blank_and l.names) (flat_map blank_and m.names)
-    (cat-blank l.cat) (cat-blank m.cat) (names-blanked l.names) (names-blanked m.names) rest in
-    ap (λ x. record { kind = x; cat = l.cat; names = l.names }) kind
-    ∙ (ap (λ x. record { kind = m.kind; cat = x; names = l.names }) (cat-injective l.cat m.cat s.front)
-    ∙ ap (λ x. record { kind = m.kind; cat = m.cat; names = x }) (names-same l.names m.names h.names k.names s.back))
+    let kind : l.kind ≡ m.kind = letter-injective l.kind _ (head-of (letter _) _ _ _ e) in
+    let rest = tail-of 32 32 _ _ (tail-of _ _ _ _ e) in
+    let s = blanked-same _ _ _ _ (cat-blank _) (cat-blank _) (names-blanked l.names) (names-blanked _) rest in
+    ap (λ x. record { kind = x; cat = l.cat; names = l.names })
+    kind ∙ (ap (λ x. record { kind = m.kind; cat = x; names = l.names }) (cat-injective _ _ s.front)
+    ∙ ap (λ x. record { kind = m.kind; cat = m.cat; names = x }) (names-same _ _ h.names k.names s.back))
 
 pub item-injective : (p q : Production) → IsFineItem p → IsFineItem q → item_text p ≡ item_text q → p ≡ q
 item-injective p q h k e =
-    let s : Same (decimal p.number) (decimal q.number) (blank_and (decimal p.place)) (blank_and (decimal q.place)) =
-    blanked-same (decimal p.number) (decimal q.number) (blank_and (decimal p.place)) (blank_and (decimal q.place))
-    (decimal-lacks 32 p.number no-blank (omega (arith, h.to_last)))
-    (decimal-lacks 32 q.number no-blank (omega (arith, k.to_last)))
-    (something (decimal p.place)) (something (decimal q.place)) (tail-of 80 80 _ _ e) in
-    ap (λ x. record { number = x; place = p.place })
-    (decimal_injective p.number q.number (omega (arith, h.to_last)) (omega (arith, k.to_last)) s.front)
-    ∙ ap (λ x. record { number = q.number; place = x })
-    (decimal_injective p.place q.place (omega (arith, h.near)) (omega (arith, k.near)) (tail-of 32 32 _ _ s.back))
+    let s = blanked-same _ (decimal _) (blank_and _) (blank_and _)
+    (decimal-lacks 32 _ no-blank (omega (arith, h.to_last))) (decimal-lacks 32 _ no-blank (omega (arith, k.to_last)))
+    (something (decimal _)) (something _) (tail-of 80 80 _ _ e) in
+    grind (arith, decimal_injective, tail-of)
 
 -- blocks
 record SameLeaves (ls ms : List Line) (xs ys : List (List ℕ)) : Type 0 where
@@ -165,11 +153,8 @@ blocks-are-told (b ∷ bs) (c ∷ cs) h k e =
     let good : IsFineBlock b = h 0 b (omega arith) in
     let fine : IsFineBlock c = k 0 c (omega arith) in
     let d = sym (block-joined b bs) ∙ (e ∙ block-joined c cs) in
-    let s = leaves-same b.leaves c.leaves _ _ (head-injective _ _ good.few fine.few (head-of _ _ _ _ d)) good.leaves
-    fine.leaves
-    (tail-of (head_text (length b.leaves)) (head_text (length c.leaves)) _ _ d) in
+    let s = leaves-same b.leaves c.leaves _ _ (head-injective _ _ good.few fine.few (head-of _ _ _ _ d))
+    good.leaves fine.leaves (tail-of (head_text (length b.leaves)) (head_text (length c.leaves)) _ _ d) in
     let t = items-same b.items c.items (log_lines bs) (log_lines cs) good.items fine.items s.later in
-    ap (λ x. record { leaves = x; items = b.items } ∷ bs) s.leaves
-    ∙ (ap (λ x. record { leaves = c.leaves; items = x } ∷ bs) t.items
-    ∙ ap (λ x. c ∷ x) (blocks-are-told bs cs (λ i d lt. h (suc i) d (omega arith))
-    (λ i d lt. k (suc i) d (omega arith)) t.later))
+    ap (λ x. record { leaves = x; items = b.items } ∷ bs) s.leaves ∙ (grind
+    (arith, blocks-are-told bs cs (λ i d lt. h (suc i) d (omega arith)) (λ i d lt. k (suc i) d (omega arith)) t.later))
