@@ -5,8 +5,7 @@ use Rattle.cw_base.specs.declared.span.Span.{Span}
 use Rattle.cw_base.proofs.TestLaws.{not-both}
 use Rattle.cw_lex.specs.declared.heads.Wanted.{Wanted}
 use Rattle.cw_rules.specs.declared.tokens.TokKind.{TokKind}
-use Rattle.cw_rules.specs.Answers.{Answer, Token, Begin, Finish, Note, has_sign}
-use Rattle.cw_lex.specs.Heads.{head_behind}
+use Rattle.cw_rules.specs.Answers.{Answer, Token, Begin, Finish, Note}
 use Rattle.cw_lex.specs.Limbo.{is_name_kind, HasNoNames}
 use Rattle.cw_lex.specs.Nested.{is_section_kind}
 use Rattle.cw_secnames.specs.declared.kinds.SecId.{SecId}
@@ -14,7 +13,6 @@ use Rattle.cw_secnames.specs.Kept.{SecName}
 use Rattle.cw_secnames.specs.References.{Reference}
 use Rattle.cw_phase1.specs.declared.roles.Role.{Role}
 use Rattle.cw_phase1.specs.declared.roles.Standing.{Standing}
-use Rattle.cw_phase1.specs.Entering.{kept_behind}
 use Rattle.cw_phase1.specs.Roles.{Placed, word_role, head_role, token_step, token_step_by, behind_begin, placed_from}
 use Rattle.cw_phase1.specs.Sections.{is_section_code, sections_of}
 use Rattle.cw_phase1.specs.Uses.{reference_by, references_of}
@@ -65,12 +63,8 @@ plain-role o kind headed s h = grind (arith, plain-head)
 pub unnamed : (s : Standing) (kept : List SecName) (answers : List Answer) → HasNoNames answers
     → Unnamed (placed_from s kept answers)
 unnamed s kept [] n = tt
-unnamed s kept (Token t ∷ answers) n = λ e.
-    let kind : is_section_kind t.kind ≡ false = no-section-by (is_section_kind t.kind) t.kind (has_sign answers) s
-    t.span refl e in (
-      plain-role (head_behind s.wanted t.kind t.span) t.kind (has_sign answers) s (n kind).0,
-      unnamed (token_step t.kind (has_sign answers) s t.span).next (kept_behind t kept) answers (n kind).1,
-    )
+unnamed s kept (Token t ∷ answers) n = λ e. let kind = no-section-by
+    _ _ _ s _ refl e in (plain-role _ _ _ s (n kind).0, unnamed (token_step _ _ s _).next _ answers (n kind).1)
 unnamed s kept (Begin t ∷ answers) n = unnamed (behind_begin s) kept answers n
 unnamed s kept (Finish t ∷ answers) n = unnamed s kept answers n
 unnamed s kept (Note kind place ∷ answers) n = unnamed s kept answers n

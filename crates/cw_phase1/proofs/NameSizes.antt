@@ -1,6 +1,6 @@
 -- No kept name is longer than the text of the web.
 use Rattle.std.proofs.Common.{ℕ, zero, suc, ◌+◌, ◌≤◌, ◌==◌, Bool, List, [], ◌∷◌, ◌++◌, Option, All, drop, length}
-use Rattle.std.proofs.Common.{length-drop, sym, subst, arith, if◌then◌else◌}
+use Rattle.std.proofs.Common.{length-drop, arith, if◌then◌else◌}
 use Rattle.std.proofs.lemmas.List.{length-take}
 use Rattle.std.proofs.lemmas.List.Elements.{All-nil}
 use Rattle.cw_rules.specs.declared.tokens.TokKind.{TokKind}
@@ -116,9 +116,7 @@ short-kept : (text : List ℕ) (from : ℕ) (names : List SecName) (answers : Li
 short-kept text from names [] c h = h
 short-kept text from names (Token t ∷ answers) c h =
     let end : t.span.«end» ≤ length text = covers-end text t.span.«end» (length text) answers c.2 in
-    let within : length t.text ≤ length text =
-    subst (λ (bytes : List ℕ). length bytes ≤ length text) (sym c.0.slice)
-    (omega (arith, text-length text t.span.start t.span.«end», end)) in
+    let within : length t.text ≤ length text = grind (arith, text-length) in
     short-kept text t.span.«end» (kept_behind t names) answers c.2 (short-behind (length text) t names within h)
 short-kept text from names (Begin t ∷ answers) c h = short-kept text t.span.«end» names answers c.1 h
 short-kept text from names (Finish t ∷ answers) c h = short-kept text t.span.«end» names answers c.1 h

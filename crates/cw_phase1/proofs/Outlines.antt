@@ -135,9 +135,8 @@ ends-by o lines size closed n = grind (arith, append-nil, name-end)
 sections-told : (lines : List MergedLine) (size : ℕ) (ps : List Placed) (t : Told) → AreNamed t.sections.open_one
     → closing lines size (told_all lines ps t).sections ≡ sections_behind lines size t.sections ps
 sections-told lines size [] t n = ends-by t.sections.open_one lines size t.sections.closed n
-sections-told lines size (p ∷ ps) t n =
-    sections-told lines size ps (told_step lines p t) (named-told (is_section_code p.role) lines p t.sections n) ∙
-    told-section (is_section_code p.role) lines size t.sections p ps n refl
+sections-told lines size (p ∷ ps) t n = sections-told _ size ps (told_step lines p t) (named-told (is_section_code
+    p.role) lines p t.sections n) ∙ told-section (is_section_code p.role) lines size t.sections p ps n refl
 
 pub all-sections : (lines : List MergedLine) (size : ℕ) (ps : List Placed)
     → closing lines size (told_all lines ps told_start).sections ≡ sections_of lines size ps

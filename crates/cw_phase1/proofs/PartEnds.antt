@@ -135,10 +135,8 @@ section-part s t answers h = grind (arith, told)
 pub first-none : (test : Placed → Bool) (size : ℕ) (ps : List Placed) → list_any test ps ≡ false
     → first_start test size ps ≡ size
 first-none test size [] h = refl
-first-none test size (p ∷ ps) h =
-    ap (λ (t : Bool). if t then p.token.span.start else first_start test size ps)
-    (one-failed-left (test p) (list_any test ps) h)
-    ∙ first-none test size ps (one-failed-right (test p) (list_any test ps) h)
+first-none test size (p ∷ ps) h = ap (λ (t : Bool). if t then p.token.span.start else first_start test size ps)
+    (one-failed-left _ (list_any test ps) h) ∙ first-none test size ps (one-failed-right (test p) (list_any test ps) h)
 
 pub first-behind : (test : Placed → Bool) (size : ℕ) (front ps : List Placed) → list_any test front ≡ false
     → first_start test size (front ++ ps) ≡ first_start test size ps
@@ -159,10 +157,8 @@ no-stricter a b f h = grind arith
 pub none-stricter : (test other : Placed → Bool) (ps : List Placed) → ((p : Placed) → other p ≡ true → test p ≡ true)
     → list_any test ps ≡ false → list_any other ps ≡ false
 none-stricter test other [] f h = refl
-none-stricter test other (p ∷ ps) f h =
-    or-false (other p) (list_any other ps) (no-stricter (other p) (test p) (f p)
-    (one-failed-left (test p) (list_any test ps) h))
-    (none-stricter test other ps f (one-failed-right (test p) (list_any test ps) h))
+none-stricter test other (p ∷ ps) f h = or-false (other p) _ (no-stricter (other p) (test p) (f p) (one-failed-left
+    (test p) (list_any test ps) h)) (none-stricter test other ps f (one-failed-right (test p) (list_any test ps) h))
 
 -- section codes by the tokens
 abbrev is_code_token : Seen → Bool
@@ -229,14 +225,9 @@ opens-alone : (xs cut rest more : List Answer) → tokens_in cut ≡ [] → open
     → opens_part_before [] (xs ++ cut) ≡ false
 opens-alone [] cut rest more n h = bare-opens cut n
 opens-alone (Token t ∷ xs) cut rest more n h =
-    let later = one-failed-right (is_section_kind t.kind) _ h in
-    or-false (is_section_kind t.kind) _ (one-failed-left (is_section_kind t.kind) _ h)
-    (or-false (is_some (opened_by t.kind (has_sign ((xs ++ cut) ++ [])))) (opens_part_before [] (xs ++ cut))
-    (opened-less t.kind (has_sign ((xs ++ cut) ++ [])) (has_sign ((xs ++ rest) ++ more))
-    (sign-inside xs cut rest more n) (one-failed-left (is_some (opened_by t.kind (has_sign ((xs ++ rest) ++ more))))
-    (opens_part_before more (xs ++ rest)) later))
-    (opens-alone xs cut rest more n (one-failed-right (is_some (opened_by t.kind (has_sign ((xs ++ rest) ++ more))))
-    (opens_part_before more (xs ++ rest)) later)))
+    let later = one-failed-right _ _ h in
+    or-false _ _ (one-failed-left _ _ h) (or-false _ _ (grind (arith, opened-less, sign-inside, one-failed-left))
+    (opens-alone xs cut rest more n (one-failed-right _ _ later)))
 opens-alone (Begin t ∷ xs) cut rest more n h = opens-alone xs cut rest more n h
 opens-alone (Finish t ∷ xs) cut rest more n h = opens-alone xs cut rest more n h
 opens-alone (Note kind place ∷ xs) cut rest more n h = opens-alone xs cut rest more n h
@@ -309,8 +300,7 @@ module _ (good : Part → Bool) where
     split = ap (λ l. a ∷ l) r.split;
     placed = p ∙ r.placed;
     none = r.none;
-    uncut = or-false (is_section_answer a) (begins_section_in r.before) (one-failed-left (is_section_answer a) false n)
-        r.uncut;
+    uncut = or-false _ (begins_section_in r.before) (one-failed-left (is_section_answer a) false n) r.uncut;
     keeps = k (Token r.token ∷ r.behind) r.before r.keeps;
     part = r.part;
     passes = r.passes;
@@ -339,11 +329,9 @@ module _ (good : Part → Bool) where
   })
   token-by false s kept t answers g e rest =
       let p = token_placed s kept t answers in
-      let code : is_section_kind t.kind ≡ false = sym (told t.kind (has_sign answers) s t.span).role
-      ∙ one-failed-left (is_section_code p.role) (not (good p.part)) e in
-      let stays = not-false (good p.part) (one-failed-right (is_section_code p.role) (not (good p.part)) e) in
-      let part : p.part ≡ part_of (opened_by t.kind (has_sign answers)) s.part =
-      plain-part s t answers (opened_by t.kind (has_sign answers)) code refl in
+      let code = sym (told _ _ s _).role ∙ one-failed-left _ _ e in
+      let stays = not-false _ (one-failed-right _ _ e) in
+      let part = plain-part s t answers _ code refl in
       by code (record { part = s.part; stays = ap good (sym part) ∙ stays; plain = code }) (rest stays)
     where
       not-false : (a : Bool) → not a ≡ false → a ≡ true
@@ -354,14 +342,7 @@ module _ (good : Part → Bool) where
           → Ended (token_step t.kind (has_sign answers) s t.span).next (kept_behind t kept) answers
           ⊎ Stopped (token_step t.kind (has_sign answers) s t.span).next (kept_behind t kept) answers
           → Ended s kept (Token t ∷ answers) ⊎ Stopped s kept (Token t ∷ answers)
-      by code keeps (inl d) = inl (record {
-        none = or-false (ends (token_placed s kept t answers)) _ e d.none;
-        uncut = or-false (is_section_kind t.kind) (begins_section_in answers) code d.uncut;
-        keeps = (
-          subst (λ l. KeepsToken t.kind (opened_by t.kind (has_sign l))) (sym (append-nil answers)) keeps,
-          d.keeps,
-        );
-      })
+      by code keeps (inl d) = inl (grind (arith, or-false, append-nil))
       by code keeps (inr r) = inr (record {
         before = Token t ∷ r.before;
         token = r.token;
@@ -406,11 +387,7 @@ tex-token t headed how h k = grind arith
 
 pub tex-opens : (more answers : List Answer) → Keeps is_tex more answers → opens_part_before more answers ≡ false
 tex-opens more [] k = refl
-tex-opens more (Token t ∷ answers) k =
-    let e = ends-so t.kind (has_sign (answers ++ more)) in
-    or-false (is_section_kind t.kind) _ k.0.plain
-    (or-false (is_some (opened_by t.kind (has_sign (answers ++ more)))) (opens_part_before more answers)
-    (tex-token t (has_sign (answers ++ more)) e.how e.so k.0) (tex-opens more answers k.1))
+tex-opens more (Token t ∷ answers) k = grind (arith, tex-opens more answers k.1, ends-so, or-false, tex-token)
 tex-opens more (Begin t ∷ answers) k = tex-opens more answers k
 tex-opens more (Finish t ∷ answers) k = tex-opens more answers k
 tex-opens more (Note kind place ∷ answers) k = tex-opens more answers k

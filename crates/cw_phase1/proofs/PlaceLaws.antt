@@ -56,21 +56,16 @@ changed-skip [] at (suc i) start end h past = absurd (let no : suc i ≤ 0 = h i
 changed-skip (line ∷ lines) at (suc i) start end h past =
     let here : ℕ = at + length line.text + 1 in
     let test : nat_lt start here ≡ false = le-ltb start here (omega (arith, offset-suc line lines i)) in
-    let out : (line.changed && (nat_lt at end && nat_lt start here))
-    ≡ false = and_right line.changed (nat_lt at end && nat_lt start here)
-    (and_right (nat_lt at end) (nat_lt start here) test) in
-    ap (λ (b : Bool). b || holds_changed lines here start end) out ∙
-    changed-skip lines here i start end (omega arith) (omega (arith, offset-suc line lines i)) ∙
-    ap (λ (n : ℕ). holds_changed (drop i lines) n start end) (omega (arith, offset-suc line lines i))
+    let out : (line.changed && (nat_lt at end && nat_lt start here)) ≡ false = grind (arith, and_right) in
+    grind
+    (arith, changed-skip lines here i start end (omega arith) (omega (arith, offset-suc line lines i)), offset-suc)
 
 pub changed-behind : (lines : List MergedLine) (at start end : ℕ) → end ≤ at → holds_changed lines at start end ≡ false
 changed-behind [] at start end past = refl
 changed-behind (line ∷ lines) at start end past =
     let here : ℕ = at + length line.text + 1 in
     let test : nat_lt at end ≡ false = le-ltb at end past in
-    let out : (line.changed && (nat_lt at end && nat_lt start here))
-    ≡ false = and_right line.changed (nat_lt at end && nat_lt start here)
-    (and_left (nat_lt at end) (nat_lt start here) test) in
+    let out : (line.changed && (nat_lt at end && nat_lt start here)) ≡ false = grind (arith, and_right, and_left) in
     ap (λ (b : Bool). b || holds_changed lines here start end) out ∙ changed-behind lines here start end (omega arith)
 
 pub offset-more : (lines : List MergedLine) (i : ℕ) (none : MergedLine) → i < length lines → offset lines (i + 1)

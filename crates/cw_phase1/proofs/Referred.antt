@@ -76,12 +76,8 @@ add-all : (before references : List Reference) (names : List SecName)
     → with_references references (referred before 0 names) ≡ referred (before ++ references) 0 names
 add-all before [] names = ap (λ rs. referred rs 0 names) (sym (append-nil before))
 add-all before (r ∷ references) names =
-    let one : (before ++ record { name = 0 + r.name; how = r.how; section = r.section } ∷ []) ≡ (before ++ r ∷ []) =
-    ap (λ n. before ++ record { name = n; how = r.how; section = r.section } ∷ []) (zero-add r.name) in
-    ap (with_references references) (sym (referred-more before r.how r.section 0 r.name names)
-    ∙ ap (λ rs. referred rs 0 names) one) ∙
-    (add-all (before ++ r ∷ []) references names ∙ ap (λ rs. referred rs 0 names)
-    (append_assoc before (r ∷ []) references))
+    let one = ap (λ n. before ++ record { name = n; how = r.how; section = r.section } ∷ []) (zero-add r.name) in
+    grind (arith, add-all (before ++ r ∷ []) references names, referred-more, append_assoc)
 
 -- The kept names with all references.
 pub all-referred : (references : List Reference) (answers : List Answer)

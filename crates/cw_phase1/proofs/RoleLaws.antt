@@ -9,8 +9,7 @@ use Rattle.cw_base.specs.Web.{MergedLine}
 use Rattle.cw_rules.specs.declared.codes.Code.{Code}
 use Rattle.cw_lex.specs.declared.heads.Wanted.{Wanted}
 use Rattle.cw_rules.specs.declared.tokens.TokKind.{TokKind}
-use Rattle.cw_rules.specs.Answers.{Seen, Answer, Token, Begin, Finish, Note, has_sign}
-use Rattle.cw_lex.specs.Heads.{head_behind}
+use Rattle.cw_rules.specs.Answers.{Seen, Answer, Token, Begin, Finish, Note}
 use Rattle.cw_secnames.specs.declared.kinds.RefKind.{RefKind}
 use Rattle.cw_secnames.specs.declared.kinds.RefKind.TheVariants.{Defined, Used, Cited}
 use Rattle.cw_secnames.specs.declared.kinds.SecId.{SecId}
@@ -23,7 +22,7 @@ use Rattle.cw_phase1.specs.declared.roles.Role.{Role}
 use Rattle.cw_phase1.specs.declared.roles.Role.TheVariants as roles
 use Rattle.cw_phase1.specs.declared.roles.Standing.{Standing}
 use Rattle.cw_phase1.specs.declared.sections.Section.{Section}
-use Rattle.cw_phase1.specs.Entering.{entered_name, kept_behind}
+use Rattle.cw_phase1.specs.Entering.{entered_name}
 use Rattle.cw_lex.specs.Limbo.{is_name_kind}
 use Rattle.cw_phase1.specs.Roles.{Placed, Step, name_step, code_step, free_step, token_step, token_step_by, word_role}
 use Rattle.cw_phase1.specs.Roles.{head_role, behind_begin, placed_by, placed_from}
@@ -57,10 +56,7 @@ fits-by b t kept headed s e = grind (arith, name-free, name-fits, enters-nothing
 
 pub fits : (s : Standing) (kept : List SecName) (answers : List Answer) → AreFit (placed_from s kept answers)
 fits s kept [] = tt
-fits s kept (Token t ∷ answers) = (
-  fits-by (is_name_kind t.kind) t kept (has_sign answers) s refl,
-  fits (token_step t.kind (has_sign answers) s t.span).next (kept_behind t kept) answers,
-)
+fits s kept (Token t ∷ answers) = (grind (arith, fits-by), fits (token_step _ _ s _).next _ answers)
 fits s kept (Begin t ∷ answers) = fits (behind_begin s) kept answers
 fits s kept (Finish t ∷ answers) = fits s kept answers
 fits s kept (Note kind place ∷ answers) = fits s kept answers
@@ -85,9 +81,7 @@ use-below role name place section n uses references h a k = grind arith
 pub uses-below : (n : ℕ) (ps : List Placed) → AreFit ps → All (λ (r : Reference). r.name < n) (references_of ps)
     → All (λ (u : NameUse). u.name < n) (uses_of ps)
 uses-below n [] f a = All-nil (IsUse n)
-uses-below n (p ∷ ps) f a =
-    use-below p.role p.name p.token.span.start p.section n (uses_of ps) (references_of ps) f.0.plain a
-    (uses-below n ps f.1)
+uses-below n (p ∷ ps) f a = use-below _ _ _ _ n _ _ f.0.plain a (uses-below n ps f.1)
 
 -- ## Sections
 
@@ -125,10 +119,7 @@ step-number o kind headed s = grind (arith, free-number, no-code-head, add-zero)
 pub numbered : (s : Standing) (kept : List SecName) (answers : List Answer)
     → Numbered s.section (placed_from s kept answers)
 numbered s kept [] = tt
-numbered s kept (Token t ∷ answers) = (
-  step-number (head_behind s.wanted t.kind t.span) t.kind (has_sign answers) s,
-  numbered (token_step t.kind (has_sign answers) s t.span).next (kept_behind t kept) answers,
-)
+numbered s kept (Token t ∷ answers) = (step-number _ _ _ s, numbered (token_step _ _ s _).next _ answers)
 numbered s kept (Begin t ∷ answers) = numbered (behind_begin s) kept answers
 numbered s kept (Finish t ∷ answers) = numbered s kept answers
 numbered s kept (Note kind place ∷ answers) = numbered s kept answers
@@ -195,21 +186,15 @@ between : (low high least : ℕ) (ns : List ℕ) → AscendFrom least ns
     → ((k : ℕ) → is_one_of k ns ≡ true → (low ≤ k) × (k ≤ high)) → Ascend low high ns
 between low high least [] up there = tt
 between low high least (n ∷ ns) up there =
-    let here : (low ≤ n) × (n ≤ high) = there n (head-in n ns) in (
-      here.0,
-      here.1,
-      between (n + 1) high (n + 1) ns up.1 (λ k e.
-          (above k (nat_lt k (n + 1)) refl e, (there k (tail-in k n ns e)).1)),
-    )
+    let here : (low ≤ n) × (n ≤ high) = there n (head-in n ns) in
+    (here.0, here.1, between (n + 1) high (n + 1) ns up.1 (λ k e. (above k _ refl e, (there k (tail-in k n ns e)).1)))
   where
     above : (k : ℕ) (t : Bool) → nat_lt k (n + 1) ≡ t → is_one_of k ns ≡ true → n + 1 ≤ k
-    above k true less e =
-        absurd (true≢false (sym e ∙ not-in k (n + 1) ns (ltb-true k (n + 1) less) up.1))
+    above k true less e = absurd (true≢false (sym e ∙ not-in k _ ns (ltb-true k (n + 1) less) up.1))
     above k false less e = ltb-false k (n + 1) less
 
 once-between : (low high : ℕ) (ns : List ℕ) → Rise low high ns → Ascend low high (once ns)
-once-between low high ns r = between low high 0 (once ns) (once-ascends ns)
-    (λ k e. risen low high ns r k (sym (in-once k ns) ∙ e))
+once-between low high ns r = between low high 0 (once ns) (once-ascends ns) (grind (arith, risen, in-once))
 
 ascend : (name : ℕ) (how : RefKind) (high : ℕ) (references : List Reference) → Rise 1 high (sections_in references)
     → Ascend 1 high (once (sections_in (filter (is_of name how) references)))

@@ -39,8 +39,7 @@ pub follows : (text : List ℕ) (from size : ℕ) (s : Standing) (kept : List Se
 follows text from size s kept [] c = c.0
 follows text from size s kept (Token t ∷ answers) c = (c.0.order, c.1, follows text t.span.«end» size _ _ answers c.2)
 follows text from size s kept (Begin t ∷ answers) c =
-    follow-more from t.span.«end» size _ (omega (arith, c.0.order, c.0.span))
-    (follows text t.span.«end» size _ kept answers c.1)
+    follow-more from _ size _ (omega (arith, c.0.order, c.0.span)) (follows text t.span.«end» size _ kept answers c.1)
 follows text from size s kept (Finish t ∷ answers) c =
     grind (arith, follows text t.span.«end» size s kept answers c.1, follow-more)
 follows text from size s kept (Note kind place ∷ answers) c = follows text from size s kept answers c
@@ -101,10 +100,8 @@ lies lines size head ps f = grind (arith, first-from, first-earlier, definitions
 pub all-lie : (lines : List MergedLine) (from size : ℕ) (ps : List Placed) → Follow from size ps
     → All (LiesIn size) (sections_of lines size ps)
 all-lie lines from size [] f = All-nil (LiesIn size)
-all-lie lines from size (p ∷ ps) f =
-    all-by (LiesIn size) (is_section_code p.role) (section_at lines size p.token ps) (sections_of lines size ps)
-    (lies lines size p.token ps f.2)
-    (all-lie lines p.token.span.«end» size ps f.2)
+all-lie lines from size (p ∷ ps) f = all-by (LiesIn size) _ (section_at lines size p.token ps)
+    (sections_of lines size ps) (lies lines size p.token ps f.2) (all-lie lines p.token.span.«end» size ps f.2)
 
 pub limbo-lies : (from size : ℕ) (ps : List Placed) → Follow from size ps → first_start ends_section size ps ≤ size
 limbo-lies from size ps f = first-to ends_section from size ps f
@@ -129,10 +126,8 @@ here name place uses h = grind (arith, eq-eqb)
 none-before : (place from size : ℕ) (ps : List Placed) → Follow from size ps → place < from → name_at place (uses_of ps)
     ≡ None
 none-before place from size [] f h = refl
-none-before place from size (p ∷ ps) f h =
-    not-here p.name p.token.span.start place (uses_of ps)
-    (not-same-behind p.token.span.start place (omega (arith, f.0))) ∙
-    none-before place p.token.span.«end» size ps f.2 (omega (arith, f.0, f.1))
+none-before place from size (p ∷ ps) f h = not-here p.name _ place (uses_of ps) (not-same-behind p.token.span.start
+    place (omega (arith, f.0))) ∙ none-before place p.token.span.«end» size ps f.2 (omega (arith, f.0, f.1))
 
 name-by : (code program : Bool) (start later : ℕ) (name rest : Option SecId) (uses : List NameUse)
     → (code ≡ true → name ≡ None)
@@ -146,21 +141,15 @@ name-first : (from size : ℕ) (ps : List Placed) → Follow from size ps → Ar
     → option_map id (name_at (first_start ends_definitions size ps) (uses_of ps)) ≡ c_part_name ps
 name-first from size [] f fit = refl
 name-first from size (p ∷ ps) f fit =
-    name-by (is_section_code p.role) (is_program p.part) p.token.span.start (first_start ends_definitions size ps)
-    p.name (c_part_name ps) (uses_of ps) fit.0.code
-    (none-before p.token.span.start p.token.span.«end» size ps f.2 f.1)
-    (not-same p.token.span.start (first_start ends_definitions size ps)
-    (omega (arith, f.1, first-from ends_definitions p.token.span.«end» size ps f.2)))
-    (name-first p.token.span.«end» size ps f.2 fit.1)
+    grind (arith, name-first p.token.span.«end» size ps f.2 fit.1, name-by, none-before, not-same, first-from)
 
 -- Names before a place are none at it.
 skip-before : (from place : ℕ) (uses later : List NameUse) → from ≤ place → AreBefore from uses
     → name_at place (uses ++ later) ≡ name_at place later
 skip-before from place [] later h b = refl
 skip-before from place (u ∷ uses) later h b =
-    ap (λ (t : Bool). if t then Some u.name else name_at place (uses ++ later))
-    (not-same u.place place (let first : u.place < from = b zero u (omega arith) in omega arith)) ∙
-    skip-before from place uses later h (λ k d l. b (suc k) d (omega arith))
+    ap (λ (t : Bool). if t then Some u.name else name_at place (uses ++ later)) (not-same u.place place (let first =
+    b zero u (omega arith) in omega arith)) ∙ skip-before from place uses later h (λ k d l. b (suc k) d (omega arith))
 
 named-by : (lines : List MergedLine) (uses : List NameUse) (from size : ℕ) (p : Placed) (ps : List Placed)
     → AreBefore from uses → Follow from size (p ∷ ps)
@@ -188,9 +177,8 @@ at-by t name n rest h k = grind arith
 at-below : (place n : ℕ) (uses : List NameUse) → All (λ (u : NameUse). u.name < n) uses
     → IfSome (option_map id (name_at place uses)) (λ i. i.index < n)
 at-below place n [] a = tt
-at-below place n (u ∷ uses) a =
-    at-by (u.place == place) u.name n (name_at place uses) (a zero u (omega arith))
-    (at-below place n uses (λ k d l. a (suc k) d (omega arith)))
+at-below place n (u ∷ uses) a = at-by _
+    u.name n (name_at place uses) (a zero u (omega arith)) (at-below place n uses (λ k d l. a (suc k) d (omega arith)))
 
 pub named-below : (n : ℕ) (uses : List NameUse) (sections : List Section) → All (λ (u : NameUse). u.name < n) uses
     → All (IsNamedBy uses) sections

@@ -41,7 +41,6 @@ use Rattle.cw_rules.specs.declared.tokens.Mode.TheVariants as modes
 use Rattle.cw_phase1.proofs.Passing.{told_at_end, kept_at_end, notes_at_end, told-passes, kept-passes, notes-pass}
 use Rattle.cw_phase1.specs.Holding.{Waiting, HeldState, waiting_of, settled_placed, settled_standing, settled}
 use Rattle.cw_phase1.specs.Holding.{remark_put, token_held_by, begun_held, ended_held, noted_held, held_step}
-use Rattle.cw_lex.specs.Limbo.{is_name_kind}
 use Rattle.cw_phase1.specs.Ready.{IsToken, AreBefore, WaitsBehind, CanSettle, WaitingIsKept, held_start}
 use Rattle.cw_phase1.proofs.NameLaws.{category-length}
 use Rattle.cw_phase1.proofs.WordLaws.{entered-below, entry-grows}
@@ -70,11 +69,8 @@ told-known p w h = role-known p.role p.token.text (known_of w) h
 
 pub before-use : (name : Option SecId) (place n : ℕ) (uses : List NameUse) → place < n → AreBefore n uses
     → AreBefore n (uses ++ use_by name place)
-before-use None place n uses h b = All-append (λ (u : NameUse). u.place < n) uses [] b
-    (All-nil (λ (u : NameUse). u.place < n))
-before-use (Some id) place n uses h b =
-    All-append (λ (u : NameUse). u.place < n) uses _ b (All-cons (λ (u : NameUse). u.place < n) _ [] h
-    (All-nil (λ (u : NameUse). u.place < n)))
+before-use None place n uses h b = All-append (λ (u : NameUse). u.place < n) uses [] b (grind arith)
+before-use (Some id) place n uses h b = All-append (λ (u : NameUse). u.place < n) uses _ b (grind arith)
 
 pub before-more : (m n : ℕ) (uses : List NameUse) → m ≤ n → AreBefore m uses → AreBefore n uses
 before-more m n uses h b = grind arith
@@ -83,8 +79,7 @@ abbrev AreOf : ℕ → List Reference → Type 0
 AreOf n references = All (λ (r : Reference). r.name < n) references
 
 of-none : (n : ℕ) (references : List Reference) → AreOf n references → AreOf n (references ++ [])
-of-none n references a = All-append (λ (r : Reference). r.name < n) references [] a
-    (All-nil (λ (r : Reference). r.name < n))
+of-none n references a = All-append (λ (r : Reference). r.name < n) _ [] a (All-nil (λ (r : Reference). r.name < n))
 
 of-nothing : (role : Role) (n section : ℕ) (references : List Reference) → AreOf n references
     → AreOf n (references ++ reference_by role None section)
@@ -92,9 +87,8 @@ of-nothing role n section references a = grind (arith, of-none)
 
 of-some : (role : Role) (id : SecId) (n section : ℕ) (references : List Reference) → id.index < n → AreOf n references
     → AreOf n (references ++ reference_by role (Some id) section)
-of-some (roles.Name how) id n section references h a =
-    All-append (λ (r : Reference). r.name < n) references _ a (All-cons (λ (r : Reference). r.name < n) _ [] h
-    (All-nil (λ (r : Reference). r.name < n)))
+of-some (roles.Name how) id n section references h a = All-append (λ (r : Reference). r.name < n)
+    _ _ a (All-cons (λ (r : Reference). r.name < n) _ [] h (All-nil (λ (r : Reference). r.name < n)))
 of-some role id n section references h a = of-none n references a
 
 of-more : (role : Role) (name : Option SecId) (n section : ℕ) (references : List Reference)
@@ -171,8 +165,7 @@ told-quiet lines step token name from count m t counts within known start before
   known = told-known (placed_by token name step) t.words known;
   before = before-use name token.span.start from t.named.uses start before;
   ids = of-more step.role name count step.next.section t.named.references id ids;
-  total = total-by (is_section_code step.role) lines (placed_by token name step) t.sections m step.next.section total
-      counts.more counts.same;
+  total = total-by _ lines (placed_by token name step) t.sections m step.next.section total counts.more counts.same;
 }
 
 abbrev WaitsHere : Option Waiting → ℕ → List NameUse → Type 0
@@ -205,9 +198,7 @@ settle-quiet w lines headed from count s t section known waits ids total id =
 ready-settled : (lines : List MergedLine) (headed : Bool) (from : ℕ) (h : HeldState) → IsReady from h
     → IsQuiet from (length h.kept) (settled_standing headed h.pass.waiting h.pass.standing)
     (told_all lines (settled_placed headed h.pass.waiting h.pass.standing) h.told)
-ready-settled lines headed from h r =
-    settle-quiet h.pass.waiting lines headed from (length h.kept) h.pass.standing h.told r.section r.known r.waits r.ids
-    r.total r.id
+ready-settled lines headed from h r = settle-quiet _ _ _ from _ _ _ r.section r.known r.waits r.ids r.total r.id
 
 ready-begin : (lines : List MergedLine) (from to : ℕ) (h : HeldState) → from ≤ to → IsReady from h
     → IsReady to (begun_held (ended_held lines h))
@@ -230,31 +221,20 @@ token-ready : (b : Bool) (lines : List MergedLine) (t : Seen) (from : ℕ) (h : 
     → IsReady t.span.end (token_held_by b lines t h)
 token-ready true lines t from h token le q id grows one few = grind (arith, before-more, of-grows)
 token-ready false lines t from h token le q id grows one few =
-    let counts : Counts (token_step t.kind false h.pass.standing t.span) h.pass.standing.section =
-    step-counts (head_behind h.pass.standing.wanted t.kind t.span) t.kind h.pass.standing in
+    let counts = step-counts (head_behind h.pass.standing.wanted t.kind t.span) t.kind h.pass.standing in
     let end : from < t.span.end = omega (arith, token.some) in
-    let p = told-quiet lines (token_step t.kind false h.pass.standing t.span) t None t.span.end (length h.kept)
-    h.pass.standing.section h.told counts
-    (omega (arith, counts.near, q.section)) q.known token.some (before-more from t.span.end h.told.named.uses
-    (omega arith) q.before) tt q.ids q.total in
-    record {
-      section = p.section;
-      known = p.known;
-      waits = p.before;
-      ids = p.ids;
-      total = p.total;
-      id = tt;
-      few = omega (arith, few);
-    }
+    let p = told-quiet lines (token_step t.kind false h.pass.standing t.span)
+    t None t.span.end (length h.kept) h.pass.standing.section h.told counts (omega (arith, counts.near, q.section))
+    q.known token.some (before-more from t.span.end h.told.named.uses (omega arith) q.before) tt q.ids q.total in
+    grind arith
 
 ready-token : (lines : List MergedLine) (t : Seen) (from : ℕ) (h : HeldState) → IsToken t → from ≤ t.span.start
     → IsReady from h
     → WaitingKept (held_step lines (Token t) h).pass.waiting (length (held_step lines (Token t) h).kept)
     → length h.kept ≤ length (held_step lines (Token t) h).kept
     → length (held_step lines (Token t) h).kept ≤ length h.kept + 1 → IsReady t.span.end (held_step lines (Token t) h)
-ready-token lines t from h token le r id grows one =
-    token-ready (is_name_kind t.kind) lines t from (settled lines (is_head_sign t.kind) (remark_put lines h)) token le
-    (ready-settled lines (is_head_sign t.kind) from h r) id grows one r.few
+ready-token lines t from h token le r id grows one = token-ready _ lines t from (settled lines (is_head_sign t.kind)
+    (remark_put lines h)) token le (ready-settled lines (is_head_sign t.kind) from h r) id grows one r.few
 
 can-settle-by : (w : Option Waiting) (from : ℕ) (uses : List NameUse) → WaitsHere w from uses → WaitsBehind w uses
 can-settle-by w from uses h = grind arith
@@ -307,16 +287,13 @@ pub token-step : (lines : List MergedLine) (text : List ℕ) (all : List Answer)
     → Underway lines text all new rest
 token-step lines text all h new t rest u e id grows one = record {
   from = t.span.end;
-  told = ap (λ h. told_at_end lines h rest) e ∙ (sym (told-passes lines (Token t) h rest) ∙ u.told);
-  kept = ap (λ h. kept_at_end h rest) e ∙ (sym (kept-passes lines (Token t) h rest) ∙ u.kept);
-  notes = ap (λ h. notes_at_end lines h rest) e ∙ (sym (notes-pass lines (Token t) h rest) ∙ u.notes);
+  told = ap (λ h. told_at_end lines h rest) e ∙ (sym (told-passes _ _ h rest) ∙ u.told);
+  kept = ap (λ h. kept_at_end h rest) e ∙ (sym (kept-passes _ (Token t) h rest) ∙ u.kept);
+  notes = ap (λ h. notes_at_end lines h rest) e ∙ (sym (notes-pass _ (Token t) h rest) ∙ u.notes);
   covers = u.covers.2;
   limit = u.limit;
-  ready = subst (IsReady t.span.end) (sym e) (ready-token lines t u.from h (is-token lines text all h t rest u)
-      u.covers.0.order u.ready
-      (subst (λ (h : HeldState). WaitingKept h.pass.waiting (length h.kept)) e id)
-      (subst (λ (g : HeldState). length h.kept ≤ length g.kept) e grows)
-      (subst (λ (g : HeldState). length g.kept ≤ length h.kept + 1) e one));
+  ready = subst (IsReady _) (sym e) (ready-token
+      _ t _ h (is-token _ text all h t rest u) u.covers.0.order u.ready (grind arith) (grind arith) (grind arith));
 }
 
 pub begin-step : (lines : List MergedLine) (text : List ℕ) (all : List Answer) (h new : HeldState) (t : Seen)
@@ -324,13 +301,12 @@ pub begin-step : (lines : List MergedLine) (text : List ℕ) (all : List Answer)
     → Underway lines text all h (Begin t ∷ rest) → new ≡ held_step lines (Begin t) h → Underway lines text all new rest
 begin-step lines text all h new t rest u e = record {
   from = t.span.end;
-  told = ap (λ h. told_at_end lines h rest) e ∙ (sym (told-passes lines (Begin t) h rest) ∙ u.told);
+  told = ap (λ h. told_at_end lines h rest) e ∙ (sym (told-passes _ _ h rest) ∙ u.told);
   kept = ap (λ h. kept_at_end h rest) e ∙ (sym (kept-passes lines (Begin t) h rest) ∙ u.kept);
-  notes = ap (λ h. notes_at_end lines h rest) e ∙ (sym (notes-pass lines (Begin t) h rest) ∙ u.notes);
+  notes = ap (λ h. notes_at_end lines h rest) e ∙ (sym (notes-pass _ (Begin t) h rest) ∙ u.notes);
   covers = u.covers.1;
   limit = u.limit;
-  ready = subst (IsReady t.span.end) (sym e) (ready-begin lines u.from t.span.end h
-      (omega (arith, u.covers.0.order, u.covers.0.span)) u.ready);
+  ready = subst (IsReady _) (sym e) (ready-begin _ _ _ h (omega (arith, u.covers.0.order, u.covers.0.span)) u.ready);
 }
 
 pub finish-step : (lines : List MergedLine) (text : List ℕ) (all : List Answer) (h new : HeldState) (t : Seen)
@@ -339,13 +315,12 @@ pub finish-step : (lines : List MergedLine) (text : List ℕ) (all : List Answer
     → Underway lines text all new rest
 finish-step lines text all h new t rest u e = record {
   from = t.span.end;
-  told = ap (λ h. told_at_end lines h rest) e ∙ (sym (told-passes lines (Finish t) h rest) ∙ u.told);
+  told = ap (λ h. told_at_end lines h rest) e ∙ (sym (told-passes _ _ h rest) ∙ u.told);
   kept = ap (λ h. kept_at_end h rest) e ∙ (sym (kept-passes lines (Finish t) h rest) ∙ u.kept);
-  notes = ap (λ h. notes_at_end lines h rest) e ∙ (sym (notes-pass lines (Finish t) h rest) ∙ u.notes);
+  notes = ap (λ h. notes_at_end lines h rest) e ∙ (sym (notes-pass _ (Finish t) h rest) ∙ u.notes);
   covers = u.covers.1;
   limit = u.limit;
-  ready = subst (IsReady t.span.end) (sym e) (ready-finish lines u.from t.span.end h
-      (omega (arith, u.covers.0.order, u.covers.0.span)) u.ready);
+  ready = subst (IsReady _) (sym e) (ready-finish _ _ _ h (omega (arith, u.covers.0.order, u.covers.0.span)) u.ready);
 }
 
 pub note-step : (lines : List MergedLine) (text : List ℕ) (all : List Answer) (h new : HeldState) (kind : NoteKind)
