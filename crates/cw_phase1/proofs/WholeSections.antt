@@ -1,6 +1,6 @@
 -- The parts of a section are whole.
-use Rattle.std.proofs.Common.{◌≡◌, ℕ, Bool, true, false, not, ◌||◌, List, [], ◌∷◌, ◌++◌, Some, All, length, drop, take}
-use Rattle.std.proofs.Common.{refl, sym, ap, subst, ◌∙◌, arith, append_assoc, ◌⊎◌, inl, inr, if◌then◌else◌}
+use Rattle.std.proofs.Common.{◌≡◌, ℕ, Bool, true, false, not, List, [], ◌∷◌, ◌++◌, Some, All, length, drop, take, refl}
+use Rattle.std.proofs.Common.{sym, ap, subst, ◌∙◌, arith, append_assoc, ◌⊎◌, inl, inr, if◌then◌else◌}
 use Rattle.std.proofs.lemmas.List.{take_all, drop_all, length-take}
 use Rattle.std.proofs.lemmas.List.Elements.{All-nil}
 use Rattle.cw_base.proofs.TestLaws.{one-right, not-both, or-false, one-left}
@@ -9,7 +9,7 @@ use Rattle.cw_rules.specs.declared.tokens.Mode.{Mode}
 use Rattle.cw_rules.specs.declared.tokens.Mode.TheVariants as modes
 use Rattle.cw_rules.specs.Answers.{Answer, Token, Begin, Finish, Note, Seen, has_sign}
 use Rattle.cw_lex.specs.Lexing.{answers_at, beginning, tokens_of}
-use Rattle.cw_lex.specs.Nested.{is_section_kind, begins_section_in}
+use Rattle.cw_lex.specs.Nested.{is_section_kind}
 use Rattle.cw_lex.specs.Openings.{opens_part_in, TextsEndAtOpenings, TextsEndAtSections}
 use Rattle.cw_lex.proofs.Covering.{tokens-cover}
 use Rattle.cw_lex.proofs.TexTexts.{opens-uncut}
@@ -35,16 +35,8 @@ use Rattle.cw_phase1.proofs.SpanLaws.{follows, all-lie}
 empty : (text : List ℕ) (p : ℕ) → drop p (take p text) ≡ []
 empty text p = drop_all p (take p text) (omega (arith, length-take p text))
 
-empty-definition : (text : List ℕ) (p : ℕ) → IsUncut text modes.Definition (span p p)
-empty-definition text p = grind (arith, empty)
-
 empty-program : (text : List ℕ) (p : ℕ) → IsUncut text modes.CPart (span p p)
 empty-program text p = grind (arith, empty)
-
--- the scan of the last part is the scan of the whole
-last-part : (text : List ℕ) (start : ℕ) (mode : Mode) → begins_section_in (answers_at text (beginning mode) start)
-    ≡ false → IsUncut text mode (span start (length text))
-last-part text start mode h = grind (arith, take_all)
 
 -- ## The tests of the parts
 
@@ -61,9 +53,6 @@ code-passes good p h = one-left (is_section_code p.role) (not (good p.part)) h
 not-not : (b : Bool) → not (not b) ≡ b
 not-not b = grind arith
 
-definitions-by : (p : Placed) → ends not_program p ≡ ends_definitions p
-definitions-by p = ap (λ b. is_section_code p.role || b) (not-not (is_program p.part))
-
 section-by : (p : Placed) → ends any_part p ≡ ends_section p
 section-by p = or-false (is_section_code p.role)
 
@@ -78,7 +67,7 @@ section-definitions : (p : Placed) → ends_section p ≡ true → ends not_prog
 section-definitions p h = code-passes not_program p h
 
 definitions-not : (p : Placed) → ends_definitions p ≡ true → ends not_program p ≡ true
-definitions-not p h = definitions-by p ∙ h
+definitions-not p h = (grind (arith, not-not)) ∙ h
 
 module _ (sections : TextsEndAtSections) (openings : TextsEndAtOpenings) (text : List ℕ) where
   abbrev size : ℕ
@@ -89,11 +78,6 @@ module _ (sections : TextsEndAtSections) (openings : TextsEndAtOpenings) (text :
   abbrev tokens_at : Mode → ℕ → Standing → List SecName → List Placed
   tokens_at mode start s kept = placed_from s kept (answers_at text (beginning mode) start)
 
-  -- A section ends at a section code.
-  code-ends : (start : ℕ) (mode : Mode) (s : Standing) (kept : List SecName)
-      (r : Stopped any_part s kept (answers_at text (beginning mode) start)) → is_section_kind r.token.kind ≡ true
-  code-ends start mode s kept r = grind (arith, section-by, token_placed, section-role, plain-role)
-
   -- where a C part ends with a token
   c-part-at : (start : ℕ) (s : Standing) (kept : List SecName)
       → Stopped any_part s kept (answers_at text (beginning modes.CPart) start)
@@ -101,15 +85,14 @@ module _ (sections : TextsEndAtSections) (openings : TextsEndAtOpenings) (text :
   c-part-at start s kept r =
       let ps = tokens_at modes.CPart start s kept in
       let p = token_placed any_part r.standing r.names r.token r.behind in
-      let at : first_start ends_section size ps ≡ r.token.span.start =
-      ap (first_start ends_section size) r.placed ∙ first-behind ends_section size r.front
-      (placed_from r.standing r.names (Token r.token ∷ r.behind))
+      let at : first_start ends_section size ps ≡ r.token.span.start = ap (first_start ends_section size)
+      r.placed ∙ first-behind ends_section size r.front (placed_from r.standing r.names (Token r.token ∷ r.behind))
       (none-stricter (ends any_part) ends_section r.front (λ p h. section-by p ∙ h) r.none)
       ∙ first-token any_part ends_section size r.standing r.names r.token r.behind (sym (section-by p) ∙ r.passes) in
-      let law = sections text start modes.CPart r.before r.token r.behind r.split
-      (code-ends start modes.CPart s kept r) in
-      subst (λ n. IsUncut text modes.CPart (span start n)) (sym at)
-      (uncut-before text start modes.CPart r.before r.token law.0 r.uncut)
+      let law = sections text start modes.CPart
+      r.before r.token r.behind r.split (grind (arith, section-by, token_placed, section-role, plain-role)) in
+      subst (λ n. IsUncut text modes.CPart (span start n))
+      (sym at) (uncut-before text start modes.CPart r.before r.token law.0 r.uncut)
 
   c-part : (start : ℕ) (s : Standing) (kept : List SecName)
       → IsUncut text modes.CPart (span start (first_start ends_section size (tokens_at modes.CPart start s kept)))
@@ -121,7 +104,7 @@ module _ (sections : TextsEndAtSections) (openings : TextsEndAtOpenings) (text :
       by (inl e) =
           let ps = tokens_at modes.CPart start s kept in
           let none = first-none ends_section size ps (grind (arith, none-stricter, ends, section-by)) in
-          subst (λ n. IsUncut text modes.CPart (span start n)) (sym none) (last-part text start modes.CPart e.uncut)
+          subst (λ n. IsUncut text modes.CPart (span start n)) (sym none) (grind (arith, take_all))
       by (inr r) = c-part-at start s kept r
 
   -- ## Definitions
@@ -184,8 +167,7 @@ module _ (sections : TextsEndAtSections) (openings : TextsEndAtOpenings) (text :
           let to = first-none _ size ps (grind (arith, none-stricter, ends, definitions-not)) in
           let end = first-none ends_section size ps (grind (arith, none-stricter, ends, section-definitions)) in
           record {
-            definitions = subst (λ n. IsUncut text modes.Definition (span start n))
-                (sym to) (last-part text start modes.Definition e.uncut);
+            definitions = subst (λ n. IsUncut text modes.Definition (span start n)) (sym to) (grind (arith, take_all));
             c_part = grind (arith, empty-program);
           }
       by (inr r) = let e = ends-so r.token.kind (has_sign r.behind) in defined-at start s kept r e.how e.so
@@ -221,7 +203,7 @@ module _ (sections : TextsEndAtSections) (openings : TextsEndAtOpenings) (text :
       (grind (arith, first-behind, none-stricter, ends, definitions-tex, first-token, one-left))
       (grind (arith, first-behind, none-stricter, ends, section-tex, first-token))
       (alone-before text start modes.TexText r.before r.token (Token r.token ∷ r.behind)
-      law.0 (tex-opens (Token r.token ∷ r.behind) r.before r.keeps)) (empty-definition text at) (empty-program text at)
+      law.0 (tex-opens (Token r.token ∷ r.behind) r.before r.keeps)) (grind (arith, empty)) (empty-program text at)
   told-at start s kept r AtDefinitions h =
       let ps = tokens_at modes.TexText start s kept in
       let p = token_placed is_tex r.standing r.names r.token r.behind in
@@ -248,7 +230,7 @@ module _ (sections : TextsEndAtSections) (openings : TextsEndAtOpenings) (text :
       (grind (arith, first-behind, none-stricter, ends, definitions-tex, first-token, one-right))
       (grind (arith, first-behind, none-stricter, ends, section-tex))
       (alone-before text start modes.TexText r.before r.token (Token r.token ∷ r.behind) law.0
-      (tex-opens (Token r.token ∷ r.behind) r.before r.keeps)) (empty-definition text at) (c-part at r.standing r.names)
+      (tex-opens (Token r.token ∷ r.behind) r.before r.keeps)) (grind (arith, empty)) (c-part at r.standing r.names)
   told-at start s kept r Nowhere h = grind (arith, plain-role, plain-part, not-both)
 
   told : (start : ℕ) (s : Standing) (kept : List SecName) → is_tex s.part ≡ true
@@ -260,9 +242,9 @@ module _ (sections : TextsEndAtSections) (openings : TextsEndAtOpenings) (text :
           → Told start (tokens_at modes.TexText start s kept)
       by (inl e) =
           let ps = tokens_at modes.TexText _ s kept in
-          told-by _ size size size ps (first-none _ size ps e.none) (first-none _
-          size ps (none-stricter _ _ ps definitions-tex e.none)) (first-none _ size ps (none-stricter _ _ ps section-tex
-          e.none)) (grind (arith, take_all, tex-opens)) (empty-definition text size) (empty-program text size)
+          told-by _ size size size ps (first-none _ size ps e.none)
+          (first-none _ size ps (none-stricter _ _ ps definitions-tex e.none)) (first-none _ size ps (none-stricter _ _
+          ps section-tex e.none)) (grind (arith, take_all, tex-opens)) (grind (arith, empty)) (empty-program text size)
       by (inr r) = let e = ends-so r.token.kind (has_sign r.behind) in told-at start s kept r e.how e.so
 
   -- ## All sections
@@ -310,10 +292,6 @@ module _ (sections : TextsEndAtSections) (openings : TextsEndAtOpenings) (text :
   all-uncut lines xs (Note kind place ∷ ys) s kept e = all-uncut lines (xs ++ Note kind place ∷ []) ys s kept (e
       ∙ sym (append_assoc xs (Note kind place ∷ []) ys))
 
-tex-uncut : (text : List ℕ) (s : Section) → opens_part_in (tokens_of text s.tex.start s.tex.«end» modes.TexText) ≡ false
-    → IsUncut text modes.TexText s.tex
-tex-uncut text s h = opens-uncut [] (tokens_of text s.tex.start s.tex.«end» modes.TexText) h
-
 pub sections-whole : TextsEndAtSections → TextsEndAtOpenings → SectionsAreWhole
 sections-whole sections openings lines =
     let text = text_of lines in
@@ -322,4 +300,4 @@ sections-whole sections openings lines =
     let lies = all-lie lines 0 (length text) (placed scanned) (follows text
     0 (length text) at_limbo [] scanned (tokens-cover text 0 (length text) modes.Limbo (omega arith) (omega arith))) in
     let uncut = all-uncut sections openings text lines [] scanned at_limbo [] all in
-    grind (arith, tex-uncut)
+    grind (arith, opens-uncut)

@@ -1,7 +1,6 @@
 -- The names, occurrences, uses and references that are told are those of the whole list.
 use Rattle.std.proofs.Common.{◌≡◌, ℕ, zero, suc, ◌+◌, ◌<◌, ◌≤◌, Bool, true, false, List, [], ◌∷◌, ◌++◌, Some, None}
-use Rattle.std.proofs.Common.{length, map, nat_lt, cond, not, eqb, refl, sym, arith, length-append, append_assoc}
-use Rattle.std.proofs.Common.{add-zero}
+use Rattle.std.proofs.Common.{length, map, cond, not, eqb, refl, sym, arith, length-append, append_assoc, add-zero}
 use Rattle.std.proofs.lemmas.List.Folds.{position_or_len_push}
 use Rattle.std.proofs.lemmas.List.{append-nil, map-append}
 use Rattle.std.specs.Cmp.Lexicographic.{bytes_decides}
@@ -36,21 +35,13 @@ category-place kind text place category [] = refl
 category-place kind text zero category (e ∷ es) = refl
 category-place kind text (suc place) category (e ∷ es) = grind (arith, category-place kind text place category es)
 
-with-category : (kind : EntryKind) (text : List ℕ) (n place : ℕ) (category : Cat) (entries : List names.Entry)
-    → Stands kind text n entries → Stands kind text n (names.with_category place category entries)
-with-category kind text n place category entries s = grind (arith, category-place, category-length)
-
 not-same : (a b : ℕ) → a < b → eqb a b ≡ false
 not-same a b h = grind arith
-
-with-last : (kind : EntryKind) (text : List ℕ) (n : ℕ) (e : names.Entry) (entries : List names.Entry)
-    → Stands kind text n entries → Stands kind text n (entries ++ e ∷ [])
-with-last kind text n e entries s = grind (arith, position_or_len_push, not-same, length-append)
 
 entry-by : (t : Bool) (kind : EntryKind) (text : List ℕ) (n : ℕ) (e : names.Entry) (entries : List names.Entry)
     → Stands kind text n entries → Stands kind text n (cond t entries (entries ++ e ∷ []))
 entry-by true kind text n e entries s = s
-entry-by false kind text n e entries s = with-last kind text n e entries s
+entry-by false kind text n e entries s = grind (arith, position_or_len_push, not-same, length-append)
 
 with-entry : (kind : EntryKind) (text : List ℕ) (n : ℕ) (other : EntryKind) (word : List ℕ) (entries : List names.Entry)
     → Stands kind text n entries → Stands kind text n (names.with_entry other word entries)
@@ -60,7 +51,7 @@ format : (first : Option NameId) (kind : EntryKind) (text : List ℕ) (n : ℕ) 
     (entries : List names.Entry)
     → Stands kind text n entries → Stands kind text n (with_format first second entries)
 format None kind text n second entries s = s
-format (Some first) kind text n second entries s = with-category kind text n _ _ entries s
+format (Some first) kind text n second entries s = grind (arith, category-place, category-length)
 
 -- ## A name has its place from its first occurrence on
 
@@ -79,15 +70,9 @@ place-le : (kind : EntryKind) (text : List ℕ) (entries : List names.Entry)
 place-le kind text [] = omega arith
 place-le kind text (e ∷ es) = le-by (names.is_entry kind text e) _ _ (place-le kind text es)
 
-new-by : (t : Bool) (kind : EntryKind) (text : List ℕ) (entries : List names.Entry)
-    → nat_lt (names.place_of kind text entries) (length entries) ≡ t
-    → Stands kind text (names.place_of kind text entries)
-    (cond t entries (entries ++ record { kind = kind; text = text; category = Exp } ∷ []))
-new-by t kind text entries h = grind (arith, place-le, position_or_len_push, same-entry, add-zero, length-append)
-
 entered : (kind : EntryKind) (text : List ℕ) (entries : List names.Entry)
     → Stands kind text (names.place_of kind text entries) (names.with_entry kind text entries)
-entered kind text entries = new-by (nat_lt (names.place_of kind text entries) (length entries)) kind text entries refl
+entered kind text entries = grind (arith, place-le, position_or_len_push, same-entry, add-zero, length-append)
 
 role-keeps : (kind : EntryKind) (text : List ℕ) (n : ℕ) (role : Role) (word : List ℕ) (k : KnownNames)
     → Stands kind text n k.names → Stands kind text n (known_behind role word k).names
@@ -165,10 +150,6 @@ pub entered-below : (kind : EntryKind) (text : List ℕ) (entries : List names.E
     → names.place_of kind text entries < length (names.with_entry kind text entries)
 entered-below kind text entries = (entered kind text entries).below
 
-grows-by : (t : Bool) (e : names.Entry) (entries : List names.Entry)
-    → length entries ≤ length (cond t entries (entries ++ e ∷ []))
-grows-by t e entries = grind (arith, length-append)
-
 pub entry-grows : (kind : EntryKind) (text : List ℕ) (entries : List names.Entry)
     → length entries ≤ length (names.with_entry kind text entries)
-entry-grows kind text entries = grows-by (nat_lt (names.place_of kind text entries) (length entries)) _ entries
+entry-grows kind text entries = grind (arith, length-append)

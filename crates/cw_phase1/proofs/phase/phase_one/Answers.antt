@@ -11,25 +11,18 @@ use Rattle.cw_phase1.specs.Entering.{kept_after}
 use Rattle.cw_phase1.specs.Roles.{Placed, at_limbo, placed}
 use Rattle.cw_phase1.specs.Sections.{span, sections_of}
 use Rattle.cw_phase1.specs.Sound.{IsNamedBy, LiesIn, RefersUpTo}
-use Rattle.cw_phase1.specs.Outlining.{closing}
 use Rattle.std.specs.Prelude.{unwrap_or}
 use Rattle.cw_phase1.specs.Ending.{with_references}
-use Rattle.cw_phase1.specs.Uses.{references_of, section_names, uses_of}
+use Rattle.cw_phase1.specs.Uses.{references_of, section_names}
 use Rattle.cw_phase1.specs.declared.told.Told.{Told}
 use Rattle.cw_phase1.proofs.Outlines.{all-sections, all-limbo}
 use Rattle.cw_phase1.proofs.WordLaws.{all-names, all-occurrences, all-uses, all-references}
 use Rattle.cw_phase1.proofs.Referred.{all-referred}
 use Rattle.cw_phase1.proofs.RoleLaws.{fits, numbered, all-refer, uses-below}
 use Rattle.cw_phase1.proofs.LimboRoles.{all-rise, unnamed}
-use Rattle.cw_phase1.proofs.SpanLaws.{Follow, follows, all-lie, all-named, limbo-lies, named-below}
+use Rattle.cw_phase1.proofs.SpanLaws.{follows, all-lie, all-named, limbo-lies, named-below}
 use Rattle.cw_phase1.proofs.NameSizes.{all-short}
 use Rattle.cw_phase1.proofs.phase.phase_one.Goals as goal
-
-names-are : (c : goal.In_ok-book) → c.in_ok-book.book.names ≡ (book c.args.web.now.lines).names
-names-are c = c.in_ok-book.ensures.names ∙ (grind (arith, all-names))
-
-xrefs-are : (c : goal.In_ok-book) → c.in_ok-book.book.xrefs ≡ (book c.args.web.now.lines).xrefs
-xrefs-are c = c.in_ok-book.ensures.xrefs ∙ (grind (arith, all-occurrences))
 
 kept : (c : goal.In_ok-book) → with_references c.in_ok-held.held.told.named.references c.in_ok-held.held.kept
     ≡ section_names (kept_after [] (answers_of c.args.web.now.lines)) (placed (answers_of c.args.web.now.lines))
@@ -53,17 +46,8 @@ sections-are : (c : goal.In_ok-book)
     → c.in_ok-book.book.outline.sections ≡ (book c.args.web.now.lines).outline.sections
 sections-are c = c.in_ok-book.ensures.sections ∙ (grind (arith, all-sections))
 
-uses-are : (c : goal.In_ok-book)
-    → c.in_ok-held.held.told.named.uses ≡ uses_of (placed (answers_of c.args.web.now.lines))
-uses-are c = grind (arith, all-uses)
-
-closed-are : (c : goal.In_ok-book)
-    → closing c.args.web.now.lines (length (text_of c.args.web.now.lines)) c.in_ok-held.held.told.sections
-    ≡ (book c.args.web.now.lines).outline.sections
-closed-are c = grind (arith, all-sections)
-
 notes-are : (c : goal.In_ok-book) → c.in_ok-book.book.outline.notes ≡ (book c.args.web.now.lines).outline.notes
-notes-are c = c.in_ok-book.ensures.notes ∙ (grind (arith, uses-are, kept, closed-are))
+notes-are c = c.in_ok-book.ensures.notes ∙ (grind (arith, all-uses, kept, all-sections))
 
 pub make_book-requires-clause-lie : goal.make_book-requires-clause-lie
 make_book-requires-clause-lie c = subst (λ (sections : List Section). All (LiesIn
@@ -72,15 +56,12 @@ make_book-requires-clause-lie c = subst (λ (sections : List Section). All (Lies
 
 pub returns-clause-book : goal.returns-clause-book
 returns-clause-book c =
-    grind (arith, names-are, xrefs-are, sec_names-are, name_uses-are, limbo-is, sections-are, notes-are)
+    grind (arith, all-names, all-occurrences, sec_names-are, name_uses-are, limbo-is, sections-are, notes-are)
 
 -- ## What holds of every book
 
 abbrev tokens : goal.In_ok-book → List Placed
 tokens c = placed (answers_of c.args.web.now.lines)
-
-follow : (c : goal.In_ok-book) → Follow 0 (length (text_of c.args.web.now.lines)) (tokens c)
-follow c = grind (arith, follows)
 
 pub returns-clause-references : goal.returns-clause-references
 returns-clause-references c =
@@ -89,36 +70,30 @@ returns-clause-references c =
     _ (tokens c) (all-rise c.args.web.now.lines (length (text_of _)) _ (numbered _ [] (answers_of c.args.web.now.lines))
     (unnamed _ [] (answers_of c.args.web.now.lines) (c.limbo_law.ensures (text_of c.args.web.now.lines) 0 _)))))
 
-uses : (c : goal.In_ok-book) → All (λ (u : NameUse). u.name < length c.in_ok-held.held.kept) (uses_of (tokens c))
-uses c = uses-below _ _ (fits _ [] (answers_of c.args.web.now.lines)) (grind (arith, all-references))
-
 pub returns-clause-use_ids : goal.returns-clause-use_ids
 returns-clause-use_ids c =
-    subst (λ n. All (λ (u : NameUse). u.name < n) c.in_ok-book.book.name_uses) (sym c.in_ok-book.ensures.count)
-    (subst (λ (us : List NameUse). All (λ (u : NameUse). u.name < length c.in_ok-held.held.kept) us)
-    (sym (name_uses-are c)) (uses c))
+    subst (λ n. All (λ (u : NameUse). u.name < n) c.in_ok-book.book.name_uses) (sym c.in_ok-book.ensures.count) (subst
+    (λ (us : List NameUse). All (λ (u : NameUse). u.name < length c.in_ok-held.held.kept) us) (sym (name_uses-are c))
+    (uses-below _ _ (fits _ [] (answers_of c.args.web.now.lines)) (grind (arith, all-references))))
 
 pub returns-clause-section_names : goal.returns-clause-section_names
-returns-clause-section_names c =
-    subst (λ (sections : List Section). All (IsNamedBy c.in_ok-book.book.name_uses) sections)
-    (sym (sections-are c))
-    (subst (λ (us : List NameUse). All (IsNamedBy us)
-    (sections_of c.args.web.now.lines (length (text_of c.args.web.now.lines)) (tokens c)))
-    (sym (name_uses-are c))
-    (all-named c.args.web.now.lines [] 0 (length (text_of c.args.web.now.lines)) (tokens c)
-    (All-nil (λ (u : NameUse). u.place < 0)) (follow c)
-    (fits at_limbo [] (answers_of c.args.web.now.lines))))
+returns-clause-section_names c = subst (λ (sections : List Section).
+    All (IsNamedBy c.in_ok-book.book.name_uses) sections) (sym (sections-are c)) (subst (λ (us : List NameUse).
+    All (IsNamedBy us) (sections_of c.args.web.now.lines (length (text_of c.args.web.now.lines)) (tokens c)))
+    (sym (name_uses-are c)) (all-named c.args.web.now.lines
+    [] 0 (length (text_of c.args.web.now.lines)) (tokens c) (All-nil (λ (u : NameUse). u.place < 0))
+    (grind (arith, follows)) (fits at_limbo [] (answers_of c.args.web.now.lines))))
 
 pub returns-clause-section_ids : goal.returns-clause-section_ids
 returns-clause-section_ids c = named-below _ _ _ (returns-clause-use_ids c) (returns-clause-section_names c)
 
 pub returns-clause-spans : goal.returns-clause-spans
 returns-clause-spans c = subst (λ (sections : List Section). All (LiesIn (length (text_of c.args.web.now.lines)))
-    sections) (sym (sections-are c)) (all-lie c.args.web.now.lines 0 _ (tokens c) (follow c))
+    sections) (sym (sections-are c)) (all-lie c.args.web.now.lines 0 _ (tokens c) (grind (arith, follows)))
 
 pub returns-clause-limbo_span : goal.returns-clause-limbo_span
 returns-clause-limbo_span c = subst (λ (limbo : Span). limbo.«end» ≤ length (text_of c.args.web.now.lines))
-    (sym (limbo-is c)) (limbo-lies 0 _ (tokens c) (follow c))
+    (sym (limbo-is c)) (limbo-lies 0 _ (tokens c) (grind (arith, follows)))
 
 pub returns-clause-texts : goal.returns-clause-texts
 returns-clause-texts c = subst (λ (names : List SecName). All (λ (n : SecName).
