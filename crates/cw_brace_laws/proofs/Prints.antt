@@ -3,7 +3,7 @@ use Rattle.std.proofs.Common.{◌≡◌, ℕ, zero, suc, Bool, true, false, ◌|
 use Rattle.std.proofs.Common.{map, refl, ap, ◌∙◌, if◌then◌else◌, arith}
 use Rattle.cw_trees.specs.Flat.{Item, SourceItem, IdentItem, ReservedItem, SignItem, Open, Close, flat, is_run_sign}
 use Rattle.cw_trees.specs.Flat.{trimmed_items}
-use Rattle.cw_trees.specs.Printing.{backup_bytes, break_bytes, indent_bytes, indents, opened, printed_from, run_bytes}
+use Rattle.cw_trees.specs.Printing.{indent_bytes, indents, opened, printed_from, run_bytes}
 use Rattle.cw_trees.specs.Tree.{Tree}
 use Rattle.cw_trees.specs.declared.Control.{Control}
 use Rattle.cw_brace_laws.specs.Bracing.{IsBraced, leads_on, sign_depth}
@@ -36,15 +36,9 @@ indents-plain [] d = refl
 indents-plain (c ∷ run) d =
     plain-append (indent_bytes c) (indents run) (λ d. grind (arith, nat_tests)) (indents-plain run) d
 
-break-plain : (n : ℕ) → ArePlain (break_bytes n)
-break-plain n d = grind (arith, nat_tests)
-
-backup-plain : (run : List Control) → ArePlain (backup_bytes run)
-backup-plain run d = grind (arith, nat_tests)
-
 run-plain : (inner : Bool) (run : List Control) → ArePlain (run_bytes inner run)
 run-plain true run = λ d. grind (arith, nat_tests)
-run-plain false run = grind (arith, nat_tests, plain-append, indents-plain, break-plain, backup-plain)
+run-plain false run = grind (arith, nat_tests, plain-append, indents-plain)
 
 -- ## Signs
 
