@@ -81,21 +81,17 @@ leaves_of b = flat_map ended (map line_text b.leaves)
 abbrev pub items_of : Block → List ℕ
 items_of b = flat_map ended (map item_text b.items)
 
-block-text : (b : Block)
-    → flat_map ended (block_lines b) ≡ head_of b ++ (leaves_of b ++ (items_of b ++ ended end_text))
-block-text b = grind (arith, lines-append, append-none)
-
 pub head-refused : {A E : Type 0} (b : Block) (old new : List ℕ) (result : Result A E) → IsErr result
     → HasGrown (head_of b) old new → Appends (flat_map ended (block_lines b)) old new result
-head-refused b old new result err h = refused [] _ (leaves_of b ++ (items_of b ++ ended end_text))
-    (flat_map ended (block_lines b)) old old new result err (sym (append-none old)) h (block-text b)
+head-refused b old new result err h = refused [] _ (leaves_of b ++ (items_of b ++ ended end_text)) (flat_map
+    ended (block_lines b)) old old new result err (sym (append-none old)) h (grind (arith, lines-append, append-none))
 
 pub leaves-refused : {A E : Type 0} (b : Block) (old mid new : List ℕ) (result : Result A E) → IsErr result
     → mid ≡ old ++ head_of b → HasGrown (leaves_of b) mid new → Appends (flat_map ended (block_lines b)) old new result
-leaves-refused b old mid new result err m h = refused _ (leaves_of b)
-    (items_of b ++ ended end_text) (flat_map ended (block_lines b)) old mid new result err m h (block-text b)
+leaves-refused b old mid new result err m h = refused _ (leaves_of b) (items_of b ++ ended end_text)
+    (flat_map ended (block_lines b)) old mid new result err m h (grind (arith, lines-append, append-none))
 
 pub items-refused : {A E : Type 0} (b : Block) (old once mid new : List ℕ) (result : Result A E) → IsErr result
     → once ≡ old ++ head_of b → mid ≡ once ++ leaves_of b → HasGrown (items_of b) mid new
     → Appends (flat_map ended (block_lines b)) old new result
-items-refused b old once mid new result err o m h = grind (arith, refused, append_assoc, block-text)
+items-refused b old once mid new result err o m h = grind (arith, refused, append_assoc, lines-append, append-none)

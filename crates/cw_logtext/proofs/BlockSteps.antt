@@ -38,14 +38,11 @@ pub read-cut : (first last : Spot) (text line tail : List ℕ) → IsFirstLine t
     → Reads first (pieces_of text) last → Reads first (line ∷ pieces_of tail) last
 read-cut first last text line tail cut r = subst (λ ls. Reads first ls last) cut.cut r
 
-apart : (k : ℕ) → Inside k ≡ Outside → ⊥
-apart k e = cc
-
 read-some : (first last : Spot) (lines : List (List ℕ)) → Reads first lines last → (first ≡ last → ⊥) → lines ≢ []
 read-some first last lines h differ e = grind arith
 
 pub block-goes-on : (k : ℕ) (text : List ℕ) → Reads (Inside k) (pieces_of text) Outside → text ≢ []
-block-goes-on k text r e = read-some (Inside k) Outside (pieces_of text) r (apart k) (ap pieces_of e)
+block-goes-on k text r e = read-some (Inside k) Outside (pieces_of text) r (λ e. cc) (ap pieces_of e)
 
 -- ## Its head
 
@@ -72,12 +69,9 @@ pub record Leaf (k : ℕ) (line : List ℕ) (next : Spot) : Type 0 where
   pub is : IsLeafLine line
   pub at : next ≡ Inside k
 
-fewer : (m k : ℕ) → Inside (suc m) ≡ Inside (suc k) → Inside m ≡ Inside k
-fewer m k e = cc
-
 pub leaf-step : (first next : Spot) (line : List ℕ) (k : ℕ) → Step first line next → first ≡ Inside (suc k)
     → Leaf k line next
-leaf-step first next line k h e = grind (arith, fewer)
+leaf-step first next line k h e = grind (arith)
 
 pub leaf-there : (line : List ℕ) (lines : List (List ℕ)) (k : ℕ) → Reads (Inside (suc k)) (line ∷ lines) Outside
     → IsLeafLine line
@@ -101,11 +95,6 @@ pub no-leaves : (old : List Entry) (text : List ℕ) (count : ℕ) → Reads (In
     → LeavesSoFar old old text [] text count
 no-leaves old text count r = grind arith
 
-more-lines : (mid new : List Entry) (leaves : List LeafLine) (one : LeafLine) → IsExtended mid new
-    → All (λ leaf. AreIdents mid leaf.names) leaves
-    → map (spelled new) (leaves ++ one ∷ []) ≡ map (spelled mid) leaves ++ spelled new one ∷ []
-more-lines mid new leaves one x idents = grind (arith, map-append, lines-kept)
-
 append-none-of : (xs : List (List ℕ)) → xs ++ [] ≡ xs
 append-none-of [] = refl
 append-none-of (x ∷ xs) = ap (λ ys. x ∷ ys) (append-none-of xs)
@@ -114,8 +103,8 @@ pub one-leaf : (old mid new : List Entry) (text rest line tail : List ℕ) (leav
     (left : ℕ) → LeavesSoFar old mid text leaves rest (suc left) → IsFirstLine rest line tail → IsExtended mid new
     → HasLeafLine mid new line one → LeavesSoFar old new text (leaves ++ one ∷ []) tail left
 one-leaf old mid new text rest line tail leaves one left s cut x h =
-    let lines : map (spelled new)
-    (leaves ++ one ∷ []) ≡ map (spelled mid) leaves ++ spelled new one ∷ [] = more-lines mid new _ one x s.idents in
+    let lines : map (spelled new) (leaves ++ one ∷ []) ≡ map (spelled mid) leaves ++ spelled new one ∷ [] =
+    (grind (arith, map-append, lines-kept)) in
     record {
       idents = all-append (λ l. AreIdents new l.names) leaves (one ∷ []) (all-kept mid new _ x s.idents)
           (all-cons (λ l. AreIdents new l.names) one [] h.idents (λ k d lt. absurd (omega (arith, lt))));
@@ -139,17 +128,9 @@ inner first next line (leaf l k said fine is) e = absurd cc
 inner first next line (item l p fine is) e = on p fine is refl
 inner first next line (closes l is) e = out is refl
 
-behind-item : (line : List ℕ) (lines : List (List ℕ)) (p : Production) → line ≡ item_text p
-    → Reads (Inside 0) (line ∷ lines) Outside → Reads (Inside 0) lines Outside
-behind-item line lines p is r = grind (arith, first-of, inner, item-not-end)
-
 record Ended (line : List ℕ) (lines : List (List ℕ)) : Type 0 where
   is : line ≡ end_text
   later : Reads Outside lines Outside
-
-behind-end : (line : List ℕ) (lines : List (List ℕ)) → NoItem line → Reads (Inside 0) (line ∷ lines) Outside
-    → Ended line lines
-behind-end line lines lack r = grind (arith, first-of, inner)
 
 -- these productions are read, and this line is the next
 pub record ItemsSoFar (text : List ℕ) (items : List Production) (line rest : List ℕ) : Type 0 where
@@ -164,7 +145,7 @@ no-items text line rest cut r = grind (arith, read-cut)
 
 pub items-go-on : (text line rest : List ℕ) (items : List Production) (p : Production) → line ≡ item_text p
     → ItemsSoFar text items line rest → rest ≢ []
-items-go-on text line rest items p is s = block-goes-on 0 rest (behind-item line (pieces_of rest) p is s.later)
+items-go-on text line rest items p is s = block-goes-on 0 rest (grind (arith, first-of, inner, item-not-end))
 
 pub one-item : (text line rest next tail : List ℕ) (items : List Production) (p : Production) → IsFineItem p
     → line ≡ item_text p → ItemsSoFar text items line rest → IsFirstLine rest next tail
@@ -172,7 +153,7 @@ pub one-item : (text line rest next tail : List ℕ) (items : List Production) (
 one-item text line rest next tail items p fine is s cut = record {
   fine = all-append IsFineItem _ _ s.fine (all-cons IsFineItem p [] fine (λ k d lt. absurd (omega (arith, lt))));
   is = grind (arith, append_assoc, map-append);
-  later = read-cut (Inside 0) _ rest next tail cut (behind-item line _ p is s.later);
+  later = read-cut (Inside 0) _ rest next tail cut (grind (arith, first-of, inner, item-not-end));
   shorter = omega (arith, s.shorter, cut.shorter);
 }
 
@@ -185,7 +166,7 @@ pub record AllItems (text : List ℕ) (items : List Production) (rest : List ℕ
 
 pub all-items : (text line rest : List ℕ) (items : List Production) → NoItem line → ItemsSoFar text items line rest
     → AllItems text items rest
-all-items text line rest items lack s = grind (arith, behind-end)
+all-items text line rest items lack s = grind (arith, first-of, inner)
 
 -- ## The whole block
 

@@ -79,9 +79,6 @@ some_name n bytes fine l = record {
   is = ap (λ xs. 32 ∷ xs) (sym (take-append-drop n bytes) ∙ ap (λ xs. take n bytes ++ xs) l.is);
 }
 
-tail-of : (x y : ℕ) (xs ys : List ℕ) → ◌≡◌ {A = List ℕ} (x ∷ xs) (y ∷ ys) → xs ≡ ys
-tail-of x y xs ys e = cc
-
 no_name : (bytes : List ℕ)
     → (Upto (length bytes) (λ n. (is_identifier (take n bytes) ≡ true) × Later (drop n bytes)) → ⊥)
     → Later (32 ∷ bytes) → ⊥
@@ -90,7 +87,7 @@ no_name bytes lack l = go l.names l.fine l.is
     go : (names : List (List ℕ)) → AreIdentifiers names → 32 ∷ bytes ≡ flat_map blank_and names → ⊥
     go [] fine is = cc
     go (m ∷ ms) fine is =
-        let e : bytes ≡ m ++ flat_map blank_and ms = tail-of 32 32 bytes (m ++ flat_map blank_and ms) is in
+        let e : bytes ≡ m ++ flat_map blank_and ms = cc in
         lack (record {
           at = length m;
           below = omega (arith, ap length e, length-append m (flat_map blank_and ms));
@@ -147,12 +144,9 @@ record LeafBy (k : LeafKind) (c : Cat) (line : List ℕ) : Type 0 where
   fine : IsFineLine (line_by k c names)
   is : line ≡ line_text (line_by k c names)
 
-is_real : (c : Cat) → Known (c ≢ cats.End)
-is_real c = grind arith
-
 same-rest : (front xs ys : List ℕ) → front ++ xs ≡ front ++ ys → xs ≡ ys
 same-rest [] xs ys e = e
-same-rest (f ∷ front) xs ys e = same-rest front xs ys (tail-of f f (front ++ xs) (front ++ ys) e)
+same-rest (f ∷ front) xs ys e = same-rest front xs ys (cc)
 
 module _ (k : LeafKind) (c : Cat) (line : List ℕ) where
   rest-names : (b : Behind (front_of k c) line) (l : LeafBy k c line) → b.rest ≡ flat_map blank_and l.names
@@ -165,7 +159,8 @@ module _ (k : LeafKind) (c : Cat) (line : List ℕ) where
       (rest-names b o) ∙ l.is) in not (subst (λ ns. fits_kind k c (length ns) ≡ true) same o.fine.kind, o.fine.real))
 
   leaf_behind : (b : Behind (front_of k c) line) → Known (Later b.rest) → Known (LeafBy k c line)
-  leaf_behind b (inl l) = with_names b l (both _ (c ≢ cats.End) (is_true (fits_kind k c (length l.names))) (is_real c))
+  leaf_behind b (inl l) =
+      with_names b l (both _ (c ≢ cats.End) (is_true (fits_kind k c (length l.names))) (grind arith))
   leaf_behind b (inr not) = inr (λ o. not (record { names = o.names; fine = o.fine.names; is = rest-names b o }))
 
   leaf_by : Known (Behind (front_of k c) line) → Known (LeafBy k c line)
@@ -200,16 +195,10 @@ leaf_of line (inr b) (inr c) (inr i) (inr s) = inr (λ l. go l.said.kind l.said.
     go kinds.I cat names fine is = i (said-line kinds.I cat line (record { names = names; fine = fine; is = is }))
     go kinds.S cat names fine is = s (said-line kinds.S cat line (record { names = names; fine = fine; is = is }))
 
-leaf_line : (line : List ℕ) → Known (IsLeafLine line)
-leaf_line line = leaf_of line (of_some_cat kinds.B line) (of_some_cat _ line) (of_some_cat _ line) (of_some_cat _ line)
-
 -- ## Heads and productions
 
 abbrev HeadOf : List ℕ → Type 0
 HeadOf line = Upto greatest (λ n. line ≡ head_text n)
-
-head_line : (line : List ℕ) → Known (HeadOf line)
-head_line line = upto (λ n. line ≡ head_text n) (λ n. same_text line (head_text n)) greatest
 
 abbrev production : ℕ → ℕ → Production
 production number place = record { number = number; place = place }
@@ -220,10 +209,6 @@ ItemOf line = Upto ROW_COUNT (λ n. (n ≢ 0) × Upto greatest (λ place. line �
 
 not_zero : (n : ℕ) → Known (n ≢ 0)
 not_zero n = grind arith
-
-item_line : (line : List ℕ) → Known (ItemOf line)
-item_line line = upto (λ n. (n ≢ 0) × Upto _ (λ place. line ≡ item_text _)) (λ n. both (n ≢ 0) _
-    (not_zero n) (upto (λ place. line ≡ item_text (production n _)) (λ place. same_text line (item_text _)) greatest)) _
 
 -- ## Steps
 
@@ -250,9 +235,13 @@ step_item line (inr not) (inl e) = inl (record { next = Outside; step = closes l
 step_item line (inr not) (inr unended) = grind (arith, inner, on, out)
 
 step_on : (spot : Spot) (line : List ℕ) → Goes spot line
-step_on Outside line = step_outside line (head_line line)
-step_on (Inside zero) line = step_item line (item_line line) (same_text line end_text)
-step_on (Inside (suc k)) line = step_leaf k line (leaf_line line)
+step_on Outside line = step_outside line (upto (λ n. line ≡ head_text n) (λ n. same_text line (head_text n)) greatest)
+step_on (Inside zero) line =
+    step_item line (upto (λ n. (n ≢ 0) × Upto _ (λ place. line ≡ item_text _)) (λ n. both (n ≢ 0) _ (not_zero n)
+    (upto (λ place. line ≡ item_text (production n _)) (λ place. same_text line (item_text _)) greatest)) _)
+    (same_text line end_text)
+step_on (Inside (suc k)) line = step_leaf
+    k line (leaf_of line (of_some_cat kinds.B line) (of_some_cat _ line) (of_some_cat _ line) (of_some_cat _ line))
 
 -- ## The whole file
 

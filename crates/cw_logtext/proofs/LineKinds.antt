@@ -14,9 +14,6 @@ use Rattle.cw_logtext.specs.LinePieces.{IsCut, AreNames, something}
 use Rattle.cw_logtext.proofs.Plain.{cat-blank, decimal-lacks, no-blank}
 use Rattle.cw_logtext.proofs.Telling.{blanked-same, names-blanked, names-same}
 
-head-of : (a b : ℕ) (xs ys : List ℕ) → ◌≡◌ {A = List ℕ} (a ∷ xs) (b ∷ ys) → a ≡ b
-head-of a b xs ys e = cc
-
 tail-of : (a b : ℕ) (xs ys : List ℕ) → ◌≡◌ {A = List ℕ} (a ∷ xs) (b ∷ ys) → xs ≡ ys
 tail-of a b xs ys e = cc
 
@@ -33,7 +30,7 @@ pub leaf-parts : (byte : ℕ) (behind word rest : List ℕ) → IsCut behind wor
 leaf-parts byte behind word rest cut said is =
     let same = blanked-same word (cat_text said.cat) rest (flat_map blank_and said.names) cut.plain (cat-blank said.cat)
     cut.blanked (names-blanked said.names) (sym cut.is ∙ tail-of 32 32 _ _ (tail-of byte (letter said.kind) _ _ is)) in
-    record { letter = head-of byte (letter said.kind) _ _ is; cat = same.front; names = same.back }
+    record { letter = cc; cat = same.front; names = same.back }
 
 pub leaf-whole : (kind : LeafKind) (cat : Cat) (byte : ℕ) (behind word rest : List ℕ) (count : ℕ)
     → byte ≡ letter kind → IsCut behind word rest → cat ≢ End → word ≡ cat_text cat → (names : AreNames rest count)

@@ -39,16 +39,13 @@ more-texts : (mid new : List Entry) (ids : List NameId) (id : NameId) (word : Li
     → map (λ i. text_at new i.index) (ids ++ id ∷ []) ≡ map (λ i. text_at mid i.index) ids ++ word ∷ []
 more-texts mid new ids id word idents is place = grind (arith, map-append, texts-kept, one-added, none-added, new-ident)
 
-tail-of : (a b : ℕ) (xs ys : List ℕ) → ◌≡◌ {A = List ℕ} (a ∷ xs) (b ∷ ys) → xs ≡ ys
-tail-of a b xs ys e = cc
-
 -- the name with which a text begins is the first of its texts
 first-same : (rest word tail n : List ℕ) (ns : List (List ℕ)) → HasName rest word tail → AreIdentifiers (n ∷ ns)
     → rest ≡ flat_map blank_and (n ∷ ns) → Same word n tail (flat_map blank_and ns)
 first-same rest word tail n ns h fine behind =
     let later : flat_map blank_and ns ≡ tail = grind (arith, names-blanked) in
-    blanked-same word n tail (flat_map blank_and ns) (grind (arith, name-lacks)) (name-lacks 32 refl n
-    (fine 0 n (omega arith))) (grind (arith, names-blanked)) (names-blanked ns) (tail-of 32 32 _ _ (sym h.is ∙ behind))
+    blanked-same word n tail (flat_map blank_and ns) (grind (arith, name-lacks))
+    (name-lacks 32 refl n (fine 0 n (omega arith))) (grind (arith, names-blanked)) (names-blanked ns) (cc)
 
 left-behind : (mid new : List Entry) (ids : List NameId) (id : NameId) (rest word tail : List ℕ)
     (texts : List (List ℕ)) → AreIdents mid ids → new ≡ with_entry Ident word mid

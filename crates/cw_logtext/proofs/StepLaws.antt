@@ -59,15 +59,8 @@ abbrev Meaning : Spot → List (List ℕ) → Type 0
 Meaning Outside lines = IsLog lines
 Meaning (Inside to_come) lines = Rest to_come lines
 
-all-cons : {A : Type 0} (P : A → Type 0) (x : A) (xs : List A) → P x → All P xs → All P (x ∷ xs)
-all-cons P x xs p all h d lt = grind arith
-
 all-none : {A : Type 0} (P : A → Type 0) → All P []
 all-none P i d lt = absurd (omega arith)
-
-block-joined : (b : Block) (bs : List Block) → log_lines (b ∷ bs)
-    ≡ head_text (length b.leaves) ∷ map line_text b.leaves ++ (map item_text b.items ++ end_text ∷ log_lines bs)
-block-joined b bs = grind (arith, append_assoc)
 
 step-means : (first next : Spot) (line : List ℕ) (lines : List (List ℕ)) → Step first line next → Meaning next lines
     → Meaning first (line ∷ lines)
@@ -75,16 +68,17 @@ step-means Outside (Inside n) line lines (opens l count most is) r =
     let b : Block = record { leaves = r.leaves; items = r.items } in
     record {
       blocks = b ∷ r.blocks;
-      fine = grind (arith, all-cons);
-      is = ap (λ x. line ∷ x) r.is ∙ (ap (λ x. x ∷ map line_text r.leaves ++ (map item_text
-          r.items ++ end_text ∷ log_lines r.blocks)) (is ∙ ap head_text (sym r.count)) ∙ sym (block-joined b r.blocks));
+      fine = grind (arith);
+      is = ap (λ x. line ∷ x)
+          r.is ∙ (ap (λ x. x ∷ map line_text r.leaves ++ (map item_text r.items ++ end_text ∷ log_lines r.blocks))
+          (is ∙ ap head_text (sym r.count)) ∙ sym (grind (arith, append_assoc)));
     }
 step-means first next line lines (leaf l to_come said good is) r = record {
   leaves = said ∷ r.leaves;
   items = r.items;
   blocks = r.blocks;
   count = ap suc r.count;
-  fine_leaves = all-cons IsFineLine said r.leaves good r.fine_leaves;
+  fine_leaves = (λ h d lt. grind arith);
   fine_items = r.fine_items;
   fine = r.fine;
   is = grind arith;
@@ -100,7 +94,7 @@ step-means first next line lines (item l p good is) r = item-means r.leaves r.co
       blocks = r.blocks;
       count = refl;
       fine_leaves = all-none IsFineLine;
-      fine_items = all-cons IsFineItem p r.items good r.fine_items;
+      fine_items = (λ h d lt. grind arith);
       fine = r.fine;
       is = ap (λ x. line ∷ x) h ∙ ap (λ x. x ∷ map item_text r.items ++ end_text ∷ log_lines r.blocks) is;
     }

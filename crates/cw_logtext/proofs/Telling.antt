@@ -14,8 +14,8 @@ use Rattle.cw_table.specs.Normal.{Production}
 use Rattle.cw_leaves.specs.declared.kinds.LeafKind.{LeafKind}
 use Rattle.cw_leaves.specs.declared.kinds.LeafKind.TheVariants as leaf
 use Rattle.cw_leaves.specs.LeafLines.{Line}
-use Rattle.cw_logtext.specs.LogText.{Block, letter, cat_text, blank_and, line_text, head_text, item_text, end_text}
-use Rattle.cw_logtext.specs.LogText.{log_lines, IsFineLine, IsFineItem, IsFineBlock}
+use Rattle.cw_logtext.specs.LogText.{letter, cat_text, blank_and, line_text, head_text, item_text, end_text, log_lines}
+use Rattle.cw_logtext.specs.LogText.{IsFineLine, IsFineItem, IsFineBlock}
 use Rattle.cw_logtext.specs.LinePieces.{lacks, IsBlanked, nothing, something, AreIdentifiers}
 use Rattle.cw_logtext.specs.LogLaws.{BlocksAreTold}
 use Rattle.cw_logtext.proofs.Decimals.{head-injective, item-not-end}
@@ -54,12 +54,9 @@ pub record Same (xs ys zs ws : List ℕ) : Type 0 where
   pub front : xs ≡ ys
   pub back : zs ≡ ws
 
-blank-differs : (c : ℕ) (cs : List ℕ) → lacks 32 (c ∷ cs) ≡ true → 32 ≡ c → ⊥
-blank-differs c cs h e = grind (arith, both-left)
-
 never-byte : (zs : List ℕ) (c : ℕ) (cs ws : List ℕ) → IsBlanked zs → lacks 32 (c ∷ cs) ≡ true → zs ≡ c ∷ ws → ⊥
 never-byte zs c cs ws nothing h e = cc
-never-byte zs c cs ws (something bytes) h e = blank-differs c cs h (head-of 32 c bytes ws e)
+never-byte zs c cs ws (something bytes) h e = grind (arith, both-left)
 
 pub blanked-same : (xs ys zs ws : List ℕ) → lacks 32 xs ≡ true → lacks 32 ys ≡ true → IsBlanked zs → IsBlanked ws
     → xs ++ zs ≡ ys ++ ws → Same xs ys zs ws
@@ -141,10 +138,6 @@ items-same (p ∷ ps) (q ∷ qs) xs ys h k e =
       later = s.later;
     }
 
-block-joined : (b : Block) (bs : List Block) → log_lines (b ∷ bs)
-    ≡ head_text (length b.leaves) ∷ map line_text b.leaves ++ (map item_text b.items ++ end_text ∷ log_lines bs)
-block-joined b bs = grind (arith, append_assoc)
-
 pub blocks-are-told : BlocksAreTold
 blocks-are-told [] [] h k e = refl
 blocks-are-told [] (c ∷ cs) h k e = absurd cc
@@ -152,7 +145,7 @@ blocks-are-told (b ∷ bs) [] h k e = absurd cc
 blocks-are-told (b ∷ bs) (c ∷ cs) h k e =
     let good : IsFineBlock b = h 0 b (omega arith) in
     let fine : IsFineBlock c = k 0 c (omega arith) in
-    let d = sym (block-joined b bs) ∙ (e ∙ block-joined c cs) in
+    let d = sym (grind (arith, append_assoc)) ∙ (e ∙ (grind (arith, append_assoc))) in
     let s = leaves-same b.leaves c.leaves _ _ (head-injective _ _ good.few fine.few (head-of _ _ _ _ d))
     good.leaves fine.leaves (tail-of (head_text (length b.leaves)) (head_text (length c.leaves)) _ _ d) in
     let t = items-same b.items c.items (log_lines bs) (log_lines cs) good.items fine.items s.later in

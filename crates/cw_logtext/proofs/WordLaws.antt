@@ -100,9 +100,6 @@ run-all (c ∷ cs) = go (is_in classes.Word c) refl (run-all cs)
     go true e more = let next : 1 + run classes.Word cs ≡ suc (run classes.Word cs) = omega arith in cc
     go false e more = refl
 
-word-name : (name : List ℕ) → is_identifier name ≡ true → list_all (is_in classes.Word) name ≡ true
-word-name name h = grind (arith, and-both, letter-word, both-left, both-right)
-
 first-fine : (first : ℕ) (more : List ℕ) → is_letter first ≡ true
     → is_identifier (take (run classes.Word (first ∷ more)) (first ∷ more)) ≡ true
 first-fine first more h =
@@ -119,8 +116,9 @@ pub name-here : (first : ℕ) (more : List ℕ) → is_letter first ≡ true
 name-here first more h = record {
   is = ap (λ x. 32 ∷ x) (sym (take-append-drop (run classes.Word (first ∷ more)) (first ∷ more)));
   fine = first-fine first more h;
-  alone = λ other tail fine blanked is. let e = tail-of 32 32 _ _ is in let n : run
-      classes.Word (first ∷ more) ≡ length other = ap (run classes.Word) e ∙ run-name other tail (word-name other fine)
+  alone = λ other tail fine blanked is.
+      let e = tail-of 32 32 _ _ is in let n : run classes.Word (first ∷ more) ≡ length other =
+      ap (run classes.Word) e ∙ run-name other tail (grind (arith, and-both, letter-word, both-left, both-right))
       blanked in sym (ap (λ m. drop m (first ∷ more)) n ∙ (ap (drop (length other)) e ∙ drop-append_seam other tail));
 }
 
