@@ -6,15 +6,8 @@ use Rattle.std.proofs.lemmas.Map.Keys.{IsDistinct-head, IsDistinct-tail}
 use Rattle.std.specs.Cmp.Lexicographic.{pointwise}
 use Rattle.std.proofs.Math.Dec.{eqb-suc-suc, eqb-suc-zero, eqb-zero-suc}
 use Rattle.std.proofs.lemmas.Cmp.{nat_list_eq_equiv}
-use Rattle.cw_names.specs.declared.entry.EntryKind.{EntryKind}
-use Rattle.cw_names.specs.Names.{Entry, same_kind, is_entry, AreDistinct}
+use Rattle.cw_names.specs.Names.{Entry, is_entry, AreDistinct}
 use Rattle.cw_leaves.specs.LeafLines.{Entered, called_by, called, same_called}
-
-kind-self : (k : EntryKind) → same_kind k k ≡ true
-kind-self k = grind arith
-
-kind-flips : (k l : EntryKind) → same_kind k l ≡ same_kind l k
-kind-flips k l = grind arith
 
 text-self : (t : List ℕ) → pointwise nat_eq t t ≡ true
 text-self t = nat_list_eq_equiv.refl t
@@ -40,10 +33,10 @@ eqb-flips (suc m) (suc n) = eqb-suc-suc m n ∙ (eqb-flips m n ∙ sym (eqb-suc-
 pub called-apart : (names : List Entry) → AreDistinct names → (a b : ℕ)
     → same_called (called names a) (called names b) ≡ eqb a b
 called-apart [] distinct a b = refl
-called-apart (e ∷ es) distinct zero zero = grind (arith, nat_eq, kind-self, text-self)
+called-apart (e ∷ es) distinct zero zero = grind (arith, nat_eq, text-self)
 called-apart (e ∷ es) distinct zero (suc b) =
     apart e es b (suc b) (IsDistinct-head (λ d o. is_entry d.kind d.text o) e es distinct) ∙ sym (eqb-zero-suc b)
-called-apart (e ∷ es) distinct (suc a) zero = (grind (arith, nat_eq, kind-flips, text-flips, eqb-flips))
+called-apart (e ∷ es) distinct (suc a) zero = (grind (arith, nat_eq, text-flips, eqb-flips))
     ∙ (apart e es a (suc a) (IsDistinct-head (λ d o. is_entry d.kind d.text o) e es distinct) ∙ sym (eqb-suc-zero a))
 called-apart (e ∷ es) distinct (suc a) (suc b) = (grind (arith, eqb-suc-suc))
     ∙ (called-apart es (IsDistinct-tail (λ d o. is_entry d.kind d.text o) e es distinct) a b ∙ sym (eqb-suc-suc a b))

@@ -2,23 +2,19 @@
 use Rattle.std.proofs.Common.{◌≡◌, ℕ, suc, slice_get, Option, List, [], ◌∷◌, refl, sym, ◌∙◌, ap, map, All, arith}
 use Rattle.cw_names.specs.declared.entry.EntryKind.TheVariants.{Ident as ident_kind}
 use Rattle.cw_names.specs.Names.{Entry}
-use Rattle.cw_trees.specs.declared.Control.{Control}
-use Rattle.cw_trees.specs.Tree.{Sign, Tree, Empty, Then, Sub, Inner, search_sign}
+use Rattle.cw_trees.specs.Tree.{Tree, Empty, Then, Sub, Inner}
 use Rattle.cw_trees.specs.Joining.{Scrap}
-use Rattle.cw_leaves.specs.Sights.{silence, told_by, heard, sight, renamed}
+use Rattle.cw_leaves.specs.Sights.{heard, sight, renamed}
 use Rattle.cw_leaves.specs.LeafLines.{said, text_by, text_at, leaf_line, Entered, called_by, called, line_sight}
-use Rattle.cw_leaves.specs.LeafLines.{IsClear, HasNoMark, IsIdentEntry, IsTold, log_of_lines}
+use Rattle.cw_leaves.specs.LeafLines.{HasNoMark, IsIdentEntry, IsTold, log_of_lines}
 use Rattle.cw_leaves.specs.LogLaws.{LinesHaveLog, SameLinesSameLog}
 use Rattle.cw_leaves.proofs.SightSteps.{log-seen}
 use Rattle.cw_leaves.proofs.FreeNames.{log-renamed}
 use Rattle.cw_leaves.proofs.Calling.{called-apart}
 
-sign-clear : (c : Control) → IsClear (Sign c) → told_by (search_sign c) ≡ silence
-sign-clear c h = grind arith
-
 heard-said : (t : Tree) → HasNoMark t → heard t ≡ said t
 heard-said Empty h = refl
-heard-said (Then leaf rest) h = grind (arith, heard-said rest h.1, sign-clear)
+heard-said (Then leaf rest) h = grind (arith, heard-said rest h.1)
 heard-said (Sub tree rest) h = grind (arith, heard-said tree h.0, heard-said rest h.1)
 heard-said (Inner tree rest) h = heard-said rest h
 

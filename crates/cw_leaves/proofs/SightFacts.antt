@@ -24,15 +24,10 @@ then-reserved : (s : Search) (leaf : Leaf) (rest : Tree) → search_leaf leaf �
     → heard (reserve_first (Then leaf rest)) ≡ reserved (heard (Then leaf rest))
 then-reserved s leaf rest e h = grind (arith)
 
-sub-reserved : (s : Search) (tree rest : Tree) → first_ident tree ≡ s
-    → heard (reserve_first tree) ≡ reserved (heard tree) → heard (reserve_first rest) ≡ reserved (heard rest)
-    → heard (reserve_first (Sub tree rest)) ≡ reserved (heard (Sub tree rest))
-sub-reserved s tree rest e t r = grind (arith, first-heard)
-
 pub heard-reserved : (t : Tree) → heard (reserve_first t) ≡ reserved (heard t)
 heard-reserved Empty = refl
 heard-reserved (Then leaf rest) = then-reserved (search_leaf leaf) leaf rest refl (heard-reserved rest)
-heard-reserved (Sub tree rest) = grind (arith, heard-reserved tree, heard-reserved rest, sub-reserved)
+heard-reserved (Sub tree rest) = grind (arith, heard-reserved tree, heard-reserved rest, first-heard)
 heard-reserved (Inner tree rest) = heard-reserved rest
 
 -- toggles say nothing
