@@ -3,9 +3,8 @@ use Rattle.std.proofs.Common.{◌≡◌, ℕ, Option, Some, refl, ap, arith}
 use Rattle.cw_base.specs.declared.mode.MathMode.{MathMode}
 use Rattle.cw_base.specs.declared.mode.MathMode.TheVariants.{Math, Maybe}
 use Rattle.cw_trees.specs.Joining.{first_mode, after}
-use Rattle.cw_trees.specs.Tree.{Leaf, Tree, Empty, Then, Sub, Inner, Search, search_leaf, first_ident, reserved_leaf}
-use Rattle.cw_trees.specs.Tree.{reserve_first}
-use Rattle.cw_brace_laws.specs.Bracing.{leads_on, outside, leaf_depth, depth_of, EndsAt}
+use Rattle.cw_trees.specs.Tree.{Leaf, Tree, Empty, Then, Sub, Inner, Search, search_leaf, first_ident, reserve_first}
+use Rattle.cw_brace_laws.specs.Bracing.{leads_on, outside, depth_of, EndsAt}
 use Rattle.std.proofs.lemmas.Bool.Decides.{nat_tests}
 
 pub same-leads : (o : Option ℕ) (f g : ℕ → Option ℕ) → ((d : ℕ) → f d ≡ g d) → leads_on o f ≡ leads_on o g
@@ -17,13 +16,10 @@ leads-to o d next h = ap (λ p. leads_on p next) h
 
 -- ## Reserving
 
-reserved-leaf-depth : (leaf : Leaf) (d : ℕ) → leaf_depth (reserved_leaf leaf) d ≡ leaf_depth leaf d
-reserved-leaf-depth leaf d = grind (arith, nat_tests)
-
 then-depth : (s : Search) (leaf : Leaf) (rest : Tree) (d : ℕ) → search_leaf leaf ≡ s
     → ((n : ℕ) → depth_of (reserve_first rest) n ≡ depth_of rest n)
     → depth_of (reserve_first (Then leaf rest)) d ≡ depth_of (Then leaf rest) d
-then-depth s leaf rest d e rec = grind (arith, nat_tests, reserved-leaf-depth, same-leads)
+then-depth s leaf rest d e rec = grind (arith, nat_tests, same-leads)
 
 sub-depth : (s : Search) (tree rest : Tree) (d : ℕ) → first_ident tree ≡ s
     → ((n : ℕ) → depth_of (reserve_first tree) n ≡ depth_of tree n)

@@ -1,22 +1,17 @@
 -- A braced tree is braced when it is laid flat and trimmed.
 use Rattle.std.proofs.Common.{◌≡◌, ℕ, Bool, true, false, ◌&&◌, Option, Some, List, [], ◌∷◌, ◌++◌, refl, ap, ◌∙◌, sym}
 use Rattle.std.proofs.Common.{append_assoc, if◌then◌else◌, arith}
-use Rattle.cw_base.proofs.TestLaws.{both-left, both-right}
 use Rattle.cw_trees.specs.Flat.{Item, Close, begins_after, ends_text, flat, is_break, is_inserted, leaf_item, trim_back}
 use Rattle.cw_trees.specs.Flat.{trim_front, trimmed_items, without_inserted}
 use Rattle.cw_trees.specs.Tree.{Leaf, Tree, Empty, Then, Sub, Inner}
-use Rattle.cw_brace_laws.specs.Bracing.{IsBraced, depth_of, leads_on, leaf_depth, outside, outside_if}
+use Rattle.cw_brace_laws.specs.Bracing.{IsBraced, depth_of, leads_on, leaf_depth, outside}
 use Rattle.cw_brace_laws.specs.Printed.{AreBraced, item_depth, items_depth}
 use Rattle.std.proofs.lemmas.Bool.Decides.{nat_tests}
 
 -- ## Flat lists
 
--- what led somewhere in a tree leads there in its item
-outside-leads : (b : Bool) (d e : ℕ) → outside_if b d ≡ Some e → d ≡ e
-outside-leads b d e h = grind (arith, nat_tests)
-
 leaf-leads : (leaf : Leaf) (d e : ℕ) → leaf_depth leaf d ≡ Some e → item_depth (leaf_item leaf) d ≡ Some e
-leaf-leads leaf d e h = grind (arith, nat_tests, outside-leads)
+leaf-leads leaf d e h = grind (arith, nat_tests)
 
 -- something led on to an end by way of a depth
 pub record By (o : Option ℕ) (next : ℕ → Option ℕ) (e : ℕ) : Type 0 where
@@ -28,7 +23,7 @@ pub by-way : (o : Option ℕ) (next : ℕ → Option ℕ) (e : ℕ) → leads_on
 by-way o next e h = grind (arith, nat_tests)
 
 outside-same : (d e : ℕ) → outside d ≡ Some e → d ≡ e
-outside-same d e h = outside-leads true d e h
+outside-same d e h = grind (arith, nat_tests)
 
 flat-leads : (t : Tree) (rest : List Item) (d e : ℕ) → depth_of t d ≡ Some e
     → items_depth (flat t ++ rest) d ≡ items_depth rest e
@@ -53,20 +48,6 @@ flat-leads (Inner a b) rest d e h =
 
 -- ## Trimming
 
--- an item that leads nowhere else can be taken away
-break-leads : (item : Item) (d e : ℕ) (next : ℕ → Option ℕ) → is_break item ≡ true
-    → leads_on (item_depth item d) next ≡ Some e → next d ≡ Some e
-break-leads item d e next is h = grind (arith, nat_tests)
-
-inserted-leads : (item : Item) (d e : ℕ) (next : ℕ → Option ℕ) → is_inserted item ≡ true
-    → leads_on (item_depth item d) next ≡ Some e → next d ≡ Some e
-inserted-leads item d e next is h = grind (arith, nat_tests)
-
--- what stands behind an item may be taken for what leads to the same end
-next-leads : (o : Option ℕ) (f g : ℕ → Option ℕ) (e : ℕ) → ((d : ℕ) → f d ≡ Some e → g d ≡ Some e)
-    → leads_on o f ≡ Some e → leads_on o g ≡ Some e
-next-leads o f g e rec h = grind (arith, nat_tests)
-
 inserted-out : (items : List Item) (d e : ℕ) → items_depth items d ≡ Some e
     → items_depth (without_inserted items) d ≡ Some e
 inserted-out [] d e h = h
@@ -75,8 +56,8 @@ inserted-out (item ∷ items) d e h = go (is_inserted item) refl (λ n k. insert
     go : (b : Bool) → is_inserted item ≡ b
         → ((n : ℕ) → items_depth items n ≡ Some e → items_depth (without_inserted items) n ≡ Some e)
         → items_depth (if b then without_inserted items else item ∷ without_inserted items) d ≡ Some e
-    go true is rec = rec d (inserted-leads item d e (items_depth items) is h)
-    go false is rec = next-leads (item_depth item d) (items_depth items) (items_depth (without_inserted items)) e rec h
+    go true is rec = rec d (grind (arith, nat_tests))
+    go false is rec = grind (arith, nat_tests)
 
 front-out : (begins : Bool) (items : List Item) (d e : ℕ) → items_depth items d ≡ Some e
     → items_depth (trim_front begins items) d ≡ Some e
@@ -88,9 +69,8 @@ front-out begins (item ∷ items) d e h =
         → ((more : Bool) (n : ℕ) → items_depth items n ≡ Some e → items_depth (trim_front more items) n ≡ Some e)
         → items_depth (if b then trim_front begins items
         else item ∷ trim_front (begins_after begins item) items) d ≡ Some e
-    go true is rec = rec begins d (break-leads item d e (items_depth items) (both-right _ _ is) h)
-    go false is rec = next-leads (item_depth item d) (items_depth items)
-        (items_depth (trim_front (begins_after begins item) items)) e (rec (begins_after begins item)) h
+    go true is rec = rec begins d (grind (arith, nat_tests))
+    go false is rec = grind (arith, nat_tests)
 
 back-out : (items : List Item) (d e : ℕ) → items_depth items d ≡ Some e → items_depth (trim_back items) d ≡ Some e
 back-out [] d e h = h
@@ -99,8 +79,8 @@ back-out (item ∷ items) d e h = go (is_break item && ends_text items) refl (λ
     go : (b : Bool) → (is_break item && ends_text items) ≡ b
         → ((n : ℕ) → items_depth items n ≡ Some e → items_depth (trim_back items) n ≡ Some e)
         → items_depth (if b then trim_back items else item ∷ trim_back items) d ≡ Some e
-    go true is rec = rec d (break-leads item d e (items_depth items) (both-left _ _ is) h)
-    go false is rec = next-leads (item_depth item d) (items_depth items) (items_depth (trim_back items)) e rec h
+    go true is rec = rec d (grind (arith, nat_tests))
+    go false is rec = grind (arith, nat_tests)
 
 append-none : (items : List Item) → items ++ [] ≡ items
 append-none [] = refl

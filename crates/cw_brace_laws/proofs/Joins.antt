@@ -1,9 +1,8 @@
 -- What is joined of pieces that can stand where they stand is braced.
 use Rattle.std.proofs.Common.{◌≡◌, ℕ, Option, Some, None, IfSome, List, [], ◌∷◌, refl, ap, ◌∙◌, subst, arith}
 use Rattle.cw_base.specs.declared.mode.MathMode.{MathMode}
-use Rattle.cw_trees.specs.Joining.{Joined, Whole, Mark, needs, after, first_mode, toggled, joined_tree, joined_left}
+use Rattle.cw_trees.specs.Joining.{Joined, Whole, Mark, needs, after, first_mode, joined_tree, joined_left}
 use Rattle.cw_trees.specs.Joining.{joined_right}
-use Rattle.cw_trees.specs.Tree.{Tree, Then, Sign}
 use Rattle.cw_trees.specs.declared.Control.{Control}
 use Rattle.cw_brace_laws.specs.Bracing.{leads_on, sign_depth, depth_of, EndsAt, StandsAt}
 use Rattle.cw_brace_laws.proofs.Depths.{ends-maybe, first-ends, after-ends}
@@ -22,23 +21,10 @@ Lead e d (Mark control ∷ js) = Then_ (sign_depth control d) (λ n. Lead e n js
 
 -- ## Controls
 
--- before a control and behind it no mode between braces is text
-sign-begins : (c : Control) (d : ℕ) → IfSome (sign_depth c d) (λ n. EndsAt d (needs c))
-sign-begins c d = grind (arith, nat_tests)
-
-sign-ends : (c : Control) (d : ℕ) (m : MathMode) → EndsAt d m
-    → IfSome (sign_depth c d) (λ n. EndsAt n (after m (needs c) (needs c)))
-sign-ends c d m h = grind (arith, nat_tests)
-
 -- the first mode of a control and of what follows
 sign-first : (c : Control) (d : ℕ) (later : MathMode) → Then_ (sign_depth c d) (λ n. EndsAt n later)
     → EndsAt d (first_mode (needs c) later)
 sign-first c d later h = grind (arith, nat_tests)
-
--- a toggle stands outside of braces
-toggled-depth : (d : ℕ) (m l : MathMode) (t : Tree) → EndsAt d m → EndsAt d l → depth_of (toggled m l t) d
-    ≡ depth_of t d
-toggled-depth d m l t h g = grind (arith, nat_tests)
 
 -- ## Pieces
 
@@ -49,10 +35,9 @@ pub record Led (e d : ℕ) (m : MathMode) (js : List Joined) : Type 0 where
 pub led : (e d : ℕ) (m : MathMode) (js : List Joined) → Lead e d js → EndsAt d m → Led e d m js
 led e d m [] h f = record { tree = ap Some h; ends = subst (λ n. EndsAt n m) h f }
 led e d m (Whole tree l r ∷ js) h f =
-    grind (arith, nat_tests, led e d (after m l r) js h.1 (after-ends d m l r f h.0.ends), after-ends, toggled-depth)
-led e d m (Mark c ∷ js) h f =
-    go (sign_depth c d) refl h (sign-begins c d) (sign-ends c d m f)
-    (λ n k g. led e n (after m (needs c) (needs c)) js k g)
+    grind (arith, nat_tests, led e d (after m l r) js h.1 (after-ends d m l r f h.0.ends), after-ends)
+led e d m (Mark c ∷ js) h f = go (sign_depth c d)
+    refl h (grind (arith, nat_tests)) (grind (arith, nat_tests)) (λ n k g. led e n (after m (needs c) (needs c)) js k g)
   where
     go : (o : Option ℕ) → sign_depth c d ≡ o → Then_ o (λ n. Lead e n js) → IfSome o (λ n. EndsAt d (needs c))
         → IfSome o (λ n. EndsAt n (after m (needs c) (needs c)))
@@ -62,7 +47,7 @@ led e d m (Mark c ∷ js) h f =
     go (Some n) is h b g rec =
         let rest = rec n h g in
         record {
-          tree = toggled-depth d m (needs c) (Then (Sign c) (joined_tree (after m (needs c) (needs c)) js)) f b
+          tree = (grind (arith, nat_tests))
               ∙ ap (λ o. leads_on o (depth_of (joined_tree (after m (needs c) (needs c)) js))) is ∙ rest.tree;
           ends = rest.ends;
         }

@@ -1,19 +1,15 @@
 -- The scrap of each token is braced, and holds no text where its category is calm, an operator or a colon.
 use Rattle.std.proofs.Common.{◌≡◌, ℕ, Bool, false, Option, Some, None, IfSome, List, [], ◌∷◌, ◌++◌, ◌∙◌, refl, arith}
-use Rattle.cw_base.specs.declared.category.Cat.{Cat}
 use Rattle.cw_base.specs.declared.mode.MathMode.{MathMode}
 use Rattle.cw_names.specs.Names.{Entry}
-use Rattle.cw_names.specs.declared.NameId.{NameId}
-use Rattle.cw_rules.specs.declared.codes.Code.{Code}
-use Rattle.cw_rules.specs.declared.signs.Sign.{Sign}
 use Rattle.cw_rules.specs.declared.tokens.TokKind.{TokKind}
-use Rattle.cw_scraps.specs.Leaves.{LeafForm, code_form, form_of, sign_mode, source, token_form, word_form}
+use Rattle.cw_scraps.specs.Leaves.{LeafForm, token_form}
 use Rattle.cw_table.specs.Braces.{is_text}
 use Rattle.cw_tokens.specs.Shapes.{item_of, shape, tree_in}
 use Rattle.cw_tokens.specs.declared.token.Token.{Token}
 use Rattle.cw_translator.specs.Translating.{form_tokens, leaf_scrap}
 use Rattle.cw_trees.specs.Tree.{Tree}
-use Rattle.cw_brace_laws.specs.Bracing.{EndsAt, IsBraced, IsBracedScrap, depth_of, outside_if}
+use Rattle.cw_brace_laws.specs.Bracing.{EndsAt, IsBraced, IsBracedScrap, depth_of}
 use Rattle.cw_brace_laws.proofs.CleanScraps.{IsLeafScrap, leaf-is-braced}
 use Rattle.cw_brace_laws.proofs.Depths.{ends-maybe, ends-math}
 use Rattle.std.proofs.lemmas.Bool.Decides.{nat_tests}
@@ -23,30 +19,13 @@ use Rattle.std.proofs.lemmas.Bool.Decides.{nat_tests}
 quiet-ends : (d : ℕ) (mode : MathMode) → is_text mode ≡ false → EndsAt d mode
 quiet-ends d mode h = grind (arith, nat_tests)
 
--- a token that is printed as it is read, in math or in either mode
-source-braced : (c : Cat) (mode : MathMode) (number : ℕ) → is_text mode ≡ false
-    → IsLeafScrap (leaf_scrap (source c mode number))
-source-braced c mode number h = grind (arith, nat_tests, quiet-ends)
-
-word-braced : (c : Cat) (name : NameId) (number : ℕ) → IsLeafScrap (leaf_scrap (word_form c name number))
-word-braced c name number = grind (arith, nat_tests, ends-math, ends-maybe)
-
 abbrev pub FormBraced : Option LeafForm → Type 0
 FormBraced None = Unit {0}
 FormBraced (Some form) = IsLeafScrap (leaf_scrap form)
 
-code-braced : (c : Code) (number : ℕ) → FormBraced (code_form c number)
-code-braced c number = grind (arith, nat_tests, source-braced)
-
-sign-quiet : (s : Sign) → is_text (sign_mode s) ≡ false
-sign-quiet s = grind (arith, nat_tests)
-
-form-braced : (k : TokKind) (number : ℕ) → FormBraced (form_of k number)
-form-braced k number = grind (arith, nat_tests, source-braced, sign-quiet, code-braced)
-
 pub token-braced : (k : TokKind) (text : List ℕ) (hash_line : Bool) (number : ℕ) (names : List Entry)
     → FormBraced (token_form k text hash_line number names)
-token-braced k text hash_line number names = grind (arith, nat_tests, word-braced, form-braced)
+token-braced k text hash_line number names = grind (arith, nat_tests, ends-math, ends-maybe, quiet-ends)
 
 pub leaf-braced : (k : TokKind) (text : List ℕ) (hash_line : Bool) (number : ℕ) (names : List Entry)
     → IfSome (token_form k text hash_line number names) (λ form. IsBracedScrap (leaf_scrap form))
@@ -70,19 +49,6 @@ pub flat-braced : (tokens : List Token) → AreFlat tokens → IsBraced (tree_in
 flat-braced [] all = refl
 flat-braced (token ∷ tokens) all = all.0 (tree_in [] tokens) ∙ flat-braced tokens all.1
 
--- outside of braces text may stand
-outside-text : (b : Bool) → outside_if b 0 ≡ Some 0
-outside-text b = grind (arith, nat_tests)
-
-word-flat : (c : Cat) (name : NameId) (number : ℕ) → AreFlat (word_form c name number).tokens
-word-flat c name number = grind (arith, nat_tests)
-
-code-flat : (c : Code) (number : ℕ) → AreFlat (form_tokens (code_form c number))
-code-flat c number = grind (arith, nat_tests)
-
-form-flat : (k : TokKind) (number : ℕ) → AreFlat (form_tokens (form_of k number))
-form-flat k number = grind (arith, nat_tests, outside-text, code-flat)
-
 pub token-flat : (k : TokKind) (text : List ℕ) (hash_line : Bool) (number : ℕ) (names : List Entry)
     → AreFlat (form_tokens (token_form k text hash_line number names))
-token-flat k text hash_line number names = grind (arith, nat_tests, word-flat, form-flat)
+token-flat k text hash_line number names = grind (arith, nat_tests)

@@ -1,6 +1,6 @@
 -- The scrap that a production makes is braced.
-use Rattle.std.proofs.Common.{arith, ◌≡◌, ℕ, ◌+◌, ◌<◌, Bool, true, false, not, ◌&&◌, ◌||◌, ltb, Option, Some, None}
-use Rattle.std.proofs.Common.{List, [], get_or, map, refl, sym, ap, ◌∙◌, subst, zero-add}
+use Rattle.std.proofs.Common.{arith, ◌≡◌, ℕ, ◌+◌, ◌<◌, Bool, true, false, not, ◌&&◌, ◌||◌, Option, Some, None, List, []}
+use Rattle.std.proofs.Common.{get_or, map, refl, sym, ap, ◌∙◌, subst, zero-add}
 use Rattle.std.proofs.lemmas.Bool.Decides.{nat_tests}
 use Rattle.std.specs.List.{All}
 use Rattle.std.proofs.lemmas.Bool.{cases_lt, eqb-true, ltb-true}
@@ -93,11 +93,6 @@ module _ (row : Row) (scraps : List Scrap)
   admitted these k lt h = unless _ _ (every-cat (λ cat. not (in_set (test row k) cat) || these cat) h
       (get_or scraps k no_scrap).cat) (fits k lt)
 
-  quiet-scrap : (these : ℕ → Cat → Bool) (k : ℕ)
-      → (ltb k row.test_count && admits_only (these k) (test row k)) ≡ true
-      → these k (get_or scraps k no_scrap).cat ≡ true
-  quiet-scrap these k h = admitted (these k) k (ltb-true _ _ (both-left _ _ h)) (both-right _ _ h)
-
   abbrev pub ScrapStands : ℕ → ℕ → Type 0
   ScrapStands m k = StandsAt m (get_or scraps k no_scrap).tree (get_or scraps k no_scrap).left
       (get_or scraps k no_scrap).right
@@ -105,7 +100,7 @@ module _ (row : Row) (scraps : List Scrap)
   pub quiet-stands : (these : ℕ → Cat → Bool) (m : ℕ) (p : Piece)
       → AtScrap (λ k. these k (get_or scraps k no_scrap).cat ≡ true → ScrapStands m k) p
       → is_quiet these row (insertion_of p) ≡ true → Stands scraps m p
-  quiet-stands these m p at h = grind (arith, nat_tests, quiet-scrap, math-stands)
+  quiet-stands these m p at h = grind (arith, nat_tests, admitted, ltb-true, both-left, both-right, math-stands)
 
   -- a new scrap whose pieces can stand between braces
   pub new-holds : (ps : List Piece) → braces_pair 0 ps ≡ true → All (λ p. (m : ℕ) → Stands scraps m p) (between 0 ps)
@@ -140,15 +135,6 @@ module _ (row : Row) (scraps : List Scrap) (all : All IsBracedScrap scraps)
       quiet-stands row scraps fits (may_stand row.result) m (get_or ps i d) (clean-at m (get_or ps i d) (clean i d lt))
       (AllPass-from_list_all (λ p. is_quiet (may_stand row.result) row (insertion_of p)) ps h i d lt)
 
-  -- outside of braces
-  stands-outside : (p : Piece) → Stands scraps 0 p
-  stands-outside p = grind (arith, nat_tests, at-braced, math-stands)
-
-  -- where the result is calm
-  same-calm : (result : RowResult) (k : ℕ) → is_calm (result_at result (cats_of scraps)) ≡ true
-      → makes_calm result k (get_or scraps k no_scrap).cat ≡ true → is_calm (get_or scraps k no_scrap).cat ≡ true
-  same-calm result k calm h = grind (arith, nat_tests, eqb-true, other-one, cats-get)
-
   may-calm : (result : RowResult) → row.result ≡ result → is_calm (result_at result (cats_of scraps)) ≡ true
       → may_be_calm row result ≡ true
   may-calm (Is made) is calm = calm
@@ -161,8 +147,10 @@ module _ (row : Row) (scraps : List Scrap) (all : All IsBracedScrap scraps)
 
   calm-at : (m : ℕ) (p : Piece) → is_calm (result_at row.result (cats_of scraps)) ≡ true
       → AtScrap (λ k. makes_calm row.result k (get_or scraps k no_scrap).cat ≡ true → ScrapStands row scraps fits m k) p
-  calm-at m (ScrapOf k) calm = λ h. (at-braced scraps k all).calm (same-calm row.result k calm h) m
-  calm-at m (MathScrap k) calm = λ h. (at-braced scraps k all).calm (same-calm row.result k calm h) m
+  calm-at m (ScrapOf k) calm =
+      λ h. (at-braced scraps k all).calm (grind (arith, nat_tests, eqb-true, other-one, cats-get)) m
+  calm-at m (MathScrap k) calm =
+      λ h. (at-braced scraps k all).calm (grind (arith, nat_tests, eqb-true, other-one, cats-get)) m
   calm-at m _ calm = tt
 
   calm-stand : (ps : List Piece) → is_calm (result_at row.result (cats_of scraps)) ≡ true
@@ -186,8 +174,8 @@ module _ (row : Row) (scraps : List Scrap) (all : All IsBracedScrap scraps)
         (calm-stand ps c ok.calm) (result_at row.result (cats_of scraps)) (Some k) e;
   }
   new-by ps ok clean None e = record {
-    braced = (led 0 0 Maybe (map (joined_of scraps) ps) (pieces-lead scraps 0 0 0 ps refl ok.pair
-        (between-stand (between 0 ps) ok.held clean) (λ i d lt. stands-outside (get_or ps i d))) tt).tree;
+    braced = (led 0 0 Maybe (map (joined_of scraps) ps) (pieces-lead scraps 0 0 0 ps refl ok.pair (between-stand
+        (between 0 ps) ok.held clean) (λ i d lt. (grind (arith, nat_tests, at-braced, math-stands)))) tt).tree;
     calm = λ c. new-holds row scraps fits ps ok.pair (between-stand (between 0 ps) ok.held clean)
         (calm-stand ps c ok.calm) (result_at row.result (cats_of scraps)) None e;
   }

@@ -3,8 +3,7 @@ use Rattle.std.proofs.Common.{◌≡◌, ℕ, zero, suc, Bool, true, false, ◌|
 use Rattle.std.proofs.Common.{map, refl, ap, ◌∙◌, if◌then◌else◌, arith}
 use Rattle.cw_trees.specs.Flat.{Item, SourceItem, IdentItem, ReservedItem, SignItem, Open, Close, flat, is_run_sign}
 use Rattle.cw_trees.specs.Flat.{trimmed_items}
-use Rattle.cw_trees.specs.Printing.{backup_bytes, break_bytes, indent_bytes, indents, inner_run, opened, part_run}
-use Rattle.cw_trees.specs.Printing.{printed_from, run_bytes}
+use Rattle.cw_trees.specs.Printing.{indent_bytes, indents, opened, printed_from, run_bytes}
 use Rattle.cw_trees.specs.Tree.{Tree}
 use Rattle.cw_trees.specs.declared.Control.{Control}
 use Rattle.cw_brace_laws.specs.Bracing.{IsBraced, leads_on, sign_depth}
@@ -32,40 +31,16 @@ plain-append xs ys f g d = bytes-append xs ys d ∙ ap (λ o. leads_on o (bytes_
 
 -- ## Runs
 
-indent-plain : (c : Control) → ArePlain (indent_bytes c)
-indent-plain c d = grind (arith, nat_tests)
-
 indents-plain : (run : List Control) → ArePlain (indents run)
 indents-plain [] d = refl
-indents-plain (c ∷ run) d = plain-append (indent_bytes c) (indents run) (indent-plain c) (indents-plain run) d
-
-break-plain : (n : ℕ) → ArePlain (break_bytes n)
-break-plain n d = grind (arith, nat_tests)
-
-backup-plain : (run : List Control) → ArePlain (backup_bytes run)
-backup-plain run d = grind (arith, nat_tests)
-
-part-plain : (run : List Control) → ArePlain (part_run run)
-part-plain run = grind (arith, nat_tests, plain-append, indents-plain, break-plain, backup-plain)
-
-inner-plain : (run : List Control) → ArePlain (inner_run run)
-inner-plain run d = grind (arith, nat_tests)
+indents-plain (c ∷ run) d =
+    plain-append (indent_bytes c) (indents run) (λ d. grind (arith, nat_tests)) (indents-plain run) d
 
 run-plain : (inner : Bool) (run : List Control) → ArePlain (run_bytes inner run)
-run-plain true run = inner-plain run
-run-plain false run = part-plain run
+run-plain true run = λ d. grind (arith, nat_tests)
+run-plain false run = grind (arith, nat_tests, plain-append, indents-plain)
 
 -- ## Signs
-
--- a sign in no run leads where its bytes lead
-sign-leads : (c : Control) (d e : ℕ) → is_run_sign c ≡ false → sign_depth c d ≡ Some e
-    → bytes_depth (own_sign c) d ≡ Some e
-sign-leads c d e is h = grind (arith, nat_tests)
-
--- a sign of a run leads nowhere else
-run-leads : (c : Control) (d e : ℕ) (next : ℕ → Option ℕ) → is_run_sign c ≡ true
-    → leads_on (sign_depth c d) next ≡ Some e → next d ≡ Some e
-run-leads c d e next is h = grind (arith, nat_tests)
 
 -- ## Lists
 
@@ -107,12 +82,11 @@ printed-leads inner depth run (SignItem c ∷ items) d e h =
           | None ↦ run_bytes (inner || ltb 0 depth) run ++ (own_sign c ++ printed_from inner depth []
               (map sign_alone items))
         ]) d ≡ Some e
-    go true is rec = rec (run ++ c ∷ []) d (run-leads c d e (items_depth items) is h)
+    go true is rec = rec (run ++ c ∷ []) d (grind (arith, nat_tests))
     go false is rec =
         let w = by-way (sign_depth c d) (items_depth items) e h in
-        three-lead (run_bytes (inner || ltb 0 depth) run) (own_sign c)
-        (printed_from inner depth [] (map sign_alone items)) d w.depth e (run-plain (inner || ltb 0 depth) run)
-        (sign-leads c d w.depth is w.first) (rec [] w.depth w.second)
+        three-lead (run_bytes (inner || ltb 0 depth) run) (own_sign c) (printed_from inner depth [] (map sign_alone
+        items)) d w.depth e (run-plain (inner || ltb 0 depth) run) (grind (arith, nat_tests)) (rec [] w.depth w.second)
 
 pub prints-braced : (t : Tree) → IsBraced t → PrintsBraced t
 prints-braced t h =

@@ -1,6 +1,6 @@
 -- One production keeps the braces of all scraps, and so do all of them.
-use Rattle.std.proofs.Common.{◌≡◌, ℕ, zero, suc, ◌+◌, ◌<◌, Bool, true, false, ◌&&◌, Option, Some, None, List, [], ◌∷◌}
-use Rattle.std.proofs.Common.{◌++◌, get_or, take, drop, set, refl, sym, ap, ◌∙◌, subst, arith, if◌then◌else◌}
+use Rattle.std.proofs.Common.{◌≡◌, ℕ, zero, suc, ◌+◌, ◌<◌, Bool, true, false, Option, Some, None, List, [], ◌∷◌, ◌++◌}
+use Rattle.std.proofs.Common.{get_or, take, drop, set, refl, sym, ap, ◌∙◌, subst, arith, if◌then◌else◌}
 use Rattle.std.specs.List.{All, list_all}
 use Rattle.std.proofs.lemmas.List.Elements.{All-append, All-take, All-drop, All-set, All-map, All-cons}
 use Rattle.cw_base.proofs.TestLaws.{both-left, both-right}
@@ -17,14 +17,14 @@ use Rattle.cw_table.specs.Braces.{between, row_is_braced}
 use Rattle.cw_table.specs.Fitting.{first_of, row_fits}
 use Rattle.cw_table.specs.Normal.{Place, Nowhere, At, next_place, normal, steps, weight}
 use Rattle.cw_table.specs.Productions.{productions}
-use Rattle.cw_table.specs.Rewriting.{State, cats_of, is_bare_name, named_right, named_scrap, new_scrap, reserved_at}
-use Rattle.cw_table.specs.Rewriting.{reserved_in, rewrite, rewrite_from, row_pieces, search_in, with_cat}
+use Rattle.cw_table.specs.Rewriting.{State, cats_of, named_right, named_scrap, new_scrap, reserved_at, reserved_in}
+use Rattle.cw_table.specs.Rewriting.{rewrite, rewrite_from, row_pieces, search_in, with_cat}
 use Rattle.cw_table.specs.Rows.{test, tests_of}
-use Rattle.cw_table.specs.Sound.{IsSound, is_exp, row_is_sound}
+use Rattle.cw_table.specs.Sound.{IsSound, row_is_sound}
 use Rattle.cw_table.specs.declared.types.Piece.{Piece}
 use Rattle.cw_table.specs.declared.types.Row.{Row}
 use Rattle.cw_trees.specs.Joining.{Scrap, no_scrap}
-use Rattle.cw_trees.specs.Tree.{Search, Found as FoundName, bare_name}
+use Rattle.cw_trees.specs.Tree.{Search, Found as FoundName}
 use Rattle.cw_brace_laws.specs.Bracing.{HoldsNoText, IsBracedScrap}
 use Rattle.cw_brace_laws.specs.Operators.{HasCleanOperators, IsCleanOperator, PutsCleanOperator, PutsCleanOperators}
 use Rattle.cw_brace_laws.proofs.Depths.{reserve-depth}
@@ -68,15 +68,8 @@ module _ (P : Scrap → Type 0) (none : P no_scrap) (reserves : (s : Scrap) → 
   named-keeps (Some k) scraps all = All-set P scraps k (reserved_in (get_or scraps k no_scrap))
       (reserves (get_or scraps k no_scrap) (all-at P none scraps k all)) all
 
-  scrap-keeps : (b : Bool) (name : ℕ) (s : Scrap) → (is_exp s.cat && is_bare_name name (bare_name s.tree)) ≡ b → P s
-      → P (named_scrap name s)
-  scrap-keeps b name s e h = grind (arith, nat_tests)
-
   right-keeps : (found : Search) (scraps : List Scrap) → All P scraps → All P (named_right found scraps)
-  right-keeps (FoundName name) scraps all = All-map P (named_scrap name) scraps
-      (λ k d h. scrap-keeps (is_exp (get_or scraps k d).cat && is_bare_name name (bare_name (get_or scraps k d).tree))
-      name
-      (get_or scraps k d) refl (all k d h))
+  right-keeps (FoundName name) scraps all = All-map P (named_scrap name) scraps (λ k d h. (grind (arith, nat_tests)))
   right-keeps _ _ all = all
 
   pub rewritten-keeps : (flags : Flags) (row : Row) (scraps : List Scrap) → All P scraps

@@ -1,6 +1,6 @@
 -- The tree of a translation is braced, where the operators of all texts that ended hold no text.
-use Rattle.std.proofs.Common.{arith, ◌≡◌, ℕ, Bool, true, false, Option, Some, None, List, [], ◌∷◌, ◌++◌, get_or, refl}
-use Rattle.std.proofs.Common.{ap, ◌∙◌}
+use Rattle.std.proofs.Common.{arith, ◌≡◌, ℕ, true, false, Option, Some, None, List, [], ◌∷◌, ◌++◌, get_or, refl, ap}
+use Rattle.std.proofs.Common.{◌∙◌}
 use Rattle.std.proofs.lemmas.Bool.Decides.{nat_tests}
 use Rattle.std.specs.List.{All, list_all}
 use Rattle.std.proofs.lemmas.List.Elements.{All-append, All-cons, All-head, All-nil, All-tail}
@@ -22,16 +22,16 @@ use Rattle.cw_table.specs.Sound.{row_is_sound}
 use Rattle.cw_tokens.specs.declared.token.Token.{Token}
 use Rattle.cw_translator.specs.Translating.{CommentItem, Ended, InnerText, Known, Made, NameTexts, Piece, begin, beside}
 use Rattle.cw_translator.specs.Translating.{comment_rest, comment_scrap, dead, dollared, end_of, first_word, form_made}
-use Rattle.cw_translator.specs.Translating.{group_made, head_made, headed_made, is_macro, later_words, leaf_of_name}
-use Rattle.cw_translator.specs.Translating.{leaf_scrap, made, name_in_text, names_in_text, no_name, nothing, one_scrap}
-use Rattle.cw_translator.specs.Translating.{plain_text, sign_behind, spelled, state_in, texts_made, texts_named}
-use Rattle.cw_translator.specs.Translating.{token_made, translated, with_names, word_tokens}
+use Rattle.cw_translator.specs.Translating.{group_made, head_made, headed_made, later_words, leaf_of_name, leaf_scrap}
+use Rattle.cw_translator.specs.Translating.{made, name_in_text, names_in_text, no_name, nothing, one_scrap, plain_text}
+use Rattle.cw_translator.specs.Translating.{sign_behind, spelled, state_in, texts_made, texts_named, token_made}
+use Rattle.cw_translator.specs.Translating.{translated, with_names, word_tokens}
 use Rattle.cw_trees.specs.Joining.{Scrap}
 use Rattle.cw_trees.specs.Tree.{Tree, Empty, Then, Inner, Sign}
 use Rattle.cw_brace_laws.specs.Bracing.{IsBraced, depth_of, leads_on, outside}
 use Rattle.cw_brace_laws.specs.Operators.{HasCleanOperators}
 use Rattle.cw_brace_laws.proofs.CleanScraps.{IsLeafScrap, is_clean, leaf-is-braced}
-use Rattle.cw_brace_laws.proofs.Leaves.{AreFlat, FormBraced, IsFlat, flat-append, flat-braced, token-braced, token-flat}
+use Rattle.cw_brace_laws.proofs.Leaves.{AreFlat, FormBraced, flat-append, flat-braced, token-braced, token-flat}
 use Rattle.cw_brace_laws.proofs.Wholes.{reduction-braced}
 use Rattle.cw_base.specs.declared.category.Cat.TheVariants as cat
 use Rattle.cw_rules.specs.declared.codes.Code.TheVariants as code
@@ -99,11 +99,6 @@ MakesNames C name = (number : ℕ) (known : Known) → Makes C known (name numbe
 nothing-made : (C : State → Type 0) (known : Known) → Makes C known (nothing known)
 nothing-made C known clean = record { clean = clean; scraps = All-nil IsLeafScrap; items = All-nil ItemBraced }
 
--- with these names behind it
-nothing-named : (C : State → Type 0) (known : Known) (names : List Entry)
-    → Makes C known (nothing (with_names names known))
-nothing-named C known names clean = grind (arith, nat_tests)
-
 scrap-named : (C : State → Type 0) (known : Known) (names : List Entry) (scrap : Scrap) → IsLeafScrap scrap
     → Makes C known (one_scrap scrap (with_names names known))
 scrap-named C known names scrap h clean = grind (arith, nat_tests, one)
@@ -124,13 +119,10 @@ beside-made C known a b first second clean =
 dollared-flat : (tokens : List Token) → AreFlat tokens → AreFlat (dollared tokens)
 dollared-flat tokens all = grind (arith, nat_tests, flat-append)
 
-name-flat : (b : Bool) (word : Token) → is_macro word ≡ b → IsFlat word → AreFlat (name_in_text word)
-name-flat b word e h = grind (arith, nat_tests, dollared-flat)
-
 names-flat : (words : List Token) → AreFlat words → AreFlat (names_in_text words)
 names-flat [] all = tt
-names-flat (word ∷ words) all = flat-append (name_in_text word) (names_in_text words)
-    (name-flat (is_macro word) word refl all.0) (names-flat words all.1)
+names-flat (word ∷ words) all = flat-append
+    (name_in_text word) (names_in_text words) (grind (arith, nat_tests, dollared-flat)) (names-flat words all.1)
 
 spelled-flat : (words : List Seen) (names : List Entry) → AreFlat (spelled words names).tokens
 spelled-flat [] names = tt
@@ -141,9 +133,6 @@ spelled-flat (word ∷ words) names = flat-append (word_tokens word names)
 
 dead-braced : (number : ℕ) (tokens : List Token) → AreFlat tokens → IsLeafScrap (leaf_scrap (dead number tokens))
 dead-braced number tokens all = loud (leaf_scrap (dead number tokens)) refl (flat-braced tokens all)
-
-break-flat : AreFlat (token.Control control.OptionalBreak ∷ [])
-break-flat = ((λ rest. refl), tt)
 
 module _ (sound : list_all row_is_sound productions ≡ true) (braced : list_all row_is_braced productions ≡ true)
     (flags : Flags) (C : State → Type 0)
@@ -163,7 +152,7 @@ module _ (sound : list_all row_is_sound productions ≡ true) (braced : list_all
 
   form-made : (o : Option LeafForm) (known : Known) (names : List Entry) → FormBraced o
       → Makes C known (form_made o (with_names names known))
-  form-made None known names h = nothing-named C known names
+  form-made None known names h = λ clean. grind (arith, nat_tests)
   form-made (Some form) known names h = scrap-named C known names (leaf_scrap form) h
 
   token-made : (name : ℕ → Known → Made) → MakesNames C name → (k : TokKind) (t : Seen) (known : Known)
@@ -212,18 +201,14 @@ module _ (sound : list_all row_is_sound productions ≡ true) (braced : list_all
 
   -- ## Section names
 
-  plain-ends : (answers : List Answer) (known : Known) → AreClean C (plain_text flags answers known).known
-      → Ends C known (plain_text flags answers known)
-  plain-ends answers known = end-made known (made flags no_name (nest answers) known)
-      (nest-made no_name (λ number k. nothing-made C k) (nest answers) known)
-
   texts-end : (texts : List (List Answer)) (behind : Tree) (known : Known) → IsBraced behind
       → AreClean C (texts_made flags texts behind known).known
       → Ends C known (texts_made flags texts behind known)
   texts-end [] behind known h clean = record { clean = clean; tree = h }
   texts-end (text ∷ texts) behind known h clean =
       let more = texts-end texts behind (plain_text flags text known).known h clean in
-      let here = plain-ends text known more.clean in
+      let here = ((end-made known (made flags no_name (nest text) known)
+      (nest-made no_name (λ number k. nothing-made C k) (nest text) known)) more.clean) in
       record {
         clean = here.clean;
         tree = inner-braced (plain_text flags text known).tree (Then (Sign control.NameText)
@@ -244,13 +229,12 @@ module _ (sound : list_all row_is_sound productions ≡ true) (braced : list_all
 
   head-made : (named : NameTexts) (h : Head) (known : Known) → Makes C known (head_made flags named h known)
   head-made named Headless known = nothing-made C known
-  head-made named (Silent words) known = nothing-named C known (spelled words known.names).names
+  head-made named (Silent words) known = λ clean. grind (arith, nat_tests)
   head-made named (Macro number words) known =
       let p = spelled words known.names in
-      scrap-named C known p.names _ (dead-braced number
-      (dollared p.tokens ++ token.Control control.OptionalBreak ∷ [])
+      scrap-named C known p.names _ (dead-braced number (dollared p.tokens ++ token.Control control.OptionalBreak ∷ [])
       (flat-append (dollared p.tokens) (token.Control control.OptionalBreak ∷ [])
-      (dollared-flat p.tokens (spelled-flat words known.names)) break-flat))
+      (dollared-flat p.tokens (spelled-flat words known.names)) (((λ rest. refl), tt))))
   head-made named (Format number words) known =
       let p = spelled (first_word words) known.names in
       let q = spelled (later_words words) p.names in

@@ -3,25 +3,20 @@ use Rattle.std.proofs.Common.{◌≡◌, true, List, [], ◌∷◌, refl, arith}
 use Rattle.std.specs.List.{All, list_all}
 use Rattle.std.proofs.lemmas.List.Elements.{All-head, All-tail}
 use Rattle.cw_base.specs.declared.flags.Flags.{Flags}
-use Rattle.cw_base.specs.declared.mode.MathMode.{MathMode}
 use Rattle.cw_table.specs.Braces.{row_is_braced}
 use Rattle.cw_table.specs.Normal.{normal}
 use Rattle.cw_table.specs.Productions.{productions}
 use Rattle.cw_table.specs.Rewriting.{State}
 use Rattle.cw_table.specs.Sound.{row_is_sound}
-use Rattle.cw_trees.specs.Joining.{Scrap, blank_and_whole, dollar_before, scrap_in_text, whole}
+use Rattle.cw_trees.specs.Joining.{Scrap, blank_and_whole, scrap_in_text, whole}
 use Rattle.cw_trees.specs.Tree.{Tree}
-use Rattle.cw_brace_laws.specs.Bracing.{IsBraced, IsBracedScrap, depth_of}
+use Rattle.cw_brace_laws.specs.Bracing.{IsBraced, IsBracedScrap}
 use Rattle.cw_brace_laws.specs.Operators.{HasCleanOperators}
 use Rattle.cw_brace_laws.proofs.Productions.{normal-keeps}
 use Rattle.std.proofs.lemmas.Bool.Decides.{nat_tests}
 
--- a dollar stands outside of braces
-dollar-depth : (mode : MathMode) (tree : Tree) → depth_of (dollar_before mode tree) 0 ≡ depth_of tree 0
-dollar-depth mode tree = grind (arith, nat_tests)
-
 in_text-braced : (s : Scrap) (rest : Tree) → IsBraced s.tree → IsBraced rest → IsBraced (scrap_in_text s rest)
-in_text-braced s rest here later = grind (arith, nat_tests, dollar-depth)
+in_text-braced s rest here later = grind (arith, nat_tests)
 
 blank-braced : (scraps : List Scrap) → All IsBracedScrap scraps → IsBraced (blank_and_whole scraps)
 blank-braced [] all = refl

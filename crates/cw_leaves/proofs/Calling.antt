@@ -1,20 +1,13 @@
 -- Names are told apart by their entries.
-use Rattle.std.proofs.Common.{◌≡◌, ℕ, zero, suc, true, false, ◌&&◌, nat_eq, eqb, slice_get, Option, List, [], ◌∷◌, refl}
-use Rattle.std.proofs.Common.{sym, ◌∙◌, ap, arith}
+use Rattle.std.proofs.Common.{◌≡◌, ℕ, zero, suc, true, false, nat_eq, eqb, slice_get, List, [], ◌∷◌, refl, sym, ◌∙◌}
+use Rattle.std.proofs.Common.{arith}
 use Rattle.std.specs.List.{AllByRecursion}
 use Rattle.std.proofs.lemmas.Map.Keys.{IsDistinct-head, IsDistinct-tail}
 use Rattle.std.specs.Cmp.Lexicographic.{pointwise}
 use Rattle.std.proofs.Math.Dec.{eqb-suc-suc, eqb-suc-zero, eqb-zero-suc}
 use Rattle.std.proofs.lemmas.Cmp.{nat_list_eq_equiv}
-use Rattle.cw_names.specs.declared.entry.EntryKind.{EntryKind}
-use Rattle.cw_names.specs.Names.{Entry, same_kind, is_entry, AreDistinct}
-use Rattle.cw_leaves.specs.LeafLines.{Called, Entered, called_by, called, same_called}
-
-kind-self : (k : EntryKind) → same_kind k k ≡ true
-kind-self k = grind arith
-
-kind-flips : (k l : EntryKind) → same_kind k l ≡ same_kind l k
-kind-flips k l = grind arith
+use Rattle.cw_names.specs.Names.{Entry, is_entry, AreDistinct}
+use Rattle.cw_leaves.specs.LeafLines.{Entered, called_by, called, same_called}
 
 text-self : (t : List ℕ) → pointwise nat_eq t t ≡ true
 text-self t = nat_list_eq_equiv.refl t
@@ -22,15 +15,8 @@ text-self t = nat_list_eq_equiv.refl t
 text-flips : (t u : List ℕ) → pointwise nat_eq t u ≡ pointwise nat_eq u t
 text-flips t u = nat_list_eq_equiv.symm t u
 
-self : (e : Entry) → is_entry e.kind e.text e ≡ true
-self e = ap (λ b. b && pointwise nat_eq e.text e.text) (kind-self e.kind) ∙ text-self e.text
-
 flips : (e d : Entry) → is_entry e.kind e.text d ≡ is_entry d.kind d.text e
-flips e d = grind (arith, nat_eq, kind-flips, text-flips)
-
-shifted : (a b : ℕ) (o p : Option Entry)
-    → same_called (called_by (suc a) o) (called_by (suc b) p) ≡ same_called (called_by a o) (called_by b p)
-shifted a b o p = grind (arith, eqb-suc-suc)
+flips e d = grind (arith, nat_eq, text-flips)
 
 apart : (e : Entry) (es : List Entry) (b n : ℕ) → AllByRecursion (λ d. is_entry e.kind e.text d ≡ false) es
     → same_called (Entered e.kind e.text) (called_by n (slice_get es b)) ≡ false
@@ -44,18 +30,13 @@ eqb-flips zero (suc n) = eqb-zero-suc n ∙ sym (eqb-suc-zero n)
 eqb-flips (suc m) zero = eqb-suc-zero m ∙ sym (eqb-zero-suc m)
 eqb-flips (suc m) (suc n) = eqb-suc-suc m n ∙ (eqb-flips m n ∙ sym (eqb-suc-suc n m))
 
-called-flips : (c d : Called) → same_called c d ≡ same_called d c
-called-flips c d = grind (arith, nat_eq, kind-flips, text-flips, eqb-flips)
-
 pub called-apart : (names : List Entry) → AreDistinct names → (a b : ℕ)
     → same_called (called names a) (called names b) ≡ eqb a b
 called-apart [] distinct a b = refl
-called-apart (e ∷ es) distinct zero zero = self e
+called-apart (e ∷ es) distinct zero zero = grind (arith, nat_eq, text-self)
 called-apart (e ∷ es) distinct zero (suc b) =
     apart e es b (suc b) (IsDistinct-head (λ d o. is_entry d.kind d.text o) e es distinct) ∙ sym (eqb-zero-suc b)
-called-apart (e ∷ es) distinct (suc a) zero =
-    called-flips (called_by (suc a) (slice_get es a)) (Entered e.kind e.text)
+called-apart (e ∷ es) distinct (suc a) zero = (grind (arith, nat_eq, text-flips, eqb-flips))
     ∙ (apart e es a (suc a) (IsDistinct-head (λ d o. is_entry d.kind d.text o) e es distinct) ∙ sym (eqb-suc-zero a))
-called-apart (e ∷ es) distinct (suc a) (suc b) =
-    shifted a b (slice_get es a) (slice_get es b)
+called-apart (e ∷ es) distinct (suc a) (suc b) = (grind (arith, eqb-suc-suc))
     ∙ (called-apart es (IsDistinct-tail (λ d o. is_entry d.kind d.text o) e es distinct) a b ∙ sym (eqb-suc-suc a b))

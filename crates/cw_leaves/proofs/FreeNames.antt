@@ -4,82 +4,43 @@ use Rattle.std.proofs.Common.{drop, get_or, if◌then◌else◌, arith}
 use Rattle.std.proofs.lemmas.List.{map-append, map-set}
 use Rattle.std.specs.List.{take-map, drop-map}
 use Rattle.std.proofs.Math.ListN.{get_or-map}
-use Rattle.cw_base.specs.declared.category.Cat.{Cat}
 use Rattle.cw_base.specs.declared.category.Cat.TheVariants.{RawInt}
 use Rattle.cw_base.specs.declared.flags.Flags.{Flags}
 use Rattle.cw_table.specs.declared.types.Piece.{Piece}
 use Rattle.cw_table.specs.declared.types.Row.{Row}
 use Rattle.cw_table.specs.Normal.{Place, Nowhere, At, least_place, Production}
-use Rattle.cw_leaves.specs.Sights.{Heard, behind, Sight, no_sight, seen_cats, heard_in, heard_all, seen_as, seen_from}
-use Rattle.cw_leaves.specs.Sights.{seen_new, seen_reserved, seen_reserved_at, is_same, seen_named, seen_named_by}
-use Rattle.cw_leaves.specs.Sights.{names_at, seen_rewritten_from, seen_rewritten, seen_rank, seen_weight, seen_log_of}
-use Rattle.cw_leaves.specs.Sights.{seen_log, renamed_heard, renamed_bare, renamed, without_first}
-
-behind-renamed : {M N : Type 0} (f : M → N) (names : List M) (stops : Bool) (rest : Heard M)
-    → renamed_heard f (behind names stops rest) ≡ behind (map f names) stops (renamed_heard f rest)
-behind-renamed f names stops rest = grind (arith, map-append)
+use Rattle.cw_leaves.specs.Sights.{Sight, no_sight, seen_cats, heard_all, seen_as, seen_new, seen_reserved}
+use Rattle.cw_leaves.specs.Sights.{seen_reserved_at, seen_named, seen_named_by, names_at, seen_rewritten_from}
+use Rattle.cw_leaves.specs.Sights.{seen_rewritten, seen_weight, seen_log_of, seen_log, renamed_heard, renamed}
+use Rattle.cw_leaves.specs.Sights.{without_first}
 
 get-renamed : {M N : Type 0} (f : M → N) (ss : List (Sight M)) (k : ℕ)
     → get_or (map (renamed f) ss) k no_sight ≡ renamed f (get_or ss k no_sight)
 get-renamed f ss k = get_or-map (renamed f) ss k no_sight
 
-in-renamed : {M N : Type 0} (f : M → N) (ss : List (Sight M)) (p : Piece)
-    → renamed_heard f (heard_in ss p) ≡ heard_in (map (renamed f) ss) p
-in-renamed f ss p = grind (arith, get-renamed)
-
 all-renamed : {M N : Type 0} (f : M → N) (ss : List (Sight M)) (ps : List Piece)
     → renamed_heard f (heard_all ss ps) ≡ heard_all (map (renamed f) ss) ps
 all-renamed f ss [] = refl
-all-renamed f ss (p ∷ ps) = grind (arith, all-renamed f ss ps, behind-renamed, in-renamed)
+all-renamed f ss (p ∷ ps) = grind (arith, all-renamed f ss ps, map-append, get-renamed)
 
 cats-renamed : {M N : Type 0} (f : M → N) (ss : List (Sight M)) → seen_cats (map (renamed f) ss) ≡ seen_cats ss
 cats-renamed f [] = refl
 cats-renamed f (s ∷ ss) = ap (λ cs. s.cat ∷ cs) (cats-renamed f ss)
 
-from-renamed : {M N : Type 0} (f : M → N) (c : Cat) (o : Option ℕ) (ps : List Piece) (ss : List (Sight M))
-    → renamed f (seen_from c o ps ss) ≡ seen_from c o ps (map (renamed f) ss)
-from-renamed f c o ps ss = grind (arith, get-renamed, all-renamed)
-
-new-renamed : {M N : Type 0} (f : M → N) (flags : Flags) (r : Row) (ss : List (Sight M))
-    → renamed f (seen_new flags r ss) ≡ seen_new flags r (map (renamed f) ss)
-new-renamed f flags r ss = grind (arith, from-renamed, cats-renamed)
-
 without-renamed : {M N : Type 0} (f : M → N) (names : List M)
     → map f (without_first names) ≡ without_first (map f names)
 without-renamed f names = grind arith
 
-reserved-renamed : {M N : Type 0} (f : M → N) (s : Sight M) → renamed f (seen_reserved s) ≡ seen_reserved (renamed f s)
-reserved-renamed f s = grind (arith, without-renamed)
-
-reserved-at-renamed : {M N : Type 0} (f : M → N) (o : Option ℕ) (ss : List (Sight M))
-    → map (renamed f) (seen_reserved_at o ss) ≡ seen_reserved_at o (map (renamed f) ss)
-reserved-at-renamed f o ss = grind (arith, map-set, reserved-renamed, get-renamed)
-
-is-renamed : {M N : Type 0} (same : M → M → Bool) (other : N → N → Bool) (f : M → N)
-    → ((a b : M) → other (f a) (f b) ≡ same a b) → (n : M) (o : Option M)
-    → is_same same n o ≡ is_same other (f n) (renamed_bare f o)
-is-renamed same other f free n o = grind arith
-
 turned-renamed : {M N : Type 0} (f : M → N) (b : Bool) (s : Sight M)
     → renamed f (if b then seen_as RawInt (seen_reserved s) else s)
     ≡ (if b then seen_as RawInt (seen_reserved (renamed f s)) else renamed f s)
-turned-renamed f b s = grind (arith, reserved-renamed)
-
-named-renamed : {M N : Type 0} (same : M → M → Bool) (other : N → N → Bool) (f : M → N)
-    → ((a b : M) → other (f a) (f b) ≡ same a b) → (n : M) (s : Sight M)
-    → renamed f (seen_named same n s) ≡ seen_named other (f n) (renamed f s)
-named-renamed same other f free n s = grind (arith, turned-renamed, is-renamed)
+turned-renamed f b s = grind (arith, without-renamed)
 
 all-named-renamed : {M N : Type 0} (same : M → M → Bool) (other : N → N → Bool) (f : M → N)
     → ((a b : M) → other (f a) (f b) ≡ same a b) → (n : M) (ss : List (Sight M))
     → map (renamed f) (map (seen_named same n) ss) ≡ map (seen_named other (f n)) (map (renamed f) ss)
 all-named-renamed same other f free n [] = refl
-all-named-renamed same other f free n (s ∷ ss) = grind (arith, all-named-renamed same other f free n ss, named-renamed)
-
-named-by-renamed : {M N : Type 0} (same : M → M → Bool) (other : N → N → Bool) (f : M → N)
-    → ((a b : M) → other (f a) (f b) ≡ same a b) → (names : List M) (ss : List (Sight M))
-    → map (renamed f) (seen_named_by same names ss) ≡ seen_named_by other (map f names) (map (renamed f) ss)
-named-by-renamed same other f free names ss = grind (arith, all-named-renamed)
+all-named-renamed same other f free n (s ∷ ss) = grind (arith, all-named-renamed same other f free n ss, turned-renamed)
 
 names-at-renamed : {M N : Type 0} (f : M → N) (o : Option ℕ) (ss : List (Sight M))
     → map f (names_at o ss) ≡ names_at o (map (renamed f) ss)
@@ -91,18 +52,16 @@ rewritten-from-renamed : {M N : Type 0} (same : M → M → Bool) (other : N →
 rewritten-from-renamed {M} {N} same other f free flags r ss =
     let named : List (Sight M) = seen_reserved_at r.action.reserve ss in
     let seen : List (Sight N) = seen_reserved_at r.action.reserve (map (renamed f) ss) in
-    let is : map (renamed f) named ≡ seen = reserved-at-renamed f r.action.reserve ss in
+    let is : map (renamed f) named ≡ seen = (grind (arith, map-set, without-renamed, get-renamed)) in
     let later : List (Sight M) = drop (r.offset + r.replaced) named in
     let names : List M = names_at r.action.reserve ss in
     map-append (renamed f) (take r.offset named) (seen_new flags r named ∷ seen_named_by same names later)
     ∙ (ap (λ xs. xs ++ renamed f (seen_new flags r named) ∷ map (renamed f) (seen_named_by same names later))
-    (sym (take-map (renamed f) r.offset named) ∙ ap (take r.offset) is)
-    ∙ (ap (λ x. take r.offset seen ++ x ∷ map (renamed f) (seen_named_by same names later))
-    (new-renamed f flags r named ∙ ap (seen_new flags r) is)
-    ∙ ap (λ xs. take r.offset seen ++ seen_new flags r seen ∷ xs)
-    (named-by-renamed same other f free names later
-    ∙ (ap (λ ns. seen_named_by other ns (map (renamed f) later)) (names-at-renamed f r.action.reserve ss)
-    ∙ ap (seen_named_by other (names_at r.action.reserve (map (renamed f) ss)))
+    (sym (take-map (renamed f) r.offset named) ∙ ap (take r.offset) is) ∙ (ap (λ x. take r.offset seen
+    ++ x ∷ map (renamed f) (seen_named_by same names later)) ((grind (arith, get-renamed, all-renamed, cats-renamed))
+    ∙ ap (seen_new flags r) is) ∙ ap (λ xs. take r.offset seen ++ seen_new flags r seen ∷ xs)
+    ((grind (arith, all-named-renamed)) ∙ (ap (λ ns. seen_named_by other ns (map (renamed f) later))
+    (names-at-renamed f r.action.reserve ss) ∙ ap (seen_named_by other (names_at r.action.reserve (map (renamed f) ss)))
     (sym (drop-map (renamed f) (r.offset + r.replaced) named) ∙ ap (drop (r.offset + r.replaced)) is)))))
 
 rewritten-renamed : {M N : Type 0} (same : M → M → Bool) (other : N → N → Bool) (f : M → N)
@@ -116,12 +75,9 @@ rewritten-renamed same other f free flags r place ss =
     (rewritten-from-renamed same other f free flags r (drop place ss)
     ∙ ap (seen_rewritten_from other flags r) (sym (drop-map (renamed f) place ss))))
 
-rank-renamed : {M N : Type 0} (f : M → N) (c : Cat) (b : Option M) → seen_rank c (renamed_bare f b) ≡ seen_rank c b
-rank-renamed f c b = grind arith
-
 weight-renamed : {M N : Type 0} (f : M → N) (ss : List (Sight M)) → seen_weight (map (renamed f) ss) ≡ seen_weight ss
 weight-renamed f [] = refl
-weight-renamed f (s ∷ ss) = grind (arith, weight-renamed f ss, rank-renamed)
+weight-renamed f (s ∷ ss) = grind (arith, weight-renamed f ss)
 
 log-renamed-of : {M N : Type 0} (same : M → M → Bool) (other : N → N → Bool) (f : M → N)
     → ((a b : M) → other (f a) (f b) ≡ same a b) → (rows : List Row) (flags : Flags) (n : ℕ) (ss : List (Sight M))

@@ -1,29 +1,20 @@
 -- A leaf line tells all that is seen of its scrap.
-use Rattle.std.proofs.Common.{◌≡◌, ℕ, suc, Bool, false, slice_get, Option, Some, List, [], ◌∷◌, refl, sym, ◌∙◌, ap, map}
-use Rattle.std.proofs.Common.{All, arith}
+use Rattle.std.proofs.Common.{◌≡◌, ℕ, suc, slice_get, Option, List, [], ◌∷◌, refl, sym, ◌∙◌, ap, map, All, arith}
 use Rattle.cw_names.specs.declared.entry.EntryKind.TheVariants.{Ident as ident_kind}
 use Rattle.cw_names.specs.Names.{Entry}
-use Rattle.cw_trees.specs.declared.Control.{Control}
-use Rattle.cw_trees.specs.Tree.{Leaf, Sign, Tree, Empty, Then, Sub, Inner, search_leaf, bare_name, search_sign}
+use Rattle.cw_trees.specs.Tree.{Tree, Empty, Then, Sub, Inner}
 use Rattle.cw_trees.specs.Joining.{Scrap}
-use Rattle.cw_leaves.specs.Sights.{Heard, silence, told_by, heard, sight, renamed, renamed_bare}
-use Rattle.cw_leaves.specs.LeafLines.{said_by, said, kind_by, text_by, text_at, leaf_line, Entered, called_by, called}
-use Rattle.cw_leaves.specs.LeafLines.{bare_in, stops_in, line_sight, IsClear, HasNoMark, IsIdentEntry, IsTold}
-use Rattle.cw_leaves.specs.LeafLines.{log_of_lines}
+use Rattle.cw_leaves.specs.Sights.{heard, sight, renamed}
+use Rattle.cw_leaves.specs.LeafLines.{said, text_by, text_at, leaf_line, Entered, called_by, called, line_sight}
+use Rattle.cw_leaves.specs.LeafLines.{HasNoMark, IsIdentEntry, IsTold, log_of_lines}
 use Rattle.cw_leaves.specs.LogLaws.{LinesHaveLog, SameLinesSameLog}
 use Rattle.cw_leaves.proofs.SightSteps.{log-seen}
 use Rattle.cw_leaves.proofs.FreeNames.{log-renamed}
 use Rattle.cw_leaves.proofs.Calling.{called-apart}
 
-sign-clear : (c : Control) → IsClear (Sign c) → told_by (search_sign c) ≡ silence
-sign-clear c h = grind arith
-
-leaf-clear : (l : Leaf) → IsClear l → told_by (search_leaf l) ≡ told_by (said_by l)
-leaf-clear l h = grind (arith, sign-clear)
-
 heard-said : (t : Tree) → HasNoMark t → heard t ≡ said t
 heard-said Empty h = refl
-heard-said (Then leaf rest) h = grind (arith, heard-said rest h.1, leaf-clear)
+heard-said (Then leaf rest) h = grind (arith, heard-said rest h.1)
 heard-said (Sub tree rest) h = grind (arith, heard-said tree h.0, heard-said rest h.1)
 heard-said (Inner tree rest) h = heard-said rest h
 
@@ -38,26 +29,9 @@ all-called names (n ∷ ns) all =
     ap (λ c. c ∷ map (called names) ns) (one-called n (slice_get names n) (all 0 n (omega arith)))
     ∙ ap (λ cs. Entered ident_kind (text_at names n) ∷ cs) (all-called names ns (λ i d lt. all (suc i) d (omega arith)))
 
--- a tree that is one identifier says it alone
-bare-said : (t : Tree) (n : ℕ) → bare_name t ≡ Some n → said t ≡ record { names = n ∷ []; stops = false }
-bare-said t n e = grind arith
-
-bare-line : (names : List Entry) (b : Option ℕ) (ns : List ℕ) (stops : Bool)
-    → ((n : ℕ) → b ≡ Some n
-    → ◌≡◌ {A = Heard ℕ} (record { names = ns; stops = stops }) (record { names = n ∷ []; stops = false }))
-    → map (called names) ns ≡ map (Entered ident_kind) (map (text_at names) ns)
-    → renamed_bare (called names) b ≡ bare_in (kind_by b stops ns) (map (text_at names) ns)
-bare-line names b ns stops one all = grind arith
-
-stops-line : (b : Option ℕ) (ns : List ℕ) (stops : Bool)
-    → ((n : ℕ) → b ≡ Some n
-    → ◌≡◌ {A = Heard ℕ} (record { names = ns; stops = stops }) (record { names = n ∷ []; stops = false }))
-    → stops ≡ stops_in (kind_by b stops ns)
-stops-line b ns stops one = grind arith
-
 pub sight-line : (names : List Entry) (s : Scrap) → IsTold names s
     → renamed (called names) (sight s) ≡ line_sight (leaf_line names s)
-sight-line names s told = grind (arith, heard-said, bare-line, bare-said, all-called, stops-line)
+sight-line names s told = grind (arith, heard-said, all-called)
 
 sights-lines : (names : List Entry) (ss : List Scrap) → All (IsTold names) ss
     → map (renamed (called names)) (map sight ss) ≡ map line_sight (map (leaf_line names) ss)

@@ -1,26 +1,23 @@
 -- A production changes what is seen of scraps as it changes the scraps, and so the two have the same log.
-use Rattle.std.proofs.Common.{◌≡◌, ℕ, zero, suc, ◌+◌, Bool, eqb, Option, Some, None, List, [], ◌∷◌, ◌++◌, refl, sym}
-use Rattle.std.proofs.Common.{◌∙◌, ap, map, take, drop, get_or, if◌then◌else◌, arith}
+use Rattle.std.proofs.Common.{◌≡◌, ℕ, zero, suc, ◌+◌, eqb, None, List, [], ◌∷◌, ◌++◌, refl, sym, ◌∙◌, ap, map, take}
+use Rattle.std.proofs.Common.{drop, get_or, arith}
 use Rattle.std.proofs.lemmas.List.{map-append, map-set}
 use Rattle.std.specs.List.{take-map, drop-map}
 use Rattle.std.proofs.Math.ListN.{get_or-map}
-use Rattle.cw_base.specs.declared.category.Cat.{Cat}
-use Rattle.cw_base.specs.declared.category.Cat.TheVariants.{RawInt}
 use Rattle.cw_base.specs.declared.flags.Flags.{Flags}
 use Rattle.cw_base.specs.declared.mode.MathMode.{MathMode}
 use Rattle.cw_trees.specs.Tree.{Tree, Empty, Then, Sub, Inner, Source, Ident, Reserved, Sign, search_sign}
 use Rattle.cw_trees.specs.Tree.{reserve_first, bare_name}
-use Rattle.cw_trees.specs.Joining.{Scrap, no_scrap, Joined, Whole, Mark, joined_tree, toggled, needs, after, join}
+use Rattle.cw_trees.specs.Joining.{Scrap, no_scrap, Joined, Whole, Mark, joined_tree, needs, after}
 use Rattle.cw_table.specs.declared.types.Piece.{Piece}
 use Rattle.cw_table.specs.declared.types.Row.{Row}
-use Rattle.cw_table.specs.Rewriting.{cats_of, math_piece, joined_of, with_cat, new_scrap, search_in, reserved_in}
-use Rattle.cw_table.specs.Rewriting.{reserved_at, is_bare_name, named_scrap, named_right, rewrite_from, State, rewrite}
-use Rattle.cw_table.specs.Normal.{Place, Nowhere, At, least_place, rank_with, weight, Production, log_of, log}
+use Rattle.cw_table.specs.Rewriting.{cats_of, joined_of, new_scrap, search_in, reserved_in, reserved_at, named_scrap}
+use Rattle.cw_table.specs.Rewriting.{named_right, rewrite_from, State, rewrite}
+use Rattle.cw_table.specs.Normal.{Place, Nowhere, At, least_place, weight, Production, log_of, log}
 use Rattle.cw_leaves.specs.Sights.{Heard, silence, followed, told_by, heard, Sight, sight, no_sight, seen_cats}
-use Rattle.cw_leaves.specs.Sights.{heard_in, heard_all, seen_as, seen_from, seen_new, seen_reserved, seen_reserved_at}
-use Rattle.cw_leaves.specs.Sights.{is_same, seen_named, seen_named_by, names_at, seen_rewritten_from, seen_rewritten}
-use Rattle.cw_leaves.specs.Sights.{seen_rank, seen_weight, seen_log_of, seen_log}
-use Rattle.cw_leaves.proofs.SightFacts.{found_in, first-heard, heard-reserved, heard-toggled}
+use Rattle.cw_leaves.specs.Sights.{heard_all, seen_new, seen_reserved, seen_reserved_at, seen_named, seen_named_by}
+use Rattle.cw_leaves.specs.Sights.{names_at, seen_rewritten_from, seen_rewritten, seen_weight, seen_log_of, seen_log}
+use Rattle.cw_leaves.proofs.SightFacts.{first-heard, heard-reserved, heard-toggled}
 
 -- these two stand in ScrapFacts of cw_table
 reserve-bare : (t : Tree) → bare_name (reserve_first t) ≡ None
@@ -32,13 +29,10 @@ reserve-bare (Then (Sign control) rest) = grind arith
 reserve-bare (Sub tree rest) = grind arith
 reserve-bare (Inner tree rest) = refl
 
-toggled-bare : (m n : MathMode) (t : Tree) → bare_name t ≡ None → bare_name (toggled m n t) ≡ None
-toggled-bare m n t h = grind arith
-
 joined-bare : (m : MathMode) (js : List Joined) → bare_name (joined_tree m js) ≡ None
 joined-bare m [] = refl
-joined-bare m (Whole t l r ∷ js) = toggled-bare m l _ refl
-joined-bare m (Mark c ∷ js) = toggled-bare m (needs c) _ refl
+joined-bare m (Whole t l r ∷ js) = grind arith
+joined-bare m (Mark c ∷ js) = grind arith
 
 -- what is heard of pieces
 abbrev piece_heard : Joined → Heard ℕ
@@ -58,60 +52,22 @@ joined-heard m (Mark c ∷ js) = grind (arith, joined-heard (after m (needs c) (
 get-sight : (ss : List Scrap) (k : ℕ) → get_or (map sight ss) k no_sight ≡ sight (get_or ss k no_scrap)
 get-sight ss k = get_or-map sight ss k no_scrap
 
-math-heard : (t : Tree) (l r : MathMode) → piece_heard (math_piece t l r) ≡ heard t
-math-heard t l r = grind arith
-
-piece-heard : (ss : List Scrap) (p : Piece) → piece_heard (joined_of ss p) ≡ heard_in (map sight ss) p
-piece-heard ss p = grind (arith, get-sight, math-heard)
-
 pieces-heard : (ss : List Scrap) (ps : List Piece) → pieces_heard (map (joined_of ss) ps) ≡ heard_all (map sight ss) ps
 pieces-heard ss [] = refl
-pieces-heard ss (p ∷ ps) = grind (arith, pieces-heard ss ps, piece-heard)
+pieces-heard ss (p ∷ ps) = grind (arith, pieces-heard ss ps, get-sight)
 
 -- categories
 pub seen-cats : (ss : List Scrap) → seen_cats (map sight ss) ≡ cats_of ss
 seen-cats [] = refl
 seen-cats (s ∷ ss) = ap (λ cs. s.cat ∷ cs) (seen-cats ss)
 
--- the new scrap
-new-seen : (c : Cat) (o : Option ℕ) (ps : List Piece) (ss : List Scrap)
-    → sight (elim o [
-      | Some k ↦ with_cat c (get_or ss k no_scrap)
-      | None ↦ join c (map (joined_of ss) ps)
-    ]) ≡ seen_from c o ps (map sight ss)
-new-seen c o ps ss = grind (arith, get-sight, joined-bare, joined-heard, pieces-heard)
-
-scrap-seen : (f : Flags) (r : Row) (ss : List Scrap) → sight (new_scrap f r ss) ≡ seen_new f r (map sight ss)
-scrap-seen f r ss = grind (arith, new-seen, seen-cats)
-
 -- reserving
 reserved-seen : (s : Scrap) → sight (reserved_in s) ≡ seen_reserved (sight s)
 reserved-seen s = grind (arith, reserve-bare, heard-reserved)
 
-reserved-at-seen : (o : Option ℕ) (ss : List Scrap) → map sight (reserved_at o ss) ≡ seen_reserved_at o (map sight ss)
-reserved-at-seen o ss = grind (arith, map-set, reserved-seen, get-sight)
-
-name-same : (n : ℕ) (o : Option ℕ) → is_bare_name n o ≡ is_same eqb n o
-name-same n o = grind arith
-
-turned-seen : (b : Bool) (s : Scrap) → sight (if b then with_cat RawInt (reserved_in s) else s)
-    ≡ (if b then seen_as RawInt (seen_reserved (sight s)) else sight s)
-turned-seen b s = grind (arith, reserved-seen)
-
-named-seen : (n : ℕ) (s : Scrap) → sight (named_scrap n s) ≡ seen_named eqb n (sight s)
-named-seen n s = grind (arith, turned-seen, name-same)
-
 all-named : (n : ℕ) (ss : List Scrap) → map sight (map (named_scrap n) ss) ≡ map (seen_named eqb n) (map sight ss)
 all-named n [] = refl
-all-named n (s ∷ ss) = grind (arith, all-named n ss, named-seen)
-
-right-seen : (names : List ℕ) (stops : Bool) (ss : List Scrap)
-    → map sight (named_right (found_in names stops) ss) ≡ seen_named_by eqb names (map sight ss)
-right-seen names stops ss = grind (arith, all-named)
-
-names-right : (o : Option ℕ) (ss later : List Scrap)
-    → map sight (named_right (search_in o ss) later) ≡ seen_named_by eqb (names_at o (map sight ss)) (map sight later)
-names-right o ss later = grind (arith, first-heard, right-seen, get-sight)
+all-named n (s ∷ ss) = grind (arith, all-named n ss, reserved-seen)
 
 -- one production
 from-seen : (f : Flags) (r : Row) (ss : List Scrap)
@@ -119,15 +75,14 @@ from-seen : (f : Flags) (r : Row) (ss : List Scrap)
 from-seen f r ss =
     let named : List Scrap = reserved_at r.action.reserve ss in
     let seen : List (Sight ℕ) = seen_reserved_at r.action.reserve (map sight ss) in
-    let same : map sight named ≡ seen = reserved-at-seen r.action.reserve ss in
+    let same : map sight named ≡ seen = (grind (arith, map-set, reserve-bare, heard-reserved, get-sight)) in
     let later : List Scrap = drop (r.offset + r.replaced) named in
     map-append sight (take r.offset named) (new_scrap f r named ∷ named_right (search_in r.action.reserve ss) later)
     ∙ (ap (λ xs. xs ++ sight (new_scrap f r named) ∷ map sight (named_right (search_in r.action.reserve ss) later))
     (sym (take-map sight r.offset named) ∙ ap (take r.offset) same)
     ∙ (ap (λ x. take r.offset seen ++ x ∷ map sight (named_right (search_in r.action.reserve ss) later))
-    (scrap-seen f r named ∙ ap (seen_new f r) same)
-    ∙ ap (λ xs. take r.offset seen ++ seen_new f r seen ∷ xs)
-    (names-right r.action.reserve ss later
+    ((grind (arith, get-sight, joined-bare, joined-heard, pieces-heard, seen-cats)) ∙ ap (seen_new f r) same)
+    ∙ ap (λ xs. take r.offset seen ++ seen_new f r seen ∷ xs) ((grind (arith, first-heard, all-named, get-sight))
     ∙ ap (seen_named_by eqb (names_at r.action.reserve (map sight ss)))
     (sym (drop-map sight (r.offset + r.replaced) named) ∙ ap (drop (r.offset + r.replaced)) same))))
 
@@ -140,13 +95,9 @@ rewrite-seen f r place state =
     (from-seen f r (drop place state.scraps)
     ∙ ap (seen_rewritten_from eqb f r) (sym (drop-map sight place state.scraps))))
 
--- the weight
-rank-seen : (c : Cat) (b : Option ℕ) → rank_with c b ≡ seen_rank c b
-rank-seen c b = grind arith
-
 pub weight-seen : (ss : List Scrap) → weight ss ≡ seen_weight (map sight ss)
 weight-seen [] = refl
-weight-seen (s ∷ ss) = grind (arith, weight-seen ss, rank-seen)
+weight-seen (s ∷ ss) = grind (arith, weight-seen ss)
 
 -- the log
 pub log-seen-of : (rows : List Row) (f : Flags) (n : ℕ) (state : State)

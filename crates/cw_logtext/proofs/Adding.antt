@@ -1,16 +1,15 @@
 -- Identifiers that are added to a list of names: those that are there keep their places, and each has one.
-use Rattle.std.proofs.Common.{◌≡◌, ℕ, zero, suc, ◌<◌, ◌≤◌, Bool, true, false, not, if◌then◌else◌, nat_lt, List, []}
-use Rattle.std.proofs.Common.{◌∷◌, ◌++◌, length, map, slice_get, slice_index_or, All, Option, Some, None, refl, sym}
-use Rattle.std.proofs.Common.{◌∙◌, ap, subst, arith}
+use Rattle.std.proofs.Common.{◌≡◌, ℕ, zero, suc, ◌<◌, ◌≤◌, Bool, true, false, not, if◌then◌else◌, nat_lt, List, [], ◌∷◌}
+use Rattle.std.proofs.Common.{◌++◌, length, map, slice_get, slice_index_or, All, Option, Some, None, refl, sym, ◌∙◌, ap}
+use Rattle.std.proofs.Common.{subst, arith}
 use Rattle.std.specs.Cmp.Lexicographic.{bytes_decides}
 use Rattle.std.proofs.lemmas.Bool.{ltb-true, ltb-false}
 use Rattle.std.proofs.lemmas.List.Sums.{prefix_len-le-length}
-use Rattle.cw_base.proofs.TestLaws.{both-left, both-right}
+use Rattle.cw_base.proofs.TestLaws.{both-right}
 use Rattle.cw_base.specs.declared.category.Cat.TheVariants.{Exp}
-use Rattle.cw_names.specs.declared.entry.EntryKind.{EntryKind}
 use Rattle.cw_names.specs.declared.entry.EntryKind.TheVariants as kinds
 use Rattle.cw_names.specs.declared.entry.NameId.{NameId}
-use Rattle.cw_names.specs.Names.{Entry, same_kind, is_entry, place_of, with_entry}
+use Rattle.cw_names.specs.Names.{Entry, is_entry, place_of, with_entry}
 use Rattle.cw_leaves.specs.declared.lines.LeafLine.{LeafLine}
 use Rattle.cw_leaves.specs.LeafLines.{IsIdentEntry, text_at, text_by}
 use Rattle.cw_leaves.specs.Spelling.{IsKnown, spelled}
@@ -27,15 +26,11 @@ slot-kept-by : (b : Bool) (e : Entry) (es : List Entry) (i : ℕ) → IsIdentEnt
     → slice_get (if b then es else es ++ e ∷ []) i ≡ slice_get es i
 slot-kept-by b e es i h = grind (arith, slot-kept)
 
-entry-kept : (text : List ℕ) (es : List Entry) (i : ℕ) → IsIdentEntry (slice_get es i)
-    → slice_get (with_entry kinds.Ident text es) i ≡ slice_get es i
-entry-kept text es i h = slot-kept-by (nat_lt (place_of kinds.Ident text es) (length es)) _ es i h
-
 pub slots-kept : (texts : List (List ℕ)) (es : List Entry) (i : ℕ) → IsIdentEntry (slice_get es i)
     → slice_get (with_idents texts es) i ≡ slice_get es i
 slots-kept [] es i h = refl
 slots-kept (text ∷ texts) es i h =
-    let one : slice_get (with_entry kinds.Ident text es) i ≡ slice_get es i = entry-kept text es i h in
+    let one : slice_get (with_entry kinds.Ident text es) i ≡ slice_get es i = (grind (arith, slot-kept-by)) in
     slots-kept texts (with_entry kinds.Ident text es) i (subst IsIdentEntry (sym one) h) ∙ one
 
 pub idents-kept : (old new : List Entry) (ids : List NameId) → IsExtended old new → AreIdents old ids
@@ -48,8 +43,7 @@ texts-kept old new [] x h = refl
 texts-kept old new (id ∷ ids) x h =
     let one : text_at new id.index ≡ text_at old id.index =
     ap text_by (ap (λ es. slice_get es id.index) x.is ∙ slots-kept x.added old id.index (h 0 id (omega arith))) in
-    ap (λ t. t ∷ map (λ i. text_at new i.index) ids) one
-    ∙ ap (λ ts. text_at old id.index ∷ ts) (texts-kept old new ids x (λ k d lt. h (suc k) d (omega arith)))
+    grind (arith, texts-kept old new ids x (λ k d lt. h (suc k) d (omega arith)))
 
 pub spelled-kept : (old new : List Entry) (leaf : LeafLine) → IsExtended old new → AreIdents old leaf.names
     → spelled new leaf ≡ spelled old leaf
@@ -99,14 +93,8 @@ abbrev pub IsNamed : List ℕ → Option Entry → Type 0
 IsNamed text None = ⊥
 IsNamed text (Some entry) = (entry.kind ≡ kinds.Ident) × (entry.text ≡ text)
 
-kind-is : (kind : EntryKind) → same_kind kinds.Ident kind ≡ true → kind ≡ kinds.Ident
-kind-is kind h = grind arith
-
 entry-named : (text : List ℕ) (e : Entry) → is_entry kinds.Ident text e ≡ true → IsNamed text (Some e)
-entry-named text e h = (
-  kind-is e.kind (both-left (same_kind kinds.Ident e.kind) _ h),
-  sym ((bytes_decides text e.text).0 (both-right (same_kind kinds.Ident e.kind) _ h)),
-)
+entry-named text e h = ((grind arith), sym ((bytes_decides text _).0 (both-right _ _ h)))
 
 place-there : (text : List ℕ) (es : List Entry) → place_of kinds.Ident text es < length es
     → IsNamed text (slice_get es (place_of kinds.Ident text es))
@@ -134,17 +122,9 @@ entry-there text es = by (nat_lt (place_of kinds.Ident text es) (length es)) ref
     by true h = place-there text es (ltb-true _ _ h)
     by false h =
         let last : place_of kinds.Ident text es ≡ length es = omega (arith, most, ltb-false _ _ h) in
-        subst (IsNamed text) (sym (ap (slice_get (es
-        ++ record { kind = kinds.Ident; text = text; category = Exp } ∷ []))
-        last ∙ slot-last es (record { kind = kinds.Ident; text = text; category = Exp }))) (refl, refl)
-
-named-ident : (text : List ℕ) (o : Option Entry) → IsNamed text o → IsIdentEntry o
-named-ident text o h = grind arith
-
-named-text : (text : List ℕ) (o : Option Entry) → IsNamed text o → text_by o ≡ text
-named-text text o h = grind arith
+        grind (arith, slice_get, slot-last)
 
 pub new-ident : (text : List ℕ) (es new : List Entry) (id : NameId) → new ≡ with_entry kinds.Ident text es
     → id.index ≡ place_of kinds.Ident text es
     → IsIdentEntry (slice_get new id.index) × (text_at new id.index ≡ text)
-new-ident text es new id is place = grind (arith, slice_get, entry-there, named-ident, named-text)
+new-ident text es new id is place = grind (arith, slice_get, entry-there)

@@ -36,9 +36,8 @@ pub next-refused : {A B C E : Type 0} (f : A → B) (g : B → List ℕ) (xs : L
     (old mid new : List ℕ) (result : Result C E) → i < length xs → IsErr result
     → mid ≡ old ++ flat_map g (map f (take i xs)) → HasGrown (g (f (get_or xs i d))) mid new
     → Appends (flat_map g (map f xs)) old new result
-next-refused f g xs i d old mid new result lt err m h =
-    refused (flat_map g (map f (take i xs))) (g (f (get_or xs i d))) (flat_map g (map f (drop (suc i) xs)))
-    (flat_map g (map f xs)) old mid new result err m h (parted-next f g xs i d lt)
+next-refused f g xs i d old mid new result lt err m h = refused _ (g (f (get_or xs i d))) (flat_map
+    g (map f (drop (suc i) xs))) (flat_map g (map f xs)) old mid new result err m h (parted-next f g xs i d lt)
 
 -- the same of lines
 flat-lines : {B : Type 0} (t : B → List ℕ) (ys : List B)
@@ -50,10 +49,8 @@ pub line-refused : {A B C E : Type 0} (f : A → B) (t : B → List ℕ) (xs : L
     (old mid new : List ℕ) (result : Result C E) → i < length xs → IsErr result
     → mid ≡ old ++ flat_map ended (map t (map f (take i xs))) → HasGrown (ended (t (f (get_or xs i d)))) mid new
     → Appends (flat_map ended (map t (map f xs))) old new result
-line-refused f t xs i d old mid new result lt err m h =
-    subst (λ added. Appends added old new result) (sym (flat-lines t (map f xs)))
-    (next-refused f (λ y. ended (t y)) xs i d old mid new result lt err
-    (m ∙ ap (λ r. old ++ r) (flat-lines t (map f (take i xs)))) h)
+line-refused f t xs i d old mid new result lt err m h = subst (λ added. Appends added old new result) (sym (flat-lines
+    t (map f xs))) (next-refused f (λ y. ended (t y)) xs i d old mid new result lt err (grind (arith, flat-lines)) h)
 
 pub same-count : {A B : Type 0} (f : A → B) (xs ys : List A) → xs ≡ ys → length xs ≡ length (map f ys)
 same-count {A} {B} f xs ys is = grind (arith, nat_tests, common_steps)
@@ -84,23 +81,17 @@ leaves_of b = flat_map ended (map line_text b.leaves)
 abbrev pub items_of : Block → List ℕ
 items_of b = flat_map ended (map item_text b.items)
 
-block-text : (b : Block)
-    → flat_map ended (block_lines b) ≡ head_of b ++ (leaves_of b ++ (items_of b ++ ended end_text))
-block-text b = grind (arith, lines-append, append-none)
-
 pub head-refused : {A E : Type 0} (b : Block) (old new : List ℕ) (result : Result A E) → IsErr result
     → HasGrown (head_of b) old new → Appends (flat_map ended (block_lines b)) old new result
-head-refused b old new result err h =
-    refused [] (head_of b) (leaves_of b ++ (items_of b ++ ended end_text)) (flat_map ended (block_lines b)) old old new
-    result err (sym (append-none old)) h (block-text b)
+head-refused b old new result err h = refused [] _ (leaves_of b ++ (items_of b ++ ended end_text)) (flat_map
+    ended (block_lines b)) old old new result err (sym (append-none old)) h (grind (arith, lines-append, append-none))
 
 pub leaves-refused : {A E : Type 0} (b : Block) (old mid new : List ℕ) (result : Result A E) → IsErr result
     → mid ≡ old ++ head_of b → HasGrown (leaves_of b) mid new → Appends (flat_map ended (block_lines b)) old new result
-leaves-refused b old mid new result err m h =
-    refused (head_of b) (leaves_of b) (items_of b ++ ended end_text) (flat_map ended (block_lines b)) old mid new
-    result err m h (block-text b)
+leaves-refused b old mid new result err m h = refused _ (leaves_of b) (items_of b ++ ended end_text)
+    (flat_map ended (block_lines b)) old mid new result err m h (grind (arith, lines-append, append-none))
 
 pub items-refused : {A E : Type 0} (b : Block) (old once mid new : List ℕ) (result : Result A E) → IsErr result
     → once ≡ old ++ head_of b → mid ≡ once ++ leaves_of b → HasGrown (items_of b) mid new
     → Appends (flat_map ended (block_lines b)) old new result
-items-refused b old once mid new result err o m h = grind (arith, refused, append_assoc, block-text)
+items-refused b old once mid new result err o m h = grind (arith, refused, append_assoc, lines-append, append-none)

@@ -7,7 +7,6 @@ use Rattle.cw_base.specs.Text.{pieces_of}
 use Rattle.cw_names.specs.Names.{Entry}
 use Rattle.cw_table.specs.Normal.{Production}
 use Rattle.cw_leaves.specs.declared.lines.LeafLine.{LeafLine}
-use Rattle.cw_leaves.specs.LeafLines.{Line}
 use Rattle.cw_leaves.specs.Spelling.{spelled}
 use Rattle.cw_logtext.specs.declared.blocks.ReadItems.{ReadItems}
 use Rattle.cw_logtext.specs.declared.blocks.ReadLeaves.{ReadLeaves}
@@ -39,14 +38,11 @@ pub read-cut : (first last : Spot) (text line tail : List ℕ) → IsFirstLine t
     → Reads first (pieces_of text) last → Reads first (line ∷ pieces_of tail) last
 read-cut first last text line tail cut r = subst (λ ls. Reads first ls last) cut.cut r
 
-apart : (k : ℕ) → Inside k ≡ Outside → ⊥
-apart k e = cc
-
 read-some : (first last : Spot) (lines : List (List ℕ)) → Reads first lines last → (first ≡ last → ⊥) → lines ≢ []
 read-some first last lines h differ e = grind arith
 
 pub block-goes-on : (k : ℕ) (text : List ℕ) → Reads (Inside k) (pieces_of text) Outside → text ≢ []
-block-goes-on k text r e = read-some (Inside k) Outside (pieces_of text) r (apart k) (ap pieces_of e)
+block-goes-on k text r e = read-some (Inside k) Outside (pieces_of text) r (λ e. cc) (ap pieces_of e)
 
 -- ## Its head
 
@@ -73,12 +69,9 @@ pub record Leaf (k : ℕ) (line : List ℕ) (next : Spot) : Type 0 where
   pub is : IsLeafLine line
   pub at : next ≡ Inside k
 
-fewer : (m k : ℕ) → Inside (suc m) ≡ Inside (suc k) → Inside m ≡ Inside k
-fewer m k e = cc
-
 pub leaf-step : (first next : Spot) (line : List ℕ) (k : ℕ) → Step first line next → first ≡ Inside (suc k)
     → Leaf k line next
-leaf-step first next line k h e = grind (arith, fewer)
+leaf-step first next line k h e = grind (arith)
 
 pub leaf-there : (line : List ℕ) (lines : List (List ℕ)) (k : ℕ) → Reads (Inside (suc k)) (line ∷ lines) Outside
     → IsLeafLine line
@@ -102,11 +95,6 @@ pub no-leaves : (old : List Entry) (text : List ℕ) (count : ℕ) → Reads (In
     → LeavesSoFar old old text [] text count
 no-leaves old text count r = grind arith
 
-more-lines : (mid new : List Entry) (leaves : List LeafLine) (one : LeafLine) → IsExtended mid new
-    → All (λ leaf. AreIdents mid leaf.names) leaves
-    → map (spelled new) (leaves ++ one ∷ []) ≡ map (spelled mid) leaves ++ spelled new one ∷ []
-more-lines mid new leaves one x idents = grind (arith, map-append, lines-kept)
-
 append-none-of : (xs : List (List ℕ)) → xs ++ [] ≡ xs
 append-none-of [] = refl
 append-none-of (x ∷ xs) = ap (λ ys. x ∷ ys) (append-none-of xs)
@@ -116,26 +104,15 @@ pub one-leaf : (old mid new : List Entry) (text rest line tail : List ℕ) (leav
     → HasLeafLine mid new line one → LeavesSoFar old new text (leaves ++ one ∷ []) tail left
 one-leaf old mid new text rest line tail leaves one left s cut x h =
     let lines : map (spelled new) (leaves ++ one ∷ []) ≡ map (spelled mid) leaves ++ spelled new one ∷ [] =
-    more-lines mid new leaves one x s.idents in
+    (grind (arith, map-append, lines-kept)) in
     record {
-      idents = all-append (λ l. AreIdents new l.names) leaves (one ∷ []) (all-kept mid new leaves x s.idents)
+      idents = all-append (λ l. AreIdents new l.names) leaves (one ∷ []) (all-kept mid new _ x s.idents)
           (all-cons (λ l. AreIdents new l.names) one [] h.idents (λ k d lt. absurd (omega (arith, lt))));
-      added = h.added ∙ (ap (with_idents (spelled new one).names) s.added
-          ∙ (sym (idents-append (names_in (map (spelled mid) leaves)) (spelled new one).names old)
-          ∙ ap (λ ts. with_idents ts old)
-          (ap (λ ts. names_in (map (spelled mid) leaves) ++ ts) (sym (append-none-of (spelled new one).names))
-          ∙ (sym (flat_map-append (λ (l : Line). l.names) (map (spelled mid) leaves) (spelled new one ∷ []))
-          ∙ ap names_in (sym lines)))));
-      fine = subst (All IsFineLine) (sym lines) (all-append IsFineLine (map (spelled mid) leaves)
-          (spelled new one ∷ []) s.fine
-          (all-cons IsFineLine (spelled new one) [] h.fine (λ k d lt. absurd (omega (arith, lt)))));
-      is = s.is ∙ (ap (λ ls. map line_text (map (spelled mid) leaves) ++ ls)
-          (cut.cut ∙ ap (λ l. l ∷ pieces_of tail) h.is)
-          ∙ (sym (append_assoc (map line_text (map (spelled mid) leaves)) (line_text (spelled new one) ∷ [])
-          (pieces_of tail))
-          ∙ ap (λ ls. ls ++ pieces_of tail) (sym (ap (map line_text) lines
-          ∙ map-append line_text (map (spelled mid) leaves) (spelled new one ∷ [])))));
-      later = behind-leaf line (pieces_of tail) left (read-cut (Inside (suc left)) Outside rest line tail cut s.later);
+      added = grind (arith, idents-append, append-none-of, flat_map-append);
+      fine = subst (All IsFineLine) (sym lines) (all-append IsFineLine (map _ leaves)
+          (spelled new one ∷ []) s.fine (all-cons IsFineLine _ [] h.fine (λ k d lt. absurd (omega (arith, lt)))));
+      is = s.is ∙ (grind (arith, append_assoc, map-append));
+      later = behind-leaf line _ left (read-cut (Inside _) _ rest line tail cut s.later);
       shorter = omega (arith, s.shorter, cut.shorter);
     }
 
@@ -151,17 +128,9 @@ inner first next line (leaf l k said fine is) e = absurd cc
 inner first next line (item l p fine is) e = on p fine is refl
 inner first next line (closes l is) e = out is refl
 
-behind-item : (line : List ℕ) (lines : List (List ℕ)) (p : Production) → line ≡ item_text p
-    → Reads (Inside 0) (line ∷ lines) Outside → Reads (Inside 0) lines Outside
-behind-item line lines p is r = grind (arith, first-of, inner, item-not-end)
-
 record Ended (line : List ℕ) (lines : List (List ℕ)) : Type 0 where
   is : line ≡ end_text
   later : Reads Outside lines Outside
-
-behind-end : (line : List ℕ) (lines : List (List ℕ)) → NoItem line → Reads (Inside 0) (line ∷ lines) Outside
-    → Ended line lines
-behind-end line lines lack r = grind (arith, first-of, inner)
 
 -- these productions are read, and this line is the next
 pub record ItemsSoFar (text : List ℕ) (items : List Production) (line rest : List ℕ) : Type 0 where
@@ -176,19 +145,15 @@ no-items text line rest cut r = grind (arith, read-cut)
 
 pub items-go-on : (text line rest : List ℕ) (items : List Production) (p : Production) → line ≡ item_text p
     → ItemsSoFar text items line rest → rest ≢ []
-items-go-on text line rest items p is s = block-goes-on 0 rest (behind-item line (pieces_of rest) p is s.later)
+items-go-on text line rest items p is s = block-goes-on 0 rest (grind (arith, first-of, inner, item-not-end))
 
 pub one-item : (text line rest next tail : List ℕ) (items : List Production) (p : Production) → IsFineItem p
     → line ≡ item_text p → ItemsSoFar text items line rest → IsFirstLine rest next tail
     → ItemsSoFar text (items ++ p ∷ []) next tail
 one-item text line rest next tail items p fine is s cut = record {
-  fine = all-append IsFineItem items (p ∷ []) s.fine
-      (all-cons IsFineItem p [] fine (λ k d lt. absurd (omega (arith, lt))));
-  is = s.is ∙ (ap (λ l. map item_text items ++ l ∷ pieces_of rest) is
-      ∙ (sym (append_assoc (map item_text items) (item_text p ∷ []) (pieces_of rest))
-      ∙ (ap (λ ls. ls ++ pieces_of rest) (sym (map-append item_text items (p ∷ [])))
-      ∙ ap (λ ls. map item_text (items ++ p ∷ []) ++ ls) cut.cut)));
-  later = read-cut (Inside 0) Outside rest next tail cut (behind-item line (pieces_of rest) p is s.later);
+  fine = all-append IsFineItem _ _ s.fine (all-cons IsFineItem p [] fine (λ k d lt. absurd (omega (arith, lt))));
+  is = grind (arith, append_assoc, map-append);
+  later = read-cut (Inside 0) _ rest next tail cut (grind (arith, first-of, inner, item-not-end));
   shorter = omega (arith, s.shorter, cut.shorter);
 }
 
@@ -201,7 +166,7 @@ pub record AllItems (text : List ℕ) (items : List Production) (rest : List ℕ
 
 pub all-items : (text line rest : List ℕ) (items : List Production) → NoItem line → ItemsSoFar text items line rest
     → AllItems text items rest
-all-items text line rest items lack s = grind (arith, behind-end)
+all-items text line rest items lack s = grind (arith, first-of, inner)
 
 -- ## The whole block
 

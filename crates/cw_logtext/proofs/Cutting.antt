@@ -4,8 +4,7 @@ use Rattle.std.specs.List.{flat_map}
 use Rattle.std.proofs.lemmas.List.{append_assoc}
 use Rattle.cw_base.specs.Text.{pieces_of}
 use Rattle.cw_base.proofs.TestLaws.{both-left, both-right}
-use Rattle.cw_logtext.specs.LogText.{Block, line_text, head_text, item_text, end_text, block_lines, log_lines, ended}
-use Rattle.cw_logtext.specs.LogText.{IsFineLine, IsFineItem, IsFineBlock}
+use Rattle.cw_logtext.specs.LogText.{Block, block_lines, log_lines, ended, IsFineBlock}
 use Rattle.cw_logtext.specs.LinePieces.{lacks}
 use Rattle.cw_logtext.specs.LogLaws.{TextHasLines}
 use Rattle.cw_logtext.proofs.Plain.{line-end, head-end, item-end}
@@ -17,10 +16,8 @@ one-cut (c ∷ cs) rest h = grind (arith, one-cut cs rest (both-right (not (eqb 
 
 all-cut : (lines : List (List ℕ)) → All (λ line. lacks 10 line ≡ true) lines → pieces_of (flat_map ended lines) ≡ lines
 all-cut [] all = refl
-all-cut (line ∷ lines) all =
-    ap pieces_of (append_assoc line (10 ∷ []) (flat_map ended lines))
-    ∙ (one-cut line (flat_map ended lines) (all 0 line (omega arith))
-    ∙ ap (λ ls. line ∷ ls) (all-cut lines (λ i d lt. all (suc i) d (omega arith))))
+all-cut (line ∷ lines) all = ap pieces_of (append_assoc line _ (flat_map ended lines)) ∙ (one-cut line (flat_map ended
+    lines) (all 0 line (omega arith)) ∙ ap (λ ls. line ∷ ls) (all-cut lines (λ i d lt. all (suc i) d (omega arith))))
 
 pub all-cons : {A : Type 0} (P : A → Type 0) (x : A) (xs : List A) → P x → All P xs → All P (x ∷ xs)
 all-cons P x xs p all h d lt = grind arith
@@ -40,11 +37,8 @@ abbrev IsOne : List ℕ → Type 0
 IsOne line = lacks 10 line ≡ true
 
 block-ends : (b : Block) → IsFineBlock b → All IsOne (block_lines b)
-block-ends b fine = all-cons IsOne (head_text _) _ (head-end _ fine.few)
-    (all-append IsOne (map line_text b.leaves) _ (all-of IsOne IsFineLine line_text line-end b.leaves fine.leaves)
-    (all-append IsOne (map item_text b.items) (end_text ∷ [])
-    (all-of IsOne IsFineItem item_text item-end b.items fine.items)
-    (all-cons IsOne end_text [] refl (λ i d lt. absurd (omega arith)))))
+block-ends b fine = all-cons IsOne _ _ (head-end _ fine.few) (all-append IsOne (map _ _) _ (all-of IsOne _
+    _ line-end _ fine.leaves) (all-append IsOne _ _ (all-of IsOne _ _ item-end _ fine.items) (grind (arith, all-cons))))
 
 log-ends : (bs : List Block) → All IsFineBlock bs → All IsOne (log_lines bs)
 log-ends [] all = λ i d lt. absurd (omega arith)

@@ -19,10 +19,10 @@ use Rattle.cw_logtext.specs.declared.reading.Spot.TheVariants.{Outside, Inside}
 use Rattle.cw_logtext.specs.Blocks.{IsLeafLine}
 use Rattle.cw_logtext.specs.Judgement.{Judgement, log, no_log}
 use Rattle.cw_logtext.specs.LinePieces.{AreIdentifiers}
-use Rattle.cw_logtext.specs.LogReading.{IsFault, Reads, none, more, Step, Stuck, opens, leaf, item, closes}
+use Rattle.cw_logtext.specs.LogReading.{Reads, none, more, Step, Stuck, opens, leaf, item, closes}
 use Rattle.cw_logtext.specs.LogText.{blank_and, cat_text, end_text, fits_kind, greatest, head_text, is_identifier}
 use Rattle.cw_logtext.specs.LogText.{item_text, letter, line_text, IsFineLine}
-use Rattle.cw_logtext.proofs.BlockSteps.{Opened, opened, leaf-step, inner, on, out}
+use Rattle.cw_logtext.proofs.BlockSteps.{opened, leaf-step, inner, on, out}
 use Rattle.cw_logtext.proofs.CatNames.{at-number, within}
 use Rattle.cw_logtext.proofs.Cutting.{all-cons}
 use Rattle.cw_logtext.proofs.Judging.{AtHand, at-hand, all-taken}
@@ -79,9 +79,6 @@ some_name n bytes fine l = record {
   is = ap (λ xs. 32 ∷ xs) (sym (take-append-drop n bytes) ∙ ap (λ xs. take n bytes ++ xs) l.is);
 }
 
-tail-of : (x y : ℕ) (xs ys : List ℕ) → ◌≡◌ {A = List ℕ} (x ∷ xs) (y ∷ ys) → xs ≡ ys
-tail-of x y xs ys e = cc
-
 no_name : (bytes : List ℕ)
     → (Upto (length bytes) (λ n. (is_identifier (take n bytes) ≡ true) × Later (drop n bytes)) → ⊥)
     → Later (32 ∷ bytes) → ⊥
@@ -90,13 +87,12 @@ no_name bytes lack l = go l.names l.fine l.is
     go : (names : List (List ℕ)) → AreIdentifiers names → 32 ∷ bytes ≡ flat_map blank_and names → ⊥
     go [] fine is = cc
     go (m ∷ ms) fine is =
-        let e : bytes ≡ m ++ flat_map blank_and ms = tail-of 32 32 bytes (m ++ flat_map blank_and ms) is in
+        let e : bytes ≡ m ++ flat_map blank_and ms = cc in
         lack (record {
           at = length m;
           below = omega (arith, ap length e, length-append m (flat_map blank_and ms));
           is = (
-            ap is_identifier (ap (take (length m)) e ∙ take-append_seam m (flat_map blank_and ms))
-                ∙ fine 0 m (omega arith),
+            ap is_identifier (ap (take _) e ∙ take-append_seam m (flat_map blank_and ms)) ∙ fine 0 m (omega arith),
             record {
               names = ms;
               fine = λ i d lt. fine (suc i) d (omega (arith, lt));
@@ -120,8 +116,7 @@ by_byte byte bytes h k = grind (arith, other_byte)
 names_in : (fuel : ℕ) (text : List ℕ) → length text ≤ fuel → Known (Later text)
 names_in fuel [] enough = inl (record { names = []; fine = λ i d lt. absurd (omega (arith, lt)); is = refl })
 names_in zero (byte ∷ bytes) enough = absurd (omega (arith, enough))
-names_in (suc fuel) (byte ∷ bytes) enough =
-    by_byte byte bytes (same_number byte 32) (by_names bytes (upto (NameEnds bytes)
+names_in (suc fuel) (byte ∷ bytes) enough = by_byte byte _ (same_number byte 32) (by_names bytes (upto (NameEnds bytes)
     (λ n. both (is_identifier (take n bytes) ≡ true) (Later (drop n bytes)) (is_true (is_identifier (take n bytes)))
     (names_in fuel (drop n bytes) (omega (arith, length-drop n bytes, enough)))) (length bytes)))
 
@@ -149,12 +144,9 @@ record LeafBy (k : LeafKind) (c : Cat) (line : List ℕ) : Type 0 where
   fine : IsFineLine (line_by k c names)
   is : line ≡ line_text (line_by k c names)
 
-is_real : (c : Cat) → Known (c ≢ cats.End)
-is_real c = grind arith
-
 same-rest : (front xs ys : List ℕ) → front ++ xs ≡ front ++ ys → xs ≡ ys
 same-rest [] xs ys e = e
-same-rest (f ∷ front) xs ys e = same-rest front xs ys (tail-of f f (front ++ xs) (front ++ ys) e)
+same-rest (f ∷ front) xs ys e = same-rest front xs ys (cc)
 
 module _ (k : LeafKind) (c : Cat) (line : List ℕ) where
   rest-names : (b : Behind (front_of k c) line) (l : LeafBy k c line) → b.rest ≡ flat_map blank_and l.names
@@ -163,14 +155,12 @@ module _ (k : LeafKind) (c : Cat) (line : List ℕ) where
   with_names : (b : Behind (front_of k c) line) (l : Later b.rest)
       → Known ((fits_kind k c (length l.names) ≡ true) × (c ≢ cats.End)) → Known (LeafBy k c line)
   with_names b l (inl h) = grind arith
-  with_names b l (inr not) = inr (λ o.
-      let same : o.names ≡ l.names = names-same o.names l.names o.fine.names l.fine (sym (rest-names b o) ∙ l.is) in
-      not (subst (λ ns. fits_kind k c (length ns) ≡ true) same o.fine.kind, o.fine.real))
+  with_names b l (inr not) = inr (λ o. let same = names-same o.names l.names o.fine.names l.fine (sym
+      (rest-names b o) ∙ l.is) in not (subst (λ ns. fits_kind k c (length ns) ≡ true) same o.fine.kind, o.fine.real))
 
   leaf_behind : (b : Behind (front_of k c) line) → Known (Later b.rest) → Known (LeafBy k c line)
-  leaf_behind b (inl l) = with_names b l
-      (both (fits_kind k c (length l.names) ≡ true) (c ≢ cats.End) (is_true (fits_kind k c (length l.names)))
-      (is_real c))
+  leaf_behind b (inl l) =
+      with_names b l (both _ (c ≢ cats.End) (is_true (fits_kind k c (length l.names))) (grind arith))
   leaf_behind b (inr not) = inr (λ o. not (record { names = o.names; fine = o.fine.names; is = rest-names b o }))
 
   leaf_by : Known (Behind (front_of k c) line) → Known (LeafBy k c line)
@@ -188,11 +178,7 @@ line-said : (k : LeafKind) (line : List ℕ) → OfSomeCat k line → IsLeafLine
 line-said k line u = grind arith
 
 said-line : (k : LeafKind) (c : Cat) (line : List ℕ) → LeafBy k c line → OfSomeCat k line
-said-line k c line l = record {
-  at = number_of c;
-  below = omega (arith, within c);
-  is = subst (λ x. LeafBy k x line) (sym (at-number c)) l;
-}
+said-line k c line l = record { at = number_of c; below = omega (arith, within c); is = grind (arith, at-number) }
 
 leaf_of : (line : List ℕ) → Known (OfSomeCat kinds.B line) → Known (OfSomeCat kinds.C line)
     → Known (OfSomeCat kinds.I line) → Known (OfSomeCat kinds.S line) → Known (IsLeafLine line)
@@ -209,17 +195,10 @@ leaf_of line (inr b) (inr c) (inr i) (inr s) = inr (λ l. go l.said.kind l.said.
     go kinds.I cat names fine is = i (said-line kinds.I cat line (record { names = names; fine = fine; is = is }))
     go kinds.S cat names fine is = s (said-line kinds.S cat line (record { names = names; fine = fine; is = is }))
 
-leaf_line : (line : List ℕ) → Known (IsLeafLine line)
-leaf_line line = leaf_of line (of_some_cat kinds.B line) (of_some_cat kinds.C line) (of_some_cat kinds.I line)
-    (of_some_cat kinds.S line)
-
 -- ## Heads and productions
 
 abbrev HeadOf : List ℕ → Type 0
 HeadOf line = Upto greatest (λ n. line ≡ head_text n)
-
-head_line : (line : List ℕ) → Known (HeadOf line)
-head_line line = upto (λ n. line ≡ head_text n) (λ n. same_text line (head_text n)) greatest
 
 abbrev production : ℕ → ℕ → Production
 production number place = record { number = number; place = place }
@@ -230,12 +209,6 @@ ItemOf line = Upto ROW_COUNT (λ n. (n ≢ 0) × Upto greatest (λ place. line �
 
 not_zero : (n : ℕ) → Known (n ≢ 0)
 not_zero n = grind arith
-
-item_line : (line : List ℕ) → Known (ItemOf line)
-item_line line = upto (λ n. (n ≢ 0) × Upto greatest (λ place. line ≡ item_text (production n place)))
-    (λ n. both (n ≢ 0) (Upto greatest (λ place. line ≡ item_text (production n place))) (not_zero n)
-    (upto (λ place. line ≡ item_text (production n place)) (λ place. same_text line (item_text (production n place)))
-    greatest)) ROW_COUNT
 
 -- ## Steps
 
@@ -248,60 +221,47 @@ Goes spot line = Next spot line ⊎ Stuck spot line
 
 step_outside : (line : List ℕ) → Known (HeadOf line) → Goes Outside line
 step_outside line (inl u) = inl (record { next = Inside u.at; step = opens line u.at u.below u.is })
-step_outside line (inr not) = inr (λ next step.
-    let o : Opened line next = opened Outside next line step refl in
-    not (record { at = o.count; below = o.few; is = o.is }))
+step_outside line (inr not) = inr
+    (λ next step. let o = opened Outside next line step refl in not (record { at = o.count; below = o.few; is = o.is }))
 
 step_leaf : (k : ℕ) (line : List ℕ) → Known (IsLeafLine line) → Goes (Inside (suc k)) line
 step_leaf k line (inl l) = inl (record { next = Inside k; step = leaf line k l.said l.fine l.is })
 step_leaf k line (inr not) = inr (λ next step. not (leaf-step (Inside (suc k)) next line k step refl).is)
 
 step_item : (line : List ℕ) → Known (ItemOf line) → Known (line ≡ end_text) → Goes (Inside 0) line
-step_item line (inl u) ended = inl (record {
-  next = Inside 0;
-  step = item line (production u.at u.is.1.at)
-      (record { from_one = omega (arith, u.is.0); to_last = u.below; near = u.is.1.below }) u.is.1.is;
-})
+step_item line (inl u) ended =
+    inl (record { next = Inside 0; step = item line (production u.at u.is.1.at) (grind arith) u.is.1.is })
 step_item line (inr not) (inl e) = inl (record { next = Outside; step = closes line e })
 step_item line (inr not) (inr unended) = grind (arith, inner, on, out)
 
 step_on : (spot : Spot) (line : List ℕ) → Goes spot line
-step_on Outside line = step_outside line (head_line line)
-step_on (Inside zero) line = step_item line (item_line line) (same_text line end_text)
-step_on (Inside (suc k)) line = step_leaf k line (leaf_line line)
+step_on Outside line = step_outside line (upto (λ n. line ≡ head_text n) (λ n. same_text line (head_text n)) greatest)
+step_on (Inside zero) line =
+    step_item line (upto (λ n. (n ≢ 0) × Upto _ (λ place. line ≡ item_text _)) (λ n. both (n ≢ 0) _ (not_zero n)
+    (upto (λ place. line ≡ item_text (production n _)) (λ place. same_text line (item_text _)) greatest)) _)
+    (same_text line end_text)
+step_on (Inside (suc k)) line = step_leaf
+    k line (leaf_of line (of_some_cat kinds.B line) (of_some_cat _ line) (of_some_cat _ line) (of_some_cat _ line))
 
 -- ## The whole file
 
 ended : (lines : List (List ℕ)) (good : ℕ) (spot : Spot) → take good lines ≡ lines → good ≡ length lines
     → Reads Outside (take good lines) spot → Judgement lines
 ended lines good Outside all last r = log (read-is-log lines (subst (λ ls. Reads Outside ls Outside) all r))
-ended lines good (Inside k) all last r = no_log (good + 1) (record {
-  good = good;
-  next = refl;
-  fault = subst (λ n. IsFault lines n) (sym last)
-      (inside-is-fault lines k (subst (λ ls. Reads Outside ls (Inside k)) all r));
-})
+ended lines good (Inside k) all last r = no_log (good + 1) (grind (arith, inside-is-fault))
 
 -- this line, and then the rest from the next spot on
 on_from : (lines : List (List ℕ)) (good : ℕ) (spot : Spot) (line : List ℕ) (rest : List (List ℕ))
     → Reads Outside (take good lines) spot → AtHand lines good line rest
     → ((next : Spot) → Reads Outside (take (suc good) lines) next → Judgement lines) → Goes spot line → Judgement lines
-on_from lines good spot line rest r h later (inl n) =
-    later n.next (subst (λ ls. Reads Outside ls n.next)
-    (sym (take-next lines good h.within ∙ ap (λ l. take good lines ++ l ∷ []) h.is))
-    (joined-reads Outside spot n.next (take good lines) (line ∷ []) r
-    (more spot n.next n.next line [] n.step (none n.next))))
-on_from lines good spot line rest r h later (inr stuck) = no_log (good + 1) (record {
-  good = good;
-  next = refl;
-  fault = stuck-is-fault lines good spot h.within r (subst (Stuck spot) (sym h.is) stuck);
-})
+on_from lines good spot line rest r h later (inl n) = later _ (subst (λ ls. Reads Outside ls n.next)
+    (sym (take-next lines good h.within ∙ ap (λ l. take good lines ++ l ∷ []) h.is)) (joined-reads
+    Outside spot n.next (take good lines) (line ∷ []) r (more spot n.next n.next line [] n.step (none n.next))))
+on_from lines good spot line rest r h later (inr stuck) = no_log (good + 1) (grind (arith, stuck-is-fault))
 
 judged_from : (lines : List (List ℕ)) (good : ℕ) (spot : Spot) (rest : List (List ℕ)) → good ≤ length lines
     → drop good lines ≡ rest → Reads Outside (take good lines) spot → Judgement lines
-judged_from lines good spot [] within left r =
-    let h = all-taken lines good within left in
-    ended lines good spot h.0 h.1 r
+judged_from lines good spot [] within left r = let h = all-taken _ good within left in ended lines good spot h.0 h.1 r
 judged_from lines good spot (line ∷ rest) within left r =
     let h : AtHand lines good line rest = at-hand lines good line rest left in
     on_from lines good spot line rest r h

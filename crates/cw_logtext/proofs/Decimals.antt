@@ -4,14 +4,11 @@ use Rattle.std.proofs.lemmas.Fmt.{decimal_injective}
 use Rattle.cw_table.specs.Normal.{Production}
 use Rattle.cw_logtext.specs.LogText.{head_text, item_text, end_text, greatest}
 
-tail-same : (a b : ℕ) (xs ys : List ℕ) → ◌≡◌ {A = List ℕ} (a ∷ xs) (b ∷ ys) → xs ≡ ys
-tail-same a b xs ys e = cc
-
 head-same : (a b : ℕ) (xs ys : List ℕ) → ◌≡◌ {A = List ℕ} (a ∷ xs) (b ∷ ys) → a ≡ b
 head-same a b xs ys e = cc
 
 pub head-injective : (m n : ℕ) → m ≤ greatest → n ≤ greatest → head_text m ≡ head_text n → m ≡ n
-head-injective m n hm hn e = grind (arith, decimal_injective, tail-same)
+head-injective m n hm hn e = grind (arith, decimal_injective)
 
 pub item-not-end : (p : Production) → item_text p ≡ end_text → ⊥
 item-not-end p e = absurd (let k : 80 ≡ 101 = head-same 80 101 _ _ e in omega (arith, k))

@@ -1,10 +1,8 @@
 -- A file has one first line that no log has, at most, and none where it is a log.
-use Rattle.std.proofs.Common.{◌≡◌, ℕ, zero, suc, ◌≤◌, ◌<◌, List, [], ◌∷◌, ◌++◌, length, take, refl, sym, ◌∙◌, subst}
-use Rattle.std.proofs.Common.{arith, append_assoc}
-use Rattle.std.proofs.lemmas.List.{append-nil, take_all}
+use Rattle.std.proofs.Common.{◌≡◌, ℕ, zero, suc, ◌≤◌, ◌<◌, List, [], ◌∷◌, ◌++◌, length, take, refl, arith, append_assoc}
 use Rattle.std.proofs.lemmas.Bool.Decides.{nat_tests}
 use Rattle.std.proofs.lemmas.Grind.{common_steps}
-use Rattle.cw_logtext.specs.LogReading.{Begins, IsFault, IsFaultAt, IsLog, wrong, cut_off}
+use Rattle.cw_logtext.specs.LogReading.{IsFault, IsFaultAt, IsLog, wrong, cut_off}
 
 record Longer (lines : List (List ℕ)) (m n : ℕ) : Type 0 where
   more : List (List ℕ)
@@ -16,27 +14,17 @@ longer lines (suc m) zero le = absurd (omega (arith, le))
 longer [] (suc m) (suc n) le = record { more = []; is = refl }
 longer (l ∷ ls) (suc m) (suc n) le = grind (arith, longer ls m n (omega (arith, le)))
 
-begins-fewer : (lines : List (List ℕ)) (m n : ℕ) → m ≤ n → Begins (take n lines) → Begins (take m lines)
-begins-fewer lines m n le b = grind (arith, nat_tests, common_steps, longer lines m n le, longer, append_assoc)
-
-fault-begins : (lines : List (List ℕ)) (n : ℕ) → IsFault lines n → Begins (take n lines)
-fault-begins lines n h = grind (arith, take_all)
-
 fault-within : (lines : List (List ℕ)) (n : ℕ) → IsFault lines n → n ≤ length lines
 fault-within lines n h = grind arith
 
 earlier-fault : (lines : List (List ℕ)) (m n : ℕ) → m < n → IsFault lines m → IsFault lines n → ⊥
-earlier-fault lines m n lt (wrong l b none) f = none (begins-fewer lines (suc m) n (omega (arith, lt))
-    (fault-begins lines n f))
+earlier-fault lines m n lt (wrong l b none) f =
+    none (grind (arith, nat_tests, common_steps, longer lines (suc m) n (omega (arith, lt)), longer, append_assoc))
 earlier-fault lines m n lt (cut_off last b none) f = omega (arith, lt, last, fault-within lines n f)
 
 fault-log : (lines : List (List ℕ)) (n : ℕ) → IsFault lines n → IsLog lines → ⊥
-fault-log lines n (wrong lt b none) is =
-    none (begins-fewer lines (suc n) (length lines) (omega (arith, lt)) (record {
-      later = [];
-      whole = subst IsLog (sym (append-nil (take (length lines) lines)
-          ∙ take_all (length lines) lines (omega arith))) is;
-    }))
+fault-log lines n (wrong lt b none) is = none (grind
+    (arith, nat_tests, common_steps, longer lines (suc n) (length lines) (omega (arith, lt)), longer, append_assoc))
 fault-log lines n (cut_off last b none) is = none is
 
 -- the first line that no log has is one

@@ -39,7 +39,8 @@ one-more file rest line tail spot next count r cut step = grind (
   arith,
   common_steps,
   at-hand (pieces_of file) r.good line (pieces_of tail) (r.left ∙ cut.cut),
-  joined-reads Outside spot next (take r.good (pieces_of file)) (line ∷ []) r.read (more spot next next line [] step (none next)),
+  joined-reads Outside
+      spot next (take r.good (pieces_of file)) (line ∷ []) r.read (more spot next next line [] step (none next)),
 )
 
 pub stuck-here : (file rest line tail : List ℕ) (spot : Spot) (count : ℕ) → ReadSoFar file rest spot count

@@ -12,10 +12,7 @@ use Rattle.cw_logtext.specs.LogText.{letter, cat_text, blank_and, line_text, ite
 use Rattle.cw_logtext.specs.LogText.{IsFineItem}
 use Rattle.cw_logtext.specs.LinePieces.{IsCut, AreNames, something}
 use Rattle.cw_logtext.proofs.Plain.{cat-blank, decimal-lacks, no-blank}
-use Rattle.cw_logtext.proofs.Telling.{Same, blanked-same, names-blanked, names-same}
-
-head-of : (a b : ℕ) (xs ys : List ℕ) → ◌≡◌ {A = List ℕ} (a ∷ xs) (b ∷ ys) → a ≡ b
-head-of a b xs ys e = cc
+use Rattle.cw_logtext.proofs.Telling.{blanked-same, names-blanked, names-same}
 
 tail-of : (a b : ℕ) (xs ys : List ℕ) → ◌≡◌ {A = List ℕ} (a ∷ xs) (b ∷ ys) → xs ≡ ys
 tail-of a b xs ys e = cc
@@ -31,11 +28,9 @@ pub record LeafParts (byte : ℕ) (word rest : List ℕ) (said : Line) : Type 0 
 pub leaf-parts : (byte : ℕ) (behind word rest : List ℕ) → IsCut behind word rest → (said : Line)
     → byte ∷ 32 ∷ behind ≡ line_text said → LeafParts byte word rest said
 leaf-parts byte behind word rest cut said is =
-    let same : Same word (cat_text said.cat) rest (flat_map blank_and said.names) =
-    blanked-same word (cat_text said.cat) rest (flat_map blank_and said.names) cut.plain
-    (cat-blank said.cat) cut.blanked
-    (names-blanked said.names) (sym cut.is ∙ tail-of 32 32 _ _ (tail-of byte (letter said.kind) _ _ is)) in
-    record { letter = head-of byte (letter said.kind) _ _ is; cat = same.front; names = same.back }
+    let same = blanked-same word (cat_text said.cat) rest (flat_map blank_and said.names) cut.plain (cat-blank said.cat)
+    cut.blanked (names-blanked said.names) (sym cut.is ∙ tail-of 32 32 _ _ (tail-of byte (letter said.kind) _ _ is)) in
+    record { letter = cc; cat = same.front; names = same.back }
 
 pub leaf-whole : (kind : LeafKind) (cat : Cat) (byte : ℕ) (behind word rest : List ℕ) (count : ℕ)
     → byte ≡ letter kind → IsCut behind word rest → cat ≢ End → word ≡ cat_text cat → (names : AreNames rest count)
@@ -59,10 +54,8 @@ pub record ItemParts (word rest : List ℕ) (production : Production) : Type 0 w
 pub item-parts : (behind word rest : List ℕ) → IsCut behind word rest → (p : Production) → IsFineItem p
     → 80 ∷ behind ≡ item_text p → ItemParts word rest p
 item-parts behind word rest cut p fine is =
-    let same : Same word (decimal p.number) rest (32 ∷ decimal p.place) =
-    blanked-same word (decimal p.number) rest (32 ∷ decimal p.place) cut.plain
-    (decimal-lacks 32 p.number no-blank (omega (arith, fine.to_last))) cut.blanked (something (decimal p.place))
-    (sym cut.is ∙ tail-of 80 80 _ _ is) in
+    let same = blanked-same word (decimal _) rest _ cut.plain (decimal-lacks
+    32 _ no-blank (omega (arith, fine.to_last))) cut.blanked (something _) (sym cut.is ∙ tail-of 80 80 _ _ is) in
     record { number = same.front; place = same.back }
 
 pub item-whole : (behind word digits : List ℕ) (number place : ℕ) → IsCut behind word (32 ∷ digits)
@@ -81,8 +74,7 @@ pub item-of : (line behind word rest digits : List ℕ) (letter blank : ℕ) →
     → IsCut behind word rest → rest ≡ blank ∷ digits → (p : Production) → IsFineItem p → line ≡ item_text p
     → (word ≡ decimal p.number) × (digits ≡ decimal p.place)
 item-of line behind word rest digits letter blank l is cut r p fine e =
-    let parts : ItemParts word rest p = item-parts behind word rest cut p fine
-    (sym (l ∙ ap (λ b. b ∷ behind) is) ∙ e) in
+    let parts = item-parts behind word rest cut p fine (sym (l ∙ ap (λ b. b ∷ behind) is) ∙ e) in
     (parts.number, tail-of blank 32 digits (decimal p.place) (sym r ∙ parts.place))
 
 pub no-zero : (word : List ℕ) (number : ℕ) (p : Production) → IsFineItem p → number ≡ 0 → word ≡ decimal number

@@ -1,5 +1,5 @@
 -- The names of a leaf line are added one after another.
-use Rattle.std.proofs.Common.{◌≡◌, ℕ, suc, List, [], ◌∷◌, ◌++◌, map, slice_get, refl, sym, ◌∙◌, ap, subst, arith}
+use Rattle.std.proofs.Common.{◌≡◌, ℕ, suc, List, [], ◌∷◌, ◌++◌, map, slice_get, refl, sym, ◌∙◌, ap, arith}
 use Rattle.std.specs.List.{flat_map}
 use Rattle.std.proofs.lemmas.List.{append_assoc, map-append}
 use Rattle.cw_names.specs.declared.entry.EntryKind.TheVariants.{Ident}
@@ -7,7 +7,7 @@ use Rattle.cw_names.specs.declared.entry.NameId.{NameId}
 use Rattle.cw_names.specs.Names.{Entry, place_of, with_entry}
 use Rattle.cw_leaves.specs.LeafLines.{IsIdentEntry, text_at}
 use Rattle.cw_logtext.specs.Blocks.{with_idents, AreIdents, HasNames}
-use Rattle.cw_logtext.specs.LinePieces.{AreIdentifiers, HasName, IsBlanked, NoName}
+use Rattle.cw_logtext.specs.LinePieces.{AreIdentifiers, HasName, NoName}
 use Rattle.cw_logtext.specs.LogText.{blank_and}
 use Rattle.cw_logtext.proofs.Adding.{idents-append, idents-kept, new-ident, none-added, one-added, texts-kept}
 use Rattle.cw_logtext.proofs.Cutting.{all-cons, all-append}
@@ -39,18 +39,13 @@ more-texts : (mid new : List Entry) (ids : List NameId) (id : NameId) (word : Li
     → map (λ i. text_at new i.index) (ids ++ id ∷ []) ≡ map (λ i. text_at mid i.index) ids ++ word ∷ []
 more-texts mid new ids id word idents is place = grind (arith, map-append, texts-kept, one-added, none-added, new-ident)
 
-tail-of : (a b : ℕ) (xs ys : List ℕ) → ◌≡◌ {A = List ℕ} (a ∷ xs) (b ∷ ys) → xs ≡ ys
-tail-of a b xs ys e = cc
-
 -- the name with which a text begins is the first of its texts
 first-same : (rest word tail n : List ℕ) (ns : List (List ℕ)) → HasName rest word tail → AreIdentifiers (n ∷ ns)
     → rest ≡ flat_map blank_and (n ∷ ns) → Same word n tail (flat_map blank_and ns)
 first-same rest word tail n ns h fine behind =
-    let later : flat_map blank_and ns ≡ tail =
-    h.alone n (flat_map blank_and ns) (fine 0 n (omega arith)) (names-blanked ns) behind in
-    blanked-same word n tail (flat_map blank_and ns) (name-lacks 32 refl word h.fine)
-    (name-lacks 32 refl n (fine 0 n (omega arith))) (subst IsBlanked later (names-blanked ns)) (names-blanked ns)
-    (tail-of 32 32 _ _ (sym h.is ∙ behind))
+    let later : flat_map blank_and ns ≡ tail = grind (arith, names-blanked) in
+    blanked-same word n tail (flat_map blank_and ns) (grind (arith, name-lacks))
+    (name-lacks 32 refl n (fine 0 n (omega arith))) (grind (arith, names-blanked)) (names-blanked ns) (cc)
 
 left-behind : (mid new : List Entry) (ids : List NameId) (id : NameId) (rest word tail : List ℕ)
     (texts : List (List ℕ)) → AreIdents mid ids → new ≡ with_entry Ident word mid
@@ -67,33 +62,25 @@ left-behind mid new ids id rest word tail texts idents is place h l = go l.left 
           left = ns;
           fine = λ i d lt. fine (suc i) d (omega arith);
           behind = s.back;
-          is = e ∙ (ap (λ t. map (λ i. text_at mid i.index) ids ++ t ∷ ns) (sym s.front)
-              ∙ (sym (append_assoc (map (λ i. text_at mid i.index) ids) (word ∷ []) ns)
-              ∙ ap (λ ts. ts ++ ns) (sym (more-texts mid new ids id word idents is place))));
+          is = e ∙ (ap (λ t. map (λ i. text_at mid i.index) ids ++ t ∷ ns) (sym s.front) ∙ (sym (append_assoc
+              _ (word ∷ []) ns) ∙ ap (λ ts. ts ++ ns) (sym (more-texts mid new ids id word idents is place))));
         }
 
 pub one-name : (old mid new : List Entry) (text rest word tail : List ℕ) (ids : List NameId) (id : NameId)
     → NamesSoFar old mid text ids rest → HasName rest word tail → new ≡ with_entry Ident word mid
     → id.index ≡ place_of Ident word mid → NamesSoFar old new text (ids ++ id ∷ []) tail
 one-name old mid new text rest word tail ids id s h is place = record {
-  idents = all-append (λ i. IsIdentEntry (slice_get new i.index)) ids (id ∷ [])
-      (idents-kept mid new ids (one-added word mid mid new (none-added mid) is) s.idents)
-      (all-cons (λ i. IsIdentEntry (slice_get new i.index)) id [] (new-ident word mid new id is place).0
-      (λ k d lt. absurd (omega (arith, lt))));
-  added = is ∙ (ap (with_entry Ident word) s.added
-      ∙ (sym (idents-append (map (λ i. text_at mid i.index) ids) (word ∷ []) old)
-      ∙ ap (λ ts. with_idents ts old) (sym (more-texts mid new ids id word s.idents is place))));
-  texts = λ texts fine behind. left-behind mid new ids id rest word tail texts s.idents is place h
-      (s.texts texts fine behind);
+  idents = all-append (λ i. IsIdentEntry (slice_get new i.index)) ids (id ∷ []) (idents-kept mid new
+      ids (one-added word mid mid new (none-added mid) is) s.idents) (grind (arith, all-cons, slice_get, new-ident));
+  added = is ∙ (ap (with_entry Ident word) s.added ∙ (sym (idents-append (map (λ i. text_at mid i.index) ids)
+      (word ∷ []) old) ∙ ap (λ ts. with_idents ts old) (sym (more-texts mid new ids id word s.idents is place))));
+  texts = λ texts fine behind. left-behind mid new ids id rest word tail _ s.idents is place h (grind arith);
 }
 
 pub all-names : (old new : List Entry) (text rest : List ℕ) (ids : List NameId) → NamesSoFar old new text ids rest
     → NoName rest → HasNames old new text ids
-all-names old new text rest ids s none = record {
-  idents = s.idents;
-  added = s.added;
-  texts = λ texts fine is. whole texts (s.texts texts fine is);
-}
+all-names old new text rest ids s none =
+    record { idents = s.idents; added = s.added; texts = λ texts fine is. whole _ (s.texts texts fine is) }
   where
     whole : (texts : List (List ℕ)) → Left new ids rest texts → map (λ id. text_at new id.index) ids ≡ texts
     whole texts l = go l.left l.fine l.behind l.is
@@ -101,5 +88,4 @@ all-names old new text rest ids s none = record {
         go : (left : List (List ℕ)) → AreIdentifiers left → rest ≡ flat_map blank_and left
             → texts ≡ map (λ i. text_at new i.index) ids ++ left → map (λ id. text_at new id.index) ids ≡ texts
         go [] fine behind e = sym (e ∙ append-none-of (map (λ i. text_at new i.index) ids))
-        go (n ∷ ns) fine behind e =
-            absurd (none n (flat_map blank_and ns) (fine 0 n (omega arith)) (names-blanked ns) behind)
+        go (n ∷ ns) fine behind e = absurd (none n _ (fine 0 n (omega arith)) (names-blanked ns) behind)

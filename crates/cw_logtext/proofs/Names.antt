@@ -38,13 +38,10 @@ pub one-counted : (text rest name tail : List ℕ) (count : ℕ) → Counted tex
     → Counted text tail (count + 1)
 one-counted text rest name tail count c h = record {
   names = c.names ++ name ∷ [];
-  fine = all-append (λ n. is_identifier n ≡ true) c.names (name ∷ []) c.fine
-      (all-cons (λ n. is_identifier n ≡ true) name [] h.fine (λ i d lt. absurd (omega arith)));
+  fine = all-append (λ n. is_identifier n ≡ true) c.names
+      (name ∷ []) c.fine (all-cons (λ n. is_identifier n ≡ true) name [] h.fine (λ i d lt. absurd (omega arith)));
   many = length-append c.names (name ∷ []) ∙ ap (λ n. n + 1) c.many;
-  is = c.is ∙ (ap (λ r. flat_map blank_and c.names ++ r) h.is
-      ∙ (sym (append_assoc (flat_map blank_and c.names) (blank_and name) tail)
-      ∙ ap (λ r. r ++ tail) (ap (λ r. flat_map blank_and c.names ++ r) (sym (append-none (blank_and name)))
-      ∙ sym (names-append c.names (name ∷ [])))));
+  is = grind (arith, append_assoc, append-none, names-append);
 }
 
 pub one-later : (rest name tail : List ℕ) → HasName rest name tail → Later rest → Later tail

@@ -10,11 +10,10 @@ use Rattle.std.proofs.lemmas.List.Folds.{list_all-append}
 use Rattle.cw_base.proofs.TestLaws.{both-left, both-right}
 use Rattle.std.specs.Char.{digit_value}
 use Rattle.cw_base.specs.declared.category.Cat.{Cat}
-use Rattle.cw_leaves.specs.declared.kinds.LeafKind.{LeafKind}
 use Rattle.cw_leaves.specs.LeafLines.{Line}
 use Rattle.cw_table.specs.Normal.{Production}
-use Rattle.cw_logtext.specs.LogText.{letter, cat_text, blank_and, line_text, head_text, item_text, greatest}
-use Rattle.cw_logtext.specs.LogText.{is_identifier, IsFineLine, IsFineItem}
+use Rattle.cw_logtext.specs.LogText.{cat_text, blank_and, line_text, head_text, item_text, greatest, is_identifier}
+use Rattle.cw_logtext.specs.LogText.{IsFineLine, IsFineItem}
 use Rattle.cw_logtext.specs.LinePieces.{lacks}
 use Rattle.cw_rules.specs.declared.classes.Class.TheVariants as classes
 use Rattle.cw_rules.specs.Bytes.{is_digit, is_letter, is_in}
@@ -71,11 +70,8 @@ names-end [] all = refl
 names-end (name ∷ names) all = lacks-append 10 (blank_and name) (flat_map blank_and names)
     (name-lacks 10 refl name (all 0 name (omega arith))) (names-end names (λ i d lt. all (suc i) d (omega arith)))
 
-letter-end : (k : LeafKind) → not (eqb (letter k) 10) ≡ true
-letter-end k = grind arith
-
 pub line-end : (l : Line) → IsFineLine l → lacks 10 (line_text l) ≡ true
-line-end l fine = grind (arith, and-both, letter-end, lacks-append, cat-end, names-end)
+line-end l fine = grind (arith, and-both, lacks-append, cat-end, names-end)
 
 pub head-end : (n : ℕ) → n ≤ greatest → lacks 10 (head_text n) ≡ true
 head-end n most = decimal-lacks 10 n no-end (omega (arith, most))

@@ -23,29 +23,23 @@ joined-reads first middle last xs ys (more a next b line lines step q) r =
 
 reads-items : (ps : List Production) → All IsFineItem ps → Reads (Inside 0) (map item_text ps ++ end_text ∷ []) Outside
 reads-items [] all = more (Inside 0) Outside Outside end_text [] (closes end_text refl) (none Outside)
-reads-items (p ∷ ps) all =
-    more (Inside 0) (Inside 0) Outside (item_text p) _ (item (item_text p) p (all 0 p (omega arith)) refl)
-    (reads-items ps (λ i d lt. all (suc i) d (omega arith)))
+reads-items (p ∷ ps) all = more _ (Inside 0) Outside (item_text p)
+    _ (item (item_text p) p (all 0 p (omega arith)) refl) (reads-items ps (λ i d lt. all (suc i) d (omega arith)))
 
 reads-leaves : (ls : List Line) (rest : List (List ℕ)) → All IsFineLine ls → Reads (Inside 0) rest Outside
     → Reads (Inside (length ls)) (map line_text ls ++ rest) Outside
 reads-leaves [] rest all r = r
-reads-leaves (l ∷ ls) rest all r =
-    more (Inside (suc (length ls))) (Inside (length ls)) Outside (line_text l) _
-    (leaf (line_text l) (length ls) l (all 0 l (omega arith)) refl)
-    (reads-leaves ls rest (λ i d lt. all (suc i) d (omega arith)) r)
+reads-leaves (l ∷ ls) rest all r = more _ (Inside (length ls)) Outside (line_text l) _ (leaf (line_text l)
+    (length ls) l (all 0 l (omega arith)) refl) (reads-leaves ls rest (λ i d lt. all (suc i) d (omega arith)) r)
 
 reads-block : (b : Block) → IsFineBlock b → Reads Outside (block_lines b) Outside
-reads-block b fine =
-    more Outside (Inside (length b.leaves)) Outside (head_text (length b.leaves)) _
-    (opens (head_text (length b.leaves)) (length b.leaves) fine.few refl)
-    (reads-leaves b.leaves _ fine.leaves (reads-items b.items fine.items))
+reads-block b fine = more _ (Inside (length b.leaves)) Outside (head_text (length b.leaves)) _ (opens (head_text (length
+    b.leaves)) (length b.leaves) fine.few refl) (reads-leaves b.leaves _ fine.leaves (reads-items b.items fine.items))
 
 reads-blocks : (bs : List Block) → All IsFineBlock bs → Reads Outside (log_lines bs) Outside
 reads-blocks [] all = none Outside
-reads-blocks (b ∷ bs) all =
-    joined-reads Outside Outside Outside (block_lines b) (log_lines bs) (reads-block b (all 0 b (omega arith)))
-    (reads-blocks bs (λ i d lt. all (suc i) d (omega arith)))
+reads-blocks (b ∷ bs) all = joined-reads _ Outside Outside (block_lines b)
+    (log_lines bs) (reads-block b (all 0 b (omega arith))) (reads-blocks bs (λ i d lt. all (suc i) d (omega arith)))
 
 pub log-is-read : LogIsRead
 log-is-read lines h = subst (λ ls. Reads Outside ls Outside) (sym h.is) (reads-blocks h.blocks h.fine)
@@ -65,15 +59,8 @@ abbrev Meaning : Spot → List (List ℕ) → Type 0
 Meaning Outside lines = IsLog lines
 Meaning (Inside to_come) lines = Rest to_come lines
 
-all-cons : {A : Type 0} (P : A → Type 0) (x : A) (xs : List A) → P x → All P xs → All P (x ∷ xs)
-all-cons P x xs p all h d lt = grind arith
-
 all-none : {A : Type 0} (P : A → Type 0) → All P []
 all-none P i d lt = absurd (omega arith)
-
-block-joined : (b : Block) (bs : List Block) → log_lines (b ∷ bs)
-    ≡ head_text (length b.leaves) ∷ map line_text b.leaves ++ (map item_text b.items ++ end_text ∷ log_lines bs)
-block-joined b bs = grind (arith, append_assoc)
 
 step-means : (first next : Spot) (line : List ℕ) (lines : List (List ℕ)) → Step first line next → Meaning next lines
     → Meaning first (line ∷ lines)
@@ -81,22 +68,20 @@ step-means Outside (Inside n) line lines (opens l count most is) r =
     let b : Block = record { leaves = r.leaves; items = r.items } in
     record {
       blocks = b ∷ r.blocks;
-      fine = all-cons IsFineBlock b r.blocks
-          (record { few = omega (arith, r.count, most); leaves = r.fine_leaves; items = r.fine_items }) r.fine;
-      is = ap (λ x. line ∷ x) r.is
-          ∙ (ap (λ x. x ∷ map line_text r.leaves ++ (map item_text r.items ++ end_text ∷ log_lines r.blocks))
-          (is ∙ ap head_text (sym r.count)) ∙ sym (block-joined b r.blocks));
+      fine = grind (arith);
+      is = ap (λ x. line ∷ x)
+          r.is ∙ (ap (λ x. x ∷ map line_text r.leaves ++ (map item_text r.items ++ end_text ∷ log_lines r.blocks))
+          (is ∙ ap head_text (sym r.count)) ∙ sym (grind (arith, append_assoc)));
     }
 step-means first next line lines (leaf l to_come said good is) r = record {
   leaves = said ∷ r.leaves;
   items = r.items;
   blocks = r.blocks;
   count = ap suc r.count;
-  fine_leaves = all-cons IsFineLine said r.leaves good r.fine_leaves;
+  fine_leaves = (λ h d lt. grind arith);
   fine_items = r.fine_items;
   fine = r.fine;
-  is = ap (λ x. line ∷ x) r.is
-      ∙ ap (λ x. x ∷ map line_text r.leaves ++ (map item_text r.items ++ end_text ∷ log_lines r.blocks)) is;
+  is = grind arith;
 }
 step-means first next line lines (item l p good is) r = item-means r.leaves r.count r.is
   where
@@ -109,7 +94,7 @@ step-means first next line lines (item l p good is) r = item-means r.leaves r.co
       blocks = r.blocks;
       count = refl;
       fine_leaves = all-none IsFineLine;
-      fine_items = all-cons IsFineItem p r.items good r.fine_items;
+      fine_items = (λ h d lt. grind arith);
       fine = r.fine;
       is = ap (λ x. line ∷ x) h ∙ ap (λ x. x ∷ map item_text r.items ++ end_text ∷ log_lines r.blocks) is;
     }
@@ -152,8 +137,7 @@ semicolon-fine = record { kind = refl; real = λ e. absurd cc; names = all-none 
 rest-reads : (k : ℕ) → Reads (Inside k) (rest_of k) Outside
 unfolding rest_of
 rest-reads zero = more (Inside 0) Outside Outside end_text [] (closes end_text refl) (none Outside)
-rest-reads (suc k) = more (Inside (suc k)) (Inside k) Outside (line_text semicolon) (rest_of k)
-    (leaf (line_text semicolon) k semicolon semicolon-fine refl) (rest-reads k)
+rest-reads (suc k) = more _ _ _ (line_text _) _ (leaf (line_text _) k semicolon semicolon-fine refl) (rest-reads k)
 
 ending-reads : (spot : Spot) → Reads spot (ending spot) Outside
 unfolding ending
@@ -161,11 +145,8 @@ ending-reads Outside = none Outside
 ending-reads (Inside k) = rest-reads k
 
 read-begins : (lines : List (List ℕ)) (spot : Spot) → Reads Outside lines spot → Begins lines
-read-begins lines spot r = record {
-  later = ending spot;
-  whole = read-is-log (lines ++ ending spot)
-      (joined-reads Outside spot Outside lines (ending spot) r (ending-reads spot));
-}
+read-begins lines spot r =
+    record { later = ending spot; whole = grind (arith, read-is-log, joined-reads, ending-reads) }
 
 -- one line leads to one place
 step-same : (first second third : Spot) (line : List ℕ) → Step first line second → Step first line third
@@ -204,19 +185,11 @@ first-step : (first last : Spot) (x : List ℕ) (xs : List (List ℕ)) → Reads
 first-step first last x xs (more a next b line lines step r) = (next, step)
 
 pub stuck-is-fault : StuckIsFault
-stuck-is-fault lines good spot lt r stuck =
-    wrong lt (read-begins (take good lines) spot r) (λ b.
-    let x : List ℕ = get_or lines good [] in
-    let e : take (suc good) lines ++ b.later ≡ take good lines ++ x ∷ b.later =
-    ap (λ ls. ls ++ b.later) (take-next lines good lt) ∙ append_assoc (take good lines) (x ∷ []) b.later in
-    let s : Split Outside Outside (take good lines) (x ∷ b.later) =
-    split Outside Outside (take good lines) (x ∷ b.later)
-    (subst (λ ls. Reads Outside ls Outside) e (log-is-read _ b.whole)) in
-    let f = first-step s.middle Outside x b.later s.back in
-    stuck f.0 (subst (λ p. Step p x f.0) (reads-same Outside s.middle spot (take good lines) s.front r) f.1))
+stuck-is-fault lines good spot lt r stuck = wrong lt (read-begins (take good _) spot r)
+    (λ b. let x = get_or _ good [] in let e = ap (λ ls. ls ++ b.later) (take-next _ good lt) ∙ append_assoc _ (x ∷ [])
+    _ in let s = split _ _ _ _ (subst (λ ls. Reads Outside ls Outside) e (log-is-read _ b.whole)) in let f = first-step
+    _ Outside x _ s.back in stuck f.0 (subst (λ p. Step p x f.0) (reads-same _ _ spot (take good lines) s.front r) f.1))
 
 pub inside-is-fault : InsideIsFault
-inside-is-fault lines to_come r =
-    cut_off refl (read-begins lines (Inside to_come) r) (λ log.
-    let e : Inside to_come ≡ Outside = reads-same Outside (Inside to_come) Outside lines r (log-is-read lines log) in
-    absurd cc)
+inside-is-fault lines to_come r = cut_off refl (read-begins lines (Inside to_come) r)
+    (λ log. let e = reads-same Outside (Inside to_come) Outside lines r (log-is-read lines log) in absurd cc)

@@ -1,5 +1,5 @@
 -- The lines of a log tell its blocks.
-use Rattle.std.proofs.Common.{◌≡◌, ℕ, suc, true, not, List, [], ◌∷◌, ◌++◌, if◌then◌else◌, length, eqb, nat_eq, map, All}
+use Rattle.std.proofs.Common.{◌≡◌, ℕ, suc, true, List, [], ◌∷◌, ◌++◌, if◌then◌else◌, length, eqb, nat_eq, map, All}
 use Rattle.std.proofs.Common.{refl, sym, ◌∙◌, ap, arith}
 use Rattle.std.specs.List.{flat_map}
 use Rattle.std.specs.Fmt.{decimal}
@@ -14,8 +14,8 @@ use Rattle.cw_table.specs.Normal.{Production}
 use Rattle.cw_leaves.specs.declared.kinds.LeafKind.{LeafKind}
 use Rattle.cw_leaves.specs.declared.kinds.LeafKind.TheVariants as leaf
 use Rattle.cw_leaves.specs.LeafLines.{Line}
-use Rattle.cw_logtext.specs.LogText.{Block, letter, cat_text, blank_and, line_text, head_text, item_text, end_text}
-use Rattle.cw_logtext.specs.LogText.{log_lines, IsFineLine, IsFineItem, IsFineBlock}
+use Rattle.cw_logtext.specs.LogText.{letter, cat_text, blank_and, line_text, head_text, item_text, end_text, log_lines}
+use Rattle.cw_logtext.specs.LogText.{IsFineLine, IsFineItem, IsFineBlock}
 use Rattle.cw_logtext.specs.LinePieces.{lacks, IsBlanked, nothing, something, AreIdentifiers}
 use Rattle.cw_logtext.specs.LogLaws.{BlocksAreTold}
 use Rattle.cw_logtext.proofs.Decimals.{head-injective, item-not-end}
@@ -54,12 +54,9 @@ pub record Same (xs ys zs ws : List ℕ) : Type 0 where
   pub front : xs ≡ ys
   pub back : zs ≡ ws
 
-blank-differs : (c : ℕ) (cs : List ℕ) → lacks 32 (c ∷ cs) ≡ true → 32 ≡ c → ⊥
-blank-differs c cs h e = grind (arith, both-left)
-
 never-byte : (zs : List ℕ) (c : ℕ) (cs ws : List ℕ) → IsBlanked zs → lacks 32 (c ∷ cs) ≡ true → zs ≡ c ∷ ws → ⊥
 never-byte zs c cs ws nothing h e = cc
-never-byte zs c cs ws (something bytes) h e = blank-differs c cs h (head-of 32 c bytes ws e)
+never-byte zs c cs ws (something bytes) h e = grind (arith, both-left)
 
 pub blanked-same : (xs ys zs ws : List ℕ) → lacks 32 xs ≡ true → lacks 32 ys ≡ true → IsBlanked zs → IsBlanked ws
     → xs ++ zs ≡ ys ++ ws → Same xs ys zs ws
@@ -67,10 +64,8 @@ blanked-same [] [] zs ws h k p q e = record { front = refl; back = e }
 blanked-same [] (y ∷ ys) zs ws h k p q e = absurd (never-byte zs y ys (ys ++ ws) p k e)
 blanked-same (x ∷ xs) [] zs ws h k p q e = absurd (never-byte ws x xs (xs ++ zs) q h (sym e))
 blanked-same (x ∷ xs) (y ∷ ys) zs ws h k p q e =
-    let s : Same xs ys zs ws =
-    blanked-same xs ys zs ws (both-right (not (eqb x 32)) _ h) (both-right (not (eqb y 32)) _ k)
-    p q (tail-of x y (xs ++ zs) (ys ++ ws) e) in
-    let a : x ≡ y = head-of x y (xs ++ zs) (ys ++ ws) e in
+    let s = blanked-same xs ys zs ws (both-right _ _ h) (both-right _ _ k) p q (tail-of x y (xs ++ zs) (ys ++ ws) e) in
+    let a = head-of x y _ _ e in
     record { front = ap (λ c. c ∷ xs) a ∙ ap (λ cs. y ∷ cs) s.front; back = s.back }
 
 -- names
@@ -85,36 +80,26 @@ names-same [] [] h k e = refl
 names-same [] (m ∷ ms) h k e = absurd cc
 names-same (n ∷ ns) [] h k e = absurd cc
 names-same (n ∷ ns) (m ∷ ms) h k e =
-    let s : Same n m (flat_map blank_and ns) (flat_map blank_and ms) =
-    blanked-same n m (flat_map blank_and ns) (flat_map blank_and ms) (name-lacks 32 refl n (h 0 n (omega arith)))
-    (name-lacks 32 refl m (k 0 m (omega arith))) (names-blanked ns) (names-blanked ms) (tail-of 32 32 _ _ e) in
-    ap (λ x. x ∷ ns) s.front
-    ∙ ap (λ xs. m ∷ xs) (names-same ns ms (λ i d lt. h (suc i) d (omega arith))
-    (λ i d lt. k (suc i) d (omega arith)) s.back)
+    let s = blanked-same n m (flat_map blank_and ns) (flat_map blank_and ms) (name-lacks 32 refl n (h 0 n (omega
+    arith))) (name-lacks 32 refl m (k 0 m (omega arith))) (names-blanked ns) (names-blanked ms) (tail-of 32 32 _ _ e) in
+    ap (λ x. x ∷ ns) s.front ∙ ap
+    (λ xs. m ∷ xs) (names-same ns ms (λ i d lt. h (suc i) d (omega arith)) (λ i d lt. k (suc i) d (omega arith)) s.back)
 
 pub line-injective : (l m : Line) → IsFineLine l → IsFineLine m → line_text l ≡ line_text m → l ≡ m
 line-injective l m h k e =
-    let kind : l.kind ≡ m.kind = letter-injective l.kind m.kind (head-of (letter l.kind) (letter m.kind) _ _ e) in
-    let rest : cat_text l.cat ++ flat_map blank_and l.names ≡ cat_text m.cat ++ flat_map blank_and m.names =
-    tail-of 32 32 _ _ (tail-of (letter l.kind) (letter m.kind) _ _ e) in
-    let s : Same (cat_text l.cat) (cat_text m.cat) (flat_map blank_and l.names) (flat_map blank_and m.names) =
-    blanked-same (cat_text l.cat) (cat_text m.cat) (flat_map blank_and l.names) (flat_map blank_and m.names)
-    (cat-blank l.cat) (cat-blank m.cat) (names-blanked l.names) (names-blanked m.names) rest in
-    ap (λ x. record { kind = x; cat = l.cat; names = l.names }) kind
-    ∙ (ap (λ x. record { kind = m.kind; cat = x; names = l.names }) (cat-injective l.cat m.cat s.front)
-    ∙ ap (λ x. record { kind = m.kind; cat = m.cat; names = x }) (names-same l.names m.names h.names k.names s.back))
+    let kind : l.kind ≡ m.kind = letter-injective l.kind _ (head-of (letter _) _ _ _ e) in
+    let rest = tail-of 32 32 _ _ (tail-of _ _ _ _ e) in
+    let s = blanked-same _ _ _ _ (cat-blank _) (cat-blank _) (names-blanked l.names) (names-blanked _) rest in
+    ap (λ x. record { kind = x; cat = l.cat; names = l.names })
+    kind ∙ (ap (λ x. record { kind = m.kind; cat = x; names = l.names }) (cat-injective _ _ s.front)
+    ∙ ap (λ x. record { kind = m.kind; cat = m.cat; names = x }) (names-same _ _ h.names k.names s.back))
 
 pub item-injective : (p q : Production) → IsFineItem p → IsFineItem q → item_text p ≡ item_text q → p ≡ q
 item-injective p q h k e =
-    let s : Same (decimal p.number) (decimal q.number) (blank_and (decimal p.place)) (blank_and (decimal q.place)) =
-    blanked-same (decimal p.number) (decimal q.number) (blank_and (decimal p.place)) (blank_and (decimal q.place))
-    (decimal-lacks 32 p.number no-blank (omega (arith, h.to_last)))
-    (decimal-lacks 32 q.number no-blank (omega (arith, k.to_last)))
-    (something (decimal p.place)) (something (decimal q.place)) (tail-of 80 80 _ _ e) in
-    ap (λ x. record { number = x; place = p.place })
-    (decimal_injective p.number q.number (omega (arith, h.to_last)) (omega (arith, k.to_last)) s.front)
-    ∙ ap (λ x. record { number = q.number; place = x })
-    (decimal_injective p.place q.place (omega (arith, h.near)) (omega (arith, k.near)) (tail-of 32 32 _ _ s.back))
+    let s = blanked-same _ (decimal _) (blank_and _) (blank_and _)
+    (decimal-lacks 32 _ no-blank (omega (arith, h.to_last))) (decimal-lacks 32 _ no-blank (omega (arith, k.to_last)))
+    (something (decimal _)) (something _) (tail-of 80 80 _ _ e) in
+    grind (arith, decimal_injective, tail-of)
 
 -- blocks
 record SameLeaves (ls ms : List Line) (xs ys : List (List ℕ)) : Type 0 where
@@ -153,10 +138,6 @@ items-same (p ∷ ps) (q ∷ qs) xs ys h k e =
       later = s.later;
     }
 
-block-joined : (b : Block) (bs : List Block) → log_lines (b ∷ bs)
-    ≡ head_text (length b.leaves) ∷ map line_text b.leaves ++ (map item_text b.items ++ end_text ∷ log_lines bs)
-block-joined b bs = grind (arith, append_assoc)
-
 pub blocks-are-told : BlocksAreTold
 blocks-are-told [] [] h k e = refl
 blocks-are-told [] (c ∷ cs) h k e = absurd cc
@@ -164,12 +145,9 @@ blocks-are-told (b ∷ bs) [] h k e = absurd cc
 blocks-are-told (b ∷ bs) (c ∷ cs) h k e =
     let good : IsFineBlock b = h 0 b (omega arith) in
     let fine : IsFineBlock c = k 0 c (omega arith) in
-    let d = sym (block-joined b bs) ∙ (e ∙ block-joined c cs) in
-    let s = leaves-same b.leaves c.leaves _ _ (head-injective _ _ good.few fine.few (head-of _ _ _ _ d)) good.leaves
-    fine.leaves
-    (tail-of (head_text (length b.leaves)) (head_text (length c.leaves)) _ _ d) in
+    let d = sym (grind (arith, append_assoc)) ∙ (e ∙ (grind (arith, append_assoc))) in
+    let s = leaves-same b.leaves c.leaves _ _ (head-injective _ _ good.few fine.few (head-of _ _ _ _ d))
+    good.leaves fine.leaves (tail-of (head_text (length b.leaves)) (head_text (length c.leaves)) _ _ d) in
     let t = items-same b.items c.items (log_lines bs) (log_lines cs) good.items fine.items s.later in
-    ap (λ x. record { leaves = x; items = b.items } ∷ bs) s.leaves
-    ∙ (ap (λ x. record { leaves = c.leaves; items = x } ∷ bs) t.items
-    ∙ ap (λ x. c ∷ x) (blocks-are-told bs cs (λ i d lt. h (suc i) d (omega arith))
-    (λ i d lt. k (suc i) d (omega arith)) t.later))
+    ap (λ x. record { leaves = x; items = b.items } ∷ bs) s.leaves ∙ (grind
+    (arith, blocks-are-told bs cs (λ i d lt. h (suc i) d (omega arith)) (λ i d lt. k (suc i) d (omega arith)) t.later))

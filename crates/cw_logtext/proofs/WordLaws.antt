@@ -23,8 +23,7 @@ lacks-before : (byte : ℕ) (text : List ℕ) (n : ℕ) → n ≤ length text
     → ((k : ℕ) → k < n → eqb (get_or text k 0) byte ≡ true → ⊥) → lacks byte (take n text) ≡ true
 lacks-before byte text zero within none = refl
 lacks-before byte [] (suc n) within none = absurd (omega (arith, within))
-lacks-before byte (c ∷ cs) (suc n) within none =
-    and-both (not (eqb c byte)) _ (fails-by (eqb c byte) (none 0 (omega arith)))
+lacks-before byte (c ∷ cs) (suc n) within none = and-both _ _ (fails-by (eqb c byte) (none 0 (omega arith)))
     (lacks-before byte cs n (omega (arith, within)) (λ k below. none (suc k) (omega (arith, below))))
 
 lacks-all : (byte : ℕ) (text : List ℕ) → ((k : ℕ) → k < length text → eqb (get_or text k 0) byte ≡ true → ⊥)
@@ -41,10 +40,7 @@ parted : (byte : ℕ) (text : List ℕ) (n : ℕ) → n < length text → eqb (g
 parted byte text n within found = grind (arith, same-byte, drop-cons, take-append-drop)
 
 blanked-at : (text : List ℕ) (n : ℕ) → n < length text → eqb (get_or text n 0) 32 ≡ true → IsBlanked (drop n text)
-blanked-at text n within found =
-    subst IsBlanked (sym (drop-cons text n 0 within
-    ∙ ap (λ b. b ∷ drop (suc n) text) (same-byte (get_or text n 0) 32 found)))
-    (something (drop (suc n) text))
+blanked-at text n within found = subst IsBlanked (grind (arith, drop-cons, same-byte)) (something (drop (suc n) text))
 
 pub cut-at : (text : List ℕ) (n : ℕ) → n < length text
     → ((k : ℕ) → k < n → eqb (get_or text k 0) 32 ≡ true → ⊥) → eqb (get_or text n 0) 32 ≡ true
@@ -101,21 +97,14 @@ run-all (c ∷ cs) = go (is_in classes.Word c) refl (run-all cs)
   where
     go : (b : Bool) → is_in classes.Word c ≡ b → list_all (is_in classes.Word) (take (run classes.Word cs) cs) ≡ true
         → list_all (is_in classes.Word) (take (if b then 1 + run classes.Word cs else 0) (c ∷ cs)) ≡ true
-    go true e more =
-        let next : 1 + run classes.Word cs ≡ suc (run classes.Word cs) = omega arith in
-        subst (λ n. list_all (is_in classes.Word) (take n (c ∷ cs)) ≡ true) (sym next)
-        (and-both (is_in classes.Word c) _ e more)
+    go true e more = let next : 1 + run classes.Word cs ≡ suc (run classes.Word cs) = omega arith in cc
     go false e more = refl
-
-word-name : (name : List ℕ) → is_identifier name ≡ true → list_all (is_in classes.Word) name ≡ true
-word-name name h = grind (arith, and-both, letter-word, both-left, both-right)
 
 first-fine : (first : ℕ) (more : List ℕ) → is_letter first ≡ true
     → is_identifier (take (run classes.Word (first ∷ more)) (first ∷ more)) ≡ true
 first-fine first more h =
     let next : 1 + run classes.Word more ≡ suc (run classes.Word more) = omega arith in
-    let many : run classes.Word (first ∷ more) ≡ suc (run classes.Word more) =
-    ap (λ b. if b then 1 + run classes.Word more else 0) (letter-word first h) ∙ next in
+    let many = ap (λ b. if b then 1 + run classes.Word more else 0) (letter-word first h) ∙ next in
     subst (λ n. is_identifier (take n (first ∷ more)) ≡ true) (sym many) (and-both (is_letter first) _ h (run-all more))
 
 tail-of : (a b : ℕ) (xs ys : List ℕ) → ◌≡◌ {A = List ℕ} (a ∷ xs) (b ∷ ys) → xs ≡ ys
@@ -128,10 +117,9 @@ name-here first more h = record {
   is = ap (λ x. 32 ∷ x) (sym (take-append-drop (run classes.Word (first ∷ more)) (first ∷ more)));
   fine = first-fine first more h;
   alone = λ other tail fine blanked is.
-      let e : first ∷ more ≡ other ++ tail = tail-of 32 32 _ _ is in
-      let n : run classes.Word (first ∷ more) ≡ length other =
-      ap (run classes.Word) e ∙ run-name other tail (word-name other fine) blanked in
-      sym (ap (λ m. drop m (first ∷ more)) n ∙ (ap (drop (length other)) e ∙ drop-append_seam other tail));
+      let e = tail-of 32 32 _ _ is in let n : run classes.Word (first ∷ more) ≡ length other =
+      ap (run classes.Word) e ∙ run-name other tail (grind (arith, and-both, letter-word, both-left, both-right))
+      blanked in sym (ap (λ m. drop m (first ∷ more)) n ∙ (ap (drop (length other)) e ∙ drop-append_seam other tail));
 }
 
 pub no-letter : (first : ℕ) (more : List ℕ) → is_letter first ≡ false → NoName (32 ∷ first ∷ more)

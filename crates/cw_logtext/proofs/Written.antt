@@ -9,6 +9,5 @@ pub text-is-log : TextIsLog
 text-is-log blocks fine = record { blocks = blocks; fine = fine; is = text-has-lines blocks fine }
 
 pub text-tells-blocks : TextTellsBlocks
-text-tells-blocks blocks others fine good is =
-    blocks-are-told blocks others fine good
-    (sym (text-has-lines blocks fine) ∙ (ap pieces_of is ∙ text-has-lines others good))
+text-tells-blocks blocks others fine good is = blocks-are-told
+    _ others fine good (sym (text-has-lines blocks fine) ∙ (ap pieces_of is ∙ text-has-lines others good))

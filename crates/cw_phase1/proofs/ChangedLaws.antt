@@ -9,10 +9,8 @@ use Rattle.cw_phase1.specs.declared.sections.Section.{Section}
 
 has-more : (rows : List Row) (k : ℕ) (d : Row) → k < length rows → has_changed (drop k (map unpacked rows))
     ≡ ((get_or rows k d).changed || has_changed (drop (k + 1) (map unpacked rows)))
-has-more rows k d h =
-    at_drop_more has_changed (map unpacked rows) k (unpacked d) (omega (arith, length-map rows unpacked))
-    ∙ ap (λ (s : Section). s.changed || has_changed (drop (k + 1) (map unpacked rows)))
-    (get_or-map unpacked rows k d (unpacked d) h)
+has-more rows k d h = at_drop_more has_changed _ k (unpacked d) (omega (arith, length-map rows unpacked)) ∙ ap (λ (s :
+    Section). s.changed || has_changed (drop (k + 1) (map unpacked rows))) (get_or-map unpacked rows k d (unpacked d) h)
 
 -- a changed row among those that are left
 pub changed-found : (rows : List Row) (sections : List Section) (k : ℕ) (d : Row) → map unpacked rows ≡ sections
@@ -33,8 +31,7 @@ last-marked [] k last n e = absurd (omega arith)
 last-marked (r ∷ []) zero last n e = ap (λ (x : Row). unpacked (record x { changed = true }) ∷ []) e
 last-marked (r ∷ []) (suc k) last n e = absurd (omega arith)
 last-marked (r ∷ next ∷ rows) zero last n e = absurd (omega arith)
-last-marked (r ∷ next ∷ rows) (suc k) last n e =
-    ap (λ s. unpacked r ∷ s) (last-marked (next ∷ rows) k last (omega arith) e)
+last-marked (r ∷ next ∷ rows) (suc k) last n e = grind (arith, last-marked (next ∷ rows) k last (omega arith) e)
 
 pub marked-changed : (sections : List Section) → true ≡ has_changed sections
     → with_last_changed sections ≡ with_last_marked sections

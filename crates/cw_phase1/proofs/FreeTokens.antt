@@ -19,23 +19,16 @@ use Rattle.cw_phase1.specs.Telling.{told_step}
 no-head : (kind : TokKind) (span : Span) → head_behind wants.Nothing kind span ≡ None
 no-head kind span = grind arith
 
-free : (kind : TokKind) (s : Standing) (span : Span) (role : Role) → s.wanted ≡ wants.Nothing
-    → ((t : Standing) → free_step kind false t ≡ stay role t) → token_step kind false s span ≡ stay role s
-free kind s span role none is = grind (arith, no-head)
-
-silent : (kind : TokKind) → is_silent kind ≡ true → (t : Standing) → free_step kind false t ≡ stay roles.Plain t
-silent kind is t = grind arith
-
 word : (kind : TokKind) → kind ≡ kinds.Identifier → (t : Standing) → free_step kind false t ≡ stay roles.Word t
 word kind is t = ap (λ k. free_step k false t) is
 
 pub silent-step : (kind : TokKind) (s : Standing) (span : Span) → s.wanted ≡ wants.Nothing → is_silent kind ≡ true
     → token_step kind false s span ≡ stay roles.Plain s
-silent-step kind s span none is = free kind s span roles.Plain none (silent kind is)
+silent-step kind s span none is = grind (arith, no-head)
 
 pub word-step : (kind : TokKind) (s : Standing) (span : Span) → s.wanted ≡ wants.Nothing → kind ≡ kinds.Identifier
     → token_step kind false s span ≡ stay roles.Word s
-word-step kind s span none is = free kind s span roles.Word none (word kind is)
+word-step kind s span none is = grind (arith, no-head)
 
 abbrev pub with_told : Held → Told → HeldState
 with_told h told = record {

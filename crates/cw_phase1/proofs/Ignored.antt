@@ -1,6 +1,6 @@
 -- An ignored name is one whose reduced text is empty or `...`.
-use Rattle.std.proofs.Common.{◌≡◌, ℕ, zero, suc, ◌+◌, ◌==◌, ◌&&◌, Bool, true, false, nat_eq, List, [], ◌∷◌, drop, refl}
-use Rattle.std.proofs.Common.{arith, ne_eqb, if◌then◌else◌}
+use Rattle.std.proofs.Common.{◌≡◌, ℕ, zero, suc, ◌&&◌, Bool, true, false, nat_eq, List, [], ◌∷◌, drop, refl, arith}
+use Rattle.std.proofs.Common.{ne_eqb, if◌then◌else◌}
 use Rattle.std.proofs.lemmas.Bool.{eq-eqb, eqb-true}
 use Rattle.std.specs.Cmp.Lexicographic.{pointwise}
 use Rattle.std.proofs.lemmas.Bool.Decides.{nat_tests}
@@ -15,12 +15,6 @@ and-assoc : (a b c : Bool) → ((a && b) && c) ≡ (a && (b && c))
 and-assoc true b c = refl
 and-assoc false b c = refl
 
-not-blank : (b : ℕ) → is_in White b ≡ false → (b == 32) ≡ false
-not-blank b black = grind (arith, eqb-true)
-
-not-dot : (b : ℕ) → is_in White b ≡ true → (b == 46) ≡ false
-not-dot b white = grind (arith, eqb-true)
-
 -- ## White space at the beginning
 
 first-blank : (bytes : List ℕ) → without_first_blank (blank_before bytes) ≡ without_first_blank bytes
@@ -32,18 +26,9 @@ skipped b bs = grind arith
 
 -- ## Nothing but dots, and white space behind them
 
-blank-empty : (bytes : List ℕ) → pointwise nat_eq (blank_before bytes) [] ≡ pointwise nat_eq bytes []
-blank-empty bytes = grind (arith, nat_eq)
-
-blank-dots : (bytes dots : List ℕ) → pointwise nat_eq (blank_before bytes) (46 ∷ dots) ≡ false
-blank-dots bytes dots = grind (arith, nat_eq, eqb-true)
-
-one-more : (a b : ℕ) → (a == b) ≡ ((1 + a) == suc b)
-one-more a b = grind (arith, eqb-true, eq-eqb, ne_eqb)
-
 all-white : (bytes : List ℕ) → pointwise nat_eq (single_blanks bytes) [] ≡ is_white bytes
 all-white [] = refl
-all-white (b ∷ bs) = grind (arith, all-white bs, nat_eq, blank-empty, one-more, ne_eqb)
+all-white (b ∷ bs) = grind (arith, all-white bs, nat_eq, eqb-true, eq-eqb, ne_eqb)
 
 dots_of : ℕ → List ℕ
 dots_of zero = []
@@ -54,7 +39,7 @@ dots-white : (n : ℕ) (bytes : List ℕ) → pointwise nat_eq (single_blanks by
 unfolding dots_of
 dots-white zero bytes = all-white bytes
 dots-white (suc n) [] = refl
-dots-white (suc n) (b ∷ bs) = grind (arith, nat_tests, dots-white n bs, nat_eq, blank-dots, not-dot, and-assoc)
+dots-white (suc n) (b ∷ bs) = grind (arith, nat_tests, dots-white n bs, nat_eq, eqb-true, eqb-true, and-assoc)
 
 dots-behind : (bytes : List ℕ) → pointwise nat_eq (single_blanks bytes) (46 ∷ 46 ∷ [])
     ≡ (begins_with (46 ∷ 46 ∷ []) bytes && is_white (drop 2 bytes))
@@ -63,13 +48,10 @@ dots-behind bytes = dots-white 2 bytes
 
 -- ## Ignored names
 
-some : (n : ℕ) → (suc n == 0) ≡ false
-some n = ne_eqb (suc n) 0 (λ h. omega (arith, h))
-
 ignored-text : (text : List ℕ) → is_void_text text ≡ is_reduced_void (reduced text)
 ignored-text [] = refl
 ignored-text (b ∷ bs) =
-    grind (arith, nat_tests, ignored-text bs, skipped, first-blank, some, and-assoc, dots-behind, nat_eq, not-blank)
+    grind (arith, nat_tests, ignored-text bs, skipped, first-blank, ne_eqb, and-assoc, dots-behind, nat_eq, eqb-true)
 
 -- the name of a token, by its reduced text
 pub naming-reduced : (kind : TokKind) (token text : List ℕ) → text ≡ name_text token

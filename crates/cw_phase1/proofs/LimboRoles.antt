@@ -1,23 +1,18 @@
 -- No section name stands before the first section code, so no section refers to one there.
-use Rattle.std.proofs.Common.{◌≡◌, ℕ, ◌≤◌, Bool, true, false, List, [], ◌∷◌, ◌++◌, Option, refl, length, arith}
+use Rattle.std.proofs.Common.{◌≡◌, ℕ, ◌≤◌, Bool, false, List, [], ◌∷◌, refl, length, arith}
 use Rattle.cw_base.specs.Web.{MergedLine}
 use Rattle.cw_base.specs.declared.span.Span.{Span}
 use Rattle.cw_base.proofs.TestLaws.{not-both}
 use Rattle.cw_lex.specs.declared.heads.Wanted.{Wanted}
 use Rattle.cw_rules.specs.declared.tokens.TokKind.{TokKind}
-use Rattle.cw_rules.specs.Answers.{Answer, Token, Begin, Finish, Note, has_sign}
-use Rattle.cw_lex.specs.Heads.{head_behind}
-use Rattle.cw_lex.specs.Limbo.{is_name_kind, HasNoNames}
+use Rattle.cw_rules.specs.Answers.{Answer, Token, Begin, Finish, Note}
+use Rattle.cw_lex.specs.Limbo.{HasNoNames}
 use Rattle.cw_lex.specs.Nested.{is_section_kind}
-use Rattle.cw_secnames.specs.declared.kinds.SecId.{SecId}
 use Rattle.cw_secnames.specs.Kept.{SecName}
-use Rattle.cw_secnames.specs.References.{Reference}
-use Rattle.cw_phase1.specs.declared.roles.Role.{Role}
 use Rattle.cw_phase1.specs.declared.roles.Standing.{Standing}
-use Rattle.cw_phase1.specs.Entering.{kept_behind}
-use Rattle.cw_phase1.specs.Roles.{Placed, word_role, head_role, token_step, token_step_by, behind_begin, placed_from}
+use Rattle.cw_phase1.specs.Roles.{Placed, word_role, head_role, token_step, behind_begin, placed_from}
 use Rattle.cw_phase1.specs.Sections.{is_section_code, sections_of}
-use Rattle.cw_phase1.specs.Uses.{reference_by, references_of}
+use Rattle.cw_phase1.specs.Uses.{references_of}
 use Rattle.cw_phase1.proofs.RoleLaws.{is_name_role, count_by, codes, Numbered, Rise, sections_in, rise-reference, rise}
 use Rattle.cw_phase1.proofs.RoleLaws.{section-count}
 
@@ -26,16 +21,11 @@ abbrev pub Unnamed : List Placed → Type 0
 Unnamed [] = Unit {0}
 Unnamed (p ∷ ps) = is_section_code p.role ≡ false → (is_name_role p.role ≡ false) × Unnamed ps
 
-no-reference : (role : Role) (name : Option SecId) (section : ℕ) (references : List Reference) → is_name_role role
-    ≡ false
-    → (reference_by role name section ++ references) ≡ references
-no-reference role name section references h = grind arith
-
 first-rise-by : (b : Bool) (high : ℕ) (p : Placed) (ps : List Placed) → is_section_code p.role ≡ b → Numbered 0 (p ∷ ps)
     → codes (p ∷ ps) ≤ high
     → Unnamed (p ∷ ps) → (Numbered 0 ps → codes ps ≤ high → Unnamed ps → Rise 1 high (sections_in (references_of ps)))
     → Rise 1 high (sections_in (references_of (p ∷ ps)))
-first-rise-by b high p ps e n h u k = grind (arith, count_by, rise-reference, rise, sections_in, no-reference)
+first-rise-by b high p ps e n h u k = grind (arith, count_by, rise-reference, rise, sections_in)
 
 first-rise : (high : ℕ) (ps : List Placed) → Numbered 0 ps → codes ps ≤ high → Unnamed ps
     → Rise 1 high (sections_in (references_of ps))
@@ -44,13 +34,9 @@ first-rise high (p ∷ ps) n h u = first-rise-by (is_section_code p.role) high p
 
 -- ## The roles of tokens
 
-section-role : (kind : TokKind) (headed : Bool) (s : Standing) (span : Span) → is_section_kind kind ≡ true
-    → is_section_code (token_step kind headed s span).role ≡ true
-section-role kind headed s span h = grind arith
-
 no-section-by : (b : Bool) (kind : TokKind) (headed : Bool) (s : Standing) (span : Span) → is_section_kind kind ≡ b
     → is_section_code (token_step kind headed s span).role ≡ false → is_section_kind kind ≡ false
-no-section-by b kind headed s span e h = grind (arith, not-both, section-role)
+no-section-by b kind headed s span e h = grind (arith, not-both)
 
 plain-word : (wanted : Wanted) → is_name_role (word_role wanted) ≡ false
 plain-word wanted = grind arith
@@ -58,19 +44,11 @@ plain-word wanted = grind arith
 plain-head : (wanted : Wanted) (kind : TokKind) → is_name_role (head_role wanted kind) ≡ false
 plain-head wanted kind = grind (arith, plain-word)
 
-plain-role : (o : Option Wanted) (kind : TokKind) (headed : Bool) (s : Standing) → is_name_kind kind ≡ false
-    → is_name_role (token_step_by o kind headed s).role ≡ false
-plain-role o kind headed s h = grind (arith, plain-head)
-
 pub unnamed : (s : Standing) (kept : List SecName) (answers : List Answer) → HasNoNames answers
     → Unnamed (placed_from s kept answers)
 unnamed s kept [] n = tt
-unnamed s kept (Token t ∷ answers) n = λ e.
-    let kind : is_section_kind t.kind ≡ false = no-section-by (is_section_kind t.kind) t.kind (has_sign answers) s
-    t.span refl e in (
-      plain-role (head_behind s.wanted t.kind t.span) t.kind (has_sign answers) s (n kind).0,
-      unnamed (token_step t.kind (has_sign answers) s t.span).next (kept_behind t kept) answers (n kind).1,
-    )
+unnamed s kept (Token t ∷ answers) n = λ e. let kind = no-section-by
+    _ _ _ s _ refl e in ((grind (arith, plain-head)), unnamed (token_step _ _ s _).next _ answers (n kind).1)
 unnamed s kept (Begin t ∷ answers) n = unnamed (behind_begin s) kept answers n
 unnamed s kept (Finish t ∷ answers) n = unnamed s kept answers n
 unnamed s kept (Note kind place ∷ answers) n = unnamed s kept answers n

@@ -1,45 +1,33 @@
 -- No kept name is longer than the text of the web.
-use Rattle.std.proofs.Common.{ℕ, zero, suc, ◌+◌, ◌≤◌, ◌==◌, Bool, List, [], ◌∷◌, ◌++◌, Option, All, drop, length}
-use Rattle.std.proofs.Common.{length-drop, sym, subst, arith, if◌then◌else◌}
+use Rattle.std.proofs.Common.{ℕ, zero, suc, ◌+◌, ◌≤◌, Bool, List, [], ◌∷◌, ◌++◌, All, drop, length, length-drop, arith}
+use Rattle.std.proofs.Common.{if◌then◌else◌}
 use Rattle.std.proofs.lemmas.List.{length-take}
 use Rattle.std.proofs.lemmas.List.Elements.{All-nil}
 use Rattle.cw_rules.specs.declared.tokens.TokKind.{TokKind}
-use Rattle.cw_rules.specs.Answers.{Seen, Answer, Token, Begin, Finish, Note}
-use Rattle.cw_rules.specs.Bytes.{at_sign}
+use Rattle.cw_rules.specs.Answers.{Answer, Token, Begin, Finish, Note}
 use Rattle.cw_rules.specs.Names.{is_void, uncoded}
 use Rattle.cw_rules.specs.Order.{Covers}
-use Rattle.cw_secnames.specs.declared.kinds.Earliest.{Earliest}
 use Rattle.cw_secnames.specs.declared.kinds.SecKind.{SecKind}
-use Rattle.cw_secnames.specs.Kept.{SecName, unreferred, with_text, enter_by, is_shorter, grown, enter_prefix_by}
+use Rattle.cw_secnames.specs.Kept.{SecName, unreferred, with_text, grown}
 use Rattle.cw_secnames.specs.References.{Reference, referred}
-use Rattle.cw_phase1.specs.Texts.{blank_before, single_blanks, without_first_blank, Naming, Void, Full, Prefix}
-use Rattle.cw_phase1.specs.Texts.{naming_by, naming, named_text, name_text, unless_void}
+use Rattle.cw_phase1.specs.Texts.{single_blanks, without_first_blank, Naming, Void, Full, Prefix, naming_by, naming}
+use Rattle.cw_phase1.specs.Texts.{name_text}
 use Rattle.cw_phase1.specs.Entering.{entering, kept_by, kept_behind, kept_after}
 use Rattle.cw_phase1.proofs.Underway.{covers-end, text-length}
 
 -- ## The text of a token
 
-size-by : (t : Bool) (n : ℕ) (xs ys : List ℕ) → length xs ≤ n → length ys ≤ n
-    → length (if t then xs else ys) ≤ n
-size-by t n xs ys h k = grind arith
-
-size-if : (t : Bool) (n : ℕ) (xs ys : List ℕ) → length xs ≤ n → length ys ≤ n → length (if t then xs else ys) ≤ n
-size-if t n xs ys h k = grind arith
-
-blank-size : (bytes : List ℕ) → length (blank_before bytes) ≤ 1 + length bytes
-blank-size bytes = grind (arith, size-by)
-
 single-size : (bytes : List ℕ) → length (single_blanks bytes) ≤ length bytes
 single-size [] = omega arith
-single-size (byte ∷ bytes) = grind (arith, single-size bytes, size-by, blank-size)
+single-size (byte ∷ bytes) = grind (arith, single-size bytes)
 
 first-size : (bytes : List ℕ) → length (without_first_blank bytes) ≤ length bytes
-first-size bytes = grind (arith, size-by)
+first-size bytes = grind (arith)
 
 uncoded-size : (bytes : List ℕ) → length (uncoded bytes) ≤ length bytes
 uncoded-size [] = omega arith
-uncoded-size (byte ∷ []) = size-if (byte == at_sign) 1 [] (byte ∷ []) (omega arith) (omega arith)
-uncoded-size (byte ∷ next ∷ bytes) = grind (arith, uncoded-size bytes, uncoded-size (next ∷ bytes), size-if)
+uncoded-size (byte ∷ []) = grind arith
+uncoded-size (byte ∷ next ∷ bytes) = grind (arith, uncoded-size bytes, uncoded-size (next ∷ bytes))
 
 name-size : (token : List ℕ) → length (name_text token) ≤ length token
 name-size token = grind (arith, first-size, single-size, uncoded-size, length-drop)
@@ -55,15 +43,9 @@ short-by : (t : Bool) (n : ℕ) (x y : Naming) → IsShort n x → IsShort n y
     → IsShort n (if t then x else y)
 short-by t n x y h k = grind arith
 
-short-unless : (void : Bool) (n : ℕ) (x : Naming) → IsShort n x → IsShort n (unless_void void x)
-short-unless void n x h = grind arith
-
-short-named : (n : ℕ) (text : List ℕ) → length text ≤ n → IsShort n (named_text text)
-short-named n text h = grind (arith, short-by, length-take)
-
 short-naming : (n : ℕ) (void : Bool) (kind : TokKind) (text : List ℕ) → length text ≤ n
     → IsShort n (naming_by void kind text)
-short-naming n void kind text h = grind (arith, short-unless, short-named)
+short-naming n void kind text h = grind (arith, short-by, length-take)
 
 abbrev AreShort : ℕ → List SecName → Type 0
 AreShort n [] = Unit {0}
@@ -81,34 +63,15 @@ short-text n i text complete [] t h = h
 short-text n zero text complete (name ∷ names) t h = (t, h.1)
 short-text n (suc i) text complete (name ∷ names) t h = (h.0, short-text n i text complete names t h.1)
 
-grown-by : (b : Bool) (n : ℕ) (prefix : List ℕ) (name : SecName) (names : List SecName) → length prefix ≤ n
-    → AreShort n (name ∷ names)
-    → AreShort n (if b then record name { text = prefix } ∷ names else name ∷ names)
-grown-by b n prefix name names t h = grind arith
-
 short-grown : (n : ℕ) (prefix : List ℕ) (i : ℕ) (names : List SecName) → length prefix ≤ n → AreShort n names
     → AreShort n (grown prefix i names)
 short-grown n prefix i [] t h = h
-short-grown n prefix zero (name ∷ names) t h = grown-by (is_shorter prefix name) n prefix name names t h
+short-grown n prefix zero (name ∷ names) t h = grind arith
 short-grown n prefix (suc i) (name ∷ names) t h = (h.0, short-grown n prefix i names t h.1)
-
-short-enter : (n : ℕ) (a b c : Option ℕ) (kind : SecKind) (text : List ℕ) (names : List SecName) → length text ≤ n
-    → AreShort n names
-    → AreShort n (enter_by a b c kind text names).kept
-short-enter n a b c kind text names t h = grind (arith, short-text, short-last)
-
-short-prefix : (n : ℕ) (e : Earliest) (prefix : List ℕ) (names : List SecName) → length prefix ≤ n → AreShort n names
-    → AreShort n (enter_prefix_by e prefix names).kept
-short-prefix n e prefix names t h = grind (arith, short-last, short-grown)
 
 short-entering : (n : ℕ) (m : Naming) (names : List SecName) → IsShort n m → AreShort n names
     → AreShort n (kept_by (entering m names) names)
-short-entering n m names t h = grind (arith, short-enter, short-prefix)
-
-short-behind : (n : ℕ) (t : Seen) (names : List SecName) → length t.text ≤ n → AreShort n names
-    → AreShort n (kept_behind t names)
-short-behind n t names l h = short-entering n (naming t.kind t.text) names
-    (short-naming n (is_void (drop 2 t.text)) t.kind (name_text t.text) (omega (arith, name-size t.text))) h
+short-entering n m names t h = grind (arith, short-text, short-last, short-last, short-grown)
 
 short-kept : (text : List ℕ) (from : ℕ) (names : List SecName) (answers : List Answer)
     → Covers text from (length text) answers
@@ -116,10 +79,10 @@ short-kept : (text : List ℕ) (from : ℕ) (names : List SecName) (answers : Li
 short-kept text from names [] c h = h
 short-kept text from names (Token t ∷ answers) c h =
     let end : t.span.«end» ≤ length text = covers-end text t.span.«end» (length text) answers c.2 in
-    let within : length t.text ≤ length text =
-    subst (λ (bytes : List ℕ). length bytes ≤ length text) (sym c.0.slice)
-    (omega (arith, text-length text t.span.start t.span.«end», end)) in
-    short-kept text t.span.«end» (kept_behind t names) answers c.2 (short-behind (length text) t names within h)
+    let within : length t.text ≤ length text = grind (arith, text-length) in
+    short-kept text t.span.«end»
+    (kept_behind t names) answers c.2 (short-entering (length text) (naming t.kind t.text) names (short-naming
+    (length text) (is_void (drop 2 t.text)) t.kind (name_text t.text) (omega (arith, name-size t.text))) h)
 short-kept text from names (Begin t ∷ answers) c h = short-kept text t.span.«end» names answers c.1 h
 short-kept text from names (Finish t ∷ answers) c h = short-kept text t.span.«end» names answers c.1 h
 short-kept text from names (Note kind place ∷ answers) c h = short-kept text from names answers c h

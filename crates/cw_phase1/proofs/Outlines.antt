@@ -13,7 +13,6 @@ use Rattle.cw_phase1.specs.Roles.{Placed}
 use Rattle.cw_phase1.specs.Sections.{span, ends_tex, ends_definitions, ends_section, first_start, c_part_name}
 use Rattle.cw_phase1.specs.Sections.{sections_of, is_section_code}
 use Rattle.cw_phase1.specs.Outlining.{or_here, name_here, opened, with_token, closed_at, closing, closing_by, open_with}
-use Rattle.cw_phase1.specs.Outlining.{section_told_by}
 use Rattle.std.specs.Prelude.{unwrap_or}
 use Rattle.cw_phase1.specs.Telling.{told_all, told_step, told_start}
 
@@ -102,10 +101,6 @@ named-by d t place before here n h = grind arith
 named-with : (o : Option Open) (p : Placed) → AreNamed o → AreNamed (open_with o p)
 named-with o p n = grind (arith, named-by)
 
-named-told : (b : Bool) (lines : List MergedLine) (p : Placed) (s : Sections) → AreNamed s.open_one
-    → AreNamed (section_told_by b lines p s).open_one
-named-told b lines p s n = grind (arith, named-with)
-
 ends-now : (lines : List MergedLine) (size : ℕ) (o : Open) (p : Placed) (ps : List Placed) → IsNamed o
     → is_section_code p.role ≡ true
     → closed_at lines p.token.span.start o ≡ open_section lines size o (p ∷ ps)
@@ -122,38 +117,22 @@ closes-by : (o : Option Open) (lines : List MergedLine) (size : ℕ) (closed : L
     ≡ closed ++ sections_by o lines size (p ∷ ps)
 closes-by o lines size closed p ps n h = grind (arith, one-here, append_assoc, ends-now)
 
-told-section : (b : Bool) (lines : List MergedLine) (size : ℕ) (s : Sections) (p : Placed) (ps : List Placed)
-    → AreNamed s.open_one → is_section_code p.role ≡ b
-    → sections_behind lines size (section_told_by b lines p s) ps ≡ sections_behind lines size s (p ∷ ps)
-told-section b lines size s p ps n h = grind (arith, closes-by, goes-by)
-
-ends-by : (o : Option Open) (lines : List MergedLine) (size : ℕ) (closed : List Section) → AreNamed o
-    → closing_by o lines size closed ≡ closed ++ sections_by o lines size []
-ends-by o lines size closed n = grind (arith, append-nil, name-end)
-
 -- The sections that are told in the end.
 sections-told : (lines : List MergedLine) (size : ℕ) (ps : List Placed) (t : Told) → AreNamed t.sections.open_one
     → closing lines size (told_all lines ps t).sections ≡ sections_behind lines size t.sections ps
-sections-told lines size [] t n = ends-by t.sections.open_one lines size t.sections.closed n
+sections-told lines size [] t n = grind (arith, append-nil, name-end)
 sections-told lines size (p ∷ ps) t n =
-    sections-told lines size ps (told_step lines p t) (named-told (is_section_code p.role) lines p t.sections n) ∙
-    told-section (is_section_code p.role) lines size t.sections p ps n refl
+    sections-told _ size ps (told_step lines p t) (grind (arith, named-with)) ∙ (grind (arith, closes-by, goes-by))
 
 pub all-sections : (lines : List MergedLine) (size : ℕ) (ps : List Placed)
     → closing lines size (told_all lines ps told_start).sections ≡ sections_of lines size ps
 all-sections lines size ps = sections-told lines size ps told_start tt
 
-limbo-by : (b : Bool) (lines : List MergedLine) (size : ℕ) (s : Sections) (p : Placed) (ps : List Placed)
-    → is_section_code p.role ≡ b
-    → unwrap_or (section_told_by b lines p s).limbo_end (first_start ends_section size ps)
-    ≡ unwrap_or s.limbo_end (first_start ends_section size (p ∷ ps))
-limbo-by b lines size s p ps h = grind (arith, first-here, no-end)
-
 limbo-told : (lines : List MergedLine) (size : ℕ) (ps : List Placed) (t : Told)
     → unwrap_or (told_all lines ps t).sections.limbo_end size
     ≡ unwrap_or t.sections.limbo_end (first_start ends_section size ps)
 limbo-told lines size [] t = refl
-limbo-told lines size (p ∷ ps) t = grind (arith, limbo-told lines size ps (told_step lines p t), limbo-by)
+limbo-told lines size (p ∷ ps) t = grind (arith, limbo-told lines size ps (told_step lines p t), first-here, no-end)
 
 pub all-limbo : (lines : List MergedLine) (size : ℕ) (ps : List Placed)
     → unwrap_or (told_all lines ps told_start).sections.limbo_end size ≡ first_start ends_section size ps

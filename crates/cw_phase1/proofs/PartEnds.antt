@@ -22,8 +22,8 @@ use Rattle.cw_phase1.specs.declared.roles.Part.{Part}
 use Rattle.cw_phase1.specs.declared.roles.Part.TheVariants as parts
 use Rattle.cw_phase1.specs.declared.roles.Standing.{Standing}
 use Rattle.cw_phase1.specs.Entering.{entered_name, kept_behind}
-use Rattle.cw_phase1.specs.Roles.{Placed, Step, defining, name_step, code_step, free_step, token_step, token_step_by}
-use Rattle.cw_phase1.specs.Roles.{word_role, head_role, behind_begin, placed_by, placed_from}
+use Rattle.cw_phase1.specs.Roles.{Placed, Step, defining, name_step, token_step, word_role, head_role, behind_begin}
+use Rattle.cw_phase1.specs.Roles.{placed_by, placed_from}
 use Rattle.cw_phase1.specs.Sections.{is_section_code, is_tex, first_start}
 
 -- ## The role and the part of a token
@@ -38,10 +38,6 @@ head-word wanted kind = grind (arith, word-role)
 name-role : (headed : Bool) (s : Standing) → is_section_code (name_step headed s).role ≡ false
 name-role headed s = grind arith
 
-code-role : (code : Code) (headed : Bool) (s : Standing) → is_section_code (code_step code headed s).role
-    ≡ is_section_kind (kinds.Code code)
-code-role code headed s = grind (arith, name-role)
-
 -- what a token does to the part that the text stands in
 abbrev pub part_of : Option Mode → Part → Part
 part_of (Some modes.Definition) part = defining part
@@ -55,25 +51,13 @@ part_behind false opened part = part_of opened part
 name-part : (headed : Bool) (s : Standing) → (name_step headed s).next.part ≡ part_of (named headed) s.part
 name-part headed s = grind arith
 
-code-part : (code : Code) (headed : Bool) (s : Standing) → (code_step code headed s).next.part
-    ≡ part_behind (is_section_kind (kinds.Code code)) (opened_by (kinds.Code code) headed) s.part
-code-part code headed s = grind (arith, name-part)
-
 record IsTold (kind : TokKind) (headed : Bool) (part : Part) (step : Step) : Type 0 where
   role : is_section_code step.role ≡ is_section_kind kind
   part-is : step.next.part ≡ part_behind (is_section_kind kind) (opened_by kind headed) part
 
--- a token that is no code leaves the part
-told-other : (o : Option Wanted) (kind : TokKind) (headed : Bool) (s : Standing) → is_section_kind kind ≡ false
-    → opened_by kind headed ≡ None
-    → is_section_code (free_step kind headed (behind_begin s)).role ≡ false
-    → (free_step kind headed (behind_begin s)).next.part ≡ s.part
-    → IsTold kind headed s.part (token_step_by o kind headed s)
-told-other o kind headed s k n r p = grind (arith, head-word)
-
 told : (kind : TokKind) (headed : Bool) (s : Standing) (span : Span)
     → IsTold kind headed s.part (token_step kind headed s span)
-told kind headed s span = grind (arith, code-role, code-part, told-other)
+told kind headed s span = grind (arith, name-role, name-part, head-word)
 
 -- ## What ends a part
 
@@ -135,10 +119,8 @@ section-part s t answers h = grind (arith, told)
 pub first-none : (test : Placed → Bool) (size : ℕ) (ps : List Placed) → list_any test ps ≡ false
     → first_start test size ps ≡ size
 first-none test size [] h = refl
-first-none test size (p ∷ ps) h =
-    ap (λ (t : Bool). if t then p.token.span.start else first_start test size ps)
-    (one-failed-left (test p) (list_any test ps) h)
-    ∙ first-none test size ps (one-failed-right (test p) (list_any test ps) h)
+first-none test size (p ∷ ps) h = ap (λ (t : Bool). if t then p.token.span.start else first_start test size ps)
+    (one-failed-left _ (list_any test ps) h) ∙ first-none test size ps (one-failed-right (test p) (list_any test ps) h)
 
 pub first-behind : (test : Placed → Bool) (size : ℕ) (front ps : List Placed) → list_any test front ≡ false
     → first_start test size (front ++ ps) ≡ first_start test size ps
@@ -148,21 +130,11 @@ first-behind test size (p ∷ front) ps h =
     (one-failed-left (test p) (list_any test front) h)
     ∙ first-behind test size front ps (one-failed-right (test p) (list_any test front) h)
 
-first-is : (test : Placed → Bool) (size : ℕ) (p : Placed) (ps : List Placed) → test p ≡ true
-    → first_start test size (p ∷ ps) ≡ p.token.span.start
-first-is test size p ps h = ap (λ (t : Bool). if t then p.token.span.start else first_start test size ps) h
-
--- what passes no test passes no stricter one
-no-stricter : (a b : Bool) → (a ≡ true → b ≡ true) → b ≡ false → a ≡ false
-no-stricter a b f h = grind arith
-
 pub none-stricter : (test other : Placed → Bool) (ps : List Placed) → ((p : Placed) → other p ≡ true → test p ≡ true)
     → list_any test ps ≡ false → list_any other ps ≡ false
 none-stricter test other [] f h = refl
 none-stricter test other (p ∷ ps) f h =
-    or-false (other p) (list_any other ps) (no-stricter (other p) (test p) (f p)
-    (one-failed-left (test p) (list_any test ps) h))
-    (none-stricter test other ps f (one-failed-right (test p) (list_any test ps) h))
+    or-false (other p) _ (grind arith) (none-stricter test other ps f (one-failed-right (test p) (list_any test ps) h))
 
 -- section codes by the tokens
 abbrev is_code_token : Seen → Bool
@@ -175,10 +147,6 @@ code-tokens (Begin t ∷ answers) = code-tokens answers
 code-tokens (Finish t ∷ answers) = code-tokens answers
 code-tokens (Note kind place ∷ answers) = code-tokens answers
 
-same-codes : (xs ys : List Answer) → tokens_in xs ≡ tokens_in ys → begins_section_in ys ≡ false → begins_section_in xs
-    ≡ false
-same-codes xs ys e h = code-tokens xs ∙ ap (list_any is_code_token) e ∙ sym (code-tokens ys) ∙ h
-
 tokens-append : (xs ys : List Answer) → tokens_in (xs ++ ys) ≡ tokens_in xs ++ tokens_in ys
 tokens-append [] ys = refl
 tokens-append (Token t ∷ xs) ys = ap (λ l. t ∷ l) (tokens-append xs ys)
@@ -190,7 +158,7 @@ tokens-append (Note kind place ∷ xs) ys = tokens-append xs ys
 pub uncut-before : (text : List ℕ) (start : ℕ) (mode : Mode) (answers : List Answer) (t : Seen)
     → EndsBefore text start mode answers t → begins_section_in answers ≡ false
     → begins_section_in (tokens_of text start t.span.start mode) ≡ false
-uncut-before text start mode answers t e h = grind (arith, same-codes, tokens-append)
+uncut-before text start mode answers t e h = grind (arith, code-tokens, tokens-append)
 
 -- The sign of a head stands behind a name within the text, or not at all.
 no-sign : (xs : List Answer) → tokens_in xs ≡ [] → has_sign (xs ++ []) ≡ false
@@ -214,10 +182,6 @@ unsigned : (kind : TokKind) (headed : Bool) → is_some (opened_by kind headed) 
     ≡ false
 unsigned kind headed h = grind (arith, unsigned-code)
 
-opened-less : (kind : TokKind) (a b : Bool) → (a ≡ true → b ≡ true) → is_some (opened_by kind b) ≡ false
-    → is_some (opened_by kind a) ≡ false
-opened-less kind a b f h = grind (arith, unsigned)
-
 bare-opens : (cut : List Answer) → tokens_in cut ≡ [] → opens_part_before [] cut ≡ false
 bare-opens [] h = refl
 bare-opens (Token t ∷ cut) h = absurd cc
@@ -229,14 +193,9 @@ opens-alone : (xs cut rest more : List Answer) → tokens_in cut ≡ [] → open
     → opens_part_before [] (xs ++ cut) ≡ false
 opens-alone [] cut rest more n h = bare-opens cut n
 opens-alone (Token t ∷ xs) cut rest more n h =
-    let later = one-failed-right (is_section_kind t.kind) _ h in
-    or-false (is_section_kind t.kind) _ (one-failed-left (is_section_kind t.kind) _ h)
-    (or-false (is_some (opened_by t.kind (has_sign ((xs ++ cut) ++ [])))) (opens_part_before [] (xs ++ cut))
-    (opened-less t.kind (has_sign ((xs ++ cut) ++ [])) (has_sign ((xs ++ rest) ++ more))
-    (sign-inside xs cut rest more n) (one-failed-left (is_some (opened_by t.kind (has_sign ((xs ++ rest) ++ more))))
-    (opens_part_before more (xs ++ rest)) later))
-    (opens-alone xs cut rest more n (one-failed-right (is_some (opened_by t.kind (has_sign ((xs ++ rest) ++ more))))
-    (opens_part_before more (xs ++ rest)) later)))
+    let later = one-failed-right _ _ h in
+    or-false _ _ (one-failed-left _ _ h) (or-false _ _ (grind (arith, unsigned, sign-inside, one-failed-left))
+    (opens-alone xs cut rest more n (one-failed-right _ _ later)))
 opens-alone (Begin t ∷ xs) cut rest more n h = opens-alone xs cut rest more n h
 opens-alone (Finish t ∷ xs) cut rest more n h = opens-alone xs cut rest more n h
 opens-alone (Note kind place ∷ xs) cut rest more n h = opens-alone xs cut rest more n h
@@ -309,8 +268,7 @@ module _ (good : Part → Bool) where
     split = ap (λ l. a ∷ l) r.split;
     placed = p ∙ r.placed;
     none = r.none;
-    uncut = or-false (is_section_answer a) (begins_section_in r.before) (one-failed-left (is_section_answer a) false n)
-        r.uncut;
+    uncut = or-false _ (begins_section_in r.before) (one-failed-left (is_section_answer a) false n) r.uncut;
     keeps = k (Token r.token ∷ r.behind) r.before r.keeps;
     part = r.part;
     passes = r.passes;
@@ -339,11 +297,9 @@ module _ (good : Part → Bool) where
   })
   token-by false s kept t answers g e rest =
       let p = token_placed s kept t answers in
-      let code : is_section_kind t.kind ≡ false = sym (told t.kind (has_sign answers) s t.span).role
-      ∙ one-failed-left (is_section_code p.role) (not (good p.part)) e in
-      let stays = not-false (good p.part) (one-failed-right (is_section_code p.role) (not (good p.part)) e) in
-      let part : p.part ≡ part_of (opened_by t.kind (has_sign answers)) s.part =
-      plain-part s t answers (opened_by t.kind (has_sign answers)) code refl in
+      let code = sym (told _ _ s _).role ∙ one-failed-left _ _ e in
+      let stays = not-false _ (one-failed-right _ _ e) in
+      let part = plain-part s t answers _ code refl in
       by code (record { part = s.part; stays = ap good (sym part) ∙ stays; plain = code }) (rest stays)
     where
       not-false : (a : Bool) → not a ≡ false → a ≡ true
@@ -354,14 +310,7 @@ module _ (good : Part → Bool) where
           → Ended (token_step t.kind (has_sign answers) s t.span).next (kept_behind t kept) answers
           ⊎ Stopped (token_step t.kind (has_sign answers) s t.span).next (kept_behind t kept) answers
           → Ended s kept (Token t ∷ answers) ⊎ Stopped s kept (Token t ∷ answers)
-      by code keeps (inl d) = inl (record {
-        none = or-false (ends (token_placed s kept t answers)) _ e d.none;
-        uncut = or-false (is_section_kind t.kind) (begins_section_in answers) code d.uncut;
-        keeps = (
-          subst (λ l. KeepsToken t.kind (opened_by t.kind (has_sign l))) (sym (append-nil answers)) keeps,
-          d.keeps,
-        );
-      })
+      by code keeps (inl d) = inl (grind (arith, or-false, append-nil))
       by code keeps (inr r) = inr (record {
         before = Token t ∷ r.before;
         token = r.token;
@@ -395,22 +344,13 @@ module _ (good : Part → Bool) where
 pub first-token : (good : Part → Bool) (test : Placed → Bool) (size : ℕ) (s : Standing) (kept : List SecName) (t : Seen)
     (answers : List Answer) → test (token_placed good s kept t answers) ≡ true
     → first_start test size (placed_from s kept (Token t ∷ answers)) ≡ t.span.start
-first-token good test size s kept t answers h = grind (arith, first-is)
+first-token good test size s kept t answers h = grind (arith)
 
 -- ## TeX text
 
--- In TeX text no other part begins.
-tex-token : (t : Seen) (headed : Bool) (how : Ending) → EndsBy t.kind headed how
-    → KeepsToken is_tex t.kind (opened_by t.kind headed) → is_some (opened_by t.kind headed) ≡ false
-tex-token t headed how h k = grind arith
-
 pub tex-opens : (more answers : List Answer) → Keeps is_tex more answers → opens_part_before more answers ≡ false
 tex-opens more [] k = refl
-tex-opens more (Token t ∷ answers) k =
-    let e = ends-so t.kind (has_sign (answers ++ more)) in
-    or-false (is_section_kind t.kind) _ k.0.plain
-    (or-false (is_some (opened_by t.kind (has_sign (answers ++ more)))) (opens_part_before more answers)
-    (tex-token t (has_sign (answers ++ more)) e.how e.so k.0) (tex-opens more answers k.1))
+tex-opens more (Token t ∷ answers) k = grind (arith, tex-opens more answers k.1, ends-so, or-false)
 tex-opens more (Begin t ∷ answers) k = tex-opens more answers k
 tex-opens more (Finish t ∷ answers) k = tex-opens more answers k
 tex-opens more (Note kind place ∷ answers) k = tex-opens more answers k

@@ -4,7 +4,7 @@ use Rattle.std.proofs.Common.{if◌then◌else◌, arith}
 use Rattle.cw_base.specs.Web.{MergedLine}
 use Rattle.cw_lex.specs.declared.heads.Wanted.{Wanted}
 use Rattle.cw_rules.specs.declared.tokens.TokKind.{TokKind}
-use Rattle.cw_rules.specs.Answers.{Seen, Answer, Token, Begin, Finish, Note, has_sign}
+use Rattle.cw_rules.specs.Answers.{Seen, Answer, Note, has_sign}
 use Rattle.cw_base.specs.declared.span.Span.{Span}
 use Rattle.cw_base.specs.declared.notes.Note.{Note as NoteRecord}
 use Rattle.cw_base.specs.declared.notes.NoteKind.{NoteKind}
@@ -13,12 +13,11 @@ use Rattle.cw_phase1.specs.declared.roles.Standing.{Standing}
 use Rattle.cw_phase1.specs.declared.told.Told.{Told}
 use Rattle.cw_phase1.specs.Texts.{Void, naming_by}
 use Rattle.cw_phase1.specs.Notes.{scanned_note, scanned_notes}
-use Rattle.cw_phase1.specs.Entering.{enters, kept_behind, kept_after, note_of, is_unended, note_behind_end, noted_from}
+use Rattle.cw_phase1.specs.Entering.{enters, kept_after, is_unended, note_behind_end, noted_from}
 use Rattle.cw_phase1.specs.Roles.{Placed, name_step, token_step, token_step_by, behind_begin, placed_by, placed_from}
 use Rattle.cw_phase1.specs.Telling.{told_step, told_all}
 use Rattle.cw_lex.specs.Limbo.{is_name_kind}
-use Rattle.cw_phase1.specs.Holding.{Waiting, HeldState, settled_placed, settled_standing, settled, remark_notes}
-use Rattle.cw_phase1.specs.Holding.{remark_put, notes_by, token_held_by, held_step}
+use Rattle.cw_phase1.specs.Holding.{Waiting, HeldState, settled, remark_put, held_step}
 
 -- The tokens that are settled from here on, where these answers are still to come.
 abbrev pub coming_by : Option Waiting → Standing → List SecName → List Answer → List Placed
@@ -56,80 +55,28 @@ told-append : (lines : List MergedLine) (ps qs : List Placed) (t : Told) → tol
 told-append lines [] qs t = refl
 told-append lines (p ∷ ps) qs t = told-append lines ps qs (told_step lines p t)
 
-settle-coming : (w : Option Waiting) (s : Standing) (kept : List SecName) (answers : List Answer)
-    → coming_by w s kept answers ≡ settled_placed (has_sign answers) w s
-    ++ placed_from (settled_standing (has_sign answers) w s) kept answers
-settle-coming w s kept answers = grind arith
-
 pub settle-told : (lines : List MergedLine) (h : HeldState) (answers : List Answer)
     → told_at_end lines h answers ≡ told_at_end lines (settled lines (has_sign answers) (remark_put lines h)) answers
-settle-told lines h answers = grind (arith, settle-coming, told-append)
-
--- where no name waits
-abbrev quiet : Standing → List SecName → Told → Option Answer → List NoteRecord → HeldState
-quiet s kept told remark notes = record {
-  pass = record { standing = s; waiting = None };
-  kept = kept;
-  told = told;
-  remark = remark;
-  notes = notes;
-}
-
-token-told : (b : Bool) (lines : List MergedLine) (t : Seen) (s : Standing) (kept : List SecName) (told : Told)
-    (remark : Option Answer) (notes : List NoteRecord) (answers : List Answer)
-    → is_name_kind t.kind ≡ b
-    → told_at_end lines (quiet s kept told remark notes) (Token t ∷ answers)
-    ≡ told_at_end lines (token_held_by b lines t (quiet s kept told remark notes)) answers
-token-told b lines t s kept told remark notes answers h = grind (arith, name-free, free-step, enters-nothing)
-
-note-coming : (w : Option Waiting) (s : Standing) (kept : List SecName) (kind : NoteKind) (place : ℕ)
-    (answers : List Answer)
-    → coming_by w s kept (Note kind place ∷ answers) ≡ coming_by w s kept answers
-note-coming w s kept kind place answers = grind arith
+settle-told lines h answers = grind (arith, told-append)
 
 -- What is told in the end stays the same with each answer.
 pub told-passes : (lines : List MergedLine) (answer : Answer) (h : HeldState) (answers : List Answer)
     → told_at_end lines h (answer ∷ answers) ≡ told_at_end lines (held_step lines answer h) answers
-told-passes lines answer h answers = grind (arith, settle-told, token-told, note-coming)
+told-passes lines answer h answers = grind (arith, settle-told, name-free, free-step, enters-nothing)
 
 -- ## Names that are kept
 
 abbrev pub kept_at_end : HeldState → List Answer → List SecName
 kept_at_end h answers = kept_after h.kept answers
 
-kept-token : (b : Bool) (lines : List MergedLine) (t : Seen) (h : HeldState) (answers : List Answer)
-    → is_name_kind t.kind
-    ≡ b
-    → kept_after (kept_behind t h.kept) answers ≡ kept_at_end (token_held_by b lines t h) answers
-kept-token b lines t h answers e = grind (arith, enters-nothing)
-
 pub kept-passes : (lines : List MergedLine) (answer : Answer) (h : HeldState) (answers : List Answer)
     → kept_at_end h (answer ∷ answers) ≡ kept_at_end (held_step lines answer h) answers
-kept-passes lines answer h answers = grind (arith, kept-token)
+kept-passes lines answer h answers = grind (arith, enters-nothing)
 
 -- ## Notes
 
 abbrev pub notes_at_end : List MergedLine → HeldState → List Answer → List NoteRecord
 notes_at_end lines h answers = h.notes ++ scanned_notes lines (note_behind_end h.remark (noted_from h.kept answers))
-
-put-token : (lines : List MergedLine) (r : Option Answer) (t : Seen) (answers : List Answer)
-    → scanned_notes lines (note_behind_end r (Token t ∷ answers)) ≡ remark_notes lines r ++ scanned_notes lines answers
-put-token lines r t answers = grind arith
-
-put-begin : (lines : List MergedLine) (r : Option Answer) (t : Seen) (answers : List Answer)
-    → scanned_notes lines (note_behind_end r (Begin t ∷ answers)) ≡ remark_notes lines r ++ scanned_notes lines answers
-put-begin lines r t answers = grind arith
-
-put-finish : (lines : List MergedLine) (r : Option Answer) (t : Seen) (answers : List Answer)
-    → scanned_notes lines (note_behind_end r (Finish t ∷ answers)) ≡ remark_notes lines r ++ scanned_notes lines answers
-put-finish lines r t answers = grind arith
-
-notes-token : (b : Bool) (lines : List MergedLine) (t : Seen) (h : HeldState) (answers : List Answer)
-    → is_name_kind t.kind
-    ≡ b → h.remark ≡ None
-    → h.notes ++ scanned_notes lines (note_behind_end (note_of t h.kept) (noted_from (kept_behind t h.kept) answers))
-    ≡ notes_at_end lines (token_held_by b lines t h) answers
-notes-token b lines t h answers e r = grind (arith, enters-nothing)
 
 note-by : (b : Bool) (lines : List MergedLine) (note : Answer) (kind : NoteKind) (place : ℕ) (answers : List Answer)
     → is_unended kind ≡ b
@@ -138,11 +85,6 @@ note-by : (b : Bool) (lines : List MergedLine) (note : Answer) (kind : NoteKind)
     else scanned_note lines note ++ scanned_note lines (Note kind place)) ++ scanned_notes lines answers
 note-by b lines note kind place answers e = grind (arith, append_assoc)
 
-put-note : (lines : List MergedLine) (r : Option Answer) (kind : NoteKind) (place : ℕ) (answers : List Answer)
-    → scanned_notes lines (note_behind_end r (Note kind place ∷ answers))
-    ≡ notes_by r lines kind place ++ scanned_notes lines answers
-put-note lines r kind place answers = grind (arith, note-by)
-
 pub notes-pass : (lines : List MergedLine) (answer : Answer) (h : HeldState) (answers : List Answer)
     → notes_at_end lines h (answer ∷ answers) ≡ notes_at_end lines (held_step lines answer h) answers
-notes-pass lines answer h answers = grind (arith, put-token, append_assoc, notes-token, put-begin, put-finish, put-note)
+notes-pass lines answer h answers = grind (arith, append_assoc, enters-nothing, note-by)

@@ -23,20 +23,13 @@ info-at (line ∷ lines) at zero other none h = ap (λ (n : ℕ). info_from n li
 info-at (line ∷ lines) at (suc i) other none h =
     grind (arith, info-at lines (at + length line.text + 1) i other none (omega arith), offset-suc)
 
-first-place : (line : MergedLine) (lines : List MergedLine) (at byte : ℕ) (last : Place)
-    → (0 < length lines → byte < at + length line.text + 1)
-    → place_from (line ∷ lines) at byte last ≡ line.place
-first-place line lines at byte last inside = grind (arith, common_steps, lt-ltb)
-
 -- The place of a byte is that of the line that has it.
 pub place-at : (lines : List MergedLine) (at byte i : ℕ) (last : Place) (none : MergedLine) → i < length lines
     → at + offset lines i ≤ byte
     → (i + 1 < length lines → byte < at + offset lines (i + 1)) → place_from lines at byte last
     ≡ (get_or lines i none).place
 place-at [] at byte i last none h from to = absurd (let no : i < 0 = h in omega arith)
-place-at (line ∷ lines) at byte zero last none h from to =
-    first-place line lines at byte last (λ some. let below : byte < at + offset (line ∷ lines) 1 = to (omega arith) in
-    omega (arith, offset-suc line lines 0))
+place-at (line ∷ lines) at byte zero last none h from to = grind (arith, common_steps, lt-ltb)
 place-at (line ∷ lines) at byte (suc i) last none h from to =
     let test : nat_lt byte (at + length line.text + 1) ≡ false =
     le-ltb byte (at + length line.text + 1) (omega (arith, offset-suc line lines i)) in
@@ -56,21 +49,16 @@ changed-skip [] at (suc i) start end h past = absurd (let no : suc i ≤ 0 = h i
 changed-skip (line ∷ lines) at (suc i) start end h past =
     let here : ℕ = at + length line.text + 1 in
     let test : nat_lt start here ≡ false = le-ltb start here (omega (arith, offset-suc line lines i)) in
-    let out : (line.changed && (nat_lt at end && nat_lt start here))
-    ≡ false = and_right line.changed (nat_lt at end && nat_lt start here)
-    (and_right (nat_lt at end) (nat_lt start here) test) in
-    ap (λ (b : Bool). b || holds_changed lines here start end) out ∙
-    changed-skip lines here i start end (omega arith) (omega (arith, offset-suc line lines i)) ∙
-    ap (λ (n : ℕ). holds_changed (drop i lines) n start end) (omega (arith, offset-suc line lines i))
+    let out : (line.changed && (nat_lt at end && nat_lt start here)) ≡ false = grind (arith, and_right) in
+    grind
+    (arith, changed-skip lines here i start end (omega arith) (omega (arith, offset-suc line lines i)), offset-suc)
 
 pub changed-behind : (lines : List MergedLine) (at start end : ℕ) → end ≤ at → holds_changed lines at start end ≡ false
 changed-behind [] at start end past = refl
 changed-behind (line ∷ lines) at start end past =
     let here : ℕ = at + length line.text + 1 in
     let test : nat_lt at end ≡ false = le-ltb at end past in
-    let out : (line.changed && (nat_lt at end && nat_lt start here))
-    ≡ false = and_right line.changed (nat_lt at end && nat_lt start here)
-    (and_left (nat_lt at end) (nat_lt start here) test) in
+    let out : (line.changed && (nat_lt at end && nat_lt start here)) ≡ false = grind (arith, and_right, and_left) in
     ap (λ (b : Bool). b || holds_changed lines here start end) out ∙ changed-behind lines here start end (omega arith)
 
 pub offset-more : (lines : List MergedLine) (i : ℕ) (none : MergedLine) → i < length lines → offset lines (i + 1)

@@ -1,12 +1,11 @@
 -- References that are added one by one, and the notes on names one by one.
-use Rattle.std.proofs.Common.{◌≡◌, ℕ, zero, suc, ◌+◌, ◌<◌, Bool, List, [], ◌∷◌, ◌++◌, Option, All, map, drop, length}
-use Rattle.std.proofs.Common.{get_or, refl, ap, sym, ◌∙◌, append_assoc, zero-add, arith, if◌then◌else◌}
+use Rattle.std.proofs.Common.{◌≡◌, ℕ, zero, suc, ◌+◌, ◌<◌, Bool, List, [], ◌∷◌, ◌++◌, All, map, drop, length, get_or}
+use Rattle.std.proofs.Common.{refl, ap, sym, ◌∙◌, append_assoc, zero-add, arith}
 use Rattle.std.specs.Prelude.{slice_get}
 use Rattle.std.proofs.lemmas.List.{append-nil}
 use Rattle.cw_rules.specs.Answers.{Answer, Token, Begin, Finish, Note}
 use Rattle.cw_secnames.specs.declared.kinds.SecKind.{SecKind}
-use Rattle.cw_secnames.specs.declared.kinds.Earliest.{Earliest}
-use Rattle.cw_secnames.specs.Kept.{SecName, unreferred, with_text, enter_by, is_shorter, grown, enter_prefix_by}
+use Rattle.cw_secnames.specs.Kept.{SecName, unreferred, with_text, grown}
 use Rattle.cw_secnames.specs.References.{Reference, referred}
 use Rattle.cw_secnames.specs.ReferenceLaws.{referred-more}
 use Rattle.cw_phase1.specs.declared.named.Referring.{Referring}
@@ -42,25 +41,13 @@ bare-text i text complete [] h = h
 bare-text zero text complete (n ∷ names) h = h
 bare-text (suc i) text complete (n ∷ names) h = (h.0, bare-text i text complete names h.1)
 
-bare-by : (t : Bool) (prefix : List ℕ) (n : SecName) (names : List SecName) → AreBare (n ∷ names)
-    → AreBare (if t then record n { text = prefix } ∷ names else n ∷ names)
-bare-by t prefix n names h = grind arith
-
 bare-grown : (prefix : List ℕ) (i : ℕ) (names : List SecName) → AreBare names → AreBare (grown prefix i names)
 bare-grown prefix i [] h = h
-bare-grown prefix zero (n ∷ names) h = bare-by (is_shorter prefix n) prefix n names h
+bare-grown prefix zero (n ∷ names) h = grind arith
 bare-grown prefix (suc i) (n ∷ names) h = (h.0, bare-grown prefix i names h.1)
 
-bare-enter : (a b c : Option ℕ) (kind : SecKind) (text : List ℕ) (names : List SecName) → AreBare names
-    → AreBare (enter_by a b c kind text names).kept
-bare-enter a b c kind text names h = grind (arith, bare-text, bare-last)
-
-bare-prefix : (e : Earliest) (prefix : List ℕ) (names : List SecName) → AreBare names
-    → AreBare (enter_prefix_by e prefix names).kept
-bare-prefix e prefix names h = grind (arith, bare-last, bare-grown)
-
 bare-entering : (n : Naming) (names : List SecName) → AreBare names → AreBare (kept_by (entering n names) names)
-bare-entering n names h = grind (arith, bare-enter, bare-prefix)
+bare-entering n names h = grind (arith, bare-text, bare-last, bare-last, bare-grown)
 
 bare-kept : (names : List SecName) (answers : List Answer) → AreBare names → AreBare (kept_after names answers)
 bare-kept names [] h = h
@@ -76,12 +63,8 @@ add-all : (before references : List Reference) (names : List SecName)
     → with_references references (referred before 0 names) ≡ referred (before ++ references) 0 names
 add-all before [] names = ap (λ rs. referred rs 0 names) (sym (append-nil before))
 add-all before (r ∷ references) names =
-    let one : (before ++ record { name = 0 + r.name; how = r.how; section = r.section } ∷ []) ≡ (before ++ r ∷ []) =
-    ap (λ n. before ++ record { name = n; how = r.how; section = r.section } ∷ []) (zero-add r.name) in
-    ap (with_references references) (sym (referred-more before r.how r.section 0 r.name names)
-    ∙ ap (λ rs. referred rs 0 names) one) ∙
-    (add-all (before ++ r ∷ []) references names ∙ ap (λ rs. referred rs 0 names)
-    (append_assoc before (r ∷ []) references))
+    let one = ap (λ n. before ++ record { name = n; how = r.how; section = r.section } ∷ []) (zero-add r.name) in
+    grind (arith, add-all (before ++ r ∷ []) references names, referred-more, append_assoc)
 
 -- The kept names with all references.
 pub all-referred : (references : List Reference) (answers : List Answer)

@@ -1,7 +1,6 @@
 -- Which tokens have names, and which section each stands in.
 use Rattle.std.proofs.Common.{◌≡◌, ℕ, zero, suc, ◌+◌, ◌<◌, ◌≤◌, Bool, true, false, List, [], ◌∷◌, ◌++◌, Option, Some}
 use Rattle.std.proofs.Common.{None, All, map, length, refl, sym, ◌∙◌, add-zero, zero-add, arith, nat_lt, true≢false}
-use Rattle.std.proofs.Common.{if◌then◌else◌}
 use Rattle.std.specs.List.{filter}
 use Rattle.std.proofs.lemmas.Bool.{eqb-true, ltb-false, ltb-true}
 use Rattle.std.proofs.lemmas.List.Elements.{All-nil, All-cons}
@@ -9,8 +8,7 @@ use Rattle.cw_base.specs.Web.{MergedLine}
 use Rattle.cw_rules.specs.declared.codes.Code.{Code}
 use Rattle.cw_lex.specs.declared.heads.Wanted.{Wanted}
 use Rattle.cw_rules.specs.declared.tokens.TokKind.{TokKind}
-use Rattle.cw_rules.specs.Answers.{Seen, Answer, Token, Begin, Finish, Note, has_sign}
-use Rattle.cw_lex.specs.Heads.{head_behind}
+use Rattle.cw_rules.specs.Answers.{Seen, Answer, Token, Begin, Finish, Note}
 use Rattle.cw_secnames.specs.declared.kinds.RefKind.{RefKind}
 use Rattle.cw_secnames.specs.declared.kinds.RefKind.TheVariants.{Defined, Used, Cited}
 use Rattle.cw_secnames.specs.declared.kinds.SecId.{SecId}
@@ -22,11 +20,8 @@ use Rattle.cw_secnames.specs.Uses.{NameUse}
 use Rattle.cw_phase1.specs.declared.roles.Role.{Role}
 use Rattle.cw_phase1.specs.declared.roles.Role.TheVariants as roles
 use Rattle.cw_phase1.specs.declared.roles.Standing.{Standing}
-use Rattle.cw_phase1.specs.declared.sections.Section.{Section}
-use Rattle.cw_phase1.specs.Entering.{entered_name, kept_behind}
-use Rattle.cw_lex.specs.Limbo.{is_name_kind}
-use Rattle.cw_phase1.specs.Roles.{Placed, Step, name_step, code_step, free_step, token_step, token_step_by, word_role}
-use Rattle.cw_phase1.specs.Roles.{head_role, behind_begin, placed_by, placed_from}
+use Rattle.cw_phase1.specs.Roles.{Placed, Step, name_step, code_step, free_step, token_step, word_role, head_role}
+use Rattle.cw_phase1.specs.Roles.{behind_begin, placed_by, placed_from}
 use Rattle.cw_phase1.specs.Sections.{is_section_code, sections_of}
 use Rattle.cw_phase1.specs.Sound.{Ascend, RefersUpTo}
 use Rattle.cw_phase1.specs.Uses.{use_by, uses_of, reference_by, references_of}
@@ -51,16 +46,10 @@ name-fits : (headed : Bool) (t : Seen) (name : Option SecId) (s : Standing)
     → IsFit (placed_by t name (name_step headed s))
 name-fits headed t name s = grind arith
 
-fits-by : (b : Bool) (t : Seen) (kept : List SecName) (headed : Bool) (s : Standing) → is_name_kind t.kind ≡ b
-    → IsFit (placed_by t (entered_name t kept) (token_step t.kind headed s t.span))
-fits-by b t kept headed s e = grind (arith, name-free, name-fits, enters-nothing)
-
 pub fits : (s : Standing) (kept : List SecName) (answers : List Answer) → AreFit (placed_from s kept answers)
 fits s kept [] = tt
-fits s kept (Token t ∷ answers) = (
-  fits-by (is_name_kind t.kind) t kept (has_sign answers) s refl,
-  fits (token_step t.kind (has_sign answers) s t.span).next (kept_behind t kept) answers,
-)
+fits s kept (Token t ∷ answers) =
+    (grind (arith, name-free, name-fits, enters-nothing), fits (token_step _ _ s _).next _ answers)
 fits s kept (Begin t ∷ answers) = fits (behind_begin s) kept answers
 fits s kept (Finish t ∷ answers) = fits s kept answers
 fits s kept (Note kind place ∷ answers) = fits s kept answers
@@ -85,9 +74,7 @@ use-below role name place section n uses references h a k = grind arith
 pub uses-below : (n : ℕ) (ps : List Placed) → AreFit ps → All (λ (r : Reference). r.name < n) (references_of ps)
     → All (λ (u : NameUse). u.name < n) (uses_of ps)
 uses-below n [] f a = All-nil (IsUse n)
-uses-below n (p ∷ ps) f a =
-    use-below p.role p.name p.token.span.start p.section n (uses_of ps) (references_of ps) f.0.plain a
-    (uses-below n ps f.1)
+uses-below n (p ∷ ps) f a = use-below _ _ _ _ n _ _ f.0.plain a (uses-below n ps f.1)
 
 -- ## Sections
 
@@ -118,17 +105,11 @@ code-number code headed s = grind (arith, add-zero, name-number)
 free-number : (kind : TokKind) (headed : Bool) (s : Standing) → IsNumbered s.section (free_step kind headed s)
 free-number kind headed s = grind (arith, add-zero, code-number)
 
-step-number : (o : Option Wanted) (kind : TokKind) (headed : Bool) (s : Standing)
-    → IsNumbered s.section (token_step_by o kind headed s)
-step-number o kind headed s = grind (arith, free-number, no-code-head, add-zero)
-
 pub numbered : (s : Standing) (kept : List SecName) (answers : List Answer)
     → Numbered s.section (placed_from s kept answers)
 numbered s kept [] = tt
-numbered s kept (Token t ∷ answers) = (
-  step-number (head_behind s.wanted t.kind t.span) t.kind (has_sign answers) s,
-  numbered (token_step t.kind (has_sign answers) s t.span).next (kept_behind t kept) answers,
-)
+numbered s kept (Token t ∷ answers) =
+    ((grind (arith, free-number, no-code-head, add-zero)), numbered (token_step _ _ s _).next _ answers)
 numbered s kept (Begin t ∷ answers) = numbered (behind_begin s) kept answers
 numbered s kept (Finish t ∷ answers) = numbered s kept answers
 numbered s kept (Note kind place ∷ answers) = numbered s kept answers
@@ -138,14 +119,10 @@ abbrev pub codes : List Placed → ℕ
 codes [] = 0
 codes (p ∷ ps) = count_by (is_section_code p.role) + codes ps
 
-count-section : (b : Bool) (s : Section) (rest : List Section)
-    → length (if b then s ∷ rest else rest) ≡ count_by b + length rest
-count-section b s rest = grind (arith, zero-add)
-
 pub section-count : (lines : List MergedLine) (size : ℕ) (ps : List Placed) → length (sections_of lines size ps)
     ≡ codes ps
 section-count lines size [] = refl
-section-count lines size (p ∷ ps) = grind (arith, section-count lines size ps, count-section)
+section-count lines size (p ∷ ps) = grind (arith, section-count lines size ps, zero-add)
 
 -- ## References
 
@@ -172,18 +149,12 @@ pub rise : (m high : ℕ) (ps : List Placed) → Numbered m ps → m + codes ps 
 rise m high [] n h = tt
 rise m high (p ∷ ps) n h = grind (arith, rise p.section high ps n.1 (omega (arith, n.0, h)), rise-reference)
 
-rise-filter-by : (t : Bool) (test : Reference → Bool) (low high : ℕ) (r : Reference) (references : List Reference)
-    → test r ≡ t
-    → Rise low high (sections_in (r ∷ references)) → Rise r.section high (sections_in (filter test references))
-    → Rise low high (sections_in (filter test (r ∷ references)))
-rise-filter-by t test low high r references e a k = grind (arith, rise-more)
-
 rise-filter : (test : Reference → Bool) (low high : ℕ) (references : List Reference)
     → Rise low high (sections_in references)
     → Rise low high (sections_in (filter test references))
 rise-filter test low high [] r = tt
 rise-filter test low high (reference ∷ references) r =
-    grind (arith, rise-filter test reference.section high references r.2, rise-filter-by)
+    grind (arith, rise-filter test reference.section high references r.2, rise-more)
 
 -- each of them is between the two
 risen : (low high : ℕ) (ns : List ℕ) → Rise low high ns → (k : ℕ) → is_one_of k ns ≡ true → (low ≤ k) × (k ≤ high)
@@ -195,21 +166,15 @@ between : (low high least : ℕ) (ns : List ℕ) → AscendFrom least ns
     → ((k : ℕ) → is_one_of k ns ≡ true → (low ≤ k) × (k ≤ high)) → Ascend low high ns
 between low high least [] up there = tt
 between low high least (n ∷ ns) up there =
-    let here : (low ≤ n) × (n ≤ high) = there n (head-in n ns) in (
-      here.0,
-      here.1,
-      between (n + 1) high (n + 1) ns up.1 (λ k e.
-          (above k (nat_lt k (n + 1)) refl e, (there k (tail-in k n ns e)).1)),
-    )
+    let here : (low ≤ n) × (n ≤ high) = there n (head-in n ns) in
+    (here.0, here.1, between (n + 1) high (n + 1) ns up.1 (λ k e. (above k _ refl e, (there k (tail-in k n ns e)).1)))
   where
     above : (k : ℕ) (t : Bool) → nat_lt k (n + 1) ≡ t → is_one_of k ns ≡ true → n + 1 ≤ k
-    above k true less e =
-        absurd (true≢false (sym e ∙ not-in k (n + 1) ns (ltb-true k (n + 1) less) up.1))
+    above k true less e = absurd (true≢false (sym e ∙ not-in k _ ns (ltb-true k (n + 1) less) up.1))
     above k false less e = ltb-false k (n + 1) less
 
 once-between : (low high : ℕ) (ns : List ℕ) → Rise low high ns → Ascend low high (once ns)
-once-between low high ns r = between low high 0 (once ns) (once-ascends ns)
-    (λ k e. risen low high ns r k (sym (in-once k ns) ∙ e))
+once-between low high ns r = between low high 0 (once ns) (once-ascends ns) (grind (arith, risen, in-once))
 
 ascend : (name : ℕ) (how : RefKind) (high : ℕ) (references : List Reference) → Rise 1 high (sections_in references)
     → Ascend 1 high (once (sections_in (filter (is_of name how) references)))

@@ -6,7 +6,7 @@ use Rattle.std.proofs.lemmas.List.Elements.{All-nil}
 use Rattle.std.specs.Option.{option_map}
 use Rattle.cw_base.proofs.TestLaws.{one-left}
 use Rattle.cw_base.specs.Web.{MergedLine}
-use Rattle.cw_rules.specs.Answers.{Seen, Answer, Token, Begin, Finish, Note}
+use Rattle.cw_rules.specs.Answers.{Answer, Token, Begin, Finish, Note}
 use Rattle.cw_rules.specs.Order.{Covers}
 use Rattle.cw_secnames.specs.declared.kinds.SecId.{SecId}
 use Rattle.cw_secnames.specs.Kept.{SecName, id}
@@ -39,8 +39,7 @@ pub follows : (text : List ℕ) (from size : ℕ) (s : Standing) (kept : List Se
 follows text from size s kept [] c = c.0
 follows text from size s kept (Token t ∷ answers) c = (c.0.order, c.1, follows text t.span.«end» size _ _ answers c.2)
 follows text from size s kept (Begin t ∷ answers) c =
-    follow-more from t.span.«end» size _ (omega (arith, c.0.order, c.0.span))
-    (follows text t.span.«end» size _ kept answers c.1)
+    follow-more from _ size _ (omega (arith, c.0.order, c.0.span)) (follows text t.span.«end» size _ kept answers c.1)
 follows text from size s kept (Finish t ∷ answers) c =
     grind (arith, follows text t.span.«end» size s kept answers c.1, follow-more)
 follows text from size s kept (Note kind place ∷ answers) c = follows text from size s kept answers c
@@ -51,33 +50,22 @@ follow-end from size (p ∷ ps) f = omega (arith, f.0, f.1, follow-end p.token.s
 
 -- ## The first token that passes a test
 
-from-by : (t : Bool) (from here later : ℕ) → from ≤ here → from ≤ later → from ≤ (if t then here else later)
-from-by t from here later h l = grind arith
-
-to-by : (t : Bool) (here later size : ℕ) → here ≤ size → later ≤ size
-    → (if t then here else later) ≤ size
-to-by t here later size h l = grind arith
-
 first-from : (test : Placed → Bool) (from size : ℕ) (ps : List Placed) → Follow from size ps
     → from ≤ first_start test size ps
 first-from test from size [] f = f
-first-from test from size (p ∷ ps) f = grind (arith, first-from test p.token.span.«end» size ps f.2, from-by)
+first-from test from size (p ∷ ps) f = grind (arith, first-from test p.token.span.«end» size ps f.2)
 
 first-to : (test : Placed → Bool) (from size : ℕ) (ps : List Placed) → Follow from size ps
     → first_start test size ps ≤ size
 first-to test from size [] f = omega arith
-first-to test from size (p ∷ ps) f = grind (arith, first-to test p.token.span.«end» size ps f.2, to-by, follow-end)
-
-earlier-by : (t other : Bool) (here a b : ℕ) → (t ≡ true → other ≡ true) → here ≤ b → a ≤ b
-    → (if other then here else a) ≤ (if t then here else b)
-earlier-by t other here a b h l k = grind arith
+first-to test from size (p ∷ ps) f = grind (arith, first-to test p.token.span.«end» size ps f.2, follow-end)
 
 first-earlier : (test other : Placed → Bool) (from size : ℕ) (ps : List Placed)
     → ((p : Placed) → test p ≡ true → other p ≡ true) → Follow from size ps
     → first_start other size ps ≤ first_start test size ps
 first-earlier test other from size [] h f = omega arith
 first-earlier test other from size (p ∷ ps) h f =
-    grind (arith, first-earlier test other p.token.span.«end» size ps h f.2, earlier-by, first-from)
+    grind (arith, first-earlier test other p.token.span.«end» size ps h f.2, first-from)
 
 code-ends : (p : Placed) → ends_section p ≡ true → ends_definitions p ≡ true
 code-ends p h = one-left (is_section_code p.role) (is_program p.part) h
@@ -94,16 +82,11 @@ all-by : (P : Section → Type 0) (t : Bool) (s : Section) (rest : List Section)
     → All P (if t then s ∷ rest else rest)
 all-by P t s rest h a = grind arith
 
-lies : (lines : List MergedLine) (size : ℕ) (head : Seen) (ps : List Placed) → Follow head.span.«end» size ps
-    → LiesIn size (section_at lines size head ps)
-lies lines size head ps f = grind (arith, first-from, first-earlier, definitions-end-tex, code-ends, first-to)
-
 pub all-lie : (lines : List MergedLine) (from size : ℕ) (ps : List Placed) → Follow from size ps
     → All (LiesIn size) (sections_of lines size ps)
 all-lie lines from size [] f = All-nil (LiesIn size)
-all-lie lines from size (p ∷ ps) f =
-    all-by (LiesIn size) (is_section_code p.role) (section_at lines size p.token ps) (sections_of lines size ps)
-    (lies lines size p.token ps f.2)
+all-lie lines from size (p ∷ ps) f = all-by (LiesIn size) _ (section_at lines size p.token ps)
+    (sections_of lines size ps) (grind (arith, first-from, first-earlier, definitions-end-tex, code-ends, first-to))
     (all-lie lines p.token.span.«end» size ps f.2)
 
 pub limbo-lies : (from size : ℕ) (ps : List Placed) → Follow from size ps → first_start ends_section size ps ≤ size
@@ -113,9 +96,6 @@ limbo-lies from size ps f = first-to ends_section from size ps f
 
 not-same : (a b : ℕ) → a < b → (a == b) ≡ false
 not-same a b h = grind arith
-
-not-same-behind : (a b : ℕ) → b < a → (a == b) ≡ false
-not-same-behind a b h = grind arith
 
 not-here : (name : Option SecId) (here place : ℕ) (uses : List NameUse) → (here == place) ≡ false
     → name_at place (use_by name here ++ uses) ≡ name_at place uses
@@ -129,43 +109,22 @@ here name place uses h = grind (arith, eq-eqb)
 none-before : (place from size : ℕ) (ps : List Placed) → Follow from size ps → place < from → name_at place (uses_of ps)
     ≡ None
 none-before place from size [] f h = refl
-none-before place from size (p ∷ ps) f h =
-    not-here p.name p.token.span.start place (uses_of ps)
-    (not-same-behind p.token.span.start place (omega (arith, f.0))) ∙
-    none-before place p.token.span.«end» size ps f.2 (omega (arith, f.0, f.1))
-
-name-by : (code program : Bool) (start later : ℕ) (name rest : Option SecId) (uses : List NameUse)
-    → (code ≡ true → name ≡ None)
-    → name_at start uses ≡ None → (start == later) ≡ false → option_map id (name_at later uses) ≡ rest
-    → option_map id (name_at (if code || program then start else later)
-    (use_by name start ++ uses))
-    ≡ (if code then None else if program then name else rest)
-name-by code program start later name rest uses n none apart e = grind (arith, here, not-here)
+none-before place from size (p ∷ ps) f h = (grind arith)
+    ∙ none-before place p.token.span.«end» size ps f.2 (omega (arith, f.0, f.1))
 
 name-first : (from size : ℕ) (ps : List Placed) → Follow from size ps → AreFit ps
     → option_map id (name_at (first_start ends_definitions size ps) (uses_of ps)) ≡ c_part_name ps
 name-first from size [] f fit = refl
 name-first from size (p ∷ ps) f fit =
-    name-by (is_section_code p.role) (is_program p.part) p.token.span.start (first_start ends_definitions size ps)
-    p.name (c_part_name ps) (uses_of ps) fit.0.code
-    (none-before p.token.span.start p.token.span.«end» size ps f.2 f.1)
-    (not-same p.token.span.start (first_start ends_definitions size ps)
-    (omega (arith, f.1, first-from ends_definitions p.token.span.«end» size ps f.2)))
-    (name-first p.token.span.«end» size ps f.2 fit.1)
+    grind (arith, name-first p.token.span.«end» size ps f.2 fit.1, here, not-here, none-before, not-same, first-from)
 
 -- Names before a place are none at it.
 skip-before : (from place : ℕ) (uses later : List NameUse) → from ≤ place → AreBefore from uses
     → name_at place (uses ++ later) ≡ name_at place later
 skip-before from place [] later h b = refl
 skip-before from place (u ∷ uses) later h b =
-    ap (λ (t : Bool). if t then Some u.name else name_at place (uses ++ later))
-    (not-same u.place place (let first : u.place < from = b zero u (omega arith) in omega arith)) ∙
-    skip-before from place uses later h (λ k d l. b (suc k) d (omega arith))
-
-named-by : (lines : List MergedLine) (uses : List NameUse) (from size : ℕ) (p : Placed) (ps : List Placed)
-    → AreBefore from uses → Follow from size (p ∷ ps)
-    → AreFit ps → IsNamedBy (uses ++ (use_of p ++ uses_of ps)) (section_at lines size p.token ps)
-named-by lines uses from size p ps b f fit = grind (arith, first-from, skip-before, not-here, not-same, name-first)
+    ap (λ (t : Bool). if t then Some u.name else name_at place (uses ++ later)) (not-same u.place place (let first =
+    b zero u (omega arith) in omega arith)) ∙ skip-before from place uses later h (λ k d l. b (suc k) d (omega arith))
 
 pub all-named : (lines : List MergedLine) (uses : List NameUse) (from size : ℕ) (ps : List Placed) → AreBefore from uses
     → Follow from size ps → AreFit ps
@@ -173,12 +132,14 @@ pub all-named : (lines : List MergedLine) (uses : List NameUse) (from size : ℕ
 all-named lines uses from size [] b f fit = All-nil (IsNamedBy (uses ++ []))
 all-named lines uses from size (p ∷ ps) b f fit =
     all-by (IsNamedBy (uses ++ (use_of p ++ uses_of ps))) (is_section_code p.role) (section_at lines size p.token ps)
-    (sections_of lines size ps)
-    (named-by lines uses from size p ps b f fit.1)
-    (subst (λ us. All (IsNamedBy us) (sections_of lines size ps)) (append_assoc uses (use_of p) (uses_of ps))
-    (all-named lines (uses ++ use_of p) p.token.span.«end» size ps
-    (before-use p.name p.token.span.start p.token.span.«end» uses f.1
-    (before-more from p.token.span.«end» uses (omega (arith, f.0, f.1)) b)) f.2 fit.1))
+    (sections_of lines size ps) (grind (arith, first-from, skip-before, not-here, not-same, name-first))
+    (subst (λ us. All (IsNamedBy us) (sections_of lines size ps))
+    (append_assoc uses (use_of p) (uses_of ps)) (all-named lines (uses ++ use_of p) p.token.span.«end» size ps
+    (before-use p.name p.token.span.start p.token.span.«end» uses f.1 (before-more from p.token.span.«end» uses (omega (
+      arith,
+      f.0,
+      f.1,
+    )) b)) f.2 fit.1))
 
 -- A name that stands at a place is kept.
 at-by : (t : Bool) (name n : ℕ) (rest : Option ℕ) → name < n → IfSome (option_map id rest) (λ i. i.index < n)
@@ -188,9 +149,8 @@ at-by t name n rest h k = grind arith
 at-below : (place n : ℕ) (uses : List NameUse) → All (λ (u : NameUse). u.name < n) uses
     → IfSome (option_map id (name_at place uses)) (λ i. i.index < n)
 at-below place n [] a = tt
-at-below place n (u ∷ uses) a =
-    at-by (u.place == place) u.name n (name_at place uses) (a zero u (omega arith))
-    (at-below place n uses (λ k d l. a (suc k) d (omega arith)))
+at-below place n (u ∷ uses) a = at-by _
+    u.name n (name_at place uses) (a zero u (omega arith)) (at-below place n uses (λ k d l. a (suc k) d (omega arith)))
 
 pub named-below : (n : ℕ) (uses : List NameUse) (sections : List Section) → All (λ (u : NameUse). u.name < n) uses
     → All (IsNamedBy uses) sections

@@ -22,15 +22,13 @@ use Rattle.cw_phase1.specs.declared.roles.Role.TheVariants as roles
 use Rattle.cw_phase1.specs.declared.roles.Standing.{Standing}
 use Rattle.cw_phase1.specs.declared.sections.Open.{Open}
 use Rattle.cw_phase1.specs.declared.sections.Section.{Section}
-use Rattle.cw_phase1.specs.declared.sections.Sections.{Sections}
-use Rattle.cw_phase1.specs.declared.words.Words.{Words}
-use Rattle.cw_phase1.specs.Roles.{Placed, Step, name_step, token_step, token_step_by, code_step, free_step}
-use Rattle.cw_phase1.specs.Roles.{section_step, word_role, head_role, placed_by}
+use Rattle.cw_phase1.specs.Roles.{Placed, Step, name_step, token_step, token_step_by, code_step, section_step}
+use Rattle.cw_phase1.specs.Roles.{word_role, placed_by}
 use Rattle.cw_phase1.specs.Sections.{is_section_code}
 use Rattle.cw_phase1.specs.Uses.{use_by, reference_by}
-use Rattle.cw_phase1.specs.Outlining.{closing_by, open_with, section_told_by}
+use Rattle.cw_phase1.specs.Outlining.{closing_by, open_with}
 use Rattle.cw_phase1.specs.Words.{KnownNames, known_behind, with_format}
-use Rattle.cw_phase1.specs.Telling.{IsKnown, word_told, known_of, told_step, told_all}
+use Rattle.cw_phase1.specs.Telling.{IsKnown, told_step, told_all}
 use Rattle.cw_phase1.specs.declared.told.Told.{Told}
 use Rattle.cw_phase1.specs.declared.held.Waiting.{Waiting as WaitingToken}
 use Rattle.cw_phase1.specs.Ending.{IsScanned, open_count, section_total}
@@ -40,8 +38,7 @@ use Rattle.cw_lex.specs.Lexing.{tokens_of}
 use Rattle.cw_rules.specs.declared.tokens.Mode.TheVariants as modes
 use Rattle.cw_phase1.proofs.Passing.{told_at_end, kept_at_end, notes_at_end, told-passes, kept-passes, notes-pass}
 use Rattle.cw_phase1.specs.Holding.{Waiting, HeldState, waiting_of, settled_placed, settled_standing, settled}
-use Rattle.cw_phase1.specs.Holding.{remark_put, token_held_by, begun_held, ended_held, noted_held, held_step}
-use Rattle.cw_lex.specs.Limbo.{is_name_kind}
+use Rattle.cw_phase1.specs.Holding.{remark_put, token_held_by, ended_held, held_step}
 use Rattle.cw_phase1.specs.Ready.{IsToken, AreBefore, WaitsBehind, CanSettle, WaitingIsKept, held_start}
 use Rattle.cw_phase1.proofs.NameLaws.{category-length}
 use Rattle.cw_phase1.proofs.WordLaws.{entered-below, entry-grows}
@@ -63,18 +60,12 @@ role-known : (role : Role) (text : List ℕ) (k : KnownNames) → IfSome k.first
     → IfSome (known_behind role text k).first (λ id. id.index < length (known_behind role text k).names)
 role-known role text k h = grind (arith, word-known, entered-below, format-length)
 
-told-known : (p : Placed) (w : Words) → IsKnown w → IsKnown (word_told p w)
-told-known p w h = role-known p.role p.token.text (known_of w) h
-
 -- ## Names in the web
 
 pub before-use : (name : Option SecId) (place n : ℕ) (uses : List NameUse) → place < n → AreBefore n uses
     → AreBefore n (uses ++ use_by name place)
-before-use None place n uses h b = All-append (λ (u : NameUse). u.place < n) uses [] b
-    (All-nil (λ (u : NameUse). u.place < n))
-before-use (Some id) place n uses h b =
-    All-append (λ (u : NameUse). u.place < n) uses _ b (All-cons (λ (u : NameUse). u.place < n) _ [] h
-    (All-nil (λ (u : NameUse). u.place < n)))
+before-use None place n uses h b = All-append (λ (u : NameUse). u.place < n) uses [] b (grind arith)
+before-use (Some id) place n uses h b = All-append (λ (u : NameUse). u.place < n) uses _ b (grind arith)
 
 pub before-more : (m n : ℕ) (uses : List NameUse) → m ≤ n → AreBefore m uses → AreBefore n uses
 before-more m n uses h b = grind arith
@@ -83,8 +74,7 @@ abbrev AreOf : ℕ → List Reference → Type 0
 AreOf n references = All (λ (r : Reference). r.name < n) references
 
 of-none : (n : ℕ) (references : List Reference) → AreOf n references → AreOf n (references ++ [])
-of-none n references a = All-append (λ (r : Reference). r.name < n) references [] a
-    (All-nil (λ (r : Reference). r.name < n))
+of-none n references a = All-append (λ (r : Reference). r.name < n) _ [] a (All-nil (λ (r : Reference). r.name < n))
 
 of-nothing : (role : Role) (n section : ℕ) (references : List Reference) → AreOf n references
     → AreOf n (references ++ reference_by role None section)
@@ -92,18 +82,9 @@ of-nothing role n section references a = grind (arith, of-none)
 
 of-some : (role : Role) (id : SecId) (n section : ℕ) (references : List Reference) → id.index < n → AreOf n references
     → AreOf n (references ++ reference_by role (Some id) section)
-of-some (roles.Name how) id n section references h a =
-    All-append (λ (r : Reference). r.name < n) references _ a (All-cons (λ (r : Reference). r.name < n) _ [] h
-    (All-nil (λ (r : Reference). r.name < n)))
+of-some (roles.Name how) id n section references h a = All-append (λ (r : Reference). r.name < n)
+    _ _ a (All-cons (λ (r : Reference). r.name < n) _ [] h (All-nil (λ (r : Reference). r.name < n)))
 of-some role id n section references h a = of-none n references a
-
-of-more : (role : Role) (name : Option SecId) (n section : ℕ) (references : List Reference)
-    → IfSome name (λ id. id.index < n) → AreOf n references
-    → AreOf n (references ++ reference_by role name section)
-of-more role name n section references h a = grind (arith, of-nothing, of-some)
-
-of-grows : (m n : ℕ) (references : List Reference) → m ≤ n → AreOf m references → AreOf n references
-of-grows m n references h a = grind arith
 
 -- ## Sections
 
@@ -113,11 +94,6 @@ closing-length o lines end closed = grind (arith, length-append)
 
 with-count : (o : Option Open) (p : Placed) → open_count (open_with o p) ≡ open_count o
 with-count o p = grind arith
-
-total-by : (b : Bool) (lines : List MergedLine) (p : Placed) (s : Sections) (m n : ℕ) → section_total s ≤ m
-    → (b ≡ true → m + 1 ≤ n) → m ≤ n
-    → section_total (section_told_by b lines p s) ≤ n
-total-by b lines p s m n h more same = grind (arith, closing-length, with-count)
 
 -- a section code begins the next section, and any other token stays in its section
 record Counts (s : Step) (m : ℕ) : Type 0 where
@@ -131,9 +107,6 @@ counts-stay s m e n = record { more = λ h. absurd (n h); same = omega arith; ne
 not-code-word : (wanted : Wanted) → is_section_code (word_role wanted) ≡ true → ⊥
 not-code-word wanted h = grind arith
 
-not-code-head : (wanted : Wanted) (kind : TokKind) → is_section_code (head_role wanted kind) ≡ true → ⊥
-not-code-head wanted kind h = grind (arith, not-code-word)
-
 counts-begin : (s : Standing) → Counts (section_step s) s.section
 counts-begin s = record { more = λ h. omega arith; same = omega arith; near = omega arith }
 
@@ -143,11 +116,8 @@ plain-no-code h = cc
 code-counts : (code : Code) (s : Standing) → Counts (code_step code false s) s.section
 code-counts code s = grind (arith, counts-begin, counts-stay, plain-no-code)
 
-free-counts : (kind : TokKind) (s : Standing) → Counts (free_step kind false s) s.section
-free-counts kind s = grind (arith, counts-stay, plain-no-code, code-counts)
-
 step-counts : (o : Option Wanted) (kind : TokKind) (s : Standing) → Counts (token_step_by o kind false s) s.section
-step-counts o kind s = grind (arith, free-counts, counts-stay, not-code-head)
+step-counts o kind s = grind (arith, plain-no-code, code-counts, counts-stay, not-code-word)
 
 name-counts : (headed : Bool) (s : Standing) → Counts (name_step headed s) s.section
 name-counts headed s = grind (arith, counts-stay, plain-no-code)
@@ -168,11 +138,10 @@ told-quiet : (lines : List MergedLine) (step : Step) (token : Seen) (name : Opti
     → IsQuiet from count step.next (told_step lines (placed_by token name step) t)
 told-quiet lines step token name from count m t counts within known start before id ids total = record {
   section = within;
-  known = told-known (placed_by token name step) t.words known;
+  known = (grind (arith, role-known));
   before = before-use name token.span.start from t.named.uses start before;
-  ids = of-more step.role name count step.next.section t.named.references id ids;
-  total = total-by (is_section_code step.role) lines (placed_by token name step) t.sections m step.next.section total
-      counts.more counts.same;
+  ids = (grind (arith, of-nothing, of-some));
+  total = (grind (arith, closing-length, with-count));
 }
 
 abbrev WaitsHere : Option Waiting → ℕ → List NameUse → Type 0
@@ -195,31 +164,10 @@ pub record IsReady (from : ℕ) (h : HeldState) : Type 0 where
 name-section : (headed : Bool) (s : Standing) → (name_step headed s).next.section ≡ s.section
 name-section headed s = grind arith
 
-settle-quiet : (w : Option Waiting) (lines : List MergedLine) (headed : Bool) (from count : ℕ) (s : Standing) (t : Told)
-    → s.section ≤ from → IsKnown t.words → WaitsHere w from t.named.uses → AreOf count t.named.references
-    → section_total t.sections ≤ s.section → WaitingKept w count
-    → IsQuiet from count (settled_standing headed w s) (told_all lines (settled_placed headed w s) t)
-settle-quiet w lines headed from count s t section known waits ids total id =
-    grind (arith, common_steps, name-counts, name-section, told-quiet, before-more)
-
 ready-settled : (lines : List MergedLine) (headed : Bool) (from : ℕ) (h : HeldState) → IsReady from h
     → IsQuiet from (length h.kept) (settled_standing headed h.pass.waiting h.pass.standing)
     (told_all lines (settled_placed headed h.pass.waiting h.pass.standing) h.told)
-ready-settled lines headed from h r =
-    settle-quiet h.pass.waiting lines headed from (length h.kept) h.pass.standing h.told r.section r.known r.waits r.ids
-    r.total r.id
-
-ready-begin : (lines : List MergedLine) (from to : ℕ) (h : HeldState) → from ≤ to → IsReady from h
-    → IsReady to (begun_held (ended_held lines h))
-ready-begin lines from to h le r = grind (arith, ready-settled lines false from h r)
-
-ready-finish : (lines : List MergedLine) (from to : ℕ) (h : HeldState) → from ≤ to → IsReady from h
-    → IsReady to (ended_held lines h)
-ready-finish lines from to h le r = grind (arith, ready-settled lines false from h r)
-
-ready-note : (lines : List MergedLine) (kind : NoteKind) (place from : ℕ) (h : HeldState) → IsReady from h
-    → IsReady from (noted_held lines kind place h)
-ready-note lines kind place from h r = grind arith
+ready-settled lines headed from h r = grind (arith, common_steps, name-counts, name-section, told-quiet, before-more)
 
 token-ready : (b : Bool) (lines : List MergedLine) (t : Seen) (from : ℕ) (h : HeldState) → IsToken t
     → from ≤ t.span.start
@@ -228,39 +176,17 @@ token-ready : (b : Bool) (lines : List MergedLine) (t : Seen) (from : ℕ) (h : 
     → length h.kept ≤ length (token_held_by b lines t h).kept
     → length (token_held_by b lines t h).kept ≤ length h.kept + 1 → length h.kept ≤ from
     → IsReady t.span.end (token_held_by b lines t h)
-token-ready true lines t from h token le q id grows one few = grind (arith, before-more, of-grows)
+token-ready true lines t from h token le q id grows one few = grind (arith, before-more)
 token-ready false lines t from h token le q id grows one few =
-    let counts : Counts (token_step t.kind false h.pass.standing t.span) h.pass.standing.section =
-    step-counts (head_behind h.pass.standing.wanted t.kind t.span) t.kind h.pass.standing in
+    let counts = step-counts (head_behind h.pass.standing.wanted t.kind t.span) t.kind h.pass.standing in
     let end : from < t.span.end = omega (arith, token.some) in
-    let p = told-quiet lines (token_step t.kind false h.pass.standing t.span) t None t.span.end (length h.kept)
-    h.pass.standing.section h.told counts
-    (omega (arith, counts.near, q.section)) q.known token.some (before-more from t.span.end h.told.named.uses
-    (omega arith) q.before) tt q.ids q.total in
-    record {
-      section = p.section;
-      known = p.known;
-      waits = p.before;
-      ids = p.ids;
-      total = p.total;
-      id = tt;
-      few = omega (arith, few);
-    }
-
-ready-token : (lines : List MergedLine) (t : Seen) (from : ℕ) (h : HeldState) → IsToken t → from ≤ t.span.start
-    → IsReady from h
-    → WaitingKept (held_step lines (Token t) h).pass.waiting (length (held_step lines (Token t) h).kept)
-    → length h.kept ≤ length (held_step lines (Token t) h).kept
-    → length (held_step lines (Token t) h).kept ≤ length h.kept + 1 → IsReady t.span.end (held_step lines (Token t) h)
-ready-token lines t from h token le r id grows one =
-    token-ready (is_name_kind t.kind) lines t from (settled lines (is_head_sign t.kind) (remark_put lines h)) token le
-    (ready-settled lines (is_head_sign t.kind) from h r) id grows one r.few
-
-can-settle-by : (w : Option Waiting) (from : ℕ) (uses : List NameUse) → WaitsHere w from uses → WaitsBehind w uses
-can-settle-by w from uses h = grind arith
+    let p = told-quiet lines (token_step t.kind false h.pass.standing t.span)
+    t None t.span.end (length h.kept) h.pass.standing.section h.told counts (omega (arith, counts.near, q.section))
+    q.known token.some (before-more from t.span.end h.told.named.uses (omega arith) q.before) tt q.ids q.total in
+    grind arith
 
 pub ready-settles : (from : ℕ) (h : HeldState) → IsReady from h → CanSettle h
-ready-settles from h r = record { known = r.known; waits = can-settle-by h.pass.waiting from h.told.named.uses r.waits }
+ready-settles from h r = record { known = r.known; waits = (grind arith) }
 
 -- ## While the answers come
 
@@ -299,68 +225,52 @@ pub section-fits : (lines : List MergedLine) (text : List ℕ) (all : List Answe
     → Underway lines text all h (Token t ∷ rest) → h.pass.standing.section < 4294967295
 section-fits lines text all h t rest u = grind (arith, covers-end)
 
+-- what the answers make does not change when one of them is passed
+step-on : (lines : List MergedLine) (text : List ℕ) (all : List Answer) (h new : HeldState) (a : Answer)
+    (rest : List Answer) (from : ℕ) → Underway lines text all h (a ∷ rest) → new ≡ held_step lines a h
+    → Covers text from (length text) rest → IsReady from (held_step lines a h) → Underway lines text all new rest
+step-on lines text all h new a rest from u e covers ready = record {
+  from = from;
+  told = ap (λ h. told_at_end lines h rest) e ∙ (sym (told-passes lines a h rest) ∙ u.told);
+  kept = ap (λ h. kept_at_end h rest) e ∙ (sym (kept-passes lines a h rest) ∙ u.kept);
+  notes = ap (λ h. notes_at_end lines h rest) e ∙ (sym (notes-pass lines a h rest) ∙ u.notes);
+  covers = covers;
+  limit = u.limit;
+  ready = subst (IsReady from) (sym e) ready;
+}
+
 pub token-step : (lines : List MergedLine) (text : List ℕ) (all : List Answer) (h new : HeldState) (t : Seen)
     (rest : List Answer)
     → Underway lines text all h (Token t ∷ rest) → new ≡ held_step lines (Token t) h
     → WaitingKept new.pass.waiting (length new.kept) → length h.kept ≤ length new.kept
     → length new.kept ≤ length h.kept + 1
     → Underway lines text all new rest
-token-step lines text all h new t rest u e id grows one = record {
-  from = t.span.end;
-  told = ap (λ h. told_at_end lines h rest) e ∙ (sym (told-passes lines (Token t) h rest) ∙ u.told);
-  kept = ap (λ h. kept_at_end h rest) e ∙ (sym (kept-passes lines (Token t) h rest) ∙ u.kept);
-  notes = ap (λ h. notes_at_end lines h rest) e ∙ (sym (notes-pass lines (Token t) h rest) ∙ u.notes);
-  covers = u.covers.2;
-  limit = u.limit;
-  ready = subst (IsReady t.span.end) (sym e) (ready-token lines t u.from h (is-token lines text all h t rest u)
-      u.covers.0.order u.ready
-      (subst (λ (h : HeldState). WaitingKept h.pass.waiting (length h.kept)) e id)
-      (subst (λ (g : HeldState). length h.kept ≤ length g.kept) e grows)
-      (subst (λ (g : HeldState). length g.kept ≤ length h.kept + 1) e one));
-}
+token-step lines text all h new t rest u e id grows one =
+    step-on lines text all h new (Token t) rest t.span.end u e u.covers.2 (token-ready _ lines t u.from (settled lines
+    (is_head_sign t.kind) (remark_put lines h)) (is-token lines text all h t rest u) u.covers.0.order (ready-settled
+    lines (is_head_sign t.kind) u.from h u.ready) (subst (λ (h : HeldState). WaitingKept h.pass.waiting (length h.kept))
+    e id) (subst (λ (g : HeldState). length h.kept ≤ length g.kept) e grows)
+    (subst (λ (g : HeldState). length g.kept ≤ length h.kept + 1) e one) u.ready.few)
 
 pub begin-step : (lines : List MergedLine) (text : List ℕ) (all : List Answer) (h new : HeldState) (t : Seen)
     (rest : List Answer)
     → Underway lines text all h (Begin t ∷ rest) → new ≡ held_step lines (Begin t) h → Underway lines text all new rest
-begin-step lines text all h new t rest u e = record {
-  from = t.span.end;
-  told = ap (λ h. told_at_end lines h rest) e ∙ (sym (told-passes lines (Begin t) h rest) ∙ u.told);
-  kept = ap (λ h. kept_at_end h rest) e ∙ (sym (kept-passes lines (Begin t) h rest) ∙ u.kept);
-  notes = ap (λ h. notes_at_end lines h rest) e ∙ (sym (notes-pass lines (Begin t) h rest) ∙ u.notes);
-  covers = u.covers.1;
-  limit = u.limit;
-  ready = subst (IsReady t.span.end) (sym e) (ready-begin lines u.from t.span.end h
-      (omega (arith, u.covers.0.order, u.covers.0.span)) u.ready);
-}
+begin-step lines text all h new t rest u e = step-on lines
+    text all h new (Begin t) rest t.span.end u e u.covers.1 (grind (arith, ready-settled lines false u.from h u.ready))
 
 pub finish-step : (lines : List MergedLine) (text : List ℕ) (all : List Answer) (h new : HeldState) (t : Seen)
     (rest : List Answer)
     → Underway lines text all h (Finish t ∷ rest) → new ≡ held_step lines (Finish t) h
     → Underway lines text all new rest
-finish-step lines text all h new t rest u e = record {
-  from = t.span.end;
-  told = ap (λ h. told_at_end lines h rest) e ∙ (sym (told-passes lines (Finish t) h rest) ∙ u.told);
-  kept = ap (λ h. kept_at_end h rest) e ∙ (sym (kept-passes lines (Finish t) h rest) ∙ u.kept);
-  notes = ap (λ h. notes_at_end lines h rest) e ∙ (sym (notes-pass lines (Finish t) h rest) ∙ u.notes);
-  covers = u.covers.1;
-  limit = u.limit;
-  ready = subst (IsReady t.span.end) (sym e) (ready-finish lines u.from t.span.end h
-      (omega (arith, u.covers.0.order, u.covers.0.span)) u.ready);
-}
+finish-step lines text all h new t rest u e = step-on lines
+    text all h new (Finish t) rest t.span.end u e u.covers.1 (grind (arith, ready-settled lines false u.from h u.ready))
 
 pub note-step : (lines : List MergedLine) (text : List ℕ) (all : List Answer) (h new : HeldState) (kind : NoteKind)
     (place : ℕ) (rest : List Answer)
     → Underway lines text all h (Note kind place ∷ rest) → new ≡ held_step lines (Note kind place) h
     → Underway lines text all new rest
-note-step lines text all h new kind place rest u e = record {
-  from = u.from;
-  told = ap (λ h. told_at_end lines h rest) e ∙ (sym (told-passes lines (Note kind place) h rest) ∙ u.told);
-  kept = ap (λ h. kept_at_end h rest) e ∙ (sym (kept-passes lines (Note kind place) h rest) ∙ u.kept);
-  notes = ap (λ h. notes_at_end lines h rest) e ∙ (sym (notes-pass lines (Note kind place) h rest) ∙ u.notes);
-  covers = u.covers;
-  limit = u.limit;
-  ready = subst (IsReady u.from) (sym e) (ready-note lines kind place u.from h u.ready);
-}
+note-step lines text all h new kind place rest u e =
+    step-on lines text all h new (Note kind place) rest u.from u e u.covers (grind arith)
 
 -- ## When all came
 

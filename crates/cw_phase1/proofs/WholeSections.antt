@@ -1,6 +1,6 @@
 -- The parts of a section are whole.
-use Rattle.std.proofs.Common.{◌≡◌, ℕ, Bool, true, false, not, ◌||◌, List, [], ◌∷◌, ◌++◌, Some, All, length, drop, take}
-use Rattle.std.proofs.Common.{get_or, refl, sym, ap, subst, ◌∙◌, arith, append_assoc, ◌⊎◌, inl, inr, if◌then◌else◌}
+use Rattle.std.proofs.Common.{◌≡◌, ℕ, Bool, true, false, not, List, [], ◌∷◌, ◌++◌, Some, All, length, drop, take, refl}
+use Rattle.std.proofs.Common.{sym, ap, subst, ◌∙◌, arith, append_assoc, ◌⊎◌, inl, inr, if◌then◌else◌}
 use Rattle.std.proofs.lemmas.List.{take_all, drop_all, length-take}
 use Rattle.std.proofs.lemmas.List.Elements.{All-nil}
 use Rattle.cw_base.proofs.TestLaws.{one-right, not-both, or-false, one-left}
@@ -9,7 +9,7 @@ use Rattle.cw_rules.specs.declared.tokens.Mode.{Mode}
 use Rattle.cw_rules.specs.declared.tokens.Mode.TheVariants as modes
 use Rattle.cw_rules.specs.Answers.{Answer, Token, Begin, Finish, Note, Seen, has_sign}
 use Rattle.cw_lex.specs.Lexing.{answers_at, beginning, tokens_of}
-use Rattle.cw_lex.specs.Nested.{is_section_kind, begins_section_in}
+use Rattle.cw_lex.specs.Nested.{is_section_kind}
 use Rattle.cw_lex.specs.Openings.{opens_part_in, TextsEndAtOpenings, TextsEndAtSections}
 use Rattle.cw_lex.proofs.Covering.{tokens-cover}
 use Rattle.cw_lex.proofs.TexTexts.{opens-uncut}
@@ -20,7 +20,7 @@ use Rattle.cw_phase1.specs.declared.roles.Standing.{Standing}
 use Rattle.cw_phase1.specs.declared.sections.Section.{Section}
 use Rattle.cw_phase1.specs.Book.{answers_of}
 use Rattle.cw_phase1.specs.Entering.{kept_behind}
-use Rattle.cw_phase1.specs.Roles.{Placed, at_limbo, token_step, behind_begin, placed, placed_from}
+use Rattle.cw_phase1.specs.Roles.{Placed, at_limbo, token_step, placed, placed_from}
 use Rattle.cw_phase1.specs.Sections.{span, is_section_code, is_tex, is_program, ends_section, ends_definitions}
 use Rattle.cw_phase1.specs.Sections.{ends_tex, first_start, section_at, sections_of}
 use Rattle.cw_phase1.specs.Whole.{IsUncut, SectionsAreWhole}
@@ -35,16 +35,8 @@ use Rattle.cw_phase1.proofs.SpanLaws.{follows, all-lie}
 empty : (text : List ℕ) (p : ℕ) → drop p (take p text) ≡ []
 empty text p = drop_all p (take p text) (omega (arith, length-take p text))
 
-empty-definition : (text : List ℕ) (p : ℕ) → IsUncut text modes.Definition (span p p)
-empty-definition text p = grind (arith, empty)
-
 empty-program : (text : List ℕ) (p : ℕ) → IsUncut text modes.CPart (span p p)
 empty-program text p = grind (arith, empty)
-
--- the scan of the last part is the scan of the whole
-last-part : (text : List ℕ) (start : ℕ) (mode : Mode) → begins_section_in (answers_at text (beginning mode) start)
-    ≡ false → IsUncut text mode (span start (length text))
-last-part text start mode h = grind (arith, take_all)
 
 -- ## The tests of the parts
 
@@ -61,9 +53,6 @@ code-passes good p h = one-left (is_section_code p.role) (not (good p.part)) h
 not-not : (b : Bool) → not (not b) ≡ b
 not-not b = grind arith
 
-definitions-by : (p : Placed) → ends not_program p ≡ ends_definitions p
-definitions-by p = ap (λ b. is_section_code p.role || b) (not-not (is_program p.part))
-
 section-by : (p : Placed) → ends any_part p ≡ ends_section p
 section-by p = or-false (is_section_code p.role)
 
@@ -78,7 +67,7 @@ section-definitions : (p : Placed) → ends_section p ≡ true → ends not_prog
 section-definitions p h = code-passes not_program p h
 
 definitions-not : (p : Placed) → ends_definitions p ≡ true → ends not_program p ≡ true
-definitions-not p h = definitions-by p ∙ h
+definitions-not p h = (grind (arith, not-not)) ∙ h
 
 module _ (sections : TextsEndAtSections) (openings : TextsEndAtOpenings) (text : List ℕ) where
   abbrev size : ℕ
@@ -89,11 +78,6 @@ module _ (sections : TextsEndAtSections) (openings : TextsEndAtOpenings) (text :
   abbrev tokens_at : Mode → ℕ → Standing → List SecName → List Placed
   tokens_at mode start s kept = placed_from s kept (answers_at text (beginning mode) start)
 
-  -- A section ends at a section code.
-  code-ends : (start : ℕ) (mode : Mode) (s : Standing) (kept : List SecName)
-      (r : Stopped any_part s kept (answers_at text (beginning mode) start)) → is_section_kind r.token.kind ≡ true
-  code-ends start mode s kept r = grind (arith, section-by, token_placed, section-role, plain-role)
-
   -- where a C part ends with a token
   c-part-at : (start : ℕ) (s : Standing) (kept : List SecName)
       → Stopped any_part s kept (answers_at text (beginning modes.CPart) start)
@@ -101,15 +85,14 @@ module _ (sections : TextsEndAtSections) (openings : TextsEndAtOpenings) (text :
   c-part-at start s kept r =
       let ps = tokens_at modes.CPart start s kept in
       let p = token_placed any_part r.standing r.names r.token r.behind in
-      let at : first_start ends_section size ps ≡ r.token.span.start =
-      ap (first_start ends_section size) r.placed ∙ first-behind ends_section size r.front
-      (placed_from r.standing r.names (Token r.token ∷ r.behind))
+      let at : first_start ends_section size ps ≡ r.token.span.start = ap (first_start ends_section size)
+      r.placed ∙ first-behind ends_section size r.front (placed_from r.standing r.names (Token r.token ∷ r.behind))
       (none-stricter (ends any_part) ends_section r.front (λ p h. section-by p ∙ h) r.none)
       ∙ first-token any_part ends_section size r.standing r.names r.token r.behind (sym (section-by p) ∙ r.passes) in
-      let law = sections text start modes.CPart r.before r.token r.behind r.split
-      (code-ends start modes.CPart s kept r) in
-      subst (λ n. IsUncut text modes.CPart (span start n)) (sym at)
-      (uncut-before text start modes.CPart r.before r.token law.0 r.uncut)
+      let law = sections text start modes.CPart
+      r.before r.token r.behind r.split (grind (arith, section-by, token_placed, section-role, plain-role)) in
+      subst (λ n. IsUncut text modes.CPart (span start n))
+      (sym at) (uncut-before text start modes.CPart r.before r.token law.0 r.uncut)
 
   c-part : (start : ℕ) (s : Standing) (kept : List SecName)
       → IsUncut text modes.CPart (span start (first_start ends_section size (tokens_at modes.CPart start s kept)))
@@ -120,9 +103,8 @@ module _ (sections : TextsEndAtSections) (openings : TextsEndAtOpenings) (text :
           → IsUncut text modes.CPart (span start (first_start ends_section size (tokens_at modes.CPart start s kept)))
       by (inl e) =
           let ps = tokens_at modes.CPart start s kept in
-          let none = first-none ends_section size ps (none-stricter (ends any_part) ends_section ps (λ p h. section-by p
-          ∙ h) e.none) in
-          subst (λ n. IsUncut text modes.CPart (span start n)) (sym none) (last-part text start modes.CPart e.uncut)
+          let none = first-none ends_section size ps (grind (arith, none-stricter, ends, section-by)) in
+          subst (λ n. IsUncut text modes.CPart (span start n)) (sym none) (grind (arith, take_all))
       by (inr r) = c-part-at start s kept r
 
   -- ## Definitions
@@ -138,52 +120,37 @@ module _ (sections : TextsEndAtSections) (openings : TextsEndAtOpenings) (text :
       → EndsBy r.token.kind (has_sign r.behind) how
       → Defined start (tokens_at modes.Definition start s kept)
   defined-at start s kept r AtSection h =
-      let ps = tokens_at modes.Definition start s kept in
+      let ps = tokens_at modes.Definition _ s kept in
       let p = token_placed not_program r.standing r.names r.token r.behind in
-      let code = section-role r.standing r.token r.behind h in
-      let to : first_start ends_definitions size ps ≡ r.token.span.start =
-      ap (first_start ends_definitions size) r.placed
-      ∙ first-behind ends_definitions size r.front (placed_from r.standing r.names (Token r.token ∷ r.behind))
-      (none-stricter (ends not_program) ends_definitions r.front definitions-not r.none)
-      ∙ first-token not_program ends_definitions size r.standing r.names r.token r.behind
-      (one-left (is_section_code p.role) (is_program p.part) code) in
-      let end : first_start ends_section size ps ≡ r.token.span.start =
-      ap (first_start ends_section size) r.placed ∙ first-behind ends_section size r.front
-      (placed_from r.standing r.names (Token r.token ∷ r.behind)) (none-stricter (ends not_program) ends_section
-      r.front section-definitions r.none)
+      let code = section-role _ r.token r.behind h in
+      let to : first_start ends_definitions size ps
+      ≡ r.token.span.start = grind (arith, first-behind, none-stricter, ends, definitions-not, first-token, one-left) in
+      let end : first_start ends_section size ps ≡ r.token.span.start = ap (first_start ends_section size) r.placed
+      ∙ first-behind ends_section size r.front _ (none-stricter (ends not_program) _ r.front section-definitions r.none)
       ∙ first-token not_program ends_section size r.standing r.names r.token r.behind code in
-      let law = sections text start modes.Definition r.before r.token r.behind r.split h in
+      let law = sections text start _ r.before r.token _ r.split h in
       record {
-        definitions = subst (λ n. IsUncut text modes.Definition (span start n)) (sym to)
-            (uncut-before text start modes.Definition r.before r.token law.0 r.uncut);
-        c_part = subst (λ n. IsUncut text modes.CPart (span n (first_start ends_section size ps))) (sym to)
-            (subst (λ n. IsUncut text modes.CPart (span r.token.span.start n)) (sym end)
-            (empty-program text r.token.span.start));
+        definitions = subst (λ n. IsUncut text modes.Definition (span start n))
+            (sym to) (uncut-before text _ modes.Definition r.before r.token law.0 r.uncut);
+        c_part = grind (arith, empty-program);
       }
   defined-at start s kept r AtCPart h =
       let ps = tokens_at modes.Definition start s kept in
       let p = token_placed not_program r.standing r.names r.token r.behind in
       let code = plain-role r.standing r.token r.behind h.0 in
-      let part = plain-part r.standing r.token r.behind (Some modes.CPart) h.0 h.1 in
-      let to : first_start ends_definitions size ps ≡ r.token.span.start =
-      ap (first_start ends_definitions size) r.placed
-      ∙ first-behind ends_definitions size r.front (placed_from r.standing r.names (Token r.token ∷ r.behind))
-      (none-stricter (ends not_program) ends_definitions r.front definitions-not r.none)
-      ∙ first-token not_program ends_definitions size r.standing r.names r.token r.behind
-      (one-right (is_section_code p.role) (is_program p.part) (ap is_program part)) in
-      let law = openings text start modes.Definition modes.CPart r.before r.token r.behind refl r.split h.1 in
-      let end : first_start ends_section size ps ≡ first_start ends_section size
-      (tokens_at modes.CPart r.token.span.start r.standing r.names) =
-      ap (first_start ends_section size) r.placed ∙ first-behind ends_section size r.front
-      (placed_from r.standing r.names (Token r.token ∷ r.behind)) (none-stricter (ends not_program) ends_section
-      r.front section-definitions r.none)
+      let part = plain-part _ r.token r.behind _ h.0 h.1 in
+      let to = ap (first_start ends_definitions size) r.placed ∙ first-behind ends_definitions size r.front (placed_from
+      _ r.names (Token r.token ∷ r.behind)) (none-stricter _ _ r.front definitions-not r.none) ∙ first-token
+      not_program ends_definitions size r.standing r.names r.token r.behind (one-right _ _ (ap is_program part)) in
+      let law = openings text _ modes.Definition modes.CPart r.before r.token r.behind refl r.split h.1 in
+      let end = ap (first_start ends_section size) r.placed
+      ∙ first-behind ends_section size r.front _ (none-stricter _ ends_section r.front section-definitions r.none)
       ∙ ap (λ l. first_start ends_section size (placed_from r.standing r.names l)) law.1 in
       record {
-        definitions = subst (λ n. IsUncut text modes.Definition (span start n)) (sym to)
-            (uncut-before text start modes.Definition r.before r.token law.0 r.uncut);
-        c_part = subst (λ n. IsUncut text modes.CPart (span n (first_start ends_section size ps))) (sym to)
-            (subst (λ n. IsUncut text modes.CPart (span r.token.span.start n)) (sym end)
-            (c-part r.token.span.start r.standing r.names));
+        definitions = subst (λ n. IsUncut text modes.Definition (span start n))
+            (sym to) (uncut-before text _ _ r.before _ law.0 r.uncut);
+        c_part = subst (λ n. IsUncut text modes.CPart (span n (first_start ends_section size ps))) (sym to) (subst (λ n.
+            IsUncut text modes.CPart (span r.token.span.start n)) (sym end) (c-part r.token.span.start _ r.names));
       }
   defined-at start s kept r AtDefinitions h = grind (arith, token_placed, plain-role, plain-part, not-both)
   defined-at start s kept r Nowhere h = grind (arith, plain-role, plain-part, not-both)
@@ -197,15 +164,11 @@ module _ (sections : TextsEndAtSections) (openings : TextsEndAtOpenings) (text :
           → Defined start (tokens_at modes.Definition start s kept)
       by (inl e) =
           let ps = tokens_at modes.Definition start s kept in
-          let to = first-none ends_definitions size ps (none-stricter (ends not_program) ends_definitions ps
-          definitions-not e.none) in
-          let end = first-none ends_section size ps (none-stricter (ends not_program) ends_section ps
-          section-definitions e.none) in
+          let to = first-none _ size ps (grind (arith, none-stricter, ends, definitions-not)) in
+          let end = first-none ends_section size ps (grind (arith, none-stricter, ends, section-definitions)) in
           record {
-            definitions = subst (λ n. IsUncut text modes.Definition (span start n)) (sym to)
-                (last-part text start modes.Definition e.uncut);
-            c_part = subst (λ n. IsUncut text modes.CPart (span n (first_start ends_section size ps))) (sym to)
-                (subst (λ n. IsUncut text modes.CPart (span size n)) (sym end) (empty-program text size));
+            definitions = subst (λ n. IsUncut text modes.Definition (span start n)) (sym to) (grind (arith, take_all));
+            c_part = grind (arith, empty-program);
           }
       by (inr r) = let e = ends-so r.token.kind (has_sign r.behind) in defined-at start s kept r e.how e.so
 
@@ -224,13 +187,7 @@ module _ (sections : TextsEndAtSections) (openings : TextsEndAtOpenings) (text :
       → first_start ends_definitions size ps ≡ middle → first_start ends_section size ps ≡ end
       → Alone start to → IsUncut text modes.Definition (span to middle) → IsUncut text modes.CPart (span middle end)
       → Told start ps
-  told-by start to middle end ps a b c t d p = record {
-    tex = subst (Alone start) (sym a) t;
-    definitions = subst (λ n. IsUncut text modes.Definition (span n (first_start ends_definitions size ps))) (sym a)
-        (subst (λ n. IsUncut text modes.Definition (span to n)) (sym b) d);
-    c_part = subst (λ n. IsUncut text modes.CPart (span n (first_start ends_section size ps))) (sym b)
-        (subst (λ n. IsUncut text modes.CPart (span middle n)) (sym c) p);
-  }
+  told-by start to middle end ps a b c t d p = record { tex = subst (Alone _) (sym a) t; definitions = cc; c_part = cc }
 
   told-at : (start : ℕ) (s : Standing) (kept : List SecName)
       (r : Stopped is_tex s kept (answers_at text (beginning modes.TexText) start)) (how : Ending)
@@ -242,21 +199,11 @@ module _ (sections : TextsEndAtSections) (openings : TextsEndAtOpenings) (text :
       let code = section-role r.standing r.token r.behind h in
       let at = r.token.span.start in
       let law = sections text start modes.TexText r.before r.token r.behind r.split h in
-      told-by start at at at ps
-      (ap (first_start ends_tex size) r.placed ∙ first-behind ends_tex size r.front
-      (placed_from r.standing r.names (Token r.token ∷ r.behind)) r.none
-      ∙ first-token is_tex ends_tex size r.standing r.names r.token r.behind r.passes)
-      (ap (first_start ends_definitions size) r.placed
-      ∙ first-behind ends_definitions size r.front (placed_from r.standing r.names (Token r.token ∷ r.behind))
-      (none-stricter (ends is_tex) ends_definitions r.front definitions-tex r.none)
-      ∙ first-token is_tex ends_definitions size r.standing r.names r.token r.behind
-      (one-left (is_section_code p.role) (is_program p.part) code))
-      (ap (first_start ends_section size) r.placed
-      ∙ first-behind ends_section size r.front (placed_from r.standing r.names (Token r.token ∷ r.behind))
-      (none-stricter (ends is_tex) ends_section r.front section-tex r.none)
-      ∙ first-token is_tex ends_section size r.standing r.names r.token r.behind code)
-      (alone-before text start modes.TexText r.before r.token (Token r.token ∷ r.behind) law.0
-      (tex-opens (Token r.token ∷ r.behind) r.before r.keeps)) (empty-definition text at) (empty-program text at)
+      told-by start at at at ps (grind (arith, first-behind, first-token))
+      (grind (arith, first-behind, none-stricter, ends, definitions-tex, first-token, one-left))
+      (grind (arith, first-behind, none-stricter, ends, section-tex, first-token))
+      (alone-before text start modes.TexText r.before r.token (Token r.token ∷ r.behind)
+      law.0 (tex-opens (Token r.token ∷ r.behind) r.before r.keeps)) (grind (arith, empty)) (empty-program text at)
   told-at start s kept r AtDefinitions h =
       let ps = tokens_at modes.TexText start s kept in
       let p = token_placed is_tex r.standing r.names r.token r.behind in
@@ -264,20 +211,10 @@ module _ (sections : TextsEndAtSections) (openings : TextsEndAtOpenings) (text :
       let law = openings text start modes.TexText modes.Definition r.before r.token r.behind refl r.split h.1 in
       let rest = tokens_at modes.Definition at r.standing r.names in
       let d = defined at r.standing r.names (tex-no-program r.standing.part r.part) in
-      told-by start at (first_start ends_definitions size rest) (first_start ends_section size rest) ps
-      (ap (first_start ends_tex size) r.placed ∙ first-behind ends_tex size r.front
-      (placed_from r.standing r.names (Token r.token ∷ r.behind)) r.none
-      ∙ first-token is_tex ends_tex size r.standing r.names r.token r.behind r.passes)
-      (ap (first_start ends_definitions size) r.placed
-      ∙ first-behind ends_definitions size r.front (placed_from r.standing r.names (Token r.token ∷ r.behind))
-      (none-stricter (ends is_tex) ends_definitions r.front definitions-tex r.none)
-      ∙ ap (λ l. first_start ends_definitions size (placed_from r.standing r.names l)) law.1)
-      (ap (first_start ends_section size) r.placed
-      ∙ first-behind ends_section size r.front (placed_from r.standing r.names (Token r.token ∷ r.behind))
-      (none-stricter (ends is_tex) ends_section r.front section-tex r.none)
-      ∙ ap (λ l. first_start ends_section size (placed_from r.standing r.names l)) law.1)
-      (alone-before text start modes.TexText r.before r.token (Token r.token ∷ r.behind) law.0
-      (tex-opens (Token r.token ∷ r.behind) r.before r.keeps)) d.definitions d.c_part
+      told-by start at (first_start ends_definitions size rest) (first_start ends_section size rest)
+      ps (grind (arith, first-behind, first-token)) (grind (arith, first-behind, none-stricter, ends, definitions-tex))
+      (grind (arith, first-behind, none-stricter, ends, section-tex)) (alone-before text start
+      modes.TexText r.before r.token (Token r.token ∷ r.behind) law.0 (grind (arith, tex-opens))) d.definitions d.c_part
     where
       tex-no-program : (part : Part) → is_tex part ≡ true → not_program part ≡ true
       tex-no-program parts.Tex h = refl
@@ -289,22 +226,11 @@ module _ (sections : TextsEndAtSections) (openings : TextsEndAtOpenings) (text :
       let part = plain-part r.standing r.token r.behind (Some modes.CPart) h.0 h.1 in
       let law = openings text start modes.TexText modes.CPart r.before r.token r.behind refl r.split h.1 in
       let rest = tokens_at modes.CPart at r.standing r.names in
-      told-by start at at (first_start ends_section size rest) ps
-      (ap (first_start ends_tex size) r.placed ∙ first-behind ends_tex size r.front
-      (placed_from r.standing r.names (Token r.token ∷ r.behind)) r.none
-      ∙ first-token is_tex ends_tex size r.standing r.names r.token r.behind r.passes)
-      (ap (first_start ends_definitions size) r.placed
-      ∙ first-behind ends_definitions size r.front (placed_from r.standing r.names (Token r.token ∷ r.behind))
-      (none-stricter (ends is_tex) ends_definitions r.front definitions-tex r.none)
-      ∙ first-token is_tex ends_definitions size r.standing r.names r.token r.behind
-      (one-right (is_section_code p.role) (is_program p.part) (ap is_program part)))
-      (ap (first_start ends_section size) r.placed
-      ∙ first-behind ends_section size r.front (placed_from r.standing r.names (Token r.token ∷ r.behind))
-      (none-stricter (ends is_tex) ends_section r.front section-tex r.none)
-      ∙ ap (λ l. first_start ends_section size (placed_from r.standing r.names l)) law.1)
+      told-by start at at (first_start ends_section size rest) ps (grind (arith, first-behind, first-token))
+      (grind (arith, first-behind, none-stricter, ends, definitions-tex, first-token, one-right))
+      (grind (arith, first-behind, none-stricter, ends, section-tex))
       (alone-before text start modes.TexText r.before r.token (Token r.token ∷ r.behind) law.0
-      (tex-opens (Token r.token ∷ r.behind) r.before r.keeps)) (empty-definition text at)
-      (c-part at r.standing r.names)
+      (tex-opens (Token r.token ∷ r.behind) r.before r.keeps)) (grind (arith, empty)) (c-part at r.standing r.names)
   told-at start s kept r Nowhere h = grind (arith, plain-role, plain-part, not-both)
 
   told : (start : ℕ) (s : Standing) (kept : List SecName) → is_tex s.part ≡ true
@@ -315,14 +241,10 @@ module _ (sections : TextsEndAtSections) (openings : TextsEndAtOpenings) (text :
           ⊎ Stopped is_tex s kept (answers_at text (beginning modes.TexText) start)
           → Told start (tokens_at modes.TexText start s kept)
       by (inl e) =
-          let ps = tokens_at modes.TexText start s kept in
-          told-by start size size size ps (first-none ends_tex size ps e.none)
-          (first-none ends_definitions size ps (none-stricter (ends is_tex) ends_definitions ps definitions-tex e.none))
-          (first-none ends_section size ps (none-stricter (ends is_tex) ends_section ps section-tex e.none))
-          (ap (λ l. opens_part_in (answers_at l (beginning modes.TexText) start))
-          (take_all (length text) text (omega arith))
-          ∙ tex-opens [] (answers_at text (beginning modes.TexText) start) e.keeps) (empty-definition text size)
-          (empty-program text size)
+          let ps = tokens_at modes.TexText _ s kept in
+          told-by _ size size size ps (first-none _ size ps e.none)
+          (first-none _ size ps (none-stricter _ _ ps definitions-tex e.none)) (first-none _ size ps (none-stricter _ _
+          ps section-tex e.none)) (grind (arith, take_all, tex-opens)) (grind (arith, empty)) (empty-program text size)
       by (inr r) = let e = ends-so r.token.kind (has_sign r.behind) in told-at start s kept r e.how e.so
 
   -- ## All sections
@@ -362,33 +284,20 @@ module _ (sections : TextsEndAtSections) (openings : TextsEndAtOpenings) (text :
           by : (b : Bool) → is_section_kind t.kind ≡ b
               → Uncut (section_at lines size t (placed_from (token_step t.kind (has_sign ys) s t.span).next
               (kept_behind t kept) ys))
-          by true k = at-code lines xs t ys (token_step t.kind (has_sign ys) s t.span).next (kept_behind t kept) e k
-              (ap is_tex (section-part s t ys k))
+          by true k = at-code lines xs t ys (token_step _ _ s _).next _ e k (ap is_tex (section-part s t ys k))
           by false k = not-both _ code (plain-role s t ys k)
-  all-uncut lines xs (Begin t ∷ ys) s kept e = all-uncut lines (xs ++ Begin t ∷ []) ys (behind_begin s) kept (e
-      ∙ sym (append_assoc xs (Begin t ∷ []) ys))
+  all-uncut lines xs (Begin t ∷ ys) s kept e = all-uncut lines _ ys _ kept (e ∙ sym (append_assoc xs (Begin t ∷ []) ys))
   all-uncut lines xs (Finish t ∷ ys) s kept e = all-uncut lines (xs ++ Finish t ∷ []) ys s kept (e
       ∙ sym (append_assoc xs (Finish t ∷ []) ys))
   all-uncut lines xs (Note kind place ∷ ys) s kept e = all-uncut lines (xs ++ Note kind place ∷ []) ys s kept (e
       ∙ sym (append_assoc xs (Note kind place ∷ []) ys))
 
-tex-uncut : (text : List ℕ) (s : Section) → opens_part_in (tokens_of text s.tex.start s.tex.«end» modes.TexText) ≡ false
-    → IsUncut text modes.TexText s.tex
-tex-uncut text s h = opens-uncut [] (tokens_of text s.tex.start s.tex.«end» modes.TexText) h
-
 pub sections-whole : TextsEndAtSections → TextsEndAtOpenings → SectionsAreWhole
 sections-whole sections openings lines =
     let text = text_of lines in
     let scanned = answers_of lines in
-    let all : answers_at text (beginning modes.Limbo) 0 ≡ scanned =
-    ap (λ l. answers_at l (beginning modes.Limbo) 0) (sym (take_all (length text) text (omega arith))) in
-    let lies = all-lie lines 0 (length text) (placed scanned) (follows text 0 (length text) at_limbo [] scanned
-    (tokens-cover text 0 (length text) modes.Limbo (omega arith) (omega arith))) in
+    let all : answers_at text (beginning modes.Limbo) 0 ≡ scanned = grind (arith, take_all) in
+    let lies = all-lie lines 0 (length text) (placed scanned) (follows text
+    0 (length text) at_limbo [] scanned (tokens-cover text 0 (length text) modes.Limbo (omega arith) (omega arith))) in
     let uncut = all-uncut sections openings text lines [] scanned at_limbo [] all in
-    λ i d within. record {
-      lies = lies i d within;
-      tex = tex-uncut text (get_or (sections_of lines (length text) (placed scanned)) i d) (uncut i d within).tex;
-      tex_alone = (uncut i d within).tex;
-      definitions = (uncut i d within).definitions;
-      c_part = (uncut i d within).c_part;
-    }
+    grind (arith, opens-uncut)

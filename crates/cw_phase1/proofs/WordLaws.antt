@@ -1,7 +1,6 @@
 -- The names, occurrences, uses and references that are told are those of the whole list.
 use Rattle.std.proofs.Common.{◌≡◌, ℕ, zero, suc, ◌+◌, ◌<◌, ◌≤◌, Bool, true, false, List, [], ◌∷◌, ◌++◌, Some, None}
-use Rattle.std.proofs.Common.{length, map, nat_lt, cond, not, eqb, refl, ap, ◌∙◌, sym, arith, length-append}
-use Rattle.std.proofs.Common.{append_assoc, add-zero}
+use Rattle.std.proofs.Common.{length, map, cond, not, eqb, refl, sym, arith, length-append, append_assoc, add-zero}
 use Rattle.std.proofs.lemmas.List.Folds.{position_or_len_push}
 use Rattle.std.proofs.lemmas.List.{append-nil, map-append}
 use Rattle.std.specs.Cmp.Lexicographic.{bytes_decides}
@@ -17,9 +16,9 @@ use Rattle.cw_phase1.specs.declared.roles.Role.TheVariants as roles
 use Rattle.cw_phase1.specs.declared.told.Told.{Told}
 use Rattle.cw_phase1.specs.Roles.{Placed}
 use Rattle.cw_rules.specs.ControlTexts.{text_behind_code}
-use Rattle.cw_phase1.specs.Words.{KnownNames, Mention, mention, word, with_format, known_behind, known_after}
-use Rattle.cw_phase1.specs.Words.{names_after, mention_by, mentions_from, occurrence, occurrences}
-use Rattle.cw_phase1.specs.Uses.{uses_of, reference_of, references_of}
+use Rattle.cw_phase1.specs.Words.{KnownNames, Mention, word, with_format, known_behind, known_after, names_after}
+use Rattle.cw_phase1.specs.Words.{mention_by, mentions_from, occurrence, occurrences}
+use Rattle.cw_phase1.specs.Uses.{uses_of, references_of}
 use Rattle.cw_phase1.specs.Telling.{known_of, told_step, told_all, told_start}
 use Rattle.cw_names.specs.declared.entry.NameId.{NameId}
 use Rattle.std.specs.Prelude.{Option}
@@ -34,35 +33,25 @@ category-place : (kind : EntryKind) (text : List ℕ) (place : ℕ) (category : 
     → names.place_of kind text (names.with_category place category entries) ≡ names.place_of kind text entries
 category-place kind text place category [] = refl
 category-place kind text zero category (e ∷ es) = refl
-category-place kind text (suc place) category (e ∷ es) =
-    ap (λ n. cond (not (names.is_entry kind text e)) (1 + n) 0) (category-place kind text place category es)
-
-with-category : (kind : EntryKind) (text : List ℕ) (n place : ℕ) (category : Cat) (entries : List names.Entry)
-    → Stands kind text n entries → Stands kind text n (names.with_category place category entries)
-with-category kind text n place category entries s = grind (arith, category-place, category-length)
+category-place kind text (suc place) category (e ∷ es) = grind (arith, category-place kind text place category es)
 
 not-same : (a b : ℕ) → a < b → eqb a b ≡ false
 not-same a b h = grind arith
 
-with-last : (kind : EntryKind) (text : List ℕ) (n : ℕ) (e : names.Entry) (entries : List names.Entry)
-    → Stands kind text n entries → Stands kind text n (entries ++ e ∷ [])
-with-last kind text n e entries s = grind (arith, position_or_len_push, not-same, length-append)
-
 entry-by : (t : Bool) (kind : EntryKind) (text : List ℕ) (n : ℕ) (e : names.Entry) (entries : List names.Entry)
     → Stands kind text n entries → Stands kind text n (cond t entries (entries ++ e ∷ []))
 entry-by true kind text n e entries s = s
-entry-by false kind text n e entries s = with-last kind text n e entries s
+entry-by false kind text n e entries s = grind (arith, position_or_len_push, not-same, length-append)
 
 with-entry : (kind : EntryKind) (text : List ℕ) (n : ℕ) (other : EntryKind) (word : List ℕ) (entries : List names.Entry)
     → Stands kind text n entries → Stands kind text n (names.with_entry other word entries)
-with-entry kind text n other word entries s = entry-by (nat_lt (names.place_of other word entries) (length entries))
-    kind text n _ entries s
+with-entry kind text n other word entries s = entry-by _ kind text n _ entries s
 
 format : (first : Option NameId) (kind : EntryKind) (text : List ℕ) (n : ℕ) (second : NameId)
     (entries : List names.Entry)
     → Stands kind text n entries → Stands kind text n (with_format first second entries)
 format None kind text n second entries s = s
-format (Some first) kind text n second entries s = with-category kind text n _ _ entries s
+format (Some first) kind text n second entries s = grind (arith, category-place, category-length)
 
 -- ## A name has its place from its first occurrence on
 
@@ -81,15 +70,9 @@ place-le : (kind : EntryKind) (text : List ℕ) (entries : List names.Entry)
 place-le kind text [] = omega arith
 place-le kind text (e ∷ es) = le-by (names.is_entry kind text e) _ _ (place-le kind text es)
 
-new-by : (t : Bool) (kind : EntryKind) (text : List ℕ) (entries : List names.Entry)
-    → nat_lt (names.place_of kind text entries) (length entries) ≡ t
-    → Stands kind text (names.place_of kind text entries)
-    (cond t entries (entries ++ record { kind = kind; text = text; category = Exp } ∷ []))
-new-by t kind text entries h = grind (arith, place-le, position_or_len_push, same-entry, add-zero, length-append)
-
 entered : (kind : EntryKind) (text : List ℕ) (entries : List names.Entry)
     → Stands kind text (names.place_of kind text entries) (names.with_entry kind text entries)
-entered kind text entries = new-by (nat_lt (names.place_of kind text entries) (length entries)) kind text entries refl
+entered kind text entries = grind (arith, place-le, position_or_len_push, same-entry, add-zero, length-append)
 
 role-keeps : (kind : EntryKind) (text : List ℕ) (n : ℕ) (role : Role) (word : List ℕ) (k : KnownNames)
     → Stands kind text n k.names → Stands kind text n (known_behind role word k).names
@@ -105,8 +88,7 @@ role-keeps kind text n _ word k s = with-entry kind text n Ident word k.names s
 keeps : (kind : EntryKind) (text : List ℕ) (n : ℕ) (ps : List Placed) (k : KnownNames)
     → Stands kind text n k.names → Stands kind text n (known_after ps k).names
 keeps kind text n [] k s = s
-keeps kind text n (p ∷ ps) k s = keeps kind text n ps (known_behind p.role p.token.text k)
-    (role-keeps kind text n p.role p.token.text k s)
+keeps kind text n (p ∷ ps) k s = keeps kind text n ps _ (role-keeps kind text n p.role p.token.text k s)
 
 one : (m : Mention) (entries : List names.Entry) (ps : List Placed) (k : KnownNames)
     → Stands m.kind m.text (names.place_of m.kind m.text entries) k.names
@@ -119,15 +101,9 @@ mentioned : (role : Role) (p : Placed) (waits : Bool) (ps : List Placed) (k : Kn
 mentioned roles.MacroName p waits ps k = one (word p true) k.names ps _ (entered Ident p.token.text k.names)
 mentioned roles.Parameter p waits ps k = one (word p waits) k.names ps _ (entered Ident p.token.text k.names)
 mentioned roles.Word p waits ps k = one (word p waits) k.names ps _ (entered Ident p.token.text k.names)
-mentioned (roles.FirstName false) p waits ps k = one (word p waits) k.names ps
-    (known_behind (roles.FirstName false) p.token.text k) (entered Ident p.token.text k.names)
-mentioned (roles.SecondName false) p waits ps k =
-    one (word p waits) k.names ps (known_behind (roles.SecondName false) p.token.text k)
-    (format k.first Ident p.token.text _ _ _ (entered Ident p.token.text k.names))
-mentioned (roles.Entry kind) p waits ps k =
-    one (mention kind (text_behind_code p.token.text) p waits) k.names ps
-    (known_behind (roles.Entry kind) p.token.text k)
-    (entered kind (text_behind_code p.token.text) k.names)
+mentioned (roles.FirstName false) p waits ps k = one (word p waits) k.names ps _ (entered Ident p.token.text k.names)
+mentioned (roles.SecondName false) p waits ps k = one (word p _) k.names ps _ (format _ _ _ _ _ _ (entered _ _ _))
+mentioned (roles.Entry kind) p waits ps k = one _ _ ps _ (entered kind _ _)
 mentioned _ _ _ _ _ = refl
 
 -- ## What is told in the end
@@ -163,8 +139,7 @@ all-uses lines ps = uses-told lines ps told_start
 references-told : (lines : List MergedLine) (ps : List Placed) (t : Told) → (told_all lines ps t).named.references
     ≡ t.named.references ++ references_of ps
 references-told lines [] t = sym (append-nil t.named.references)
-references-told lines (p ∷ ps) t = references-told lines ps (told_step lines p t)
-    ∙ append_assoc t.named.references (reference_of p) (references_of ps)
+references-told lines (p ∷ ps) t = grind (arith, references-told lines ps (told_step lines p t), append_assoc)
 
 pub all-references : (lines : List MergedLine) (ps : List Placed) → (told_all lines ps told_start).named.references
     ≡ references_of ps
@@ -175,10 +150,6 @@ pub entered-below : (kind : EntryKind) (text : List ℕ) (entries : List names.E
     → names.place_of kind text entries < length (names.with_entry kind text entries)
 entered-below kind text entries = (entered kind text entries).below
 
-grows-by : (t : Bool) (e : names.Entry) (entries : List names.Entry)
-    → length entries ≤ length (cond t entries (entries ++ e ∷ []))
-grows-by t e entries = grind (arith, length-append)
-
 pub entry-grows : (kind : EntryKind) (text : List ℕ) (entries : List names.Entry)
     → length entries ≤ length (names.with_entry kind text entries)
-entry-grows kind text entries = grows-by (nat_lt (names.place_of kind text entries) (length entries)) _ entries
+entry-grows kind text entries = grind (arith, length-append)

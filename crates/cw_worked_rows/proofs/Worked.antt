@@ -1,5 +1,6 @@
 -- Of what worked texts are made, and what of them is shown.
-use Rattle.std.proofs.Common.{ℕ, suc, true, false, List, [], map, get_or, replicate}
+use Rattle.std.proofs.Common.{◌≡◌, ℕ, suc, ◌==◌, Bool, true, false, List, [], ◌∷◌, codes, map, get_or}
+use Rattle.std.proofs.Common.{replicate}
 use Rattle.cw_base.specs.declared.category.Cat.{Cat}
 use Rattle.cw_base.specs.declared.category.Cat.TheVariants as cat
 use Rattle.cw_base.specs.declared.mode.MathMode.{MathMode}
@@ -11,7 +12,10 @@ use Rattle.cw_trees.specs.Joining.{Scrap, whole}
 use Rattle.cw_trees.specs.Flat.{Item, SourceItem, IdentItem, ReservedItem, SignItem, flat, trimmed_items}
 use Rattle.cw_trees.specs.Printing.{Printable, printed, sign_bytes, ident_bytes, reserved_bytes}
 use Rattle.cw_table.specs.Rewriting.{State}
-use Rattle.cw_table.specs.Normal.{Production}
+use Rattle.cw_table.specs.Normal.{Production, log, normal}
+use Rattle.cw_table.specs.Productions.{productions}
+use Rattle.cw_base.specs.Flags.{start_flags}
+use Prim.Native.String.{String}
 
 -- Leaves. A number is the position of a token in the list of what the tokens print, and so is a name in the names.
 abbrev scrap : Cat → MathMode → Tree → Scrap
@@ -76,9 +80,42 @@ shown texts (ReservedItem name n) = record { item = ReservedItem name n; bytes =
 shown texts (SignItem control) = record { item = SignItem control; bytes = sign_bytes control }
 shown texts item = record { item = item; bytes = [] }
 
--- what the scraps print, as a part or as inner C text
-abbrev pub bytes_of : List (List ℕ) → State → List ℕ
-bytes_of texts state = printed false (map (shown texts) (trimmed_items (flat (whole state.scraps))))
+-- ## Tables of worked texts
 
-abbrev pub inner_bytes_of : List (List ℕ) → State → List ℕ
-inner_bytes_of texts state = printed true (map (shown texts) (trimmed_items (flat (whole state.scraps))))
+-- texts that are written in one, with `~` between them
+abbrev parted_at : Bool → ℕ → List (List ℕ) → List (List ℕ)
+parted_at false byte (text ∷ texts) = (byte ∷ text) ∷ texts
+parted_at _ byte texts = [] ∷ texts
+
+abbrev parted : List ℕ → List (List ℕ)
+parted [] = [] ∷ []
+parted (byte ∷ bytes) = parted_at (byte == 126) byte (parted bytes)
+
+-- a text as a part or as inner C text, the numbers of its productions, the bytes of its tokens, and what it prints
+pub record Worked : Type 0 where
+  pub is_inner : Bool
+  pub scraps : List Scrap
+  pub steps : List ℕ
+  pub tokens : String
+  pub bytes : List ℕ
+
+abbrev pub part : List Scrap → List ℕ → String → List ℕ → Worked
+part scraps steps tokens bytes =
+    record { is_inner = false; scraps = scraps; steps = steps; tokens = tokens; bytes = bytes }
+
+abbrev pub inner : List Scrap → List ℕ → String → List ℕ → Worked
+inner scraps steps tokens bytes =
+    record { is_inner = true; scraps = scraps; steps = steps; tokens = tokens; bytes = bytes }
+
+abbrev bytes_of : Worked → State → List ℕ
+bytes_of w state =
+    printed w.is_inner (map (shown (parted (codes w.tokens))) (trimmed_items (flat (whole state.scraps))))
+
+abbrev logs : List Worked → List (List ℕ)
+logs ws = map (λ w. numbers (log productions start_flags (start w.scraps))) ws
+
+abbrev prints : List Worked → List (List ℕ)
+prints ws = map (λ w. bytes_of w (normal productions start_flags (start w.scraps))) ws
+
+abbrev pub AreWorked : List Worked → Type 0
+AreWorked ws = (logs ws ≡ map (λ w. w.steps) ws) × (prints ws ≡ map (λ w. w.bytes) ws)

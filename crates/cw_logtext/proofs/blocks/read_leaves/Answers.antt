@@ -1,49 +1,32 @@
 -- While leaf lines are to come, the next line is one.
-use Rattle.std.proofs.Common.{◌≡◌, [], ◌∷◌, ◌++◌, ◌+◌, ◌-◌, ◌∙◌, suc, List, ap, length, length-append}
-use Rattle.std.proofs.Common.{rules, arith, subst, sym}
+use Rattle.std.proofs.Common.{◌≡◌, [], ◌∷◌, ◌++◌, ◌+◌, ◌-◌, ◌∙◌, suc, List, ap, length, length-append, rules, arith}
+use Rattle.std.proofs.Common.{subst, sym}
 use Rattle.cw_leaves.specs.declared.lines.LeafLine.{LeafLine}
-use Rattle.cw_logtext.specs.declared.reading.Spot.TheVariants.{Outside, Inside}
-use Rattle.cw_logtext.specs.Blocks.{HasLeafLine, HasLeaves}
+use Rattle.cw_logtext.specs.Blocks.{HasLeafLine}
 use Rattle.cw_logtext.proofs.Adding.{both-added, none-added}
 use Rattle.cw_logtext.proofs.BlockSteps.{LeavesSoFar, block-goes-on, leaf-there, no-leaves, one-leaf, read-cut}
 use Rattle.cw_logtext.proofs.blocks.read_leaves.Goals as goal
 
 pub loop-init : goal.loop-init
-loop-init c =
-    let none_read : c.args.count - 0 ≡ c.args.count = omega arith in
-    record {
-      kept = none-added c.args.names.now;
-      many = search rules;
-      read = subst (λ n. LeavesSoFar c.args.names.now c.args.names.now c.args.text.now c.new-leaves.result.items
-          c.args.text.now n) (sym none_read)
-          (subst (λ ls. LeavesSoFar c.args.names.now c.args.names.now c.args.text.now ls c.args.text.now c.args.count)
-          (sym c.new-leaves.ensures.items) (no-leaves c.args.names.now c.args.text.now c.args.count c.requires));
-    }
+loop-init c = let none_read : c.args.count - 0 ≡ c.args.count = omega arith in grind (arith, none-added, no-leaves)
 
 pub cut_line-cut-requires : goal.cut_line-cut-requires
-cut_line-cut-requires c =
-    block-goes-on (c.args.count - c.loop.counter) c.loop.rest.now c.loop.invariant.read.later
+cut_line-cut-requires c = block-goes-on _ c.loop.rest.now c.loop.invariant.read.later
 
 pub read_leaf-requires : goal.read_leaf-requires
 read_leaf-requires c =
-    let left : c.args.count - c.loop.counter ≡ suc (c.args.count - (c.loop.counter + 1)) =
-    omega (arith, c.loop-test.true) in
-    let so_far : LeavesSoFar c.args.names.now c.loop.names c.args.text.now c.loop.leaves.items c.loop.rest.now
-    (suc (c.args.count - (c.loop.counter + 1))) =
-    subst (λ n. LeavesSoFar c.args.names.now c.loop.names c.args.text.now c.loop.leaves.items c.loop.rest.now n) left
-    c.loop.invariant.read in
-    leaf-there c.cut_line-cut.result.word.now _ (c.args.count - (c.loop.counter + 1))
-    (read-cut (Inside (suc (c.args.count - (c.loop.counter + 1)))) Outside c.loop.rest.now
-    c.cut_line-cut.result.word.now
-    c.cut_line-cut.result.rest.now c.cut_line-cut.ensures so_far.later)
+    let left :
+    c.args.count - c.loop.counter ≡ suc (c.args.count - (c.loop.counter + 1)) = omega (arith, c.loop-test.true) in
+    let so_far : LeavesSoFar c.args.names.now c.loop.names c.args.text.now
+    c.loop.leaves.items c.loop.rest.now (suc (c.args.count - (c.loop.counter + 1))) = subst (λ n. LeavesSoFar
+    c.args.names.now c.loop.names c.args.text.now c.loop.leaves.items c.loop.rest.now n) left c.loop.invariant.read in
+    grind (arith, leaf-there, read-cut)
 
 pub returns-in_err-leaf-clause-kept : goal.returns-in_err-leaf-clause-kept
-returns-in_err-leaf-clause-kept c =
-    both-added c.args.names.now c.loop.names c.read_leaf.new.names c.loop.invariant.kept c.read_leaf.ensures.kept
+returns-in_err-leaf-clause-kept c = grind (arith, both-added)
 
 pub returns-in_err-push-clause-kept : goal.returns-in_err-push-clause-kept
-returns-in_err-push-clause-kept c =
-    both-added c.args.names.now c.loop.names c.read_leaf.new.names c.loop.invariant.kept c.read_leaf.ensures.kept
+returns-in_err-push-clause-kept c = grind (arith, both-added)
 
 pub loop-preserved : goal.loop-preserved
 loop-preserved c =
@@ -72,18 +55,4 @@ pub returns-clause-kept : goal.returns-clause-kept
 returns-clause-kept c = c.loop.invariant.kept
 
 pub returns-clause-ok : goal.returns-clause-ok
-returns-clause-ok c =
-    let left : c.args.count - c.loop.counter ≡ 0 = omega (arith, c.loop-test.false, c.loop.auto.counter-end) in
-    let so_far : LeavesSoFar c.args.names.now c.loop.names c.args.text.now c.loop.leaves.items c.loop.rest.now 0 =
-    subst (λ n. LeavesSoFar c.args.names.now c.loop.names c.args.text.now c.loop.leaves.items c.loop.rest.now n) left
-    c.loop.invariant.read in
-    subst (λ ls. HasLeaves c.args.names.now c.loop.names c.args.count c.args.text.now
-    (record { leaves = ls; rest = c.loop.rest })) (sym c.from_vec.ensures) (record {
-      idents = so_far.idents;
-      added = so_far.added;
-      many = omega (arith, c.loop.invariant.many, left, c.loop.auto.counter-end);
-      fine = so_far.fine;
-      is = so_far.is;
-      later = so_far.later;
-      shorter = so_far.shorter;
-    })
+returns-clause-ok c = grind arith

@@ -1,5 +1,5 @@
 -- Each name is added behind those before it.
-use Rattle.std.proofs.Common.{◌≡◌, [], ◌∷◌, ◌++◌, rules, subst, sym}
+use Rattle.std.proofs.Common.{◌≡◌, [], ◌∷◌, ◌++◌, rules, subst, sym, arith}
 use Rattle.cw_names.specs.declared.entry.EntryKind.TheVariants.{Ident}
 use Rattle.cw_names.specs.Names.{place_of, with_entry}
 use Rattle.cw_logtext.specs.Blocks.{HasNames}
@@ -9,10 +9,7 @@ use Rattle.cw_logtext.proofs.NameSteps.{NamesSoFar, one-name, all-names}
 use Rattle.cw_logtext.proofs.blocks.read_names.Goals as goal
 
 pub returns-in_err-push-clause-kept : goal.returns-in_err-push-clause-kept
-returns-in_err-push-clause-kept c =
-    let is : c.find_or_add.new.self ≡ with_entry Ident c.in-Some.cut.word.now c.loop-cut.names = search rules in
-    one-added c.in-Some.cut.word.now c.args.names.now c.loop-cut.names c.find_or_add.new.self c.loop-cut.invariant.kept
-    is
+returns-in_err-push-clause-kept c = grind (arith, one-added)
 
 pub loop-cut-preserved : goal.loop-cut-preserved
 loop-cut-preserved c =
@@ -21,18 +18,14 @@ loop-cut-preserved c =
     let pushed : c.push.new.self.items ≡ c.loop-cut.ids.items ++ c.in_ok-id.id ∷ [] = search rules in
     let name : HasName c.loop-cut.rest.now c.in-Some.cut.word.now c.in-Some.cut.rest.now = search rules in
     record {
-      kept = one-added c.in-Some.cut.word.now c.args.names.now c.loop-cut.names c.find_or_add.new.self
-          c.loop-cut.invariant.kept is;
-      read = subst (λ ids. NamesSoFar c.args.names.now c.find_or_add.new.self c.args.text.now ids
-          c.in-Some.cut.rest.now)
-          (sym pushed) (one-name c.args.names.now c.loop-cut.names c.find_or_add.new.self c.args.text.now
-          c.loop-cut.rest.now c.in-Some.cut.word.now c.in-Some.cut.rest.now c.loop-cut.ids.items c.in_ok-id.id
-          c.loop-cut.invariant.read name is place);
+      kept = one-added _ _ _ _ c.loop-cut.invariant.kept is;
+      read = subst (λ ids. NamesSoFar c.args.names.now
+          c.find_or_add.new.self c.args.text.now ids c.in-Some.cut.rest.now) (sym pushed) (one-name _ c.loop-cut.names
+          c.find_or_add.new.self _ _ _ _ c.loop-cut.ids.items _ c.loop-cut.invariant.read name is place);
     }
 
 pub returns-clause-ok : goal.returns-clause-ok
 returns-clause-ok c =
     let none : NoName c.loop-cut.rest.now = search rules in
-    subst (λ ids. HasNames c.args.names.now c.loop-cut.names c.args.text.now ids) (sym c.from_vec.ensures)
-    (all-names c.args.names.now c.loop-cut.names c.args.text.now c.loop-cut.rest.now c.loop-cut.ids.items
-    c.loop-cut.invariant.read none)
+    subst (λ ids. HasNames c.args.names.now c.loop-cut.names c.args.text.now ids) (sym c.from_vec.ensures) (all-names
+    _ c.loop-cut.names c.args.text.now c.loop-cut.rest.now c.loop-cut.ids.items c.loop-cut.invariant.read none)

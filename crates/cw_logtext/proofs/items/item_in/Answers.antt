@@ -11,12 +11,9 @@ returns-in_err-number c =
     let line : c.args.line.now ≡ c.in_ok-letter.letter.now ∷ c.in_ok-letter.behind.now = search rules in
     let letter : c.in_ok-letter.letter.now ≡ 80 = search rules in
     let rest : c.cut_word-cut.result.rest.now ≡ c.in_ok-_blank._blank.now ∷ c.in_ok-_blank.digits.now = search rules in
-    subst (λ r. MatchOption r (NoItem c.args.line.now) (λ item. HasItem c.args.line.now item)) (sym none)
-    (λ p fine is. c.in_err-number.ensures p.number (omega (arith, fine.to_last))
-    (item-of c.args.line.now c.in_ok-letter.behind.now c.cut_word-cut.result.word.now c.cut_word-cut.result.rest.now
-    c.in_ok-_blank.digits.now c.in_ok-letter.letter.now c.in_ok-_blank._blank.now line letter c.cut_word-cut.ensures
-    rest
-    p fine is).0)
+    subst (λ r. MatchOption r (NoItem c.args.line.now) (λ item. HasItem c.args.line.now item))
+    (sym none) (λ p fine is. c.in_err-number.ensures _ (omega (arith, fine.to_last)) (item-of
+    c.args.line.now _ c.cut_word-cut.result.word.now _ _ _ _ line letter c.cut_word-cut.ensures rest p fine is).0)
 
 pub returns-in_err-place : goal.returns-in_err-place
 returns-in_err-place c =
@@ -24,12 +21,9 @@ returns-in_err-place c =
     let line : c.args.line.now ≡ c.in_ok-letter.letter.now ∷ c.in_ok-letter.behind.now = search rules in
     let letter : c.in_ok-letter.letter.now ≡ 80 = search rules in
     let rest : c.cut_word-cut.result.rest.now ≡ c.in_ok-_blank._blank.now ∷ c.in_ok-_blank.digits.now = search rules in
-    subst (λ r. MatchOption r (NoItem c.args.line.now) (λ item. HasItem c.args.line.now item)) (sym none)
-    (λ p fine is. c.in_err-place.ensures p.place (omega (arith, fine.near))
-    (item-of c.args.line.now c.in_ok-letter.behind.now c.cut_word-cut.result.word.now c.cut_word-cut.result.rest.now
-    c.in_ok-_blank.digits.now c.in_ok-letter.letter.now c.in_ok-_blank._blank.now line letter c.cut_word-cut.ensures
-    rest
-    p fine is).1)
+    subst (λ r. MatchOption r (NoItem c.args.line.now) (λ item. HasItem c.args.line.now item))
+    (sym none) (λ p fine is. c.in_err-place.ensures
+    p.place (omega (arith, fine.near)) (item-of _ _ _ _ _ _ _ line letter c.cut_word-cut.ensures rest p fine is).1)
 
 pub returns-then-number-eq0 : goal.returns-then-number-eq0
 returns-then-number-eq0 c =
@@ -38,8 +32,5 @@ returns-then-number-eq0 c =
     let rest : c.cut_word-cut.result.rest.now ≡ c.in_ok-_blank._blank.now ∷ c.in_ok-_blank.digits.now = search rules in
     let word : c.cut_word-cut.result.word.now ≡ decimal c.in_ok-number.number = search rules in
     let zeros : c.in_ok-number.number ≡ 0 = search rules in
-    λ p fine is. no-zero c.cut_word-cut.result.word.now c.in_ok-number.number p fine zeros word
-    (item-of c.args.line.now c.in_ok-letter.behind.now c.cut_word-cut.result.word.now c.cut_word-cut.result.rest.now
-    c.in_ok-_blank.digits.now c.in_ok-letter.letter.now c.in_ok-_blank._blank.now line letter c.cut_word-cut.ensures
-    rest
-    p fine is).0
+    λ p fine is. no-zero
+    _ _ p fine zeros word (item-of c.args.line.now _ _ _ _ _ _ line letter c.cut_word-cut.ensures rest p fine is).0

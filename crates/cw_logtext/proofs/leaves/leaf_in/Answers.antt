@@ -3,7 +3,7 @@ use Rattle.std.proofs.Common.{◌≡◌, ◌∷◌, ◌∙◌, false, None, Matc
 use Rattle.cw_logtext.specs.LogText.{cat_text, fits_kind, letter}
 use Rattle.cw_logtext.specs.Lines.{HasLeaf, NoLeaf}
 use Rattle.cw_logtext.specs.LinePieces.{AreNames}
-use Rattle.cw_logtext.proofs.LineKinds.{LeafParts, leaf-of, leaf-unfit}
+use Rattle.cw_logtext.proofs.LineKinds.{leaf-of, leaf-unfit}
 use Rattle.cw_logtext.proofs.Telling.{cat-injective, letter-injective}
 use Rattle.cw_logtext.proofs.leaves.leaf_in.Goals as goal
 
@@ -13,11 +13,9 @@ returns-in_err-cat c =
     let line : c.args.line.now ≡ c.in_ok-byte.byte.now ∷ c.in_ok-byte.behind.now = search rules in
     let behind : c.in_ok-byte.behind.now ≡ c.in_ok-blank.blank.now ∷ c.in_ok-blank.words.now = search rules in
     let blank : c.in_ok-blank.blank.now ≡ 32 = search rules in
-    subst (λ r. MatchOption r (NoLeaf c.args.line.now) (λ l. HasLeaf c.args.line.now l)) (sym none)
-    (λ said fine is. c.in_err-cat.ensures said.cat fine.real
-    (leaf-of c.args.line.now c.in_ok-byte.behind.now c.in_ok-blank.words.now c.cut_word-cut.result.word.now
-    c.cut_word-cut.result.rest.now c.in_ok-byte.byte.now c.in_ok-blank.blank.now line behind blank
-    c.cut_word-cut.ensures said is).cat)
+    subst (λ r. MatchOption r (NoLeaf c.args.line.now) (λ l. HasLeaf c.args.line.now l))
+    (sym none) (λ said fine is. c.in_err-cat.ensures said.cat fine.real
+    (leaf-of c.args.line.now c.in_ok-byte.behind.now _ _ _ _ _ line behind blank c.cut_word-cut.ensures said is).cat)
 
 pub returns-in_err-count : goal.returns-in_err-count
 returns-in_err-count c =
@@ -25,11 +23,9 @@ returns-in_err-count c =
     let line : c.args.line.now ≡ c.in_ok-byte.byte.now ∷ c.in_ok-byte.behind.now = search rules in
     let behind : c.in_ok-byte.behind.now ≡ c.in_ok-blank.blank.now ∷ c.in_ok-blank.words.now = search rules in
     let blank : c.in_ok-blank.blank.now ≡ 32 = search rules in
-    subst (λ r. MatchOption r (NoLeaf c.args.line.now) (λ l. HasLeaf c.args.line.now l)) (sym none)
-    (λ said fine is. c.in_err-count.ensures said.names fine.names
-    (leaf-of c.args.line.now c.in_ok-byte.behind.now c.in_ok-blank.words.now c.cut_word-cut.result.word.now
-    c.cut_word-cut.result.rest.now c.in_ok-byte.byte.now c.in_ok-blank.blank.now line behind blank
-    c.cut_word-cut.ensures said is).names)
+    subst (λ r. MatchOption r (NoLeaf c.args.line.now) (λ l. HasLeaf c.args.line.now l))
+    (sym none) (λ said fine is. c.in_err-count.ensures said.names
+    fine.names (leaf-of _ _ _ _ _ c.in_ok-byte.byte.now _ line behind blank c.cut_word-cut.ensures said is).names)
 
 pub returns-then-not-fits : goal.returns-then-not-fits
 returns-then-not-fits c =
@@ -40,11 +36,6 @@ returns-then-not-fits c =
     let cat : c.cut_word-cut.result.word.now ≡ cat_text c.in_ok-cat.cat = search rules in
     let names : AreNames c.cut_word-cut.result.rest.now c.in_ok-count.count = search rules in
     let unfit : fits_kind c.in_ok-kind.kind c.in_ok-cat.cat c.in_ok-count.count ≡ false = search rules in
-    λ said fine is.
-    let parts : LeafParts c.in_ok-byte.byte.now c.cut_word-cut.result.word.now c.cut_word-cut.result.rest.now said =
-    leaf-of c.args.line.now c.in_ok-byte.behind.now c.in_ok-blank.words.now c.cut_word-cut.result.word.now
-    c.cut_word-cut.result.rest.now c.in_ok-byte.byte.now c.in_ok-blank.blank.now line behind blank
-    c.cut_word-cut.ensures said is in
-    leaf-unfit c.in_ok-kind.kind c.in_ok-cat.cat c.cut_word-cut.result.rest.now c.in_ok-count.count said names
-    (letter-injective c.in_ok-kind.kind said.kind (sym kind ∙ parts.letter))
-    (cat-injective c.in_ok-cat.cat said.cat (sym cat ∙ parts.cat)) parts.names fine unfit
+    λ said fine is. let parts = leaf-of _ _ _ _ _ _ c.in_ok-blank.blank.now
+    line behind blank c.cut_word-cut.ensures said is in leaf-unfit c.in_ok-kind.kind c.in_ok-cat.cat _ _ said names
+    (letter-injective _ _ (sym kind ∙ parts.letter)) (cat-injective _ _ (sym cat ∙ parts.cat)) parts.names fine unfit

@@ -9,24 +9,20 @@ pub loop-rest-init : goal.loop-rest-init
 loop-rest-init c = record { few = omega arith; read = nothing-read c.args.file.now }
 
 pub returns-in-None : goal.returns-in-None
-returns-in-None c =
-    stuck-here c.args.file.now c.loop-rest.rest.now c.cut_line-cut.result.word.now c.cut_line-cut.result.rest.now
+returns-in-None c = stuck-here _ c.loop-rest.rest.now c.cut_line-cut.result.word.now c.cut_line-cut.result.rest.now
     c.loop-rest.spot c.loop-rest.line c.loop-rest.invariant.read c.cut_line-cut.ensures c.in-None.ensures
 
 pub loop-rest-preserved : goal.loop-rest-preserved
 loop-rest-preserved c = record {
   few = omega (arith, c.loop-rest.invariant.few, c.cut_line-cut.ensures.shorter);
-  read = one-more c.args.file.now c.loop-rest.rest.now c.cut_line-cut.result.word.now c.cut_line-cut.result.rest.now
-      c.loop-rest.spot c.in-Some.next c.loop-rest.line c.loop-rest.invariant.read c.cut_line-cut.ensures
-      c.in-Some.ensures;
+  read = one-more _ _ _ _ c.loop-rest.spot _ _ c.loop-rest.invariant.read c.cut_line-cut.ensures c.in-Some.ensures;
 }
 
 pub returns-in-Outside : goal.returns-in-Outside
 returns-in-Outside c =
     let rest : c.loop-rest.rest.now ≡ [] = grind (arith, common_steps) in
     let spot : c.loop-rest.spot ≡ Outside = search rules in
-    whole-read c.args.file.now c.loop-rest.line
-    (subst (λ r. ReadSoFar c.args.file.now r Outside c.loop-rest.line) rest
+    whole-read _ c.loop-rest.line (subst (λ r. ReadSoFar c.args.file.now r Outside c.loop-rest.line) rest
     (subst (λ s. ReadSoFar c.args.file.now c.loop-rest.rest.now s c.loop-rest.line) spot c.loop-rest.invariant.read))
 
 pub returns-in-Inside : goal.returns-in-Inside

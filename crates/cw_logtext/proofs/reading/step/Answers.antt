@@ -29,7 +29,6 @@ returns-in_ok-leaf_in-in-Inside c =
     let spot : c.args.spot ≡ Inside c.in-Inside.to_come = search rules in
     let one : suc (c.in-Inside.to_come - 1) ≡ c.in-Inside.to_come = grind (arith, c.in-Inside.to_come-test) in
     let found : HasLeaf c.args.line.now c.in_ok-leaf_in-in-Inside.field-0 = search rules in
-    subst (λ s. Step s c.args.line.now (Inside (c.in-Inside.to_come - 1))) (sym spot)
-    (subst (λ n. Step (Inside n) c.args.line.now (Inside (c.in-Inside.to_come - 1))) one
-    (leaf c.args.line.now (c.in-Inside.to_come - 1) (with_names c.in_ok-leaf_in-in-Inside.field-0 found.names)
-    found.fine found.is))
+    subst (λ s. Step s c.args.line.now (Inside (c.in-Inside.to_come - 1)))
+    (sym spot) (subst (λ n. Step (Inside n) c.args.line.now (Inside (c.in-Inside.to_come - 1))) one
+    (leaf _ (c.in-Inside.to_come - 1) (with_names c.in_ok-leaf_in-in-Inside.field-0 found.names) found.fine found.is))

@@ -12,7 +12,6 @@ returns-in_err-append_names c =
     let err : IsErr c.from_residual-in_err-append_names.result = search rules in
     let once : c.append.new.self ≡ c.args.text.now ++ letter c.args.leaf.now.kind ∷ 32 ∷ [] = search rules in
     let mid : c.append-2.new.self ≡ c.append.new.self ++ cat_text c.args.leaf.now.cat = search rules in
-    let some : HasGrown (flat_map blank_and (spelled c.args.names.now c.args.leaf.now).names) c.append-2.new.self
-    c.append_names.new.text = rw (← c.as_slice.ensures) c.in_err-append_names.ensures.err in
-    names-refused (spelled c.args.names.now c.args.leaf.now) c.args.text.now c.append.new.self c.append-2.new.self
-    c.append_names.new.text c.from_residual-in_err-append_names.result err once mid some
+    let some : HasGrown (flat_map blank_and (spelled c.args.names.now c.args.leaf.now).names)
+    c.append-2.new.self c.append_names.new.text = rw (← c.as_slice.ensures) c.in_err-append_names.ensures.err in
+    names-refused (spelled _ _) _ _ _ c.append_names.new.text _ err once mid some

@@ -1,5 +1,5 @@
 -- One digit, or two.
-use Rattle.std.proofs.Common.{◌≡◌, ℕ, ◌+◌, ◌/◌, ◌%◌, [], ◌∷◌, ◌++◌, List, decimal, ap, arith, ◌∙◌}
+use Rattle.std.proofs.Common.{ℕ, ◌+◌, ◌%◌, [], ◌∷◌, ◌++◌, List, ap, arith, ◌∙◌}
 use Rattle.std.proofs.lemmas.Fmt.{decimal_digit, decimal_step}
 use Rattle.cw_logtext.proofs.writing.append_number.Goals as goal
 
@@ -8,8 +8,6 @@ returns-then-number-lt10-clause-ok c = rw (decimal_digit c.args.number c.if-numb
 
 pub returns-then-number-lt100-clause-ok : goal.returns-then-number-lt100-clause-ok
 returns-then-number-lt100-clause-ok c =
-    let two : decimal c.args.number ≡ (48 + c.args.number / 10) ∷ (48 + c.args.number % 10) ∷ [] =
-    decimal_step c.args.number c.if-number-lt10.false (omega (arith, c.if-number-lt100.true))
-    ∙ ap (λ (ds : List ℕ). ds ++ (48 + c.args.number % 10) ∷ [])
-    (decimal_digit (c.args.number / 10) (omega (arith, c.if-number-lt100.true))) in
+    let two = decimal_step c.args.number c.if-number-lt10.false (omega (arith, c.if-number-lt100.true)) ∙ ap
+    (λ (ds : List ℕ). ds ++ (48 + c.args.number % 10) ∷ []) (decimal_digit _ (omega (arith, c.if-number-lt100.true))) in
     rw two c.append.ensures.ok

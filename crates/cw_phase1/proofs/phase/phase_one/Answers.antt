@@ -1,42 +1,28 @@
 -- The book of what is held when all answers came is that of the whole list of answers.
-use Rattle.std.proofs.Common.{◌≡◌, ◌<◌, ◌≤◌, ◌∙◌, ap, sym, subst, ◌++◌, List, [], All, length}
+use Rattle.std.proofs.Common.{◌≡◌, ◌<◌, ◌≤◌, ◌∙◌, ap, sym, subst, List, [], All, length, arith}
 use Rattle.cw_base.specs.Web.{text_of}
 use Rattle.cw_base.specs.declared.span.Span.{Span}
 use Rattle.std.proofs.lemmas.List.Elements.{All-nil}
 use Rattle.cw_secnames.specs.Kept.{SecName}
-use Rattle.cw_secnames.specs.References.{Reference}
 use Rattle.cw_secnames.specs.Uses.{NameUse}
 use Rattle.cw_phase1.specs.declared.sections.Section.{Section}
 use Rattle.cw_phase1.specs.Book.{answers_of, book}
-use Rattle.cw_phase1.specs.Missing.{missing_equals}
-use Rattle.cw_phase1.specs.Notes.{name_notes}
 use Rattle.cw_phase1.specs.Entering.{kept_after}
 use Rattle.cw_phase1.specs.Roles.{Placed, at_limbo, placed}
 use Rattle.cw_phase1.specs.Sections.{span, sections_of}
 use Rattle.cw_phase1.specs.Sound.{IsNamedBy, LiesIn, RefersUpTo}
-use Rattle.cw_phase1.specs.Outlining.{closing}
 use Rattle.std.specs.Prelude.{unwrap_or}
 use Rattle.cw_phase1.specs.Ending.{with_references}
-use Rattle.cw_phase1.specs.Uses.{references_of, section_names, uses_of}
+use Rattle.cw_phase1.specs.Uses.{references_of, section_names}
 use Rattle.cw_phase1.specs.declared.told.Told.{Told}
 use Rattle.cw_phase1.proofs.Outlines.{all-sections, all-limbo}
 use Rattle.cw_phase1.proofs.WordLaws.{all-names, all-occurrences, all-uses, all-references}
 use Rattle.cw_phase1.proofs.Referred.{all-referred}
 use Rattle.cw_phase1.proofs.RoleLaws.{fits, numbered, all-refer, uses-below}
 use Rattle.cw_phase1.proofs.LimboRoles.{all-rise, unnamed}
-use Rattle.cw_phase1.proofs.SpanLaws.{Follow, follows, all-lie, all-named, limbo-lies, named-below}
+use Rattle.cw_phase1.proofs.SpanLaws.{follows, all-lie, all-named, limbo-lies, named-below}
 use Rattle.cw_phase1.proofs.NameSizes.{all-short}
 use Rattle.cw_phase1.proofs.phase.phase_one.Goals as goal
-
-names-are : (c : goal.In_ok-book) → c.in_ok-book.book.names ≡ (book c.args.web.now.lines).names
-names-are c =
-    c.in_ok-book.ensures.names ∙ (ap (λ (t : Told). t.words.names) c.in_ok-held.ensures.told
-    ∙ all-names c.args.web.now.lines (placed (answers_of c.args.web.now.lines)))
-
-xrefs-are : (c : goal.In_ok-book) → c.in_ok-book.book.xrefs ≡ (book c.args.web.now.lines).xrefs
-xrefs-are c =
-    c.in_ok-book.ensures.xrefs ∙ (ap (λ (t : Told). t.words.xrefs) c.in_ok-held.ensures.told
-    ∙ all-occurrences c.args.web.now.lines (placed (answers_of c.args.web.now.lines)))
 
 kept : (c : goal.In_ok-book) → with_references c.in_ok-held.held.told.named.references c.in_ok-held.held.kept
     ≡ section_names (kept_after [] (answers_of c.args.web.now.lines)) (placed (answers_of c.args.web.now.lines))
@@ -50,131 +36,65 @@ sec_names-are : (c : goal.In_ok-book) → c.in_ok-book.book.sec_names ≡ (book 
 sec_names-are c = c.in_ok-book.ensures.sec_names ∙ kept c
 
 name_uses-are : (c : goal.In_ok-book) → c.in_ok-book.book.name_uses ≡ (book c.args.web.now.lines).name_uses
-name_uses-are c =
-    c.in_ok-book.ensures.name_uses ∙ (ap (λ (t : Told). t.named.uses) c.in_ok-held.ensures.told
-    ∙ all-uses c.args.web.now.lines (placed (answers_of c.args.web.now.lines)))
+name_uses-are c = c.in_ok-book.ensures.name_uses ∙ (grind (arith, all-uses))
 
 limbo-is : (c : goal.In_ok-book) → c.in_ok-book.book.outline.limbo ≡ (book c.args.web.now.lines).outline.limbo
-limbo-is c =
-    c.in_ok-book.ensures.limbo
-    ∙ (ap (λ (t : Told). span 0 (unwrap_or t.sections.limbo_end (length (text_of c.args.web.now.lines))))
-    c.in_ok-held.ensures.told ∙
-    ap (span 0) (all-limbo c.args.web.now.lines (length (text_of c.args.web.now.lines))
-    (placed (answers_of c.args.web.now.lines))))
+limbo-is c = c.in_ok-book.ensures.limbo ∙ (ap (λ (t : Told). span 0 (unwrap_or t.sections.limbo_end
+    (length (text_of c.args.web.now.lines)))) c.in_ok-held.ensures.told ∙ ap (span 0) (grind (arith, all-limbo)))
 
 sections-are : (c : goal.In_ok-book)
     → c.in_ok-book.book.outline.sections ≡ (book c.args.web.now.lines).outline.sections
-sections-are c =
-    c.in_ok-book.ensures.sections
-    ∙ (ap (λ (t : Told). closing c.args.web.now.lines (length (text_of c.args.web.now.lines)) t.sections)
-    c.in_ok-held.ensures.told ∙
-    all-sections c.args.web.now.lines (length (text_of c.args.web.now.lines))
-    (placed (answers_of c.args.web.now.lines)))
-
-uses-are : (c : goal.In_ok-book)
-    → c.in_ok-held.held.told.named.uses ≡ uses_of (placed (answers_of c.args.web.now.lines))
-uses-are c = ap (λ (t : Told). t.named.uses) c.in_ok-held.ensures.told
-    ∙ all-uses c.args.web.now.lines (placed (answers_of c.args.web.now.lines))
-
-closed-are : (c : goal.In_ok-book)
-    → closing c.args.web.now.lines (length (text_of c.args.web.now.lines)) c.in_ok-held.held.told.sections
-    ≡ (book c.args.web.now.lines).outline.sections
-closed-are c =
-    ap (λ (t : Told). closing c.args.web.now.lines (length (text_of c.args.web.now.lines)) t.sections)
-    c.in_ok-held.ensures.told
-    ∙ all-sections c.args.web.now.lines (length (text_of c.args.web.now.lines))
-    (placed (answers_of c.args.web.now.lines))
+sections-are c = c.in_ok-book.ensures.sections ∙ (grind (arith, all-sections))
 
 notes-are : (c : goal.In_ok-book) → c.in_ok-book.book.outline.notes ≡ (book c.args.web.now.lines).outline.notes
-notes-are c = c.in_ok-book.ensures.notes ∙ (λ i. c.in_ok-held.ensures.notes i
-    ++ (missing_equals c.args.web.now.lines (uses-are c i) (kept c i) (closed-are c i) ++ name_notes (kept c i)))
+notes-are c = c.in_ok-book.ensures.notes ∙ (grind (arith, all-uses, kept, all-sections))
 
 pub make_book-requires-clause-lie : goal.make_book-requires-clause-lie
-make_book-requires-clause-lie c =
-    subst (λ (sections : List Section). All (LiesIn (length (text_of c.args.web.now.lines))) sections)
-    (sym (ap (λ (t : Told). closing c.args.web.now.lines (length (text_of c.args.web.now.lines)) t.sections)
-    c.in_ok-held.ensures.told
-    ∙ all-sections c.args.web.now.lines (length (text_of c.args.web.now.lines))
-    (placed (answers_of c.args.web.now.lines))))
-    (all-lie c.args.web.now.lines 0 (length (text_of c.args.web.now.lines))
-    (placed (answers_of c.args.web.now.lines))
-    (follows (text_of c.args.web.now.lines) 0 (length (text_of c.args.web.now.lines)) at_limbo []
-    (answers_of c.args.web.now.lines) c.in_ok-held.ensures.covers))
+make_book-requires-clause-lie c = subst (λ (sections : List Section). All (LiesIn
+    (length (text_of c.args.web.now.lines))) sections) (grind (arith, all-sections)) (all-lie c.args.web.now.lines
+    0 (length (text_of c.args.web.now.lines)) (placed (answers_of c.args.web.now.lines)) (grind (arith, follows)))
 
 pub returns-clause-book : goal.returns-clause-book
-returns-clause-book c = (λ i. record {
-  names = names-are c i;
-  xrefs = xrefs-are c i;
-  sec_names = sec_names-are c i;
-  name_uses = name_uses-are c i;
-  outline = record { limbo = limbo-is c i; sections = sections-are c i; notes = notes-are c i };
-})
+returns-clause-book c =
+    grind (arith, all-names, all-occurrences, sec_names-are, name_uses-are, limbo-is, sections-are, notes-are)
 
 -- ## What holds of every book
 
 abbrev tokens : goal.In_ok-book → List Placed
 tokens c = placed (answers_of c.args.web.now.lines)
 
-follow : (c : goal.In_ok-book) → Follow 0 (length (text_of c.args.web.now.lines)) (tokens c)
-follow c = follows (text_of c.args.web.now.lines) 0 (length (text_of c.args.web.now.lines)) at_limbo []
-    (answers_of c.args.web.now.lines) c.in_ok-held.ensures.covers
-
 pub returns-clause-references : goal.returns-clause-references
 returns-clause-references c =
     subst (λ (sections : List Section). All (RefersUpTo (length sections)) c.in_ok-book.book.sec_names)
-    (sym (sections-are c))
-    (subst (All (RefersUpTo (length (sections_of c.args.web.now.lines (length (text_of c.args.web.now.lines))
-    (tokens c))))) (sym (sec_names-are c))
-    (all-refer c.args.web.now.lines (length (text_of c.args.web.now.lines))
-    (kept_after [] (answers_of c.args.web.now.lines)) (tokens c)
-    (all-rise c.args.web.now.lines (length (text_of c.args.web.now.lines)) (tokens c)
-    (numbered at_limbo [] (answers_of c.args.web.now.lines))
-    (unnamed at_limbo [] (answers_of c.args.web.now.lines)
-    (c.limbo_law.ensures (text_of c.args.web.now.lines) 0 (length (text_of c.args.web.now.lines)))))))
-
-uses : (c : goal.In_ok-book) → All (λ (u : NameUse). u.name < length c.in_ok-held.held.kept) (uses_of (tokens c))
-uses c =
-    uses-below (length c.in_ok-held.held.kept) (tokens c) (fits at_limbo [] (answers_of c.args.web.now.lines))
-    (subst (λ (references : List Reference). All (λ r. r.name < length c.in_ok-held.held.kept) references)
-    (ap (λ (t : Told). t.named.references) c.in_ok-held.ensures.told ∙ all-references c.args.web.now.lines (tokens c))
-    c.in_ok-held.ensures.ids)
+    (sym (sections-are c)) (subst (All (RefersUpTo _)) (sym (sec_names-are c)) (all-refer c.args.web.now.lines _
+    _ (tokens c) (all-rise c.args.web.now.lines (length (text_of _)) _ (numbered _ [] (answers_of c.args.web.now.lines))
+    (unnamed _ [] (answers_of c.args.web.now.lines) (c.limbo_law.ensures (text_of c.args.web.now.lines) 0 _)))))
 
 pub returns-clause-use_ids : goal.returns-clause-use_ids
 returns-clause-use_ids c =
-    subst (λ n. All (λ (u : NameUse). u.name < n) c.in_ok-book.book.name_uses) (sym c.in_ok-book.ensures.count)
-    (subst (λ (us : List NameUse). All (λ (u : NameUse). u.name < length c.in_ok-held.held.kept) us)
-    (sym (name_uses-are c)) (uses c))
+    subst (λ n. All (λ (u : NameUse). u.name < n) c.in_ok-book.book.name_uses) (sym c.in_ok-book.ensures.count) (subst
+    (λ (us : List NameUse). All (λ (u : NameUse). u.name < length c.in_ok-held.held.kept) us) (sym (name_uses-are c))
+    (uses-below _ _ (fits _ [] (answers_of c.args.web.now.lines)) (grind (arith, all-references))))
 
 pub returns-clause-section_names : goal.returns-clause-section_names
-returns-clause-section_names c =
-    subst (λ (sections : List Section). All (IsNamedBy c.in_ok-book.book.name_uses) sections)
-    (sym (sections-are c))
-    (subst (λ (us : List NameUse). All (IsNamedBy us)
-    (sections_of c.args.web.now.lines (length (text_of c.args.web.now.lines)) (tokens c)))
-    (sym (name_uses-are c))
-    (all-named c.args.web.now.lines [] 0 (length (text_of c.args.web.now.lines)) (tokens c)
-    (All-nil (λ (u : NameUse). u.place < 0)) (follow c)
-    (fits at_limbo [] (answers_of c.args.web.now.lines))))
+returns-clause-section_names c = subst (λ (sections : List Section).
+    All (IsNamedBy c.in_ok-book.book.name_uses) sections) (sym (sections-are c)) (subst (λ (us : List NameUse).
+    All (IsNamedBy us) (sections_of c.args.web.now.lines (length (text_of c.args.web.now.lines)) (tokens c)))
+    (sym (name_uses-are c)) (all-named c.args.web.now.lines
+    [] 0 (length (text_of c.args.web.now.lines)) (tokens c) (All-nil (λ (u : NameUse). u.place < 0))
+    (grind (arith, follows)) (fits at_limbo [] (answers_of c.args.web.now.lines))))
 
 pub returns-clause-section_ids : goal.returns-clause-section_ids
-returns-clause-section_ids c =
-    named-below (length c.in_ok-book.book.sec_names) c.in_ok-book.book.name_uses c.in_ok-book.book.outline.sections
-    (returns-clause-use_ids c) (returns-clause-section_names c)
+returns-clause-section_ids c = named-below _ _ _ (returns-clause-use_ids c) (returns-clause-section_names c)
 
 pub returns-clause-spans : goal.returns-clause-spans
-returns-clause-spans c =
-    subst (λ (sections : List Section). All (LiesIn (length (text_of c.args.web.now.lines))) sections)
-    (sym (sections-are c))
-    (all-lie c.args.web.now.lines 0 (length (text_of c.args.web.now.lines)) (tokens c) (follow c))
+returns-clause-spans c = subst (λ (sections : List Section). All (LiesIn (length (text_of c.args.web.now.lines)))
+    sections) (sym (sections-are c)) (all-lie c.args.web.now.lines 0 _ (tokens c) (grind (arith, follows)))
 
 pub returns-clause-limbo_span : goal.returns-clause-limbo_span
-returns-clause-limbo_span c =
-    subst (λ (limbo : Span). limbo.«end» ≤ length (text_of c.args.web.now.lines)) (sym (limbo-is c))
-    (limbo-lies 0 (length (text_of c.args.web.now.lines)) (tokens c) (follow c))
+returns-clause-limbo_span c = subst (λ (limbo : Span). limbo.«end» ≤ length (text_of c.args.web.now.lines))
+    (sym (limbo-is c)) (limbo-lies 0 _ (tokens c) (grind (arith, follows)))
 
 pub returns-clause-texts : goal.returns-clause-texts
-returns-clause-texts c =
-    subst (λ (names : List SecName). All (λ (n : SecName). length n.text ≤ length (text_of c.args.web.now.lines)) names)
-    (sym (sec_names-are c))
-    (all-short (text_of c.args.web.now.lines) (answers_of c.args.web.now.lines) (references_of (tokens c))
-    c.in_ok-held.ensures.covers)
+returns-clause-texts c = subst (λ (names : List SecName). All (λ (n : SecName).
+    length n.text ≤ length (text_of c.args.web.now.lines)) names) (sym (sec_names-are c)) (grind (arith, all-short))

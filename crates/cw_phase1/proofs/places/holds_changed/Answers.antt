@@ -1,8 +1,7 @@
 -- A line behind the part ends the search, a changed one that reaches into it decides, and any other is passed.
-use Rattle.std.proofs.Common.{◌≡◌, ◌+◌, ◌≤◌, ◌<◌, ◌∙◌, sym, ap, arith, false, [], length, get_or, drop, zero-add}
+use Rattle.std.proofs.Common.{◌≡◌, ◌+◌, ◌<◌, ◌∙◌, sym, ap, arith, false, [], length, drop, zero-add}
 use Rattle.cw_base.specs.Web.{MergedLine}
-use Rattle.cw_phase1.specs.Places.{nowhere}
-use Rattle.cw_phase1.specs.Places.{holds_changed}
+use Rattle.cw_phase1.specs.Places.{nowhere, holds_changed}
 use Rattle.cw_phase1.specs.LinePlaces.{offset}
 use Rattle.cw_phase1.proofs.PlaceLaws.{changed-skip, changed-behind, changed-hit, changed-plain, changed-before}
 use Rattle.cw_phase1.proofs.places.holds_changed.Goals as goal
@@ -19,34 +18,19 @@ loop-i-init c =
     let inside : i < length lines = c.line_at-i.ensures.within in
     record {
       within = omega arith;
-      rest =
-          ap (λ n. holds_changed (drop i lines) n c.args.start c.args.«end») (sym (zero-add (offset lines i))) ∙
-          sym (changed-skip lines 0 i c.args.start c.args.«end» (omega arith) (let begins : offset lines i
-          ≤ c.args.start = c.line_at-i.ensures.begins in omega arith));
+      rest = ap (λ n. holds_changed (drop i lines) n c.args.start c.args.«end») (sym (zero-add (offset lines i)))
+          ∙ sym (changed-skip lines 0 i c.args.start c.args.«end» (omega arith) (grind arith));
     }
 
 pub returns-then-line-end : goal.returns-then-line-end
-returns-then-line-end c =
-    let lines = c.args.web.now.lines in
-    let i = c.loop-i.i in
-    sym (sym c.loop-i.invariant.rest ∙
-    changed-behind (drop i lines) (offset lines i) c.args.start c.args.«end»
-    (let start : c.line_of-line.result.start ≡ offset lines i = c.line_of-line.ensures.start in let past : c.args.«end»
-    ≤ c.line_of-line.result.start = c.if-line-end.true in omega arith))
+returns-then-line-end c = let lines = c.args.web.now.lines in let i = c.loop-i.i in sym (grind (arith, changed-behind))
 
 pub returns-then-start-line : goal.returns-then-start-line
 returns-then-start-line c =
     let lines = c.args.web.now.lines in
     let i = c.loop-i.i in
-    sym (sym c.loop-i.invariant.rest ∙
-    changed-hit lines i c.args.start c.args.«end» blank (let count : c.line_count-in-loop-i.result
-    ≡ length lines = c.line_count-in-loop-i.ensures in let inside : i < c.line_count-in-loop-i.result =
-    c.loop-i-test.true in omega arith) (sym (c.line_of-line.ensures.changed blank) ∙ c.if-line.true)
-    (let start : c.line_of-line.result.start ≡ offset lines i = c.line_of-line.ensures.start in
-    let before : c.line_of-line.result.start < c.args.«end» = c.if-line-end.false in omega arith)
-    (let ends : c.line_of-line.result.«end» ≡ offset lines i
-    + length (get_or lines i blank).text = c.line_of-line.ensures.ends blank in
-    let reaches : c.args.start ≤ c.line_of-line.result.«end» = c.if-start-line.true in omega arith))
+    sym (sym c.loop-i.invariant.rest ∙ changed-hit lines i c.args.start c.args.«end»
+    blank (grind arith) (sym (c.line_of-line.ensures.changed blank) ∙ c.if-line.true) (grind arith) (grind arith))
 
 pub loop-i-preserved : goal.loop-i-preserved
 loop-i-preserved c =
@@ -59,13 +43,8 @@ loop-i-preserved c =
       within = omega arith;
       rest = elim c.else-line.branch [
         | else-line-via-then-line+else-start-line w ↦
-            sym (changed-before lines i c.args.start c.args.«end» blank inside
-            (let ends : c.line_of-line.result.«end»
-            ≡ offset lines i + length (get_or lines i blank).text = c.line_of-line.ensures.ends blank in
-            let before : c.line_of-line.result.«end» < c.args.start = w.if-start-line.false in omega arith))
-            ∙ c.loop-i.invariant.rest
-        | else-line-via-else-line w ↦
-            sym (changed-plain lines i c.args.start c.args.«end» blank inside
-            (sym (c.line_of-line.ensures.changed blank) ∙ w.if-line.false)) ∙ c.loop-i.invariant.rest
+            sym (changed-before lines i c.args.start c.args.«end» blank inside (grind arith)) ∙ c.loop-i.invariant.rest
+        | else-line-via-else-line w ↦ sym (changed-plain lines i c.args.start c.args.«end»
+            blank inside (sym (c.line_of-line.ensures.changed blank) ∙ w.if-line.false)) ∙ c.loop-i.invariant.rest
       ];
     }

@@ -1,5 +1,5 @@
 -- What the table says of a line is where its text begins and ends, its place, and whether it was changed.
-use Rattle.std.proofs.Common.{◌≡◌, ◌+◌, ℕ, ap, ◌∙◌, false, [], get_or, length, zero-add}
+use Rattle.std.proofs.Common.{◌≡◌, ◌+◌, ap, ◌∙◌, false, [], get_or, zero-add, arith}
 use Rattle.cw_base.specs.Web.{MergedLine, info_from}
 use Rattle.cw_base.specs.declared.web.LineInfo.{LineInfo}
 use Rattle.cw_phase1.specs.LinePlaces.{offset}
@@ -8,20 +8,16 @@ use Rattle.cw_phase1.proofs.places.line_of.Goals as goal
 
 info-is : (c : goal.After-line) (none : MergedLine) → c.line.result
     ≡ info_from (0 + offset c.args.web.now.lines c.args.i) (get_or c.args.web.now.lines c.args.i none)
-info-is c none = c.line.ensures.info c.line.result
-    ∙ info-at c.args.web.now.lines 0 c.args.i c.line.result none c.requires
+info-is c none = c.line.ensures.info _ ∙ info-at c.args.web.now.lines 0 c.args.i c.line.result none c.requires
 
 abbrev blank : MergedLine
 blank = record { text = []; place = record { file = 0; line = 0 }; changed = false }
 
 pub returns-clause-start : goal.returns-clause-start
-returns-clause-start c = ap (λ (info : LineInfo). info.start) (info-is c blank)
-    ∙ zero-add (offset c.args.web.now.lines c.args.i)
+returns-clause-start c = ap (λ (info : LineInfo). info.start) (info-is c blank) ∙ zero-add _
 
 pub returns-clause-ends : goal.returns-clause-ends
-returns-clause-ends c = λ none. ap (λ (info : LineInfo). info.«end») (info-is c none)
-    ∙ ap (λ (n : ℕ). n + length (get_or c.args.web.now.lines c.args.i none).text)
-    (zero-add (offset c.args.web.now.lines c.args.i))
+returns-clause-ends c = grind (arith, info-is, zero-add)
 
 pub returns-clause-place : goal.returns-clause-place
 returns-clause-place c = λ none. ap (λ (info : LineInfo). info.place) (info-is c none)

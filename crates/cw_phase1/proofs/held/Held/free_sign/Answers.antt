@@ -1,11 +1,10 @@
 -- A sign tells nothing of words and names.
+use Rattle.std.proofs.Common.{arith}
 use Rattle.cw_rules.specs.Answers.{seen}
 use Rattle.cw_phase1.specs.declared.roles.Role.TheVariants as roles
 use Rattle.cw_phase1.proofs.FreeTokens.{silent-step, stays-held}
 use Rattle.cw_phase1.proofs.held.Held.free_sign.Goals as goal
 
 pub returns-clause-held : goal.returns-clause-held
-returns-clause-held c = λ lines.
-    stays-held roles.Plain lines c.args.self.now (seen c.args.token) c.tell_plain.new.self
-    (silent-step c.args.token.kind c.args.self.now.standing c.args.token.span c.requires.wanted c.requires.sign)
-    c.requires.waits (c.tell_plain.ensures.told lines)
+returns-clause-held c = λ lines. stays-held roles.Plain lines c.args.self.now (seen c.args.token)
+    c.tell_plain.new.self (grind (arith, silent-step)) c.requires.waits (c.tell_plain.ensures.told lines)

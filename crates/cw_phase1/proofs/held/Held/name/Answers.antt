@@ -4,10 +4,9 @@ use Rattle.cw_rules.specs.Answers.{Answer, Seen, seen}
 use Rattle.cw_secnames.specs.declared.kinds.Entered.{Entered}
 use Rattle.cw_secnames.specs.declared.kinds.SecId.{SecId}
 use Rattle.cw_secnames.specs.Kept.{Entering, SecName}
-use Rattle.cw_phase1.specs.Entering.{answer_of, entering, kept_by, kept_id, name_of_entering, note_by, note_on_name}
+use Rattle.cw_phase1.specs.Entering.{answer_of, kept_by, kept_id, name_of_entering, note_by, note_on_name}
 use Rattle.cw_phase1.specs.Holding.{HeldState, held_of}
 use Rattle.cw_phase1.specs.Roles.{behind_begin}
-use Rattle.cw_phase1.specs.Texts.{naming}
 use Rattle.cw_phase1.proofs.held.Held.name.Goals as goal
 
 abbrev waits : Option SecId → List SecName → Option Answer → Seen → HeldState → HeldState
@@ -23,14 +22,12 @@ entered_held e t h = waits (name_of_entering e) (kept_by e h.kept) (note_by e t.
 ignored-held : (e : Option Entering) (t : Seen) (h : HeldState) (kept : List SecName) → None ≡ answer_of e
     → kept ≡ kept_by e h.kept → waits None kept None t h ≡ entered_held e t h
 ignored-held None t h kept none same = ap (λ (kept : List SecName). waits None kept None t h) same
-ignored-held (Some e) t h kept none same =
-    absurd (let wrong : ◌≡◌ {A = Option Entered} None (Some e.answer) = none in cc)
+ignored-held (Some e) t h kept none same = absurd (let wrong = none in cc)
 
 named-held : (e : Option Entering) (t : Seen) (h : HeldState) (kept : List SecName) (entered : Entered) (id : SecId)
     (remark : Option Answer) → Some entered ≡ answer_of e → kept ≡ kept_by e h.kept → id ≡ kept_id entered
     → remark ≡ note_on_name entered t.span.start → waits (Some id) kept remark t h ≡ entered_held e t h
-named-held None t h kept entered id remark some same name note =
-    absurd (let wrong : ◌≡◌ {A = Option Entered} (Some entered) None = some in cc)
+named-held None t h kept entered id remark some same name note = absurd (let wrong = some in cc)
 named-held (Some e) t h kept entered id remark some same name note =
     let is : entered ≡ e.answer = let both : Some entered ≡ Some e.answer = some in cc in
     let id_is = name ∙ ap kept_id is in
@@ -38,14 +35,9 @@ named-held (Some e) t h kept entered id remark some same name note =
     (λ i. waits (Some (id_is i)) (same i) (note_is i) t h)
 
 pub returns-in-None-clause-held : goal.returns-in-None-clause-held
-returns-in-None-clause-held c =
-    ignored-held (entering (naming c.args.token.kind c.args.token.text.now) c.args.self.now.kept) (seen c.args.token)
-    (held_of c.args.self.now) c.enter.new.names (sym c.in-None.is ∙ c.in_ok-entered.ensures.answer)
-    c.in_ok-entered.ensures.kept
+returns-in-None-clause-held c = ignored-held _ (seen c.args.token) (held_of c.args.self.now)
+    c.enter.new.names (sym c.in-None.is ∙ c.in_ok-entered.ensures.answer) c.in_ok-entered.ensures.kept
 
 pub returns-in-Some-clause-held : goal.returns-in-Some-clause-held
-returns-in-Some-clause-held c =
-    named-held (entering (naming c.args.token.kind c.args.token.text.now) c.args.self.now.kept) (seen c.args.token)
-    (held_of c.args.self.now) c.enter.new.names c.in-Some.entered c.kept_id.result _
-    (sym c.in-Some.is ∙ c.in_ok-entered.ensures.answer) c.in_ok-entered.ensures.kept c.kept_id.ensures.value
-    c.remark_on-self.ensures
+returns-in-Some-clause-held c = named-held _ _ (held_of c.args.self.now) _ _ _ _ (sym c.in-Some.is
+    ∙ c.in_ok-entered.ensures.answer) c.in_ok-entered.ensures.kept c.kept_id.ensures.value c.remark_on-self.ensures

@@ -4,7 +4,5 @@ use Rattle.cw_phase1.proofs.NameLaws.{category-length}
 use Rattle.cw_phase1.proofs.words.Words.format.Goals as goal
 
 pub returns-in-Some-clause-first : goal.returns-in-Some-clause-first
-returns-in-Some-clause-first c =
-    subst (λ n. IfSome c.args.self.now.first (λ id. id.index < n))
-    (sym (ap length c.set_category.ensures ∙ category-length c.in-Some.first.index c.category-category.result
-    c.args.self.now.names)) c.requires.first
+returns-in-Some-clause-first c = subst (λ n. IfSome c.args.self.now.first (λ id. id.index < n)) (sym (ap length
+    c.set_category.ensures ∙ category-length _ c.category-category.result c.args.self.now.names)) c.requires.first
