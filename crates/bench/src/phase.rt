@@ -86,7 +86,7 @@ fn put_line(buffer: &mut Vec<u8>, line: &[u8], number: usize) -> Result<(), Allo
     Ok(())
 }
 
-// One line more, where the web has room for it.
+// One line more, where the web has capacity for it.
 fn add(web: &mut Web, line: &[u8]) -> Result<(), Memory> {
     if web.file_count() == 0 || web.text().len() + line.len() >= LARGEST {
         return Ok(());

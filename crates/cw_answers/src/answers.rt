@@ -49,13 +49,13 @@ impl<'a> Answers<'a> {
         Answers { text, kept }
     }
 
-    // The room in which they are kept.
+    // The vector in which they are kept.
     #[inline(always)]
     pub(crate) fn into_room(self) -> Vec<Kept> {
         self.kept
     }
 
-    /// Scans a span, and keeps its answers in place of those before, in the same room. After `Memory` it keeps some of
+    /// Scans a span, and keeps its answers in the vector of those before. After `Memory` it keeps some of
     /// them, from the first on. `Memory` answers a text of 2^32 bytes or more too, since places are kept in 32 bits.
     pub fn scan(&mut self, text: &'a [u8], span: Span, mode: Mode) -> Result<(), Memory>
         requires order { span.start ≤ span.end }

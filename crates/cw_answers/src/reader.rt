@@ -83,7 +83,7 @@ impl<'a> Reader<'a> {
         }
     }
 
-    /// Begins anew over a span, in its own place, and keeps its answers in the room of those that were kept before,
+    /// Begins anew over a span, in its own place, and keeps its answers in the vector of those that were kept before,
     /// which is made as large as most texts want it.
     pub fn restart(&mut self, room: Answers<'a>, text: &'a [u8], span: Span, mode: Mode)
         requires order { span.start ≤ span.end }
@@ -145,7 +145,7 @@ impl<'a> Reader<'a> {
     }
 }
 
-// For how many answers there is room at first: most texts have no more, so that they are never moved.
+// For how many answers there is capacity at first: most texts have no more, so that they are never moved.
 fn first_room(span: Span) -> usize
     requires order { span.start ≤ span.end }
 {

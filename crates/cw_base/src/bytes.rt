@@ -84,7 +84,7 @@ impl Bytes {
         self.bytes.is_empty()
     }
 
-    /// Lends the bytes.
+    /// The bytes, as a slice.
     pub fn as_slice(&self) -> &[u8]
         ensures { result.now ≡ self.now }
     {

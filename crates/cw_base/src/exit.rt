@@ -11,7 +11,7 @@ pub enum Exit {
     Errors,
     /// A device failed.
     Fault,
-    /// Memory was wanted and not there.
+    /// Out of memory.
     Memory,
 }
 

@@ -25,13 +25,13 @@ pub struct Flags {
     pub stats: bool,
     /// `k`: draft the outputs and compare them with the old files. Off at the start.
     pub keep: bool,
-    /// `r`: range pages as the original does. Off at the start.
+    /// `r`: lay pages out as the original does. Off at the start.
     pub ranged: bool,
 }
 
 impl Flags {
-    /// The flags of a command line without option words: all on but the statistics, the drafts and the pages ranged as
-    /// the original ranges them.
+    /// The flags of a command line without option words: all on but the statistics, the drafts and the pages laid
+    /// out as the original lays them out.
     pub fn start() -> Flags
         ensures { result ≡ start_flags }
     {

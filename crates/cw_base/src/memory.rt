@@ -1,7 +1,7 @@
-//! Want of memory, which every call that allocates may answer.
+//! Out of memory, which every call that allocates may answer.
 use std::alloc::{AllocError, AllocFailed};
 
-/// Want of memory: an ordinary answer of every call that allocates.
+/// Out of memory: an ordinary answer of every call that allocates.
 #[derive(Clone, Copy, Debug, PartialEq, Eq)]
 pub struct Memory;
 

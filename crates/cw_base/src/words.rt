@@ -55,7 +55,7 @@ impl Words {
         self.words.is_empty()
     }
 
-    /// Lends the word at position `i`, counted from 0.
+    /// The word at position `i`, counted from 0.
     pub fn word(&self, i: usize) -> &[u8]
         requires { i < length self.now }
         ensures { result.now ≡ slice_index_or self.now i [] }

@@ -152,7 +152,7 @@ fn put_text(
     out.end_line(desk)
 }
 
-// What a text prints, of which the names are lent.
+// What a text prints, over names that it borrows.
 fn printed_of(
     alloc: Global,
     inner: bool,

@@ -71,7 +71,7 @@ fn put_on<D: Desk>(
 }
 
 // What a piece of a book prints on an output, and the scraps and productions that are counted for it. The web and its
-// book are lent: a way out is the dearer to prove the more is let go on it.
+// book are borrowed: a way out is the dearer to prove the more is let go on it.
 fn printed_of(
     alloc: Global,
     web: &Web,

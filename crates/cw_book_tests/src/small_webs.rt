@@ -6,7 +6,7 @@ use cw_base::{Bytes, Event, Memory, Place, Web};
 use cw_phase1::{Book, phase_one};
 use std::alloc::Global;
 
-// One line more, where the web has room for it.
+// One line more, where the web has capacity for it.
 fn add(web: &mut Web, line: &[u8], number: u32) -> Result<(), Memory> {
     if web.file_count() == 0 || web.text().len() + line.len() >= 16_777_216 {
         return Ok(());

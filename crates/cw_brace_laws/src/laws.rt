@@ -30,7 +30,7 @@ pub fn translation_law()
     ensures { TranslationsAreBraced }
 {}
 
-/// The law of printing: laid flat and trimmed, a tree whose braces pair with no text between them has signs that do so,
+/// The law of printing: flattened and trimmed, a tree whose braces pair with no text between them has signs that do so,
 /// and so have the bytes that these signs print, as those of a part and as those of an inner text. The tree of a
 /// translation is such a tree. It does nothing: what it ensures is for proofs.
 pub fn printing_law()

@@ -1,4 +1,4 @@
-//! Tests of answers that are kept: they are those of a scanner, and their room serves one text after another.
+//! Tests of answers that are kept: they are those of a scanner, and their vector serves one text after another.
 ghost use Rattle.std.specs.Prelude.{◌≤◌};
 
 use crate::lexer_tests::show;

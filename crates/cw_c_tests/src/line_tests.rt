@@ -27,7 +27,7 @@ fn a_line_counts_a_step_for_each_category(rt: HostRuntime) -> Result<(), Fail> {
     Ok(())
 }
 
-// Whether too much room is refused, and how many marks there are then, and whether there are none.
+// Whether too much capacity is refused, and how many marks there are then, and whether there are none.
 fn refused_marks(alloc: Global) -> Result<(bool, usize, bool), Memory> {
     let mut marks = Marks::new_in(alloc);
     marks.reserve(1)?;

@@ -1,4 +1,4 @@
-//! Tests of the store: lists in lists, inner texts, searches, trimming, and room that is refused.
+//! Tests of the store: lists in lists, inner texts, searches, trimming, and capacity that is refused.
 ghost use Rattle.std.specs.Prelude.{◌≡◌, ℕ, ◌+◌, ◌<◌, ◌≤◌, ◌++◌, ◌∷◌, [], length};
 ghost use Rattle.cw_trees.specs.declared.Control.TheVariants as controls;
 ghost use Rattle.cw_tokens.specs.declared.token.Token.TheVariants as tokens;
@@ -63,7 +63,7 @@ fn pair(store: &mut TokenStore, first: Token, second: Token) -> ListId
     store.finish()
 }
 
-// Whether a list that is laid flat has these items.
+// Whether a flattened list has these items.
 fn has_items(flat: &FlatTokens, wanted: &[FlatItem]) -> bool {
     if flat.len() != wanted.len() {
         return false;
@@ -76,7 +76,7 @@ fn has_items(flat: &FlatTokens, wanted: &[FlatItem]) -> bool {
     true
 }
 
-// Whether a list has these items when it is laid flat.
+// Whether a list has these items when it is flattened.
 pub(crate) fn is_flat(
     alloc: Global,
     store: &TokenStore,
@@ -89,7 +89,7 @@ pub(crate) fn is_flat(
     Ok(has_items(&flat, wanted))
 }
 
-// The room that two lists take, what searches answer and reservings, and whether the outer list is laid flat.
+// The capacity that two lists take, what searches answer and reservings, and whether the outer list is flattened.
 fn list_in_list(
     alloc: Global,
     store: &mut TokenStore,
@@ -135,7 +135,7 @@ fn a_list_inside_another_is_laid_flat_and_reserved_in_place(rt: HostRuntime) -> 
     Ok(())
 }
 
-// What is found in a list around an inner text, whether it is empty when it is laid flat, and whether it has its items
+// What is found in a list around an inner text, whether it is empty when it is flattened, and whether it has its items
 // then.
 fn inner_in_list(
     alloc: Global,
@@ -209,7 +209,7 @@ fn a_search_stops_at_a_word_like_case_and_at_the_mark(rt: HostRuntime) -> Result
     Ok(())
 }
 
-// Whether too much room is refused, whether a store that is emptied has all its room but for one list's beginning, and
+// Whether too much capacity is refused, whether a store that is emptied has all of it but for one list's beginning, and
 // whether it has it behind the refusal.
 fn empty(store: &mut TokenStore) -> Result<[bool; 3], Memory>
     requires idle { store.old.building ≡ None }
@@ -235,7 +235,7 @@ fn a_store_that_is_emptied_keeps_its_room(rt: HostRuntime) -> Result<(), Fail> {
     Ok(())
 }
 
-// The room of a store that was refused room, the first list of a store that asks again, and the room that it takes.
+// The capacity of a store that was refused more, the first list of a store that asks again, and what it takes.
 fn ask_again(store: &mut TokenStore) -> Result<[usize; 3], Memory>
     requires idle { store.old.building ≡ None }
 {
@@ -264,7 +264,7 @@ fn a_store_that_was_refused_room_is_as_before_and_can_ask_again(
     Ok(())
 }
 
-// Whether a list has these items when it is laid flat and trimmed.
+// Whether a list has these items when it is flattened and trimmed.
 fn is_trimmed(
     alloc: Global,
     store: &TokenStore,
@@ -306,7 +306,7 @@ fn an_inner_text_is_trimmed_by_itself(rt: HostRuntime) -> Result<(), Fail> {
     Ok(())
 }
 
-// Whether two lists that are laid flat have the same items.
+// Whether two flattened lists have the same items.
 fn are_alike(one: &FlatTokens, other: &FlatTokens) -> bool {
     if one.len() != other.len() {
         return false;

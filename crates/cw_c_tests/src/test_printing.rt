@@ -1,4 +1,4 @@
-//! How tests print a translation that is laid flat: the rules of runs and of trimming, for texts whose inner texts have
+//! How tests print a flattened translation: the rules of runs and of trimming, for texts whose inner texts have
 //! no runs.
 use cw_base::{Bytes, Memory};
 use cw_tokens::{FlatItem, FlatTokens};

@@ -1,6 +1,6 @@
-//! The room of the system: its files and outputs, and a note of each answer. What no proof can know stands here and in
-//! the three files below, and nowhere else: that the system was asked, which file was meant, and that the note says what
-//! was answered. No other file can reach the notes.
+//! The system's calls: its files and outputs, and a note of each answer. What no proof can know stands here and in
+//! the three files below, and nowhere else: that the system was asked, which file was meant, and that the note says
+//! what was answered. No other file can reach the notes.
 ghost use Rattle.std.specs.Prelude.{◌≡◌, ◌<◌, length};
 ghost use Rattle.cw_desk.specs.Open.{OpensNext};
 ghost use Rattle.cw_desk.specs.Put.{TakesSome};

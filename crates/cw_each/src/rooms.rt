@@ -1,4 +1,4 @@
-//! The rooms in which one C text after another is translated.
+//! The store, reader and marks in which one C text after another is translated.
 ghost use Rattle.std.specs.Prelude.{◌≡◌, ◌<◌, IfOk, OnOk, length};
 ghost use Rattle.cw_reduce.specs.WholeTexts.{IsTranslated};
 ghost use Rattle.cw_texts.specs.Scans.{scanned};

@@ -6,10 +6,10 @@ ghost use Rattle.cw_trees.specs.Printing.{ident_bytes, name_bytes};
 use crate::naming::{font, is_marked};
 use arrayvec::ArrayVec;
 
-/// Room for the bytes of a short name.
+/// Space for the bytes of a short name.
 pub(crate) type ShortName = ArrayVec<u8, 64>;
 
-/// A name of so many bytes is short: there is room for a backslash before each, its macro and its braces.
+/// A name of so many bytes is short: there is space for a backslash before each, its macro and its braces.
 pub(crate) const LONGEST: usize = 30;
 
 /// What an identifier prints that is short.
@@ -30,7 +30,7 @@ pub(crate) fn short_ident(name: &[u8]) -> ShortName
     out
 }
 
-// Adds bytes for which there is room.
+// Adds bytes for which there is space.
 #[inline(always)]
 fn add_all(bytes: &[u8], out: &mut ShortName)
     requires room { array_vec_len out.old + length bytes.now ≤ 64 }

@@ -1,6 +1,6 @@
 //! The kinds of leaf lines.
 
-/// What a leaf line tells of its scrap: the first of these that holds.
+/// What a leaf line says of its scrap: the first of these that holds.
 #[derive(Clone, Copy, PartialEq, Eq, Debug)]
 pub enum LeafKind {
     /// The scrap is exactly one identifier.

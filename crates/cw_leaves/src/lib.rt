@@ -1,4 +1,4 @@
-//! What the scraps of a text tell of its log: a leaf line each, from which the productions follow.
+//! What the scraps of a text say of its log: a leaf line each, from which the productions follow.
 #![tactic(auto)]
 
 mod kinds;

@@ -37,7 +37,7 @@ impl NameList {
         self.names
     }
 
-    /// Lends the names.
+    /// The names, as a slice.
     pub fn as_slice(&self) -> &[NameId]
         ensures { result.now ≡ self.now }
     {
@@ -48,7 +48,7 @@ impl NameList {
 /// The leaf line of a scrap: its names stand among those of a web.
 #[derive(Drop)]
 pub struct LeafLine {
-    /// What it tells of the scrap.
+    /// What it says of the scrap.
     pub kind: LeafKind,
     /// The scrap's category.
     pub cat: Cat,
@@ -86,7 +86,7 @@ impl LeafLines {
         self.lines
     }
 
-    /// Lends the lines.
+    /// The lines, as a slice.
     pub fn as_slice(&self) -> &[LeafLine]
         ensures { result.now ≡ self.now }
     {
@@ -131,7 +131,7 @@ impl LogItems {
         self.items
     }
 
-    /// Lends the productions.
+    /// The productions, as a slice.
     pub fn as_slice(&self) -> &[LogItem]
         ensures { result.now ≡ self.now }
     {

@@ -5,7 +5,7 @@ ghost use Rattle.cw_lex.specs.Stack.{IsWhole, opened_at, with_opened};
 use cw_rules::parts::Opened;
 use std::marker::Model;
 
-/// What is told of the open comments, the outermost first. A row for each takes half the room, and each scan makes
+/// What is known of the open comments, the outermost first. A row for each takes half the space, and each scan makes
 /// them anew.
 #[derive(Drop)]
 pub(crate) struct Rows {
@@ -80,7 +80,7 @@ impl Comments {
         }
     }
 
-    /// No comment is open any more. What was told of them stays in its place.
+    /// No comment is open any more. What was known of them stays in its place.
     pub(crate) fn clear(&mut self)
         ensures { self.new ≡ [] }
     {

@@ -22,7 +22,7 @@ pub(crate) struct Short {
     pub size: usize,
 }
 
-/// What a look at the scanner's place tells of the token that begins there.
+/// What a look at the scanner's place says of the token that begins there.
 #[derive(Clone, Copy)]
 pub(crate) enum Quick {
     Short(Short),

@@ -1,4 +1,4 @@
-//! Logs of productions: what is told of the scraps of a text, and of its productions; how the log of a web is written,
+//! Logs of productions: what they say of the scraps of a text, and of its productions; how the log of a web is written,
 //! and how one is checked.
 #![tactic(auto)]
 

@@ -74,7 +74,7 @@ pub fn translate_logged<L: Ledger>(
     done
 }
 
-// Takes a work apart. What was lent to it comes back as it left it.
+// Takes a work apart. What it borrowed is as it left it.
 fn recorder_of<L: Ledger, R: Recorder>(work: Work<L, R>) -> R
     ensures recorder { result ≡ work.entry.recorder }
     ensures names { work.exit.0.now ≡ work.entry.names.now }

@@ -73,7 +73,7 @@ fn run_words<D: Desk, L: Ledger>(
 }
 
 /// Does what the words of a command line ask for: writes the log of a web, or checks the log in a file, and answers the
-/// status of the run. It prints nothing after a fault or want of memory, and tries no failed call again.
+/// status of the run. It prints nothing after a fault or out of memory, and tries no failed call again.
 ///
 /// Whatever the desk is: over all files that would have given the answers that it gave, it has done what these files
 /// ask for. Words that ask for nothing open no file.

@@ -169,7 +169,7 @@ fn text_blocks<L: Ledger>(
     blocks_of(alloc, work.names, &work.recorder)
 }
 
-// How many bytes the blocks of a short text have room for, so that they seldom grow.
+// For how many bytes the blocks of a short text have capacity, so that they seldom grow.
 const ROOM: usize = 64;
 
 // No blocks yet.

@@ -86,7 +86,7 @@ fn list_of(alloc: Global, words: &[&[u8]]) -> Result<Words, Memory> {
     Ok(list)
 }
 
-/// What is told of a run over one file, and its status.
+/// What a run over one file prints and writes, and its status.
 fn seen(
     alloc: Global,
     words: &[&[u8]],

@@ -8,7 +8,7 @@ use cw_run::append_number;
 use std::alloc::Global;
 use std::test::Fail;
 
-/// Adds a line to a web, where it has room for it.
+/// Adds a line to a web, where it has capacity for it.
 fn add(web: &mut Web, line: &[u8]) -> Result<(), Memory> {
     if web.file_count() == 0 || web.text().len() + line.len() >= 16_777_216 {
         return Ok(());

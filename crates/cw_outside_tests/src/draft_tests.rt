@@ -26,7 +26,7 @@ const DRAFTED: [Told<'static>; 5] = [
     Told::Replaced(Out::Tex),
 ];
 
-/// Whether the calls succeed on a desk in memory, and whether its journal tells of them.
+/// Whether the calls succeed on a desk in memory, and whether its journal has them.
 fn in_memory(alloc: Global) -> [bool; 2] {
     let mut desk = MemDesk::new_in(alloc);
     let succeeded = draft_twice(&mut desk);
@@ -48,7 +48,7 @@ fn draft_in_batch(alloc: Global, below: &mut MemDesk) -> bool {
     succeeded && flushed == Flushed::Done
 }
 
-/// The same, and whether the journal of the desk below tells of them.
+/// The same, and whether the journal of the desk below has them.
 fn through_batch(alloc: Global) -> [bool; 2] {
     let mut below = MemDesk::new_in(alloc);
     let succeeded = draft_in_batch(alloc, &mut below);

@@ -67,7 +67,7 @@ impl Model for SectionList {
     ghost view = { λ s. map unpacked s.rows.items };
 }
 
-/// A number in 32 bits; there is no room for a greater one.
+/// A number in 32 bits; a greater one doesn't fit.
 pub(crate) fn short(number: usize) -> Result<u32, Memory>
     ensures { IfOk result (λ n. n ≡ number) }
 {

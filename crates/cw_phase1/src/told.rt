@@ -1,4 +1,4 @@
-//! What is told of the tokens that came.
+//! What is known of the tokens that came.
 ghost use Rattle.std.specs.Prelude.{◌≡◌, ◌<◌, ◌^◌, All, IfOk, IfSome, List, None, OnOk, length};
 ghost use Rattle.cw_base.specs.Web.{MergedLine};
 ghost use Rattle.cw_phase1.specs.Placing.{placed_of};

@@ -13,14 +13,15 @@ use Rattle.cw_tokens.specs.declared.token.Token.{Token}
 use Rattle.cw_translator.specs.NameParts.{AreNamesOf, name_texts}
 use Rattle.cw_translator.specs.Translating.{translated}
 
--- A list of a store has the tree of the C part at a span, which was translated with some flags, and from names that
--- have some categories.
+-- A list of a store has the tree of the C part at a span, which was translated with some flags, from names that have
+-- some categories, and behind some marks.
 pub record IsPartTree (text : List ℕ) (span : Span) (kept : List SecName) (uses : List NameUse)
     (lists : List (List Token)) (list : ℕ) : Type 0 where
   pub flags : Flags
   pub begun : List Entry
+  pub marks : List ℕ
   pub list_is : list < length lists
   pub c_text : IsCText text span CPart
   pub names : AreNamesOf kept uses
   pub tree : unfolded lists list
-      ≡ (translated flags (name_texts kept uses) (scanned CPart text span) begun []).tree
+      ≡ (translated flags (name_texts kept uses) (scanned CPart text span) begun marks).tree

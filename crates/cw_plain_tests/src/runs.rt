@@ -52,7 +52,7 @@ pub(crate) fn plain(alloc: Global, words: &[&[u8]], desk: &mut MemDesk) -> Resul
     Ok(plain_command(alloc, &list, desk, &mut Steps::<Silent>::new()))
 }
 
-/// All bytes that a journal tells of, on the terminal as in files.
+/// All bytes in a journal, on the terminal as in files.
 pub(crate) fn journal_bytes(alloc: Global, journal: &[Event]) -> Result<Bytes, Memory> {
     let mut bytes = Bytes::new_in(alloc);
     for event in journal {

@@ -84,7 +84,7 @@ impl<'s, 'a> Printer<'s, 'a> {
     }
 
     // Appends what some items print, of which the first stands at a place. The match stands in the loop, since a
-    // function for one item grows too large to be put in line.
+    // function for one item grows too large to be inlined.
     fn print(
         &mut self,
         items: &[FlatItem],
@@ -208,7 +208,7 @@ impl<'s, 'a> Printer<'s, 'a> {
 // What so many items print goes to the line together.
 const TOGETHER: usize = 1024;
 
-// A buffer with room for what most texts of so many items print.
+// A buffer with capacity for what most texts of so many items print.
 fn empty_buffer(alloc: Global, items: usize) -> Result<Bytes, Memory>
     ensures { IfOk result (λ bytes. bytes ≡ []) }
 {

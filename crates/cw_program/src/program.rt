@@ -27,7 +27,7 @@ pub trait Program {
         ensures fault { result ≡ Exit.Fault → Rose (D.told desk.old).faults (D.told desk.new).faults };
 }
 
-// Hands on what still waits at the end of a run, and answers how the program exits. After a fault or want of memory
+// Hands on what still waits at the end of a run, and answers how the program exits. After a fault or out of memory
 // nothing more is handed on.
 fn end<D: Desk + Drop>(exit: Exit, desk: Batch<D>) -> (Exit, D)
     ensures part { GrownByPart (D.told desk.below).journal (D.told result.1).journal
@@ -53,7 +53,7 @@ fn end<D: Desk + Drop>(exit: Exit, desk: Batch<D>) -> (Exit, D)
 /// the desk back.
 ///
 /// Whatever the desk is: over all files that would have given the answers that it gave, just the run's events were
-/// handed on, and the status is the run's; or a first part of them, after a fault of the desk or for want of memory.
+/// handed on, and the status is the run's; or a first part of them, after a fault of the desk or out of memory.
 pub fn run_program<P: Program, D: Desk + Drop>(
     alloc: Global,
     program: &P,

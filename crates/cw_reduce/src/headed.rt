@@ -25,7 +25,7 @@ use cw_scraps::{Leaf, ScrapLine};
 use cw_translator::{Context, Holder, Recorder, Translated, Translator, Work};
 use std::alloc::Global;
 
-// For how many scraps a text's line has room at first, so that those of most texts are never moved.
+// For how many scraps a text's line has capacity at first, so that those of most texts are never moved.
 const FIRST_SCRAPS: usize = 64;
 
 /// The scrap of a head, where it has one.

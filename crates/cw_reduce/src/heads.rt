@@ -292,7 +292,7 @@ fn format_list(number: u32, words: &[Token], store: &mut TokenStore) -> Result<L
     Ok(store.finish())
 }
 
-/// Begins the list of a definition's head, with room for so many tokens behind that of its code.
+/// Begins the list of a definition's head, with capacity for so many tokens behind that of its code.
 fn begin_head(number: u32, room: usize, store: &mut TokenStore) -> Result<(), Memory>
     requires room { room + 3 < 2 ^ 64 }
     requires idle { store.old.building ≡ None }

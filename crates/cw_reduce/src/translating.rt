@@ -103,9 +103,9 @@ pub fn translate<L: Ledger>(
     translate_recorded(text, span, mode, &context, &mut work)
 }
 
-/// The same, where a recorder is told of each text that ends, inner texts included: in the order in which their
+/// The same, where a recorder receives each text that ends, inner texts included: in the order in which their
 /// reductions end, each with the leaf lines of the scraps with which it began and with all its productions. After
-/// `Memory` it has been told of the first of them, each whole.
+/// `Memory` it has received the first of them, each whole.
 pub fn translate_recorded<L: Ledger, R: Recorder>(
     text: &[u8],
     span: Span,

@@ -243,7 +243,7 @@ fn distance(row: RowNo) -> usize
     step_back(row)
 }
 
-// One production at a place, where its row fits, with the room that it needs.
+// One production at a place, where its row fits, with the capacity that it needs.
 fn produce<L: Ledger>(
     production: &Production,
     line: &mut ScrapLine,

@@ -1,4 +1,4 @@
-//! Who is told of each production before it is done.
+//! Who receives each production before it is done.
 ghost use Rattle.std.specs.Prelude.{◌≡◌, Bool, true, false, List, [], ◌∷◌, Option, None, IfOk, OnErr};
 ghost use Rattle.cw_table.specs.Normal.{Production};
 ghost use Rattle.cw_rewrite.specs.Telling.{Told, grown_by};
@@ -6,7 +6,7 @@ ghost use Rattle.cw_rewrite.specs.Telling.{Told, grown_by};
 use cw_base::Memory;
 use cw_table::RowNo;
 
-/// Who is told of each production before it is done, and may stop the reducer there. Contracts see which productions it
+/// Who receives each production before it is done, and may stop the reducer there. Contracts see which productions it
 /// has heard of, where it tells them, and which it refuses.
 pub trait Watch: Drop {
     ghost told: { Self → Option Told };
@@ -28,7 +28,7 @@ pub trait Watch: Drop {
         ensures same { basis self.new ≡ basis self.old };
 }
 
-/// Nobody: all productions are done, and nothing is told of them.
+/// Nobody: all productions are done, and none is received.
 #[derive(Clone, Copy, Debug, PartialEq, Eq)]
 pub struct Unwatched;
 

@@ -2,20 +2,15 @@
 use Rattle.std.proofs.Common.{◌++◌, None, codes, length, refl, sym, ap, ◌∙◌, arith, length-append, length-drop, ◌≡◌, ℕ}
 use Rattle.std.proofs.Common.{suc, ◌+◌, ◌<◌, ◌≤◌, Bool, true, false, ◌&&◌, ◌||◌, not, ◌==◌, List, [], ◌∷◌}
 use Rattle.std.specs.Prelude.{if◌then◌else◌}
-use Rattle.std.proofs.lemmas.Bool.{eqb-true}
-use Rattle.std.proofs.lemmas.Bool.Decides.{nat_tests}
+use Rattle.std.proofs.{lemmas.Bool.eqb-true, lemmas.Bool.Decides.nat_tests}
 use Rattle.cw_base.specs.declared.notes.NoteKind.{NoteKind}
-use Rattle.cw_rules.specs.declared.bodies.Body.{Body}
-use Rattle.cw_rules.specs.declared.bodies.Body.TheVariants as bodies
-use Rattle.cw_rules.specs.declared.bodies.Inside.{Inside}
+use Rattle.cw_rules.specs.declared.{bodies.Body.Body, bodies.Inside.Inside}
 use Rattle.cw_rules.specs.Bytes.{greater, at_sign, begins, begins_with}
 use Rattle.cw_rules.specs.Bodies.{stops, takes_next, note_on, stepped, goes_on, ended, note_here, with_note, noted}
 use Rattle.cw_rules.specs.Bodies.{closing_bytes, stop_at, extent, all_notes}
-use Rattle.cw_rules.proofs.Inside.{ended-some, ended-le}
-use Rattle.cw_rules.proofs.Sizes.{ended-most}
-use Rattle.cw_rules.proofs.Choices.{if-both}
+use Rattle.cw_rules.proofs.{Inside.ended-some, Inside.ended-le, Sizes.ended-most, Choices.if-both, Ahead.section-same}
 use Rattle.cw_rules.proofs.Ahead.{Stop, At, Bar, byte_of, drop-same, begins-before, with-before, begins-same}
-use Rattle.cw_rules.proofs.Ahead.{section-same}
+use Rattle.cw_rules.specs.declared.bodies.Body.TheVariants as bodies
 
 -- the byte ahead is all that is looked at
 takes-near : (body : Body) (b c : ℕ) (xs ys : List ℕ) → takes_next body b (c ∷ xs) ≡ takes_next body b (c ∷ ys)
@@ -131,8 +126,7 @@ body-last : (more : List ℕ) (i : Inside) (b : ℕ) → (ended i (b ∷ 64 ∷ 
 body-last more i b h = by (goes_on i (b ∷ [])) refl
   where
     first-false : (a c : Bool) → (a || c) ≡ false → a ≡ false
-    first-false true c k = k
-    first-false false c k = refl
+    first-false a c k = grind (arith, nat_tests)
 
     by : (t : Bool) → goes_on i (b ∷ []) ≡ t → SameBody At more i (b ∷ [])
     by false e =
@@ -189,8 +183,7 @@ body-inside s more i [] over h =
     absurd (omega (arith, ended-some i (byte_of s ∷ more) on))
   where
     or-true : (b : Bool) → (b || true) ≡ true
-    or-true true = refl
-    or-true false = refl
+    or-true b = grind (arith, nat_tests)
 body-inside s more i (b ∷ bs) over h = by (goes_on i (b ∷ (bs ++ byte_of s ∷ more))) refl
     (λ g. body-inside s more (stepped i b (bs ++ byte_of s ∷ more)) bs over g)
   where

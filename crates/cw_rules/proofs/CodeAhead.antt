@@ -1,40 +1,18 @@
 -- What begins at a place of C text or a comment is the same where the text ends before an `@` or a bar that it doesn't
 -- take.
-use Rattle.std.proofs.Common.{◌≡◌, ℕ, suc, ◌+◌, ◌<◌, ◌≤◌, Bool, true, false, ◌&&◌, ◌||◌, not, ◌==◌, nat_lt, List}
-use Rattle.std.proofs.Common.{[], ◌∷◌, ◌++◌, Option, Some, None, length, take, drop, refl, sym, ap, subst, ◌∙◌, arith}
-use Rattle.std.proofs.Common.{◌⊎◌, inl, inr, slice_index, length-drop}
+use Rattle.std.proofs.Common.{◌≡◌, ℕ, suc, ◌+◌, ◌<◌, ◌≤◌, Bool, true, false, ◌&&◌, ◌||◌, not, ◌==◌, nat_lt, List, []}
+use Rattle.std.proofs.Common.{◌∷◌, ◌++◌, Option, Some, None, length, take, drop, refl, sym, ap, subst, ◌∙◌, arith, ◌⊎◌}
+use Rattle.std.proofs.Common.{inl, inr, slice_index, length-drop}
 use Rattle.std.specs.Prelude.{if◌then◌else◌}
-use Rattle.std.proofs.lemmas.Bool.{eqb-true}
-use Rattle.std.proofs.lemmas.List.{drop_all}
-use Rattle.std.proofs.lemmas.Bool.Decides.{nat_tests}
+use Rattle.std.proofs.{lemmas.Bool.eqb-true, lemmas.List.drop_all, lemmas.Bool.Decides.nat_tests}
 use Rattle.cw_base.proofs.TestLaws.{both-right}
-use Rattle.cw_base.specs.declared.notes.NoteKind.{NoteKind}
-use Rattle.cw_base.specs.declared.notes.NoteKind.TheVariants as notes
-use Rattle.cw_rules.specs.declared.bodies.Body.TheVariants as bodies
-use Rattle.cw_rules.specs.declared.bodies.Inside.{Inside}
-use Rattle.cw_rules.specs.declared.classes.Class.TheVariants as classes
-use Rattle.cw_rules.specs.declared.codes.Code.{Code}
-use Rattle.cw_rules.specs.declared.codes.Code.TheVariants as at
-use Rattle.cw_rules.specs.declared.codes.Effect.{Effect}
-use Rattle.cw_rules.specs.declared.codes.Effect.TheVariants as effects
-use Rattle.cw_rules.specs.declared.parts.Part.{Part}
-use Rattle.cw_rules.specs.declared.parts.Part.TheVariants as parts
-use Rattle.cw_rules.specs.declared.parts.Opened.{Opened}
-use Rattle.cw_rules.specs.declared.parts.Start.{Start}
-use Rattle.cw_rules.specs.declared.parts.Start.TheVariants as start
-use Rattle.cw_rules.specs.declared.signs.Sign.TheVariants as signs
-use Rattle.cw_rules.specs.declared.tokens.TokKind.{TokKind}
-use Rattle.cw_rules.specs.declared.tokens.TokKind.TheVariants as kinds
+use Rattle.cw_base.specs.{declared.notes.NoteKind.NoteKind, Text.bar}
+use Rattle.cw_rules.specs.declared.{bodies.Inside.Inside, codes.Code.Code, codes.Effect.Effect, parts.Part.Part}
+use Rattle.cw_rules.specs.declared.{parts.Opened.Opened, parts.Start.Start, signs.Sign.Sign}
+use Rattle.cw_rules.specs.{declared.tokens.TokKind.TokKind, Bytes.begins, Constants.constant, Prefixes.prefix_size}
+use Rattle.cw_rules.specs.{Signs.all_signs, Signs.longest, Codes.code_at, Codes.has_control_text, Names.is_void}
 use Rattle.cw_rules.specs.Bytes.{quote, apostrophe, star, slash, less, greater, at_sign, run, is_letter, is_mark}
-use Rattle.cw_rules.specs.Bytes.{begins}
-use Rattle.cw_base.specs.Text.{bar}
-use Rattle.cw_rules.specs.Constants.{constant}
-use Rattle.cw_rules.specs.Prefixes.{prefix_size}
 use Rattle.cw_rules.proofs.StringPrefixes.{prefix-below, prefix-mark}
-use Rattle.cw_rules.specs.declared.signs.Sign.{Sign}
-use Rattle.cw_rules.specs.Signs.{all_signs, longest}
-use Rattle.cw_rules.specs.Codes.{code_at, has_control_text}
-use Rattle.cw_rules.specs.Names.{is_void}
 use Rattle.cw_rules.specs.Bodies.{at_start, stops, extent, ended, noted, one_note, note_unless}
 use Rattle.cw_rules.specs.Answers.{Answer, Where, Cut, Found, before, plain, dropped}
 use Rattle.cw_rules.specs.Tokens.{sign_or_other, identifier, string, string_of, closes_on_line, include_name}
@@ -42,12 +20,19 @@ use Rattle.cw_rules.specs.Tokens.{section_name, is_name, is_quote, control_or_pl
 use Rattle.cw_rules.specs.Tokens.{is_signed, is_head, in_hash_line, passed, moved, one, comment_begin, comment_closed}
 use Rattle.cw_rules.specs.Tokens.{piece_start, piece, effect_in, may_head, code_by, in_code, start_of}
 use Rattle.cw_rules.specs.Apart.{comment_text_apart, code_text_apart, in_text_apart}
-use Rattle.cw_rules.proofs.Choices.{if-both}
-use Rattle.cw_rules.proofs.Sizes.{run-le}
+use Rattle.cw_rules.proofs.{Choices.if-both, Sizes.run-le, IncludeEnds.greater-stops}
 use Rattle.cw_rules.proofs.Ahead.{Stop, At, Bar, byte_of, of-both, IsApart, apart-on, drop-same, take-same, begins-same}
 use Rattle.cw_rules.proofs.Ahead.{run-same, constant-same, prefix-same, start_of-same, signed-same, include-same}
 use Rattle.cw_rules.proofs.BodiesAhead.{IsFree, body-same, extent-same, all_notes-same}
-use Rattle.cw_rules.proofs.IncludeEnds.{greater-stops}
+use Rattle.cw_base.specs.declared.notes.NoteKind.TheVariants as notes
+use Rattle.cw_rules.specs.declared.bodies.Body.TheVariants as bodies
+use Rattle.cw_rules.specs.declared.classes.Class.TheVariants as classes
+use Rattle.cw_rules.specs.declared.codes.Code.TheVariants as at
+use Rattle.cw_rules.specs.declared.codes.Effect.TheVariants as effects
+use Rattle.cw_rules.specs.declared.parts.Part.TheVariants as parts
+use Rattle.cw_rules.specs.declared.parts.Start.TheVariants as start
+use Rattle.cw_rules.specs.declared.signs.Sign.TheVariants as signs
+use Rattle.cw_rules.specs.declared.tokens.TokKind.TheVariants as kinds
 
 -- two cuts that are the same where the first has no more than so many bytes
 pub record CutLocal (left : ℕ) (c d : Cut) : Type 0 where
@@ -144,10 +129,7 @@ apart-or Bar more ends w place byte g = by (byte == 124) refl
 
     by : (t : Bool) → (byte == 124) ≡ t → ((byte == 124) ≡ false)
         ⊎ Local 0 (in_code (start_of ends byte (124 ∷ more)) w place (byte ∷ 124 ∷ more)) g
-    by false e = inl e
-    by true e = inr (subst (λ s. Local 0 (in_code s w place (byte ∷ 124 ∷ more)) g)
-        (sym (ap (λ b. start_of ends b (124 ∷ more)) (eqb-true byte 124 e) ∙ two ends))
-        (twice (in_code (start.Sign signs.OrOr) w place (byte ∷ 124 ∷ more)) g (omega arith)))
+    by t e = grind (arith, nat_tests, eqb-true, two, twice)
 
 -- The bytes behind an `@` begin with no `>`.
 module _ (s : Stop) (more : List ℕ) (free : IsFree s more) where
@@ -243,11 +225,8 @@ module _ (s : Stop) (more : List ℕ) (free : IsFree s more) where
       by : (t : Bool) → is_name c ≡ t → (is_name c && (may && is_head place (byte ∷ next ∷ (bs ++ byte_of s ∷ more))))
           ≡ (is_name c && (may && is_head place (byte ∷ next ∷ bs)))
       by true e =
-          let named : code_token c place (byte ∷ next ∷ (bs ++ byte_of s ∷ more))
-          ≡ section_name c place (byte ∷ next ∷ (bs ++ byte_of s ∷ more)) =
-          ap (λ t. if t then section_name c place (byte ∷ next ∷ (bs ++ byte_of s ∷ more)) else
-          (if is_quote c then string (kinds.Code c) 2 apostrophe place (byte ∷ next ∷ (bs ++ byte_of s ∷ more)) else
-          control_or_plain c place (byte ∷ next ∷ (bs ++ byte_of s ∷ more)))) e in
+          let named : code_token c place (byte ∷ next ∷ (bs ++ byte_of s ∷ more)) ≡ section_name c place (byte ∷ next ∷
+          (bs ++ byte_of s ∷ more)) = grind (arith, nat_tests, byte_of) in
           let size : (code_token c place (byte ∷ next ∷ (bs ++ byte_of s ∷ more))).size
           ≡ 2 + (extent (at_start bodies.SectionName (place + 2)) (bs ++ byte_of s ∷ more)).size =
           ap (λ (x : Cut). x.size) named in
@@ -356,9 +335,14 @@ module _ (s : Stop) (more : List ℕ) (free : IsFree s more) where
       same least (inl r) =
           let i : Inside = at_start bodies.IncludeName (place + 1) in
           let n = run classes.IncludeName bs in
-          let full : begins greater (drop n (bs ++ byte_of s ∷ more))
-          ≡ true = ap (begins greater) (drop-same n bs (byte_of s ∷ more) (run-le classes.IncludeName bs))
-          ∙ begins-same s more greater (drop n bs) refl refl ∙ closes in
+          let full : begins greater (drop n (bs ++ byte_of s ∷ more)) ≡ true = grind (
+            arith,
+            nat_tests,
+            drop-same,
+            byte_of,
+            run-le,
+            begins-same,
+          ) in
           let far : (ended i (bs ++ byte_of s ∷ more)).place ≤ (place + 1) + n =
           greater-stops i (bs ++ byte_of s ∷ more) n refl (λ a. absurd cc) full in
           let b = body-same s more i bs (omega (arith, r.1)) in
@@ -391,10 +375,7 @@ module _ (s : Stop) (more : List ℕ) (free : IsFree s more) where
       (λ h. record { is = sign-quote (longest all_signs (byte ∷ bs)) }))))))))
     where
       quoted : (b : ℕ) (t : Bool) → (b == quote) ≡ t → is_mark b ≡ true → (byte_of s == b) ≡ false
-      quoted b true e h = ap (λ b. byte_of s == b) (eqb-true b quote e) ∙ of-both (λ b. b == quote) false s refl refl
-      quoted b false e h = ap (λ b. byte_of s == b)
-          (eqb-true b apostrophe (ap (λ t. t || b == apostrophe) (sym e) ∙ h))
-          ∙ of-both (λ b. b == apostrophe) false s refl refl
+      quoted b t e h = grind (arith, nat_tests, byte_of, eqb-true, of-both)
 
       marked : (b : ℕ) → is_mark b ≡ true → (byte_of s == b) ≡ false
       marked b h = quoted b (b == quote) refl h

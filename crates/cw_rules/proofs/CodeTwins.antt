@@ -3,21 +3,17 @@
 use Rattle.std.proofs.Common.{arith, ◌≡◌, ℕ, Bool, true, false, List, [], ◌∷◌, refl, sym, ap, subst}
 use Rattle.std.specs.Prelude.{if◌then◌else◌}
 use Rattle.std.proofs.lemmas.Bool.Decides.{nat_tests}
-use Rattle.cw_base.specs.declared.notes.NoteKind.TheVariants as notes
-use Rattle.cw_rules.specs.declared.bodies.Noted.{Noted}
-use Rattle.cw_rules.specs.declared.codes.Code.{Code}
-use Rattle.cw_rules.specs.declared.codes.Code.TheVariants as at
-use Rattle.cw_rules.specs.declared.parts.Part.{Part}
-use Rattle.cw_rules.specs.declared.parts.Part.TheVariants as parts
-use Rattle.cw_rules.specs.declared.parts.Opened.{Opened}
+use Rattle.cw_rules.specs.declared.{bodies.Noted.Noted, codes.Code.Code, parts.Part.Part, parts.Opened.Opened}
 use Rattle.cw_rules.specs.Answers.{Answer, Token, Note, Seen, Where, Cut, Found, before}
 use Rattle.cw_rules.specs.Codes.{code_at, is_section, effect_in_tex, effect_in_c, effect_in_definition, effect_at_begin}
 use Rattle.cw_rules.specs.Tokens.{one, moved, passed, in_hash_line, effect_in, is_head, is_name, is_space, code_by}
 use Rattle.cw_rules.specs.Tokens.{code_token, tex_by, section}
 use Rattle.cw_rules.specs.Apart.{code_text_apart, comment_text_apart, part_text_apart, in_text_apart, found_apart}
-use Rattle.cw_rules.proofs.Choices.{if-both, and-none}
+use Rattle.cw_rules.proofs.{Choices.if-both, Choices.and-none, Taking.AreNotes}
 use Rattle.cw_rules.proofs.CodeStarts.{is_definition_code, code_in, is_limbo, is_head_where}
-use Rattle.cw_rules.proofs.Taking.{AreNotes}
+use Rattle.cw_base.specs.declared.notes.NoteKind.TheVariants as notes
+use Rattle.cw_rules.specs.declared.codes.Code.TheVariants as at
+use Rattle.cw_rules.specs.declared.parts.Part.TheVariants as parts
 
 abbrev pub is_program_code : Code → Bool
 is_program_code at.Program = true
@@ -301,15 +297,9 @@ part-twins o (parts.FormatName code second true) fresh last place bytes l d = ab
 part-twins o (parts.FormatName code second false) fresh last place bytes l d =
     note-twins o (record { kind = notes.ImproperFormat; place = code }) _
     (code_text_apart definition fresh last place 64 bytes) (text-twins o definition fresh last place bytes refl d)
-part-twins o parts.TexInner fresh last place bytes l d = text-twins o (record { part = parts.TexInner; comments = [] })
-    fresh last place bytes refl d
-part-twins o parts.Begin fresh last place bytes l d = text-twins o (record { part = parts.Begin; comments = [] }) fresh
-    last place bytes refl d
-part-twins o (parts.Plain a b) fresh last place bytes l d =
-    text-twins o (record { part = parts.Plain a b; comments = [] }) fresh last place bytes refl d
 part-twins o parts.Definition fresh last place bytes l d = text-twins o definition fresh last place bytes refl d
-part-twins o parts.Inner fresh last place bytes l d = text-twins o (record { part = parts.Inner; comments = [] }) fresh
-    last place bytes refl d
+part-twins o x fresh last place bytes l d = text-twins o (record { part = x; comments = [] })
+    fresh last place bytes refl d
 
 open-no-head : (part : Part) (c : Opened) (cs : List Opened) → is_head_where (record { part = part; comments = c ∷ cs })
     ≡ false

@@ -1,15 +1,11 @@
 -- Codes that are cut, by their rules.
 use Rattle.std.proofs.Common.{◌≡◌, ℕ, ◌+◌, true, List, None, Some, drop, add_assoc, arith}
-use Rattle.std.proofs.lemmas.List.{drop-drop}
-use Rattle.std.proofs.lemmas.Bool.Decides.{nat_tests}
+use Rattle.std.proofs.{lemmas.List.drop-drop, lemmas.Bool.Decides.nat_tests}
 use Rattle.cw_base.specs.declared.notes.NoteKind.{NoteKind}
 use Rattle.cw_rules.specs.declared.bodies.Body.TheVariants as bodies
-use Rattle.cw_rules.specs.declared.codes.Code.{Code}
-use Rattle.cw_rules.specs.declared.cuttings.Cutting.{Cutting}
+use Rattle.cw_rules.specs.declared.{codes.Code.Code, cuttings.Cutting.Cutting}
 use Rattle.cw_rules.specs.declared.tokens.TokKind.TheVariants as kinds
-use Rattle.cw_rules.specs.Bodies.{at_start}
-use Rattle.cw_rules.specs.Codes.{has_control_text}
-use Rattle.cw_rules.specs.Answers.{Cut, dropped}
+use Rattle.cw_rules.specs.{Bodies.at_start, Codes.has_control_text, Answers.Cut, Answers.dropped}
 use Rattle.cw_rules.specs.Tokens.{control_text_of, section_name_of, control_or_plain, code_token, is_name}
 use Rattle.cw_rules.specs.Cuttings.{bytes_at, cut_of}
 

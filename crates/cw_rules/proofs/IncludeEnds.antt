@@ -1,12 +1,10 @@
 -- The inside of an include name ends before its sign, which no byte takes along.
-use Rattle.std.proofs.Common.{◌≡◌, ℕ, zero, suc, ◌+◌, ◌≤◌, Bool, true, false, ◌&&◌, not, ◌==◌, if◌then◌else◌, List, []}
-use Rattle.std.proofs.Common.{◌∷◌, drop, refl, sym, ap, ◌∙◌, arith}
-use Rattle.std.proofs.lemmas.Bool.{eqb-true}
-use Rattle.std.proofs.lemmas.Bool.Decides.{nat_tests}
-use Rattle.cw_rules.specs.declared.bodies.Body.TheVariants as bodies
-use Rattle.cw_rules.specs.declared.bodies.Inside.{Inside}
-use Rattle.cw_rules.specs.Bytes.{greater, at_sign, begins}
+use Rattle.std.proofs.Common.{◌≡◌, ℕ, zero, suc, ◌+◌, ◌≤◌, Bool, true, false, ◌&&◌, not, ◌==◌, List, [], ◌∷◌, drop}
+use Rattle.std.proofs.Common.{refl, sym, ap, ◌∙◌, arith}
+use Rattle.std.proofs.{lemmas.Bool.eqb-true, lemmas.Bool.Decides.nat_tests}
+use Rattle.cw_rules.specs.{declared.bodies.Inside.Inside, Bytes.greater, Bytes.at_sign, Bytes.begins}
 use Rattle.cw_rules.specs.Bodies.{takes_next, goes_on, stepped, ended}
+use Rattle.cw_rules.specs.declared.bodies.Body.TheVariants as bodies
 
 -- The inside of an include name ends before `>`, which no byte takes along.
 pub greater-stops : (i : Inside) (bs : List ℕ) (n : ℕ) → i.body ≡ bodies.IncludeName
@@ -28,13 +26,4 @@ greater-stops i (b ∷ bs) (suc n) body along h = by (goes_on i (b ∷ bs)) refl
 
     by : (t : Bool) → goes_on i (b ∷ bs) ≡ t → (ended (stepped i b bs) bs).place ≤ (i.place + 1) + n
         → (ended i (b ∷ bs)).place ≤ i.place + suc n
-    by true e rec = omega (
-      arith,
-      ap (λ (j : Inside). j.place)
-          (ap (λ t. if t then ended (stepped i b bs) bs else i) e),
-    )
-    by false e rec = omega (
-      arith,
-      ap (λ (j : Inside). j.place)
-          (ap (λ t. if t then ended (stepped i b bs) bs else i) e),
-    )
+    by t e rec = grind (arith, nat_tests)

@@ -3,26 +3,18 @@ use Rattle.std.proofs.Common.{arith, ◌≡◌, ℕ, ◌≤◌, Bool, true, fals
 use Rattle.std.proofs.Common.{length, refl, ap, ◌⊎◌, inl, inr}
 use Rattle.std.specs.Prelude.{if◌then◌else◌}
 use Rattle.std.proofs.lemmas.Bool.Decides.{nat_tests}
-use Rattle.cw_rules.specs.declared.classes.Class.TheVariants as classes
-use Rattle.cw_rules.specs.declared.codes.Code.{Code}
-use Rattle.cw_rules.specs.declared.codes.Effect.{Effect}
-use Rattle.cw_rules.specs.declared.parts.Part.TheVariants as parts
-use Rattle.cw_rules.specs.declared.parts.Opened.{Opened}
-use Rattle.cw_rules.specs.declared.parts.Start.{Start}
-use Rattle.cw_rules.specs.declared.parts.Start.TheVariants as start
-use Rattle.cw_base.specs.Bytes.{newline}
+use Rattle.cw_rules.specs.declared.{codes.Code.Code, codes.Effect.Effect, parts.Opened.Opened, parts.Start.Start}
+use Rattle.cw_base.specs.{Bytes.newline, Text.bar}
 use Rattle.cw_rules.specs.Bytes.{hash, star, slash, less, at_sign, is_in, is_letter, begins, is_mark}
-use Rattle.cw_base.specs.Text.{bar}
-use Rattle.cw_rules.specs.Constants.{constant}
-use Rattle.cw_rules.specs.Prefixes.{prefix_size}
-use Rattle.cw_rules.specs.Signs.{all_signs, longest}
+use Rattle.cw_rules.specs.{Constants.constant, Prefixes.prefix_size, Signs.all_signs, Signs.longest}
 use Rattle.cw_rules.specs.Answers.{Answer, Where, Found, before}
 use Rattle.cw_rules.specs.Tokens.{sign_or_other, line_end, inner_cut, comment_end, is_deep, code_by, in_code, start_of}
 use Rattle.cw_rules.specs.Tokens.{skipped_byte, is_tex_inner}
 use Rattle.cw_rules.specs.Apart.{comment_text_apart, code_text_apart, in_text_apart, found_apart}
-use Rattle.cw_rules.proofs.Choices.{and-none}
-use Rattle.cw_rules.proofs.Ahead.{Bar}
-use Rattle.cw_rules.proofs.CodeAhead.{inner-local}
+use Rattle.cw_rules.proofs.{Choices.and-none, Ahead.Bar, CodeAhead.inner-local}
+use Rattle.cw_rules.specs.declared.classes.Class.TheVariants as classes
+use Rattle.cw_rules.specs.declared.parts.Part.TheVariants as parts
+use Rattle.cw_rules.specs.declared.parts.Start.TheVariants as start
 
 -- a place in inner C text of TeX text
 abbrev pub tex_inner : List Opened → Where
@@ -86,9 +78,7 @@ starts byte bs =
     ends : (a b : Bool) → Starts (if a && (true && not b) then start.EndOfInner else sign_or_other
         (longest all_signs (byte ∷ bs))) (if a && (false && not b) then start.EndOfInner else sign_or_other
         (longest all_signs (byte ∷ bs)))
-    ends true true = record { is = inr refl }
-    ends true false = record { is = inl refl }
-    ends false b = record { is = inr refl }
+    ends a b = grind (arith, nat_tests)
 
 begun-twin : (cs : List Opened) (place byte : ℕ) (bs : List ℕ) (ends : Bool)
     → Starts (start_of true byte bs) (start_of ends byte bs) → (cs ≡ [] ⊎ ends ≡ true)

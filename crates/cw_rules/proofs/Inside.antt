@@ -1,7 +1,6 @@
 -- One byte on, inside a body.
 use Rattle.std.proofs.Common.{◌≡◌, ℕ, ◌<◌, ◌≤◌, true, arith, List, [], ◌∷◌, Option, slice_index, drop, ap, sym, ◌∙◌}
-use Rattle.std.proofs.lemmas.List.{drop-drop}
-use Rattle.std.proofs.lemmas.Bool.Decides.{nat_tests}
+use Rattle.std.proofs.{lemmas.List.drop-drop, lemmas.Bool.Decides.nat_tests}
 use Rattle.cw_base.specs.declared.notes.NoteKind.{NoteKind}
 use Rattle.cw_rules.specs.declared.bodies.Inside.{Inside}
 use Rattle.cw_rules.specs.Bodies.{goes_on, stepped, ended, noted, note_here, with_note}

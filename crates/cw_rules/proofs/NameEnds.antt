@@ -2,15 +2,12 @@
 use Rattle.std.proofs.Common.{◌≡◌, ℕ, zero, suc, ◌+◌, ◌-◌, ◌≤◌, Bool, true, false, ◌&&◌, ◌||◌, not, ◌==◌, List, [], ◌∷◌}
 use Rattle.std.proofs.Common.{codes, length, take, drop, refl, sym, ap, ◌∙◌, arith}
 use Rattle.std.specs.Prelude.{if◌then◌else◌}
-use Rattle.std.proofs.Math.Seq.{take-nil}
-use Rattle.std.proofs.lemmas.Bool.Decides.{nat_tests}
-use Rattle.cw_rules.specs.declared.bodies.Body.TheVariants as bodies
-use Rattle.cw_rules.specs.declared.bodies.Inside.{Inside}
+use Rattle.std.proofs.{Math.Seq.take-nil, lemmas.Bool.Decides.nat_tests}
+use Rattle.cw_rules.specs.{declared.bodies.Inside.Inside, Codes.begins_section}
 use Rattle.cw_rules.specs.Bodies.{stops, stepped, goes_on, ended, extent, closing_bytes}
 use Rattle.cw_rules.specs.Bytes.{greater, at_sign, begins, begins_with}
-use Rattle.cw_rules.specs.Codes.{begins_section}
-use Rattle.cw_rules.proofs.BodiesAhead.{ended-here, ended-on}
-use Rattle.cw_rules.proofs.Inside.{ended-le}
+use Rattle.cw_rules.proofs.{BodiesAhead.ended-here, BodiesAhead.ended-on, Inside.ended-le}
+use Rattle.cw_rules.specs.declared.bodies.Body.TheVariants as bodies
 
 size-on : (i : Inside) (b : ℕ) (bs : List ℕ) → i.body ≡ bodies.SectionName → goes_on i (b ∷ bs) ≡ true
     → (extent i (b ∷ bs)).size ≡ suc (extent (stepped i b bs) bs).size
@@ -27,8 +24,7 @@ size-on i b bs e h =
     + length (closing_bytes (e t)) else k - (i.place + 1)))
   where
     later : (t : Bool) (n : ℕ) → (if t then suc n + 2 else suc n) ≡ suc (if t then n + 2 else n)
-    later true n = omega arith
-    later false n = refl
+    later t n = grind (arith, nat_tests)
 
 size-here : (i : Inside) (b : ℕ) (bs : List ℕ) → i.body ≡ bodies.SectionName → goes_on i (b ∷ bs) ≡ false
     → (extent i (b ∷ bs)).size ≡ (if b == 64 && begins 62 bs then 2 else 0)
@@ -40,12 +36,7 @@ size-here i b bs e h =
     ∙ ap (λ t. if t then 2 else 0) (ap (λ t. b == 64 && t) (one bs))
   where
     one : (bs : List ℕ) → begins_with (codes ">") bs ≡ begins 62 bs
-    one [] = refl
-    one (c ∷ cs) = and-true (c == 62)
-      where
-        and-true : (a : Bool) → (a && true) ≡ a
-        and-true true = refl
-        and-true false = refl
+    one bs = grind (arith, nat_tests)
 
 -- A name goes on where less of it is seen.
 goes-less : (i : Inside) (b n : ℕ) (bs : List ℕ) → i.body ≡ bodies.SectionName → goes_on i (b ∷ bs) ≡ true
@@ -68,12 +59,7 @@ goes-less i b n bs e h =
 
     less : (along is g s h t : Bool) → (h ≡ true → g ≡ true) → (t ≡ true → s ≡ true) → (along || not (is && (g || s)))
         ≡ true → (along || not (is && (h || t))) ≡ true
-    less true is g s h t f k e = refl
-    less false false g s h t f k e = refl
-    less false true g s true t f k e = absurd (let w : false ≡ true = (λ i. not (sym (f refl) i || s)) ∙ e in cc)
-    less false true true s false true f k e = absurd cc
-    less false true false s false true f k e = absurd (let w : false ≡ true = ap not (sym (k refl)) ∙ e in cc)
-    less false true g s false false f k e = refl
+    less along is g s h t f k e = grind (arith, nat_tests)
 
 step-same : (i : Inside) (b n : ℕ) (bs : List ℕ) → i.body ≡ bodies.SectionName → stepped i b (take n bs)
     ≡ stepped i b bs
@@ -124,6 +110,4 @@ name-take i (b ∷ bs) e = by (goes_on i (b ∷ bs)) refl (name-take (stepped i 
             ∙ sym size
           where
             stops-still : goes_on i (b ∷ c ∷ cs) ≡ goes_on i (b ∷ bs) → goes_on i (b ∷ c ∷ []) ≡ false
-            stops-still same =
-                (λ t. i.along || not (stops (e t) i.before b (c ∷ [])))
-                ∙ sym (λ t. i.along || not (stops (e t) i.before b (c ∷ cs))) ∙ same ∙ h
+            stops-still same = grind (arith, nat_tests)

@@ -1,10 +1,8 @@
 -- Bytes of a class in a row, and texts at the beginning of others.
 use Rattle.std.proofs.Common.{◌≡◌, ℕ, zero, suc, ◌+◌, ◌-◌, ◌<◌, ◌≤◌, false, List, [], ◌∷◌, length, slice_index, drop}
 use Rattle.std.proofs.Common.{refl, arith, add-one, drop-cons}
-use Rattle.std.proofs.lemmas.List.{drop-drop, drop_all}
-use Rattle.std.proofs.lemmas.Bool.Decides.{nat_tests}
-use Rattle.cw_rules.specs.declared.classes.Class.{Class}
-use Rattle.cw_rules.specs.Bytes.{run, begins_with}
+use Rattle.std.proofs.{lemmas.List.drop-drop, lemmas.List.drop_all, lemmas.Bool.Decides.nat_tests}
+use Rattle.cw_rules.specs.{declared.classes.Class.Class, Bytes.run, Bytes.begins_with}
 
 -- a text from a place on, and the byte there
 pub drop-here : (text : List ℕ) (place : ℕ) → place < length text → drop place text

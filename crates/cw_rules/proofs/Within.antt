@@ -1,35 +1,19 @@
 -- What begins at a byte lies in the bytes that are left.
 use Rattle.std.proofs.Common.{◌≡◌, ℕ, suc, ◌+◌, ◌<◌, ◌≤◌, Bool, true, false, ◌&&◌, ◌||◌, not, ◌==◌, List, [], ◌∷◌, ◌++◌}
-use Rattle.std.proofs.Common.{length, sym, ap, ◌∙◌, arith, Option, Some, None, codes, if◌then◌else◌}
-use Rattle.std.proofs.lemmas.Bool.Decides.{nat_tests}
-use Rattle.std.proofs.lemmas.Grind.{common_steps}
+use Rattle.std.proofs.Common.{length, sym, ap, ◌∙◌, arith, Option, codes, if◌then◌else◌}
+use Rattle.std.proofs.{lemmas.Bool.Decides.nat_tests, lemmas.Grind.common_steps}
 use Rattle.cw_base.proofs.TestLaws.{both-right}
-use Rattle.cw_base.specs.declared.notes.NoteKind.{NoteKind}
+use Rattle.cw_base.specs.{declared.notes.NoteKind.NoteKind, Bytes.newline, Text.bar}
 use Rattle.cw_base.specs.declared.notes.NoteKind.TheVariants.{UnknownCode, MissingBrace, ImproperMacro, ImproperFormat}
-use Rattle.cw_rules.specs.declared.bodies.Noted.{Noted}
-use Rattle.cw_rules.specs.declared.classes.Class.TheVariants as classes
-use Rattle.cw_rules.specs.declared.codes.Code.{Code}
-use Rattle.cw_rules.specs.declared.codes.Code.TheVariants as at
-use Rattle.cw_rules.specs.declared.codes.Effect.{Effect}
-use Rattle.cw_rules.specs.declared.codes.Effect.TheVariants as effects
-use Rattle.cw_rules.specs.declared.parts.Part.{Part}
-use Rattle.cw_rules.specs.declared.parts.Part.TheVariants as parts
-use Rattle.cw_rules.specs.declared.parts.Opened.{Opened}
-use Rattle.cw_rules.specs.declared.parts.Start.{Start}
-use Rattle.cw_rules.specs.declared.parts.Start.TheVariants as start
-use Rattle.cw_rules.specs.declared.signs.Sign.{Sign}
-use Rattle.cw_rules.specs.declared.tokens.TokKind.TheVariants as kinds
-use Rattle.cw_base.specs.Bytes.{newline}
+use Rattle.cw_rules.specs.declared.{bodies.Noted.Noted, codes.Code.Code, codes.Effect.Effect, parts.Part.Part}
+use Rattle.cw_rules.specs.declared.{parts.Opened.Opened, parts.Start.Start, signs.Sign.Sign}
 use Rattle.cw_rules.specs.Bytes.{hash, star, comma, slash, less, right_paren, at_sign, is_in, is_letter, begins}
-use Rattle.cw_rules.specs.Bytes.{begins_with}
-use Rattle.cw_base.specs.Text.{bar}
+use Rattle.cw_rules.specs.{Bytes.begins_with, Prefixes.prefix_size, Order.AreWithin, Apart.found_apart}
 use Rattle.cw_rules.specs.Signs.{all_signs, longest, spelling}
-use Rattle.cw_rules.specs.Prefixes.{prefix_size}
-use Rattle.cw_rules.proofs.StringPrefixes.{prefix-below}
+use Rattle.cw_rules.proofs.{StringPrefixes.prefix-below, Sizes.section_code-le}
 use Rattle.cw_rules.specs.Codes.{code_at, begins_section, effect_in_limbo, effect_in_tex}
 use Rattle.cw_rules.specs.Bodies.{extent, noted, one_note, note_unless}
-use Rattle.cw_rules.specs.Answers.{Answer, Token, Begin, Finish, Note, Where, Cut, Found, before, note_answers}
-use Rattle.cw_rules.specs.Order.{AreWithin}
+use Rattle.cw_rules.specs.Answers.{Answer, Note, Where, Cut, Found, before, note_answers}
 use Rattle.cw_rules.specs.Tokens.{in_hash_line, behind_include, takes_hash_line, is_space, is_deep, ends_at_bar}
 use Rattle.cw_rules.specs.Tokens.{closes_on_line, moved, one, skipped_byte, comment_end, inner_cut, part_cut, all_cut}
 use Rattle.cw_rules.specs.Tokens.{section, passed, line_end, sign_or_other, start_of, effect_in, code_by, in_code}
@@ -37,10 +21,14 @@ use Rattle.cw_rules.specs.Tokens.{string, code_token, dropped_code, include_name
 use Rattle.cw_rules.specs.Tokens.{limbo_by, limbo_text, tex_by, tex_text, head_text, behind_white, name_follows}
 use Rattle.cw_rules.specs.Tokens.{macro_name, is_parameter, parameter_follows, parameter, format_name}
 use Rattle.cw_rules.specs.Apart.{code_text_apart, comment_text_apart, behind_head_apart, part_text_apart, in_text_apart}
-use Rattle.cw_rules.specs.Apart.{found_apart}
 use Rattle.cw_rules.proofs.Sizes.{begins-some, begins_with-le, run-le, constant-le, AllFit, longest-fits, extent-le}
 use Rattle.cw_rules.proofs.Sizes.{identifier-le, string-le, include_name-le, control_or_plain-le, code_token-le}
-use Rattle.cw_rules.proofs.Sizes.{section_code-le}
+use Rattle.cw_rules.specs.declared.classes.Class.TheVariants as classes
+use Rattle.cw_rules.specs.declared.codes.Code.TheVariants as at
+use Rattle.cw_rules.specs.declared.codes.Effect.TheVariants as effects
+use Rattle.cw_rules.specs.declared.parts.Part.TheVariants as parts
+use Rattle.cw_rules.specs.declared.parts.Start.TheVariants as start
+use Rattle.cw_rules.specs.declared.tokens.TokKind.TheVariants as kinds
 
 -- What is found at a place fits in so many bytes.
 pub record Fits (place left : ℕ) (f : Found) : Type 0 where
@@ -54,18 +42,14 @@ notes-within low high (n ∷ notes) = notes-within low high notes
 pub append-within : (low high : ℕ) (xs ys : List Answer) → AreWithin low high xs → AreWithin low high ys
     → AreWithin low high (xs ++ ys)
 append-within low high [] ys h g = g
-append-within low high (Token t ∷ xs) ys h g = (h.0, append-within low high xs ys h.1 g)
-append-within low high (Begin t ∷ xs) ys h g = (h.0, append-within low high xs ys h.1 g)
-append-within low high (Finish t ∷ xs) ys h g = (h.0, append-within low high xs ys h.1 g)
 append-within low high (Note kind place ∷ xs) ys h g = append-within low high xs ys h g
+append-within low high (_ ∷ xs) ys h g = (h.0, append-within low high xs ys h.1 g)
 
 pub wider : (low high first last : ℕ) (xs : List Answer) → first ≤ low → high ≤ last → AreWithin low high xs
     → AreWithin first last xs
 wider low high first last [] l h g = tt
-wider low high first last (Token t ∷ xs) l h g = grind (arith, nat_tests, wider low high first last xs l h g.1)
-wider low high first last (Begin t ∷ xs) l h g = grind (arith, nat_tests, wider low high first last xs l h g.1)
-wider low high first last (Finish t ∷ xs) l h g = grind (arith, nat_tests, wider low high first last xs l h g.1)
 wider low high first last (Note kind place ∷ xs) l h g = wider low high first last xs l h g
+wider low high first last (_ ∷ xs) l h g = grind (arith, nat_tests, wider low high first last xs l h g.1)
 
 either : (place left : ℕ) (t : Bool) (f g : Found) → (t ≡ true → Fits place left f) → (t ≡ false → Fits place left g)
     → Fits place left (if t then f else g)
@@ -140,8 +124,7 @@ sign-fits : (byte : ℕ) (bytes : List ℕ) → StartFits (sign_or_other (longes
 sign-fits byte bytes = by (longest all_signs (byte ∷ bytes)) (longest-fits all_signs (byte ∷ bytes))
   where
     by : (s : Option Sign) → AllFit s (suc (length bytes)) → StartFits (sign_or_other s) bytes
-    by None h = tt
-    by (Some sign) h = h
+    by s h = grind (arith, nat_tests)
 
 start_of-fits : (bar_ends : Bool) (byte : ℕ) (bytes : List ℕ) → StartFits (start_of bar_ends byte bytes) bytes
 start_of-fits bar_ends byte bytes = grind (arith, either-start, begins-some, both-right, sign-fits)
@@ -225,11 +208,7 @@ comment_text-fits part c comments last place byte bytes =
     (λ h. piece-fits part comments c place byte bytes)))
   where
     closed : 0 < length bytes → Fits place (suc (length bytes)) (comment_closed part c comments place (byte ∷ bytes))
-    closed some = record {
-      within = comment_end-within (in_hash_line part) c place 2 (byte ∷ bytes) (suc (length bytes))
-          (omega (arith, some));
-      more = omega (arith, some);
-    }
+    closed some = grind (arith, nat_tests, comment_end-within)
 
 -- ## Limbo, TeX text and heads
 

@@ -45,7 +45,7 @@ impl ScrapLine {
     /// Does the production of a number at a place, with its marks and its reserving, by the flags that
     /// choose between translations. The row is read from the program's own data, which are those of the
     /// table. Where it reserves it counts one step for each scrap to the right of the new one. It takes
-    /// no memory: the store and the marks have the room that was reserved.
+    /// no memory: the store and the marks have the capacity that was reserved.
     pub fn apply<L: Ledger>(
         &mut self,
         table: &Table<ROW_COUNT>,
@@ -101,7 +101,7 @@ impl ScrapLine {
         self.apply_marking(production, names, marks, store, steps);
     }
 
-    /// The same, where room for the name that the row may mark is made first. After `Memory` nothing has changed.
+    /// The same, where capacity for the name that the row may mark is made first. After `Memory` nothing has changed.
     #[inline(always)]
     pub fn apply_in_room<L: Ledger>(
         &mut self,

@@ -31,8 +31,8 @@ pub struct Leaf {
 
 /// The scrap of a token that makes one of its own and has no nested text: an identifier, a constant, a
 /// string, a sign, the two ends of a `#` line, a code that is laid out or passed on, or any other byte.
-/// The number of the token is the place of its first byte. After `Memory` the names and the lists are as
-/// before, and the store has room for as many tokens or more.
+/// The token's offset is the place of its first byte. After `Memory` the names and the lists are as
+/// before, and the store has capacity for as many tokens or more.
 #[inline(always)]
 pub fn scrap_of(token: &Tok, names: &mut Names, store: &mut TokenStore) -> Result<Leaf, Memory>
     requires kind { MakesLeaf token.now.kind }

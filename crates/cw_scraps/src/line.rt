@@ -65,7 +65,7 @@ impl ScrapLine {
         }
     }
 
-    /// A line without scraps that has room for so many.
+    /// A line without scraps that has capacity for so many.
     pub fn with_room(alloc: Global, count: usize) -> Result<ScrapLine, Memory>
         ensures { IfOk result (λ line. line ≡ []) }
     {

@@ -33,7 +33,7 @@ impl Marks {
         }
     }
 
-    /// Makes room for `n` more names. After `Memory` nothing has changed.
+    /// Makes capacity for `n` more names. After `Memory` nothing has changed.
     pub fn reserve(&mut self, n: usize) -> Result<(), Memory>
         ensures names { self.new.names ≡ self.old.names }
         ensures room { OnOk result (n ≤ self.new.spare) }

@@ -9,7 +9,7 @@ use cw_lex::{Tok, TokKind};
 use cw_names::{EntryKind, Names};
 use cw_tokens::Token;
 
-/// The token of an identifier or of a sign, by itself. The number of the token is the place of its first byte.
+/// The token of an identifier or of a sign, by itself. Its offset is the place of its first byte.
 /// After `Memory` the names are as before.
 pub fn word_token(word: &Tok, names: &mut Names) -> Result<Token, Memory>
     requires kind { is_word word.now.kind ≡ true }

@@ -37,7 +37,7 @@ impl NameMarks {
         }
     }
 
-    // Marks a name. What is marked stays so, also where memory is wanted; it is for a position of more than 32 bits.
+    // Marks a name. What is marked stays so, also out of memory; it is for a position of more than 32 bits.
     pub(crate) fn enter(&mut self, kind: SecKind, text: &[u8], index: usize) -> Result<(), Memory>
         ensures keeps { KeepsNames self.old self.new }
         ensures ok { OnOk result (IsMarkedName self.new kind text.now index) }

@@ -152,7 +152,7 @@ impl Tables {
         }
     }
 
-    // Sees to room for a link more.
+    // Sees to capacity for a link more.
     fn open_next(&mut self) -> Result<(), Memory>
         ensures same { (mark : ℕ) → positions_at mark self.new ≡ positions_at mark self.old }
         ensures rows { OnOk result (0 < length self.new.latest.rows.items) }
@@ -172,7 +172,7 @@ impl Tables {
         Ok(())
     }
 
-    /// Puts a position under a mark. What stands there stays, also where memory is wanted.
+    /// Puts a position under a mark. What stands there stays, also out of memory.
     pub(crate) fn put(&mut self, mark: u32, position: u32) -> Result<(), Memory>
         ensures keeps { HasAll self.old self.new }
         ensures ok { OnOk result (Has self.new mark position) }

@@ -34,7 +34,7 @@ use std::marker::Model;
 
 // What a TeX part is printed with: the web's text, the number of its section, and the flags. Its C texts are translated
 // in one store, one after another, so that most of them take no memory for their lists. One reader scans them, and
-// their answers are kept in one room.
+// their answers are kept in one vector.
 #[derive(Drop)]
 pub(crate) struct TexPart<'a> {
     text: &'a [u8],

@@ -156,14 +156,14 @@ impl<'a> TranslatedText<'a> {
     }
 }
 
-// How much room a translation begins with: enough for most texts, so that their lists are never moved.
+// With how much capacity a translation begins: enough for most texts, so that their lists are never moved.
 fn first_room(span: Span) -> usize
     requires order { span.start ≤ span.end }
 {
     (span.end - span.start).min(4096) + 16
 }
 
-// Makes room for the lists of a text. Where there is too little, an inner text gets some for those behind it too.
+// Makes capacity for the lists of a text. Where there is too little, an inner text gets some for those behind it too.
 fn make_room(store: &mut TokenStore, span: Span, inner: bool) -> Result<(), Memory>
     requires order { span.start ≤ span.end }
     ensures lists { store.new.lists ≡ store.old.lists }
@@ -210,7 +210,7 @@ pub fn translate_text<'a, L: Ledger>(
     })
 }
 
-/// The same with a store, a reader and a room for answers that may have been used before.
+/// The same with a store, a reader and a vector for answers that may have been used before.
 pub(crate) fn translate_into<'a, L: Ledger>(
     rooms: &mut Rooms<'a>,
     alloc: Global,

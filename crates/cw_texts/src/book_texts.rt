@@ -99,7 +99,7 @@ fn find_texts(
     Ok(())
 }
 
-// Finds the texts of the section of a number, in the room of those that were found before.
+// Finds the texts of the section of a number, in the vector of those that were found before.
 fn find_section(book: Sections, number: u32, list: &mut TextList) -> Result<(), Memory>
     requires first { 0 < number }
     requires last { number ≤ length book.outline.now.sections }

@@ -71,7 +71,7 @@ fn group_makes(kind: TokKind) -> bool
 }
 
 /// Whether the book has a name for the section name at a place; `Memory` where the place takes more than 32 bits, for
-/// which there is no room.
+/// which there is no capacity.
 pub(crate) fn is_kept(uses: &NameUses, place: usize) -> Result<bool, Memory>
     ensures { IfOk result (λ kept. kept ≡ is_kept uses.now place) }
 {

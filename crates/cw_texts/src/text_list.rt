@@ -69,7 +69,7 @@ impl TextList {
         self.refs[i]
     }
 
-    /// Takes all out, and keeps their room.
+    /// Takes all out, and keeps the capacity.
     pub(crate) fn clear(&mut self)
         ensures { self.new ≡ [] }
     {

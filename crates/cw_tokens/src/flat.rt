@@ -1,4 +1,4 @@
-//! A tree laid flat: its items in order, as they stand or trimmed in the same walk.
+//! A flattened tree: its items in order, as they stand or trimmed in the same walk.
 ghost use Rattle.std.specs.Prelude.{◌≡◌, ◌+◌, ◌-◌, ◌<◌, ◌≤◌, List, ◌++◌, length, IfOk, IfSome, OnOk, Some, IsTrue};
 ghost use Rattle.std.specs.Prelude.{◌↔◌};
 ghost use Rattle.std.specs.Prelude.{[], reverse, slice_get};
@@ -21,7 +21,7 @@ use cw_trees::Control;
 use std::alloc::Global;
 use std::marker::Model;
 
-/// An item of a translation that is laid flat.
+/// An item of a flattened translation.
 #[derive(Clone, Copy, PartialEq, Eq, Debug)]
 pub enum FlatItem {
     /// A token of the text.
@@ -38,7 +38,7 @@ pub enum FlatItem {
     Close,
 }
 
-/// A translation that is laid flat: its items in order.
+/// A flattened translation: its items in order.
 #[derive(Drop)]
 pub struct FlatTokens {
     items: Vec<FlatItem>,
@@ -99,7 +99,7 @@ impl FlatTokens {
     }
 }
 
-/// Lays the tree of a list flat, behind the items that `out` holds.
+/// Flattens the tree of a list, behind the items that `out` holds.
 pub fn flatten(
     tokens: &[Token],
     ends: &[usize],
@@ -170,7 +170,7 @@ struct Above<'a> {
 // Most trees are less deep.
 const DEEP: usize = 32;
 
-/// Lays the tree of a list flat and trims it in the same walk.
+/// Flattens the tree of a list and trims it in the same walk.
 pub fn flatten_trimmed(
     tokens: &[Token],
     ends: &[usize],
@@ -199,7 +199,7 @@ pub fn flatten_trimmed(
     }
 }
 
-/// Lays what is to come of a list flat, and goes into the lists below it on the way, up to where one ends. What is then
+/// Flattens what is to come of a list, and goes into the lists below it on the way, up to where one ends. What is then
 /// still to come of the others stands above.
 #[inline(always)]
 fn lay_rest<'a>(

@@ -89,7 +89,7 @@ impl TokenStore {
         let _building = self.building;
     }
 
-    /// Makes room for `n` calls of `begin` and `push`.
+    /// Makes capacity for `n` calls of `begin` and `push`.
     #[inline]
     pub fn reserve(&mut self, n: usize) -> Result<(), Memory>
         ensures lists { self.new.lists ≡ self.old.lists }
@@ -104,7 +104,7 @@ impl TokenStore {
         self.make_room(n)
     }
 
-    /// The same where there is less room. Then there is as much as the three vectors have.
+    /// The same where there is less capacity. Then there is as much as the three vectors have.
     #[inline(never)]
     fn make_room(&mut self, n: usize) -> Result<(), Memory>
         requires less { self.old.spare < n }
@@ -253,7 +253,7 @@ impl TokenStore {
     }
 }
 
-/// For how many more elements a vector has room.
+/// For how many more elements a vector has capacity.
 fn free<T>(items: &Vec<T>) -> usize
     ensures { result ≡ vec_capacity items.now - vec_len items.now }
 {

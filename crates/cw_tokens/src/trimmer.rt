@@ -32,7 +32,7 @@ impl Model for Trimmer {
 }
 
 impl Trimmer {
-    /// Nothing has come. There is room for so many items.
+    /// Nothing has come. There is capacity for so many items.
     pub fn with_room(alloc: Global, n: usize) -> Result<Trimmer, Memory>
         ensures { IfOk result (λ t. StandsFor t []) }
     {

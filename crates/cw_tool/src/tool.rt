@@ -7,19 +7,20 @@ ghost use Rattle.cw_desk.specs.Journal.{byte_events};
 ghost use Rattle.cw_desk.specs.Meaning.{Files, Rose, is_open};
 ghost use Rattle.cw_desk.specs.Told.{OnlyPuts};
 ghost use Rattle.cw_input.specs.Merged.{merged};
+ghost use Rattle.cw_input.specs.Overwriting.{first_overwriting};
 ghost use Rattle.cw_lines.specs.Writes.{Adds};
 ghost use Rattle.cw_program.specs.Program.{Outcome};
 ghost use Rattle.cw_run.specs.Emits.{Faults, Runs};
 ghost use Rattle.cw_tool.specs.Asked.{asked, asked_of};
 ghost use Rattle.cw_tool.specs.Given.{IsBookOf};
-ghost use Rattle.cw_tool.specs.Tool.{made, tool_run, tool_web};
+ghost use Rattle.cw_tool.specs.Tool.{made, made_unless, tool_run, tool_web};
 
 use crate::asked::{Asked, read_asked};
 use crate::reading::read_book;
 use crate::refusal::{refuse, refuse_word};
 use cw_base::{Exit, Ledger, Out, Steps, Web, Words};
 use cw_desk::Desk;
-use cw_input::{LoadError, load};
+use cw_input::{LoadError, first_overwriting, load};
 use cw_lines::PutError;
 use cw_phase1::Book;
 use cw_program::status_of;
@@ -90,7 +91,26 @@ fn write_web<T: Tool, D: Desk, L: Ledger>(
     write_file(source, &mut book, desk, steps)
 }
 
-/// Reads the web that was asked for and writes the tool's file of it, or prints why there is no web.
+// Writes the file of a web, if it would overwrite no input.
+fn write_sparing<T: Tool, D: Desk, L: Ledger>(
+    source: &Source<T>,
+    desk: &mut D,
+    steps: &mut Steps<L>,
+) -> Result<Exit, PutError>
+    ensures { Runs
+        (made_unless (first_overwriting source.now.web.now.files (source.now.out.now ∷ [])) source.now.out.now
+        (T.text source.now.web.now)) (D.told desk.old) (D.told desk.new) result }
+{
+    let mut outputs = Words::new_in(source.alloc);
+    outputs.push(source.out)?;
+    match first_overwriting(source.web, &outputs) {
+        Some(name) => refuse_word(source.alloc, desk, b"! Output file would overwrite ", name),
+        None => write_web(source, desk, steps),
+    }
+}
+
+/// Reads the web that was asked for and writes the tool's file of it, or prints why there is no web, or that the file
+/// would overwrite an input.
 pub fn run_tool<T: Tool, D: Desk, L: Ledger>(
     alloc: Global,
     tool: &T,
@@ -115,7 +135,7 @@ pub fn run_tool<T: Tool, D: Desk, L: Ledger>(
                 web: &web,
                 out,
             };
-            write_web(&source, desk, steps)
+            write_sparing(&source, desk, steps)
         }
         Err(LoadError::NoWeb) => refuse_word(alloc, desk, b"! Cannot open web file ", asked.web),
         Err(LoadError::NoChange) => {
@@ -148,7 +168,7 @@ fn run_words<T: Tool, D: Desk, L: Ledger>(
 }
 
 /// Reads the words of a command line and does what they ask a tool for: reads a web over the files of the desk, writes
-/// the tool's file of it, and answers the status of the run. It prints nothing after a fault or want of memory, and
+/// the tool's file of it, and answers the status of the run. It prints nothing after a fault or out of memory, and
 /// tries no failed call again.
 ///
 /// Whatever the desk is: over all files that would have given the answers that it gave, it has done what these files

@@ -1,4 +1,4 @@
-//! Runs in which a call of the desk fails, or memory is wanting.
+//! Runs in which a call of the desk fails, or memory runs out.
 use crate::runs::{Files, count, desk_with, journal_text, list_of};
 use cw_base::{Bytes, Exit, Ledger, Memory, Silent, Steps, Web};
 use cw_desk::{Desk, MemDesk};
@@ -67,7 +67,7 @@ fn each_call_fails_in_turn(rt: HostRuntime) -> Result<(), Fail> {
     Ok(())
 }
 
-/// A tool for which memory is always wanting.
+/// A tool that is always out of memory.
 struct Wanting;
 
 impl Tool for Wanting {

@@ -1,4 +1,4 @@
-//! Who is told of the texts of a translation, and of their productions.
+//! Who receives the texts of a translation, and their productions.
 ghost use Rattle.std.specs.Prelude.{◌≡◌, Bool, false, [], ◌∷◌, Option, None, OnOk, OnErr, refl};
 ghost use Rattle.cw_table.specs.Normal.{Production};
 ghost use Rattle.cw_rewrite.specs.Telling.{Told};
@@ -12,7 +12,7 @@ use cw_scraps::{Leaf, ScrapLine};
 use cw_table::RowNo;
 use cw_tokens::TokenStore;
 
-/// Who is told of each text of a translation whose reduction begins, of its productions, and of its end.
+/// Who receives each text of a translation when its reduction begins, its productions, and its end.
 pub trait Recorder: Watch {
     /// The reduction of a text begins. After `Memory` the texts that have ended are as before.
     fn begin(&mut self, line: &ScrapLine, store: &TokenStore) -> Result<(), Memory>
@@ -54,7 +54,7 @@ pub fn record_alone<R: Recorder>(
     recorder.end()
 }
 
-/// Nobody: nothing is told of texts.
+/// Nobody: no text is received.
 #[derive(Clone, Copy, Debug, PartialEq, Eq)]
 pub struct Unrecorded;
 

@@ -61,10 +61,35 @@ fn translate_line<L: Ledger, R: Recorder>(
     ensures recorded { HasRecorded context.now.flags.now (state_of work.old.store.now.lists line work.old.marks.now
         work.old.names.now ∷ []) (R.told work.old.recorder) (R.told work.new.recorder) result }
 {
+    let done = end_line(&mut line, context, work);
+    drop(line);
+    done
+}
+
+// The same in a line that the caller lets go.
+fn end_line<L: Ledger, R: Recorder>(
+    line: &mut ScrapLine,
+    context: &Context,
+    work: &mut Work<L, R>,
+) -> Result<Translated, Memory>
+    requires sound { IsSoundLine work.old.store.now work.old.names.now line.old }
+    ensures done { IfOk result (λ done. LineDone context.now.flags.now work.old.store.now work.new.store.now
+        work.old.names.now work.new.names.now work.old.marks.now work.new.marks.now line.old done work.old.steps.now
+        work.new.steps.now) }
+    ensures retypes { Retypes context.now.flags.now (state_of work.old.store.now.lists line.old work.old.marks.now
+        work.old.names.now) work.old.names.now work.new.names.now }
+    ensures bound { work.new.steps.now ≤ work.old.steps.now + (132 * length line.old + length line.old *
+        reservings productions context.now.flags.now (state_of work.old.store.now.lists line.old work.old.marks.now
+        work.old.names.now)) }
+    ensures same { IsSameWork work.old work.new }
+    ensures idle { work.new.store.now.building ≡ None }
+    ensures recorded { HasRecorded context.now.flags.now (state_of work.old.store.now.lists line.old work.old.marks.now
+        work.old.names.now ∷ []) (R.told work.old.recorder) (R.told work.new.recorder) result }
+{
     let scraps = line.len() as u64;
-    work.recorder.begin(&line, work.store)?;
+    work.recorder.begin(line, work.store)?;
     let reduced = reduce_watched(
-        &mut line,
+        line,
         work.store,
         work.names,
         work.marks,
@@ -78,7 +103,7 @@ fn translate_line<L: Ledger, R: Recorder>(
     };
     work.recorder.end()?;
     work.store.tied_law();
-    let list = put_together(&line, work.store)?;
+    let list = put_together(line, work.store)?;
     Ok(Translated {
         list,
         scraps,
@@ -267,6 +292,21 @@ impl Translator {
         requires translating { IsTranslating work.old.store.now work.old.names.now self }
         ensures { EndsIn R.told (to_end context.now.flags.now [] (progress_over work.old self)) self work.old work.new
             result }
+    {
+        let done = self.close(context, work);
+        drop(self);
+        done
+    }
+
+    // The same of a translation that the caller lets go.
+    fn close<L: Ledger, R: Recorder>(
+        &mut self,
+        context: &Context,
+        work: &mut Work<L, R>,
+    ) -> Result<Translated, Memory>
+        requires translating { IsTranslating work.old.store.now work.old.names.now self.old }
+        ensures { EndsIn R.told (to_end context.now.flags.now [] (progress_over work.old self.old)) self.old work.old
+            work.new result }
     {
         let line = self.nesting.take_line(context.alloc);
         let done = translate_line(line, context, work)?;

@@ -31,6 +31,6 @@ pub struct Work<'a, L: Ledger, R: Recorder> {
     pub marks: &'a mut Marks,
     /// The steps that are counted.
     pub steps: &'a mut Steps<L>,
-    /// Who is told of texts and their productions.
+    /// Who receives texts and their productions.
     pub recorder: R,
 }

@@ -1,5 +1,5 @@
 //! The controls of a translation, and in `specs/` the definitions of trees: their items, how scraps are
-//! joined, what a tree is when it is laid flat, and the bytes that it prints.
+//! joined, what a tree is when it is flattened, and the bytes that it prints.
 #![tactic(auto)]
 
 /// A sign of a translation that is not taken from the source text.

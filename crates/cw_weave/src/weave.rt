@@ -217,7 +217,7 @@ fn run<D: Desk, L: Ledger>(
 }
 
 /// Reads the words of a command line and does what they ask for: weaves a web over the files of the desk into its
-/// outputs, and answers the status of the run. It prints nothing after a fault or want of memory, and tries no failed
+/// outputs, and answers the status of the run. It prints nothing after a fault or out of memory, and tries no failed
 /// call again.
 ///
 /// Whatever the desk is: over all files that would have given the answers that it gave, it has done what these files

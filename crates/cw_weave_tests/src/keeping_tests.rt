@@ -84,7 +84,7 @@ fn expect_ending(rt: &impl Abort, alloc: Global, old: &[Piece], ending: &[u8]) -
 
 const REPLACED: &[u8] = b"[tex] is replaced\n";
 
-/// An old TeX file, and what is told of it.
+/// An old TeX file, and what a run does with it.
 const OLD: [(&[Piece], &[u8]); 5] = [
     (&[(TEX, 1)], b"[tex] is kept\n"),
     // Of another length.

@@ -1,4 +1,4 @@
-//! Whole runs with pages ranged as the original ranges them, and the same without flag r.
+//! Whole runs with pages laid out as the original lays them out, and the same without flag r.
 use crate::expectations::{Run, expect_runs};
 use crate::runs::FOO;
 use std::test::Fail;

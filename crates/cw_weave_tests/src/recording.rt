@@ -21,7 +21,7 @@ pub(crate) struct Heard {
     bytes: Vec<u8>,
 }
 
-/// A desk, and what it has answered about files so far. What memory was wanting for is left out.
+/// A desk, and what it has answered about files so far. Answers of Memory are left out.
 #[derive(Drop)]
 pub(crate) struct Recording<D: Desk + Drop> {
     alloc: Global,

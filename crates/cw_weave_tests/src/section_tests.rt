@@ -6,7 +6,7 @@ use std::alloc::Global;
 use std::process::Abort;
 use std::test::Fail;
 
-/// A web, and what its run tells of its sections, of its index and at the end.
+/// A web, and what its run prints of its sections, of its index and at the end.
 const ROWS: [(&[u8], &[u8], &[u8], &[u8]); 8] = [
     // Two names begin with the prefix.
     (

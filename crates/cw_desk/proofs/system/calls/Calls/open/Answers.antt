@@ -1,4 +1,4 @@
--- What a wrong body breaks here has an answer of its own, so that it fails at once.
+-- What a mutant breaks here has an answer of its own, so that it fails at once.
 use Rattle.cw_desk.proofs.Terms.{arith, common_steps}
 use Rattle.cw_desk.proofs.system.calls.Calls.open.Goals as goal
 

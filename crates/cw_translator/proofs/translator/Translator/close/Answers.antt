@@ -1,13 +1,13 @@
 -- The scraps of the whole text are a sound line, and its list takes the place of all lists that were open.
 use Rattle.cw_translator.proofs.Terms.{refl, sym, ap, subst, IsSoundLine}
 use Rattle.cw_translator.proofs.FinishSteps.{last-sound, line-refused, line-ends}
-use Rattle.cw_translator.proofs.translator.Translator.end.Goals as goal
+use Rattle.cw_translator.proofs.translator.Translator.close.Goals as goal
 
 pub translate_line-requires : goal.translate_line-requires
 translate_line-requires g c = record {
   sound = subst (IsSoundLine c.args.work.now.store.now c.args.work.now.names.now)
-      (sym c.take_line-line.ensures) (last-sound c.args.work.now.store.now c.args.work.now.names.now c.args.self
-      c.args.self.nesting c.requires.translating refl);
+      (sym c.take_line-line.ensures) (last-sound c.args.work.now.store.now c.args.work.now.names.now c.args.self.now
+      c.args.self.now.nesting c.requires.translating refl);
 }
 
 pub returns-in_err-done : goal.returns-in_err-done

@@ -6,7 +6,7 @@ use Rattle.cw_table.proofs.StepLaws.{is-after}
 use Rattle.cw_translator.proofs.FinishSteps.{gathers-root}
 use Rattle.cw_translator.proofs.Recorded.{begun-told, recorded-one, recorded-unended}
 use Rattle.cw_translator.proofs.Retypings.{retypes, retyped-names}
-use Rattle.cw_translator.proofs.translator.translate_line.Goals as goal
+use Rattle.cw_translator.proofs.translator.end_line.Goals as goal
 
 pub returns-in_err-reduced-clause-retypes : goal.returns-in_err-reduced-clause-retypes
 returns-in_err-reduced-clause-retypes g c = retypes _ _ _ _ _ c.in_err-reduced.ensures.after refl
@@ -22,8 +22,8 @@ returns-clause-retypes g c = retypes _ _ _ _ _ c.in_ok-reduced.ensures.after ref
 -- nothing was done yet, or the line was reduced
 pub returns-in_err-begin-clause-retypes : goal.returns-in_err-begin-clause-retypes
 returns-in_err-begin-clause-retypes g c = retypes _ _
-    (state_of c.args.work.now.store.now.lists c.args.line c.args.work.now.marks.now c.args.work.now.names.now) _ _
-    (is-after productions c.args.context.now.flags.now 0 (state_of c.args.work.now.store.now.lists c.args.line
+    (state_of c.args.work.now.store.now.lists c.args.line.now c.args.work.now.marks.now c.args.work.now.names.now) _ _
+    (is-after productions c.args.context.now.flags.now 0 (state_of c.args.work.now.store.now.lists c.args.line.now
     c.args.work.now.marks.now c.args.work.now.names.now) productions-sound c.requires.sound.fine (omega arith))
     refl refl
 
@@ -37,12 +37,12 @@ returns-in_err-begin-clause-recorded g c = recorded-unended _ _ c.in_err-begin.e
 
 pub returns-in_err-reduced-clause-recorded : goal.returns-in_err-reduced-clause-recorded
 returns-in_err-reduced-clause-recorded g c = recorded-unended _ _
-    (begun-told (scraps_of c.args.work.now.store.now.lists c.args.line) _ (g.R.Watch.told c.args.work.now.recorder)
+    (begun-told (scraps_of c.args.work.now.store.now.lists c.args.line.now) _ (g.R.Watch.told c.args.work.now.recorder)
     c.in_ok-begin.ensures.begins c.in_err-reduced.ensures.memory.heard) c.from_residual-in_err-reduced.ensures.1
 
 pub returns-in_err-end-clause-recorded : goal.returns-in_err-end-clause-recorded
 returns-in_err-end-clause-recorded g c = recorded-unended _ _ (c.in_err-end.ensures.refused
-    ∙ begun-told (scraps_of c.args.work.now.store.now.lists c.args.line) _ (g.R.Watch.told c.args.work.now.recorder)
+    ∙ begun-told (scraps_of c.args.work.now.store.now.lists c.args.line.now) _ (g.R.Watch.told c.args.work.now.recorder)
     c.in_ok-begin.ensures.begins (rw c.in-Some.is at c.in_ok-reduced.ensures.told)) c.from_residual-in_err-end.ensures.1
 
 pub returns-in_err-list-clause-recorded : goal.returns-in_err-list-clause-recorded
@@ -51,7 +51,7 @@ returns-in_err-list-clause-recorded g c = recorded-one _ _ _ c.in_ok-begin.ensur
 
 pub returns-clause-recorded : goal.returns-clause-recorded
 returns-clause-recorded g c = recorded-one c.args.context.now.flags.now
-    (state_of c.args.work.now.store.now.lists c.args.line c.args.work.now.marks.now c.args.work.now.names.now) _
+    (state_of c.args.work.now.store.now.lists c.args.line.now c.args.work.now.marks.now c.args.work.now.names.now) _
     c.in_ok-begin.ensures.begins (rw c.in-Some.is at c.in_ok-reduced.ensures.told) c.in_ok-end.ensures.ends
 
 pub returns-clause-done : goal.returns-clause-done
