@@ -1,26 +1,15 @@
 -- The book that texts leave, text by text.
-use Rattle.std.proofs.Common.{◌≡◌, ℕ, ◌+◌, ◌≤◌, ◌^◌, Bool, List, ◌∷◌, ◌++◌, All, Some, ap, arith, drop, length, subst}
-use Rattle.std.proofs.Common.{sym, ◌∙◌}
-use Rattle.std.specs.Prelude.{slice_get}
-use Rattle.std.proofs.lemmas.List.{drop_more}
-use Rattle.std.proofs.lemmas.List.Elements.{All-weaker}
-use Rattle.std.proofs.lemmas.Option.{get_or_from_slice_get, slice_get_within}
-use Rattle.cw_base.specs.Flags.{start_flags}
-use Rattle.cw_base.specs.Web.{MergedLine, text_of}
-use Rattle.cw_base.specs.declared.flags.Flags.{Flags}
+use Rattle.cw_mini.proofs.Terms.{◌≡◌, ℕ, ◌+◌, ◌≤◌, ◌^◌, Bool, List, ◌∷◌, ◌++◌, All, Some, ap, arith, drop, length}
+use Rattle.cw_mini.proofs.Terms.{subst, sym, ◌∙◌, slice_get, drop_more, All-weaker, get_or_from_slice_get}
+use Rattle.cw_mini.proofs.Terms.{slice_get_within, Book, Done, lasting, setting, text_done, underlined, AreNamesOf}
+use Rattle.cw_mini.proofs.Terms.{is_inner, left_book, left_by_text, left_by_texts, left_with, ref_done}
+use Rattle.cw_base.specs.{Flags.start_flags, Web.MergedLine, Web.text_of, declared.flags.Flags.Flags}
 use Rattle.cw_part.specs.WholeRefs.{TextsAreWhole}
 use Rattle.cw_phase1.specs.Book.{book}
-use Rattle.cw_phase1.specs.declared.book.Book.{Book}
 use Rattle.cw_reduce.specs.WholeTexts.{IsCText}
 use Rattle.cw_secnames.specs.Kept.{SecName}
-use Rattle.cw_texpart.specs.Done.{Done}
-use Rattle.cw_texpart.specs.Texts.{lasting, setting, text_done}
-use Rattle.cw_texpart.specs.Weaving.{underlined}
-use Rattle.cw_texts.specs.Texts.{texts_of}
-use Rattle.cw_texts.specs.declared.text_list.TextRef.{TextRef}
+use Rattle.cw_texts.specs.{Texts.texts_of, declared.text_list.TextRef.TextRef}
 use Rattle.cw_tool.specs.Given.{IsBookOf}
-use Rattle.cw_translator.specs.NameParts.{AreNamesOf}
-use Rattle.cw_mini.specs.Left.{is_inner, left_book, left_by_text, left_by_texts, left_with, ref_done}
 
 -- a book with the names of a text and its marks, of which nothing else changed
 pub left-is : (b new : Book) (section : ℕ) (d : Done ℕ) → new.names ≡ d.names
@@ -49,28 +38,24 @@ drop-at refs i ref here = drop_more refs i ref (slice_get_within refs i ref here
 pub left-next : (text : List ℕ) (refs : List TextRef) (i : ℕ) (ref : TextRef) (b new all : Book)
     → slice_get refs i ≡ Some ref → new ≡ left_by_text text b ref → left_by_texts text (drop i refs) b ≡ all
     → left_by_texts text (drop (i + 1) refs) new ≡ all
-left-next text refs i ref b new all here is so =
-    ap (left_by_texts text (drop (i + 1) refs)) is
+left-next text refs i ref b new all here is so = ap (left_by_texts text (drop (i + 1) refs)) is
     ∙ ap (λ (later : List TextRef). left_by_texts text later b) (sym (drop-at refs i ref here)) ∙ so
 
 -- what is so of all texts is so of each
 pub whole-at : (text : List ℕ) (refs : List TextRef) (i : ℕ) (ref : TextRef) → slice_get refs i ≡ Some ref
     → All (λ r. IsCText text r.span r.mode) refs → IsCText text ref.span ref.mode
-whole-at text refs i ref here all =
-    subst (λ (r : TextRef). IsCText text r.span r.mode) (get_or_from_slice_get refs i ref ref here)
-    (all i ref (slice_get_within refs i ref here))
+whole-at text refs i ref here all = subst (λ (r : TextRef). IsCText text r.span r.mode)
+    (get_or_from_slice_get refs i ref ref here) (all i ref (slice_get_within refs i ref here))
 
 -- ## The texts of a web
 
 pub texts-whole : TextsAreWhole → (lines : List MergedLine) (text : List ℕ) (refs : List TextRef) (b : Book)
-    → text ≡ text_of lines → length text ≤ 2 ^ 24
-    → refs ≡ texts_of (text_of lines) b.name_uses b.outline.sections → b ≡ book lines
-    → All (λ ref. IsCText text ref.span ref.mode) refs
-texts-whole law lines text refs b text-is short refs-are same =
-    subst (λ (t : List ℕ). All (λ (ref : TextRef). IsCText t ref.span ref.mode) refs) (sym text-is)
-    (subst (λ (rs : List TextRef). All (λ (ref : TextRef). IsCText (text_of lines) ref.span ref.mode) rs)
-    (sym (refs-are ∙ ap (λ (c : Book). texts_of (text_of lines) c.name_uses c.outline.sections) same))
-    (law lines (subst (λ (t : List ℕ). length t ≤ 2 ^ 24) text-is short)))
+    → text ≡ text_of lines → length text ≤ 2 ^ 24 → refs ≡ texts_of (text_of lines) b.name_uses b.outline.sections
+    → b ≡ book lines → All (λ ref. IsCText text ref.span ref.mode) refs
+texts-whole law lines text refs b text-is short refs-are same = subst (λ (t : List ℕ). All (λ (ref : TextRef). IsCText t
+    ref.span ref.mode) refs) (sym text-is) (subst (λ (rs : List TextRef). All (λ (ref : TextRef). IsCText
+    (text_of lines) ref.span ref.mode) rs) (sym (refs-are ∙ ap (λ (c : Book). texts_of (text_of lines) c.name_uses
+    c.outline.sections) same)) (law lines (subst (λ (t : List ℕ). length t ≤ 2 ^ 24) text-is short)))
 
 pub names-kept : (lines : List MergedLine) (text : List ℕ) (b : Book) → text ≡ text_of lines → length text ≤ 2 ^ 24
     → IsBookOf lines b → AreNamesOf b.sec_names b.name_uses
@@ -89,6 +74,5 @@ names-kept lines text b text-is short given = record {
 pub left-whole : (lines : List MergedLine) (text : List ℕ) (refs : List TextRef) (b new : Book)
     → text ≡ text_of lines → refs ≡ texts_of (text_of lines) b.name_uses b.outline.sections → b ≡ book lines
     → new ≡ left_by_texts text refs b → new ≡ left_book lines
-left-whole lines text refs b new text-is refs-are same e =
-    e ∙ (λ i. left_by_texts (text-is i) (refs-are i) b)
+left-whole lines text refs b new text-is refs-are same e = e ∙ (λ i. left_by_texts (text-is i) (refs-are i) b)
     ∙ ap (λ (c : Book). left_by_texts (text_of lines) (texts_of (text_of lines) c.name_uses c.outline.sections) c) same

@@ -1,4 +1,5 @@
 -- The laws of small indexes, and their worked rows.
+mod Terms
 mod RowsOf
 mod WorkedRows
 mod LeftLaws

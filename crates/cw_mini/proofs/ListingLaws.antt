@@ -1,31 +1,14 @@
 -- Which sections list a name, by the places where it occurs.
-use Rattle.std.proofs.Common.{◌≡◌, ℕ, zero, suc, ◌+◌, ◌<◌, ◌≤◌, Bool, true, false, ◌&&◌, ◌||◌, ◌==◌, not, List, [], ◌∷◌}
-use Rattle.std.proofs.Common.{◌++◌, All, refl}
-use Rattle.std.proofs.Common.{ap, arith, cond, drop, get_or, length, subst, sym, ◌∙◌}
-use Rattle.std.specs.List.{list_any}
-use Rattle.std.specs.Prelude.{◌≢◌}
-use Rattle.std.proofs.lemmas.List.{append-nil, drop_all, drop_more}
-use Rattle.std.proofs.lemmas.Bool.Decides.{nat_tests}
-use Rattle.std.proofs.lemmas.List.Elements.{All-filter, All-head, All-tail}
-use Rattle.cw_base.specs.Conditions.{list_if}
-use Rattle.cw_names.specs.declared.xrefs.SectionRef.{SectionRef}
-use Rattle.cw_names.specs.Mentions.{AreAscending}
-use Rattle.cw_index.specs.Mentions.{listed}
-use Rattle.cw_mini.specs.Mini.{defining, is_used_in, stands_in}
+use Rattle.cw_mini.proofs.Terms.{◌||◌, ◌≡◌, ℕ, zero, suc, ◌+◌, ◌<◌, ◌≤◌, Bool, true, false, ◌&&◌, ◌==◌, not, List, []}
+use Rattle.cw_mini.proofs.Terms.{◌∷◌, ◌++◌, All, refl, ap, arith, cond, drop, get_or, length, subst, sym, ◌∙◌, list_any}
+use Rattle.cw_mini.proofs.Terms.{◌≢◌, append-nil, drop_all, drop_more, nat_tests, All-filter, All-head, All-tail}
+use Rattle.cw_mini.proofs.Terms.{list_if, SectionRef, AreAscending, listed, defining, is_used_in, stands_in}
 
 -- Rows list the underlined sections of a name, whatever else they list.
 pub defining-listed : (underlined_only : Bool) (ms : List SectionRef)
     → defining (listed underlined_only ms) ≡ defining ms
 defining-listed only [] = refl
-defining-listed true (m ∷ ms) = by m.underlined refl (defining-listed true ms) where
-  by : (t : Bool) → m.underlined ≡ t → defining (listed true ms) ≡ defining ms
-      → defining (cond t (m ∷ listed true ms) (listed true ms)) ≡ cond t (m ∷ defining ms) (defining ms)
-  by true e rest =
-      ap (λ (t : Bool). cond t (m ∷ defining (listed true ms)) (defining (listed true ms))) e
-      ∙ ap (λ (later : List SectionRef). m ∷ later) rest
-  by false e rest = rest
-defining-listed false (m ∷ ms) =
-    ap (λ (rest : List SectionRef). cond m.underlined (m ∷ rest) rest) (defining-listed false ms)
+defining-listed only (m ∷ ms) = grind (arith, defining-listed only ms)
 
 -- ## A section uses a name where it has a place that isn't underlined
 
@@ -43,44 +26,33 @@ apart : (a b : ℕ) → b < a → (a == b) ≡ false
 apart a b lt = grind (arith, nat_tests)
 
 or-false : (a b : Bool) → a ≡ false → b ≡ false → (a || b) ≡ false
-or-false a b x y = ap (λ (t : Bool). t || b) x ∙ y
+or-false a b x y = grind arith
 
 -- a section that all of these are above doesn't stand among them
 above : (section : ℕ) (ms : List SectionRef) → All (λ m. section < m.section) ms → stands_in section ms ≡ false
 above section [] all = refl
-above section (m ∷ ms) all =
-    or-false (m.section == section) (stands_in section ms)
+above section (m ∷ ms) all = or-false (m.section == section) (stands_in section ms)
     (apart m.section section (All-head (λ (n : SectionRef). section < n.section) m ms all))
     (above section ms (All-tail (λ (n : SectionRef). section < n.section) m ms all))
 
-unused : (section : ℕ) (ms : List SectionRef) → All (λ m. section < m.section) ms
-    → list_any (is_use section) ms ≡ false
+unused : (section : ℕ) (ms : List SectionRef) → All (λ m. section < m.section) ms → list_any (is_use section) ms ≡ false
 unused section [] all = refl
-unused section (m ∷ ms) all =
-    or-false (is_use section m) (list_any (is_use section) ms)
-    (ap (λ (t : Bool). t && not m.underlined)
-    (apart m.section section (All-head (λ (n : SectionRef). section < n.section) m ms all)))
+unused section (m ∷ ms) all = or-false (is_use section m) (list_any (is_use section) ms) (ap (λ (t : Bool). t && not
+    m.underlined) (apart m.section section (All-head (λ (n : SectionRef). section < n.section) m ms all)))
     (unused section ms (All-tail (λ (n : SectionRef). section < n.section) m ms all))
 
 -- of one place and those behind it: whether they have a section, and whether its underlined ones do
 abbrev use_with : Bool → Bool → Bool → Bool → Bool
 use_with here underlined behind defined = (here || behind) && not (cond underlined (here || defined) defined)
 
-first-is : (section : ℕ) (m : SectionRef) (ms : List SectionRef)
-    → is_used_in section (m ∷ ms) (defining (m ∷ ms))
+first-is : (section : ℕ) (m : SectionRef) (ms : List SectionRef) → is_used_in section (m ∷ ms) (defining (m ∷ ms))
     ≡ use_with (m.section == section) m.underlined (stands_in section ms) (stands_in section (defining ms))
-first-is section m ms = ap (λ (t : Bool). ((m.section == section) || stands_in section ms) && not t) (by m.underlined)
-  where
-    by : (t : Bool) → stands_in section (cond t (m ∷ defining ms) (defining ms))
-        ≡ cond t ((m.section == section) || stands_in section (defining ms)) (stands_in section (defining ms))
-    by true = refl
-    by false = refl
+first-is section m ms = grind arith
 
 pub used-is : (section : ℕ) (ms : List SectionRef) → AreAscending ms
     → is_used_in section ms (defining ms) ≡ list_any (is_use section) ms
 used-is section [] ascending = refl
-used-is section (m ∷ ms) ascending =
-    first-is section m ms ∙ by (m.section == section) refl (used-is section ms later)
+used-is section (m ∷ ms) ascending = first-is section m ms ∙ by (m.section == section) refl (used-is section ms later)
   where
     later : AreAscending ms
     later = λ i j d lt within. ascending (suc i) (suc j) d (omega arith) (omega arith)
@@ -91,49 +63,42 @@ used-is section (m ∷ ms) ascending =
     here : (m.section == section) ≡ true → All (λ n. section < n.section) ms
     here e = subst (λ (k : ℕ). All (λ (n : SectionRef). k < n.section) ms) (same m.section section e) behind
 
-    alone : (u : Bool) → All (λ n. section < n.section) ms
-        → use_with true u (stands_in section ms) (stands_in section (defining ms))
-        ≡ (not u || list_any (is_use section) ms)
+    alone : (u : Bool) → All (λ n. section < n.section) ms → use_with true u (stands_in section ms)
+        (stands_in section (defining ms)) ≡ (not u || list_any (is_use section) ms)
     alone true all = sym (unused section ms all)
     alone false all =
         ap not (above section (defining ms) (All-filter (λ n. n.underlined) (λ n. section < n.section) ms all))
 
-    elsewhere : (u : Bool) → is_used_in section ms (defining ms) ≡ list_any (is_use section) ms
-        → use_with false u (stands_in section ms) (stands_in section (defining ms))
-        ≡ list_any (is_use section) ms
+    elsewhere : (u : Bool) → is_used_in section ms (defining ms) ≡ list_any (is_use section) ms → use_with false u
+        (stands_in section ms) (stands_in section (defining ms)) ≡ list_any (is_use section) ms
     elsewhere true rest = rest
     elsewhere false rest = rest
 
-    by : (t : Bool) → (m.section == section) ≡ t
-        → is_used_in section ms (defining ms) ≡ list_any (is_use section) ms
-        → use_with t m.underlined (stands_in section ms) (stands_in section (defining ms))
-        ≡ ((t && not m.underlined) || list_any (is_use section) ms)
+    by : (t : Bool) → (m.section == section) ≡ t → is_used_in section ms (defining ms) ≡ list_any
+        (is_use section) ms → use_with t m.underlined (stands_in section ms)
+        (stands_in section (defining ms)) ≡ ((t && not m.underlined) || list_any (is_use section) ms)
     by true e rest = alone m.underlined (here e)
     by false e rest = elsewhere m.underlined rest
 
 -- ## What a place adds to those that its section lists
 
 and-not : (t u : Bool) → u ≡ true → (t && not u) ≡ false
-and-not true u e = ap not e
-and-not false u e = refl
+and-not t u e = grind arith
 
 different : (a b : ℕ) → (a == b) ≡ false → b ≢ a
 different a b e = grind (arith, nat_tests)
 
 pub use-passed : (section name : ℕ) (names : List ℕ) (place : SectionRef) (later : List SectionRef)
     → place.underlined ≡ true → with_later section name names later ≡ with_later section name names (place ∷ later)
-use-passed section name names place later e =
-    ap (λ (t : Bool). names ++ list_if (t || list_any (is_use section) later) (name ∷ []))
-    (sym (and-not (place.section == section) place.underlined e))
+use-passed section name names place later e = grind (arith, and-not)
 
 pub use-listed : (section name : ℕ) (names new : List ℕ) (place : SectionRef) (later : List SectionRef)
     → place.underlined ≡ false → All (λ n. place.section < n.section) later
     → (section ≡ place.section → new ≡ names ++ name ∷ []) → (section ≢ place.section → new ≡ names)
     → with_later section name new later ≡ with_later section name names (place ∷ later)
 use-listed section name names new place later e behind here elsewhere = by (place.section == section) refl where
-  by : (t : Bool) → (place.section == section) ≡ t
-      → with_later section name new later
-      ≡ names ++ list_if ((t && not place.underlined) || list_any (is_use section) later) (name ∷ [])
+  by : (t : Bool) → (place.section == section) ≡ t → with_later section name new later ≡ names ++ list_if
+      ((t && not place.underlined) || list_any (is_use section) later) (name ∷ [])
   by true is =
       let at : place.section ≡ section = same place.section section is in
       let none : list_any (is_use section) later ≡ false =
@@ -156,12 +121,10 @@ above-later (m ∷ ms) (suc i) d ascending within =
 
 -- what a test of a use tells of the place
 pub is-used : (t u : Bool) → t ≡ not u → t ≡ true → u ≡ false
-is-used t true e is = absurd cc
-is-used t false e is = refl
+is-used t u e is = grind arith
 
 pub is-unused : (t u : Bool) → t ≡ not u → t ≡ false → u ≡ true
-is-unused t true e is = refl
-is-unused t false e is = absurd cc
+is-unused t u e is = grind arith
 
 more : (i : ℕ) → suc i ≡ i + 1
 more i = grind arith
@@ -169,28 +132,23 @@ more i = grind arith
 pub step-passed : (section name i : ℕ) (names start : List ℕ) (ms : List SectionRef) (d : SectionRef) → i < length ms
     → (get_or ms i d).underlined ≡ true → with_later section name names (drop i ms) ≡ start
     → with_later section name names (drop (i + 1) ms) ≡ start
-step-passed section name i names start ms d within e so =
-    use-passed section name names (get_or ms i d) (drop (i + 1) ms) e
-    ∙ ap (with_later section name names) (sym (drop_more ms i d within)) ∙ so
+step-passed section name i names start ms d within e so = use-passed section name names (get_or ms i d)
+    (drop (i + 1) ms) e ∙ ap (with_later section name names) (sym (drop_more ms i d within)) ∙ so
 
 pub step-listed : (section name i : ℕ) (names new start : List ℕ) (ms : List SectionRef) (d : SectionRef)
     → AreAscending ms → i < length ms → (get_or ms i d).underlined ≡ false
-    → (section ≡ (get_or ms i d).section → new ≡ names ++ name ∷ [])
-    → (section ≢ (get_or ms i d).section → new ≡ names)
+    → (section ≡ (get_or ms i d).section → new ≡ names ++ name ∷ []) → (section ≢ (get_or ms i d).section → new ≡ names)
     → with_later section name names (drop i ms) ≡ start → with_later section name new (drop (i + 1) ms) ≡ start
-step-listed section name i names new start ms d ascending within e here elsewhere so =
-    use-listed section name names new (get_or ms i d) (drop (i + 1) ms) e
-    (subst (λ (n : ℕ). All (λ (m : SectionRef). (get_or ms i d).section < m.section) (drop n ms)) (more i)
-    (above-later ms i d ascending within)) here elsewhere
+step-listed section name i names new start ms d ascending within e here elsewhere so = use-listed section name names new
+    (get_or ms i d) (drop (i + 1) ms) e (subst (λ (n : ℕ). All (λ (m : SectionRef). (get_or ms i d).section < m.section)
+    (drop n ms)) (more i) (above-later ms i d ascending within)) here elsewhere
     ∙ ap (with_later section name names) (sym (drop_more ms i d within)) ∙ so
 
 -- When no place is to come, the section lists the name if one was a use in it.
-pub listed-whole : (section name i : ℕ) (names start : List ℕ) (ms : List SectionRef) (own : Bool)
-    → AreAscending ms → length ms ≤ i → own ≡ true
-    → with_later section name names (drop i ms) ≡ with_later section name start ms
+pub listed-whole : (section name i : ℕ) (names start : List ℕ) (ms : List SectionRef) (own : Bool) → AreAscending ms
+    → length ms ≤ i → own ≡ true → with_later section name names (drop i ms) ≡ with_later section name start ms
     → names ≡ start ++ list_if (own && is_used_in section ms (defining ms)) (name ∷ [])
-listed-whole section name i names start ms own ascending past is so =
-    sym (append-nil names)
+listed-whole section name i names start ms own ascending past is so = sym (append-nil names)
     ∙ ap (with_later section name names) (sym (drop_all i ms past)) ∙ so
     ∙ ap (λ (t : Bool). start ++ list_if t (name ∷ [])) (sym (used-is section ms ascending))
     ∙ ap (λ (t : Bool). start ++ list_if (t && is_used_in section ms (defining ms)) (name ∷ [])) (sym is)

@@ -1,14 +1,9 @@
 -- Each row of the index is that of its name.
-use Rattle.std.proofs.Common.{◌≡◌, ℕ, zero, suc, ◌+◌, Bool, true, false, List, [], ◌∷◌, All, Some, ap, arith}
-use Rattle.std.proofs.Common.{drop, fold, refl, subst}
-use Rattle.std.specs.Prelude.{slice_get}
-use Rattle.std.proofs.lemmas.List.Elements.{All-cons, All-head, All-nil, All-tail}
+use Rattle.cw_mini.proofs.Terms.{◌≡◌, ℕ, zero, suc, ◌+◌, Bool, true, false, List, [], ◌∷◌, All, Some, ap, arith, drop}
+use Rattle.cw_mini.proofs.Terms.{fold, refl, subst, slice_get, All-cons, All-head, All-nil, All-tail, Occurrence, Entry}
+use Rattle.cw_mini.proofs.Terms.{Row, has_sections, index_rows, row, row_cmp, rows_from, with_row}
 use Rattle.std.proofs.lemmas.Map.Views.{All-insert_key}
-use Rattle.std.specs.BTreeSet.{insert_key}
-use Rattle.std.specs.declared.cmp.Ordering.{Ordering}
-use Rattle.cw_names.specs.declared.xrefs.Occurrence.{Occurrence}
-use Rattle.cw_names.specs.Names.{Entry}
-use Rattle.cw_index.specs.Mentions.{Row, has_sections, index_rows, row, row_cmp, rows_from, with_row}
+use Rattle.std.specs.{BTreeSet.insert_key, declared.cmp.Ordering.Ordering}
 
 pub record IsRowOf (names : List Entry) (occurrences : List Occurrence) (r : Row) : Type 0 where
   pub there : slice_get names r.name ≡ Some r.entry
@@ -50,12 +45,10 @@ rows-named names occurrences name (entry ∷ later) e = by (has_sections (row na
 sorted-all : {X : Type 0} (P : X → Type 0) (order : X → X → Ordering) (kept xs : List X) → All P kept → All P xs
     → All P (fold (insert_key order) kept xs)
 sorted-all P order kept [] all later = all
-sorted-all P order kept (x ∷ xs) all later =
-    sorted-all P order (insert_key order kept x) xs
+sorted-all P order kept (x ∷ xs) all later = sorted-all P order (insert_key order kept x) xs
     (All-insert_key order x P kept all (All-head P x xs later)) (All-tail P x xs later)
 
 pub index-named : (names : List Entry) (occurrences : List Occurrence)
     → All (IsRowOf names occurrences) (index_rows names occurrences)
-index-named names occurrences =
-    sorted-all (IsRowOf names occurrences) row_cmp [] (rows_from 0 names occurrences)
+index-named names occurrences = sorted-all (IsRowOf names occurrences) row_cmp [] (rows_from 0 names occurrences)
     (All-nil (IsRowOf names occurrences)) (rows-named names occurrences 0 names refl)

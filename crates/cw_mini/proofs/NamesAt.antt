@@ -1,15 +1,12 @@
 -- The names of a section, where they lie.
-use Rattle.std.proofs.Common.{◌≡◌, ℕ, zero, suc, ◌<◌, ◌≤◌, ◌≢◌, List, [], ◌∷◌, ◌++◌, length, get_or, set, Vec, Global}
-use Rattle.std.proofs.Common.{ap, arith, refl}
-use Rattle.cw_names.specs.declared.entry.NameId.{NameId}
-use Rattle.cw_mini.specs.RowForms.{names_at, positions}
+use Rattle.cw_mini.proofs.Terms.{◌≡◌, ℕ, zero, suc, ◌<◌, ◌≤◌, ◌≢◌, List, [], ◌∷◌, ◌++◌, length, get_or, set, Vec}
+use Rattle.cw_mini.proofs.Terms.{Global, ap, arith, refl, NameId, names_at, positions}
 
 pub at-pushed : (lists : List (Vec NameId Global)) (list : Vec NameId Global) (name : ℕ) → list.items ≡ []
     → names_at name (lists ++ list ∷ []) ≡ names_at name lists
 at-pushed [] list zero empty = ap positions empty
-at-pushed [] list (suc name) empty = refl
-at-pushed (x ∷ lists) list zero empty = refl
 at-pushed (x ∷ lists) list (suc name) empty = at-pushed lists list name empty
+at-pushed _ _ _ _ = refl
 
 pub at-set : (lists : List (Vec NameId Global)) (list : Vec NameId Global) (name : ℕ) → name < length lists
     → names_at name (set lists name list) ≡ positions list.items
@@ -19,11 +16,9 @@ at-set (x ∷ lists) list (suc name) low = at-set lists list name (omega arith)
 
 pub at-other : (lists : List (Vec NameId Global)) (list : Vec NameId Global) (name other : ℕ) → other ≢ name
     → names_at other (set lists name list) ≡ names_at other lists
-at-other [] list name other differ = refl
 at-other (x ∷ lists) list zero zero differ = absurd (differ refl)
-at-other (x ∷ lists) list zero (suc other) differ = refl
-at-other (x ∷ lists) list (suc name) zero differ = refl
 at-other (x ∷ lists) list (suc name) (suc other) differ = at-other lists list name other (λ same. differ (ap suc same))
+at-other _ _ _ _ _ = refl
 
 pub at-read : (lists : List (Vec NameId Global)) (d : Vec NameId Global) (name : ℕ) → name < length lists
     → names_at name lists ≡ positions (get_or lists name d).items

@@ -1,50 +1,32 @@
 -- The lines of rows, one behind the other.
-use Rattle.std.proofs.Common.{◌≡◌, ℕ, ◌+◌, ◌&&◌, Bool, true, false, List, [], ◌∷◌, ◌++◌, All, codes, refl, sym, ap, ◌∙◌}
-use Rattle.std.proofs.Common.{append_assoc, cond, drop, filter}
-use Rattle.std.specs.List.{flat_map}
-use Rattle.std.proofs.lemmas.List.Concat.{flat_map-cons}
-use Rattle.std.proofs.lemmas.List.Elements.{All-cons, All-head, All-nil, All-tail}
-use Rattle.cw_base.specs.declared.category.Cat.{Cat}
-use Rattle.cw_names.specs.Mentions.{mentions}
-use Rattle.cw_names.specs.Names.{Entry}
-use Rattle.cw_names.specs.declared.entry.EntryKind.{EntryKind}
-use Rattle.cw_names.specs.declared.entry.EntryKind.TheVariants.{Ident, Roman, Typewriter, User}
-use Rattle.cw_names.specs.declared.xrefs.Occurrence.{Occurrence}
-use Rattle.cw_names.specs.declared.xrefs.SectionRef.{SectionRef}
+use Rattle.cw_mini.proofs.Terms.{◌≡◌, ℕ, ◌+◌, ◌&&◌, Bool, true, false, List, [], ◌∷◌, ◌++◌, All, codes, refl, sym, ap}
+use Rattle.cw_mini.proofs.Terms.{◌∙◌, append_assoc, cond, drop, filter, flat_map, flat_map-cons, All-cons, All-head}
+use Rattle.cw_mini.proofs.Terms.{All-nil, All-tail, Cat, mentions, Entry, EntryKind, Occurrence, SectionRef, Row}
+use Rattle.cw_mini.proofs.Terms.{index_rows, is_ident, needs_underline, row, defining, is_listed_in, section_rows}
+use Rattle.cw_mini.proofs.Terms.{defining_bytes, row_line, arith}
 use Rattle.cw_phase1.specs.declared.sections.Section.{Section}
 use Rattle.cw_index.specs.Index.{kind_bytes, word_bytes}
-use Rattle.cw_index.specs.Mentions.{Row, index_rows, is_ident, needs_underline, row}
-use Rattle.cw_mini.specs.Mini.{defining, is_listed_in, section_rows}
-use Rattle.cw_mini.specs.MiniFile.{defining_bytes, row_line}
-use Rattle.cw_mini.proofs.ListingLaws.{defining-listed}
-use Rattle.cw_mini.proofs.NamedRows.{IsRowOf, index-named}
+use Rattle.cw_mini.proofs.{ListingLaws.defining-listed, NamedRows.IsRowOf, NamedRows.index-named}
 
 -- ## The line of an identifier
 
 ident-bytes : (kind : EntryKind) (category : Cat) (text : List ℕ) → is_ident kind ≡ true
     → kind_bytes kind category text ≡ word_bytes category text
-ident-bytes Ident category text is = refl
-ident-bytes Roman category text is = absurd cc
-ident-bytes Typewriter category text is = absurd cc
-ident-bytes User category text is = absurd cc
+ident-bytes kind category text is = grind arith
 
 -- It is its word, the sections that define it, and the end.
-pub ident-line : (sections : List Section) (name : ℕ) (entry : Entry) (occurrences : List Occurrence)
-    (before : List ℕ) → is_ident entry.kind ≡ true
-    → ((before ++ word_bytes entry.category entry.text)
-    ++ flat_map (defining_bytes sections) (defining (mentions name occurrences))) ++ codes ".\n"
-    ≡ before ++ row_line sections (row name entry occurrences)
+pub ident-line : (sections : List Section) (name : ℕ) (entry : Entry) (occurrences : List Occurrence) (before : List ℕ)
+    → is_ident entry.kind ≡ true
+    → ((before ++ word_bytes entry.category entry.text) ++ flat_map (defining_bytes sections)
+    (defining (mentions name occurrences))) ++ codes ".\n" ≡ before ++ row_line sections (row name entry occurrences)
 ident-line sections name entry occurrences before is =
     let word : List ℕ = word_bytes entry.category entry.text in
     let given : List SectionRef → List ℕ = λ ms. flat_map (defining_bytes sections) (defining ms) in
     let ms : List SectionRef = mentions name occurrences in
-    append_assoc (before ++ word) (given ms) (codes ".\n")
-    ∙ append_assoc before word (given ms ++ codes ".\n")
-    ∙ ap (λ (bytes : List ℕ). before ++ (bytes ++ (given ms ++ codes ".\n")))
-    (sym (ident-bytes entry.kind entry.category entry.text is))
-    ∙ ap (λ (ds : List SectionRef). before ++ (kind_bytes entry.kind entry.category entry.text
-    ++ (flat_map (defining_bytes sections) ds ++ codes ".\n")))
-    (sym (defining-listed (needs_underline name entry) ms))
+    append_assoc (before ++ word) (given ms) (codes ".\n") ∙ append_assoc before word (given ms ++ codes ".\n") ∙ ap
+    (λ (bytes : List ℕ). before ++ (bytes ++ (given ms ++ codes ".\n"))) (sym (ident-bytes entry.kind entry.category
+    entry.text is)) ∙ ap (λ (ds : List SectionRef). before ++ (kind_bytes entry.kind entry.category entry.text
+    ++ (flat_map (defining_bytes sections) ds ++ codes ".\n"))) (sym (defining-listed (needs_underline name entry) ms))
 
 -- ## The rows of a section
 
@@ -53,15 +35,12 @@ pub record IsIdentRow (names : List Entry) (occurrences : List Occurrence) (r : 
   pub ident : is_ident r.entry.kind ≡ true
 
 and-first : (a b : Bool) → (a && b) ≡ true → a ≡ true
-and-first true b e = refl
-and-first false b e = e
+and-first a b e = grind arith
 
-listed-idents : (section : ℕ) (names : List Entry) (occurrences : List Occurrence) (rows : List Row)
-    → All (IsRowOf names occurrences) rows
-    → All (IsIdentRow names occurrences) (filter (is_listed_in section occurrences) rows)
+listed-idents : (section : ℕ) (names : List Entry) (occurrences : List Occurrence) (rows : List Row) → All (IsRowOf
+    names occurrences) rows → All (IsIdentRow names occurrences) (filter (is_listed_in section occurrences) rows)
 listed-idents section names occurrences [] all = All-nil (IsIdentRow names occurrences)
-listed-idents section names occurrences (r ∷ rows) all =
-    by (is_listed_in section occurrences r) refl
+listed-idents section names occurrences (r ∷ rows) all = by (is_listed_in section occurrences r) refl
     (listed-idents section names occurrences rows (All-tail (IsRowOf names occurrences) r rows all))
   where
     rest : List Row

@@ -1,20 +1,10 @@
 -- Names, and the rows that they stand for.
-use Rattle.std.proofs.Common.{◌≡◌, ℕ, zero, suc, ◌+◌, ◌<◌, ◌&&◌, Bool, true, false, List, [], ◌∷◌, ◌++◌, All, refl, sym}
-use Rattle.std.proofs.Common.{ap}
-use Rattle.std.proofs.Common.{◌∙◌, append_assoc, arith, cond, drop, filter, get_or, length, map}
-use Rattle.std.proofs.lemmas.List.{append-nil}
-use Rattle.std.proofs.lemmas.List.Elements.{All-head, All-tail}
-use Rattle.cw_base.specs.Conditions.{list_if}
-use Rattle.cw_names.specs.Names.{Entry}
-use Rattle.cw_names.specs.declared.entry.NameId.{NameId}
-use Rattle.cw_names.specs.declared.xrefs.Occurrence.{Occurrence}
-use Rattle.cw_names.specs.declared.xrefs.SectionRef.{SectionRef}
-use Rattle.cw_names.specs.Mentions.{mentions}
-use Rattle.cw_index.specs.Mentions.{Row, has_sections, needs_underline, row}
-use Rattle.cw_mini.specs.Mini.{MiniRow, defining, is_listed_in, is_own_name, is_used_in, mini_row, numbers}
-use Rattle.cw_mini.specs.RowForms.{positions, row_names}
-use Rattle.cw_mini.proofs.ListingLaws.{defining-listed}
-use Rattle.cw_mini.proofs.NamedRows.{IsRowOf}
+use Rattle.cw_mini.proofs.Terms.{◌≡◌, ℕ, zero, suc, ◌+◌, ◌<◌, ◌&&◌, Bool, true, false, List, [], ◌∷◌, ◌++◌, All, refl}
+use Rattle.cw_mini.proofs.Terms.{sym, ap, ◌∙◌, append_assoc, arith, cond, drop, filter, get_or, length, map, append-nil}
+use Rattle.cw_mini.proofs.Terms.{All-head, All-tail, list_if, Entry, NameId, Occurrence, SectionRef, mentions, Row}
+use Rattle.cw_mini.proofs.Terms.{has_sections, needs_underline, row, MiniRow, defining, is_listed_in, is_own_name}
+use Rattle.cw_mini.proofs.Terms.{is_used_in, mini_row, numbers, positions, row_names}
+use Rattle.cw_mini.proofs.{ListingLaws.defining-listed, NamedRows.IsRowOf}
 
 -- The row at a place among rows is that of the name there, and they are so.
 pub record IsHere (P : Row → Type 0) (ids : List NameId) (rows : List Row) (i : ℕ) (d : NameId) : Type 0 where
@@ -46,13 +36,11 @@ row-here P (id ∷ ids) (r ∷ rows) zero d same all low = record {
   is = All-head P r rows all;
 }
 row-here P (id ∷ ids) (r ∷ rows) (suc i) d same all low =
-    let here : IsHere P ids rows i d =
-    row-here P ids rows i d (rest-same id.index r.name (positions ids) (row_names rows) same) (All-tail P r rows all)
-    (omega arith) in
+    let here : IsHere P ids rows i d = row-here P ids rows i d
+    (rest-same id.index r.name (positions ids) (row_names rows) same) (All-tail P r rows all) (omega arith) in
     record {
       row = here.row;
-      next = here.next
-          ∙ ap (λ (n : ℕ). here.row ∷ drop n rows) (sym (more i))
+      next = here.next ∙ ap (λ (n : ℕ). here.row ∷ drop n rows) (sym (more i))
           ∙ ap (λ (n : ℕ). here.row ∷ drop n (r ∷ rows)) (more (suc i));
       name = here.name;
       is = here.is;
@@ -68,13 +56,11 @@ listed_by occurrences section id entry =
 
 pub row-listed : (occurrences : List Occurrence) (section : ℕ) (id : NameId) (r : Row) → r.name ≡ id.index
     → r ≡ row r.name r.entry occurrences → is_listed_in section occurrences r ≡ listed_by occurrences section id r.entry
-row-listed occurrences section id r name is =
-    ap (is_listed_in section occurrences) is
-    ∙ ap (λ (ds : List SectionRef). (is_own_name r.name r.entry && has_sections ds)
-    && is_used_in section (mentions r.name occurrences) ds)
-    (defining-listed (needs_underline r.name r.entry) (mentions r.name occurrences))
-    ∙ ap (λ (n : ℕ). (is_own_name n r.entry && has_sections (defining (mentions n occurrences)))
-    && is_used_in section (mentions n occurrences) (defining (mentions n occurrences))) name
+row-listed occurrences section id r name is = ap (is_listed_in section occurrences) is
+    ∙ ap (λ (ds : List SectionRef). (is_own_name r.name r.entry && has_sections ds) && is_used_in section
+    (mentions r.name occurrences) ds) (defining-listed (needs_underline r.name r.entry) (mentions r.name occurrences))
+    ∙ ap (λ (n : ℕ). (is_own_name n r.entry && has_sections (defining (mentions n occurrences))) && is_used_in section
+    (mentions n occurrences) (defining (mentions n occurrences))) name
 
 -- what a section has of names, with the rows of those that are still to come
 abbrev pub with_rows : ℕ → List Occurrence → List ℕ → List Row → List ℕ
@@ -82,25 +68,19 @@ with_rows section occurrences names later = names ++ row_names (filter (is_liste
 
 pub row-next : (b : Bool) (names : List ℕ) (r : Row) (rest : List Row)
     → (names ++ list_if b (r.name ∷ [])) ++ row_names rest ≡ names ++ row_names (cond b (r ∷ rest) rest)
-row-next true names r rest = append_assoc names (r.name ∷ []) (row_names rest)
-row-next false names r rest = ap (λ (l : List ℕ). l ++ row_names rest) (append-nil names)
+row-next b names r rest = grind (arith, append_assoc, append-nil)
 
-pub with-next : (occurrences : List Occurrence) (section : ℕ) (names new : List ℕ) (ids : List NameId)
-    (rows : List Row) (i : ℕ) (d : NameId) (all : List Entry)
-    → (here : IsHere (IsRowOf all occurrences) ids rows i d)
-    → new ≡ names ++ list_if (listed_by occurrences section (get_or ids i d) here.row.entry)
-    ((get_or ids i d).index ∷ [])
+pub with-next : (occurrences : List Occurrence) (section : ℕ) (names new : List ℕ) (ids : List NameId) (rows : List Row)
+    (i : ℕ) (d : NameId) (all : List Entry) → (here : IsHere (IsRowOf all occurrences) ids rows i d) → new ≡ names
+    ++ list_if (listed_by occurrences section (get_or ids i d) here.row.entry) ((get_or ids i d).index ∷ [])
     → with_rows section occurrences new (drop (i + 1) rows) ≡ with_rows section occurrences names (drop i rows)
 with-next occurrences section names new ids rows i d all here is =
     let rest : List Row = filter (is_listed_in section occurrences) (drop (i + 1) rows) in
     let id : NameId = get_or ids i d in
-    ap (λ (l : List ℕ). l ++ row_names rest) is
-    ∙ ap (λ (b : Bool). (names ++ list_if b (id.index ∷ [])) ++ row_names rest)
-    (sym (row-listed occurrences section id here.row here.name here.is.is))
-    ∙ ap (λ (n : ℕ). (names ++ list_if (is_listed_in section occurrences here.row) (n ∷ [])) ++ row_names rest)
-    (sym here.name)
-    ∙ row-next (is_listed_in section occurrences here.row) names here.row rest
-    ∙ ap (with_rows section occurrences names) (sym here.next)
+    ap (λ (l : List ℕ). l ++ row_names rest) is ∙ ap (λ (b : Bool). (names ++ list_if b (id.index ∷ [])) ++ row_names
+    rest) (sym (row-listed occurrences section id here.row here.name here.is.is)) ∙ ap (λ (n : ℕ). (names ++ list_if
+    (is_listed_in section occurrences here.row) (n ∷ [])) ++ row_names rest) (sym here.name) ∙ row-next (is_listed_in
+    section occurrences here.row) names here.row rest ∙ ap (with_rows section occurrences names) (sym here.next)
 
 -- ## Rows of one section
 
@@ -108,15 +88,12 @@ with-next occurrences section names new ids rows i d all here is =
 abbrev pub rows_with : ℕ → List Occurrence → List MiniRow → List Row → List MiniRow
 rows_with section occurrences rows later = rows ++ map mini_row (filter (is_listed_in section occurrences) later)
 
-mini-row-is : (occurrences : List Occurrence) (id : NameId) (r : Row) → r.name ≡ id.index
-    → r ≡ row r.name r.entry occurrences
-    → mini_row r ≡ record { name = id.index; sections = numbers (defining (mentions id.index occurrences)) }
-mini-row-is occurrences id r name is =
-    ap mini_row is
+mini-row-is : (occurrences : List Occurrence) (id : NameId) (r : Row) → r.name ≡ id.index → r ≡ row r.name r.entry
+    occurrences → mini_row r ≡ record { name = id.index; sections = numbers (defining (mentions id.index occurrences)) }
+mini-row-is occurrences id r name is = ap mini_row is
     ∙ ap (λ (ds : List SectionRef). let m : MiniRow = record { name = r.name; sections = numbers ds } in m)
-    (defining-listed (needs_underline r.name r.entry) (mentions r.name occurrences))
-    ∙ ap (λ (n : ℕ). let m : MiniRow = record { name = n; sections = numbers (defining (mentions n occurrences)) } in m)
-    name
+    (defining-listed (needs_underline r.name r.entry) (mentions r.name occurrences)) ∙ ap
+    (λ (n : ℕ). let m : MiniRow = record { name = n; sections = numbers (defining (mentions n occurrences)) } in m) name
 
 kept : (t : Bool) (rows : List MiniRow) (r : Row) (rest : List Row) → t ≡ true
     → (rows ++ mini_row r ∷ []) ++ map mini_row rest ≡ rows ++ map mini_row (cond t (r ∷ rest) rest)
@@ -133,23 +110,17 @@ module _ (occurrences : List Occurrence) (section : ℕ) (ids : List NameId) (ro
   abbrev rest : List Row
   rest = filter (is_listed_in section occurrences) (drop (i + 1) rows)
 
-  pub row-kept : (old new : List MiniRow) (sections : List ℕ)
-      → listed_by occurrences section (get_or ids i d) here.row.entry ≡ true
-      → sections ≡ numbers (defining (mentions (get_or ids i d).index occurrences))
+  pub row-kept : (old new : List MiniRow) (sections : List ℕ) → listed_by occurrences section (get_or ids i d)
+      here.row.entry ≡ true → sections ≡ numbers (defining (mentions (get_or ids i d).index occurrences))
       → new ≡ old ++ record { name = (get_or ids i d).index; sections = sections } ∷ []
       → rows_with section occurrences new (drop (i + 1) rows) ≡ rows_with section occurrences old (drop i rows)
-  row-kept old new sections is given e =
-      ap (λ (l : List MiniRow). l ++ map mini_row rest)
-      (e ∙ ap (λ (ds : List ℕ). old ++ record { name = (get_or ids i d).index; sections = ds } ∷ []) given
-      ∙ ap (λ (m : MiniRow). old ++ m ∷ [])
-      (sym (mini-row-is occurrences (get_or ids i d) here.row here.name here.is.is)))
-      ∙ kept (is_listed_in section occurrences here.row) old here.row rest
-      (row-listed occurrences section (get_or ids i d) here.row here.name here.is.is ∙ is)
-      ∙ ap (rows_with section occurrences old) (sym here.next)
+  row-kept old new sections is given e = ap (λ (l : List MiniRow). l ++ map mini_row rest) (e
+      ∙ ap (λ (ds : List ℕ). old ++ record { name = (get_or ids i d).index; sections = ds } ∷ []) given ∙ ap
+      (λ (m : MiniRow). old ++ m ∷ []) (sym (mini-row-is occurrences (get_or ids i d) here.row here.name here.is.is)))
+      ∙ kept (is_listed_in section occurrences here.row) old here.row rest (row-listed occurrences section
+      (get_or ids i d) here.row here.name here.is.is ∙ is) ∙ ap (rows_with section occurrences old) (sym here.next)
 
   pub row-left : (old : List MiniRow) → listed_by occurrences section (get_or ids i d) here.row.entry ≡ false
       → rows_with section occurrences old (drop (i + 1) rows) ≡ rows_with section occurrences old (drop i rows)
-  row-left old is =
-      left (is_listed_in section occurrences here.row) old here.row rest
-      (row-listed occurrences section (get_or ids i d) here.row here.name here.is.is ∙ is)
-      ∙ ap (rows_with section occurrences old) (sym here.next)
+  row-left old is = left (is_listed_in section occurrences here.row) old here.row rest (row-listed occurrences section
+      (get_or ids i d) here.row here.name here.is.is ∙ is) ∙ ap (rows_with section occurrences old) (sym here.next)

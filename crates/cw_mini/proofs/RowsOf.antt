@@ -1,22 +1,15 @@
 -- Each row of a small index is that of a row of the index.
-use Rattle.std.proofs.Common.{◌≡◌, ℕ, Bool, true, false, ◌&&◌, not, ◌==◌, ◌||◌, List, [], ◌∷◌, refl, ◌∙◌, inl, inr}
-use Rattle.std.proofs.Common.{filter, map, cond, arith}
-use Rattle.std.specs.Prelude.{◌≢◌}
-use Rattle.std.proofs.lemmas.Bool.Decides.{nat_tests}
-use Rattle.cw_names.specs.declared.xrefs.Occurrence.{Occurrence}
-use Rattle.cw_names.specs.declared.xrefs.SectionRef.{SectionRef}
-use Rattle.cw_names.specs.Mentions.{mentions}
-use Rattle.cw_index.specs.Mentions.{Row, has_sections, index_rows}
-use Rattle.cw_mini.specs.Mini.{defining, is_listed_in, is_own_name, is_used_in, mini_row, numbers, stands_in}
+use Rattle.cw_mini.proofs.Terms.{◌||◌, ◌≡◌, ℕ, Bool, true, false, ◌&&◌, not, ◌==◌, List, [], ◌∷◌, refl, ◌∙◌, inl, inr}
+use Rattle.cw_mini.proofs.Terms.{filter, map, cond, arith, ◌≢◌, nat_tests, Occurrence, SectionRef, mentions, Row}
+use Rattle.cw_mini.proofs.Terms.{has_sections, index_rows, defining, is_listed_in, is_own_name, is_used_in, mini_row}
+use Rattle.cw_mini.proofs.Terms.{numbers, stands_in}
 use Rattle.cw_mini.specs.MiniLaws.{AreDefining, AreOf, IsIn, IsOf, NamesOtherSections, underlined}
 
 and-second : (a b : Bool) → (a && b) ≡ true → b ≡ true
-and-second true b e = e
-and-second false b e = absurd cc
+and-second a b e = grind arith
 
 or-false : (a b : Bool) → not (a || b) ≡ true → (a ≡ false) × (not b ≡ true)
-or-false true b e = absurd cc
-or-false false b e = (refl, e)
+or-false a b e = grind arith
 
 other : (a b : ℕ) → (a == b) ≡ false → a ≢ b
 other a b e = grind (arith, nat_tests)
@@ -26,13 +19,11 @@ defined : (own : ℕ) (row : Row) (ms : List SectionRef)
     → ((m : SectionRef) → m.underlined ≡ true → IsIn m ms → IsIn (underlined m.section) row.sections)
     → not (stands_in own (defining ms)) ≡ true → AreDefining own row (numbers (defining ms))
 defined own row [] there apart = tt
-defined own row (m ∷ ms) there apart = by m.underlined refl apart
-    (defined own row ms (λ n u is. there n u (inr is)))
+defined own row (m ∷ ms) there apart = by m.underlined refl apart (defined own row ms (λ n u is. there n u (inr is)))
   where
-    by : (t : Bool) → m.underlined ≡ t
-        → not (stands_in own (cond t (m ∷ defining ms) (defining ms))) ≡ true
-        → (not (stands_in own (defining ms)) ≡ true → AreDefining own row (numbers (defining ms)))
-        → AreDefining own row (numbers (cond t (m ∷ defining ms) (defining ms)))
+    by : (t : Bool) → m.underlined ≡ t → not (stands_in own (cond t (m ∷ defining ms) (defining ms))) ≡ true → (not
+        (stands_in own (defining ms)) ≡ true → AreDefining own row (numbers (defining ms))) → AreDefining own row
+        (numbers (cond t (m ∷ defining ms) (defining ms)))
     by true e apart rest =
         let both = or-false (m.section == own) (stands_in own (defining ms)) apart in
         (other m.section own both.0, there m e (inl refl), rest both.1)
@@ -58,9 +49,8 @@ of-row own occurrences rows row is listed = record {
     at m (n ∷ ms) u (inl e) = inl (e ∙ same m u)
     at m (n ∷ ms) u (inr later) = inr (at m ms u later)
 
-of-rows : (own : ℕ) (occurrences : List Occurrence) (rows some : List Row)
-    → ((row : Row) → IsIn row some → IsIn row rows)
-    → AreOf own rows (map mini_row (filter (is_listed_in own occurrences) some))
+of-rows : (own : ℕ) (occurrences : List Occurrence) (rows some : List Row) → ((row : Row) → IsIn row some → IsIn row
+    rows) → AreOf own rows (map mini_row (filter (is_listed_in own occurrences) some))
 of-rows own occurrences rows [] embed = tt
 of-rows own occurrences rows (row ∷ some) embed = by (is_listed_in own occurrences row) refl
     (of-rows own occurrences rows some (λ other is. embed other (inr is)))

@@ -1,13 +1,8 @@
 -- Worked rows: the small indexes of sections, over names and the places where they occur.
-use Rattle.std.proofs.Common.{◌≡◌, ℕ, List, [], ◌∷◌, ◌++◌, codes, refl}
-use Rattle.std.specs.Prelude.{true, false}
+use Rattle.cw_mini.proofs.Terms.{◌≡◌, ℕ, List, [], ◌∷◌, ◌++◌, codes, refl, true, false, EntryKind, Ident, Roman}
+use Rattle.cw_mini.proofs.Terms.{Occurrence, Entry, MiniRow, mini_rows}
 use Rattle.cw_base.specs.declared.category.Cat.TheVariants.{Exp}
-use Rattle.cw_names.specs.declared.entry.EntryKind.{EntryKind}
-use Rattle.cw_names.specs.declared.entry.EntryKind.TheVariants.{Ident, Roman}
-use Rattle.cw_names.specs.declared.xrefs.Occurrence.{Occurrence}
-use Rattle.cw_names.specs.Names.{Entry}
 use Rattle.cw_names.specs.Words.{built_in_words}
-use Rattle.cw_mini.specs.Mini.{MiniRow, mini_rows}
 
 abbrev entry : EntryKind → List ℕ → Entry
 entry kind text = record { kind = kind; text = text; category = Exp }
@@ -33,31 +28,23 @@ rows section entries occurrences = mini_rows section (built_in_words ++ entries)
 abbrev one_name : List Occurrence
 one_name = used 3 1 ∷ used 102 1 ∷ used 102 2 ∷ used 102 2 ∷ defined 102 1 ∷ []
 
-own_section_row : rows 1 (ident (codes "i") ∷ []) one_name ≡ []
-own_section_row = refl
-
-other_section_row : rows 2 (ident (codes "i") ∷ []) one_name ≡ line 102 (1 ∷ []) ∷ []
-other_section_row = refl
+one_name_rows : (rows 1 (ident (codes "i") ∷ []) one_name ≡ [])
+    × (rows 2 (ident (codes "i") ∷ []) one_name ≡ line 102 (1 ∷ []) ∷ [])
+one_name_rows = (refl, refl)
 
 -- `int i;`, then `int j; j=i;`, then `int i; i=j;`. The sections that define a name ascend, each once.
 abbrev two_names : List Occurrence
-two_names =
-    used 102 1 ∷ used 103 2 ∷ used 103 2 ∷ used 102 2 ∷ used 102 3 ∷ used 102 3 ∷ used 103 3 ∷ defined 102 3
+two_names = used 102 1 ∷ used 103 2 ∷ used 103 2 ∷ used 102 2 ∷ used 102 3 ∷ used 102 3 ∷ used 103 3 ∷ defined 102 3
     ∷ defined 103 2 ∷ defined 102 1 ∷ defined 102 3 ∷ []
 
-first_row : rows 1 (ident (codes "i") ∷ ident (codes "j") ∷ []) two_names ≡ []
-first_row = refl
-
-second_row : rows 2 (ident (codes "i") ∷ ident (codes "j") ∷ []) two_names ≡ line 102 (1 ∷ 3 ∷ []) ∷ []
-second_row = refl
-
-third_row : rows 3 (ident (codes "i") ∷ ident (codes "j") ∷ []) two_names ≡ line 103 (2 ∷ []) ∷ []
-third_row = refl
+two_names_rows : (rows 1 (ident (codes "i") ∷ ident (codes "j") ∷ []) two_names ≡ [])
+    × (rows 2 (ident (codes "i") ∷ ident (codes "j") ∷ []) two_names ≡ line 102 (1 ∷ 3 ∷ []) ∷ [])
+    × (rows 3 (ident (codes "i") ∷ ident (codes "j") ∷ []) two_names ≡ line 103 (2 ∷ []) ∷ [])
+two_names_rows = (refl, refl, refl)
 
 -- Entries stand in the order of the index: letters before digits, capitals with small letters.
-order_row : rows 2 (ident (codes "a1") ∷ ident (codes "aB") ∷ ident (codes "a_") ∷ ident (codes "A") ∷ [])
-    (defined 102 1 ∷ defined 103 1 ∷ defined 104 1 ∷ defined 105 1 ∷ used 102 2 ∷ used 103 2 ∷ used 104 2
-    ∷ used 105 2 ∷ [])
+order_row : rows 2 (ident (codes "a1") ∷ ident (codes "aB") ∷ ident (codes "a_") ∷ ident (codes "A") ∷ []) (defined 102
+    1 ∷ defined 103 1 ∷ defined 104 1 ∷ defined 105 1 ∷ used 102 2 ∷ used 103 2 ∷ used 104 2 ∷ used 105 2 ∷ [])
     ≡ line 105 (1 ∷ []) ∷ line 104 (1 ∷ []) ∷ line 103 (1 ∷ []) ∷ line 102 (1 ∷ []) ∷ []
 order_row = refl
 

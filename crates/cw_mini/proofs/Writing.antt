@@ -1,18 +1,10 @@
 -- Pieces of a file are written one after another.
-use Rattle.std.proofs.Common.{◌≡◌, ℕ, suc, ◌+◌, ◌-◌, ◌<◌, refl, sym, ap, arith, ◌∙◌, List, [], ◌++◌, append_assoc}
-use Rattle.std.specs.Prelude.{Result, Ok, Err, IsErrAnd, IsTrue, ⊤}
-use Rattle.std.specs.List.{flat_map, range_with_len}
-use Rattle.std.proofs.lemmas.List.{append-nil}
-use Rattle.std.proofs.lemmas.List.Concat.{flat_map-cons}
-use Rattle.cw_base.specs.declared.event.Out.TheVariants.{Tex}
-use Rattle.cw_desk.specs.Journal.{byte_events}
-use Rattle.cw_desk.specs.Meaning.{is_open}
-use Rattle.cw_desk.specs.Told.{Told}
-use Rattle.cw_lines.specs.Writes.{Adds, HasAdded}
-use Rattle.cw_lines.specs.WritesLaws.{adds-events, adds-none}
-use Rattle.cw_lines.specs.declared.put_error.PutError.{PutError}
-use Rattle.cw_lines.specs.declared.put_error.PutError.TheVariants.{Memory}
-use Rattle.cw_tool.specs.PieceLaws.{open-after, piece-stop, piece-then, piece-wanting}
+use Rattle.cw_mini.proofs.Terms.{◌≡◌, ℕ, suc, ◌+◌, ◌-◌, ◌<◌, ap, arith, ◌∙◌, List, [], ◌++◌, append_assoc, Result, Ok}
+use Rattle.cw_mini.proofs.Terms.{Err, IsErrAnd, IsTrue, ⊤, flat_map, range_with_len, append-nil, flat_map-cons, Tex}
+use Rattle.cw_mini.proofs.Terms.{byte_events, adds-events, adds-none, open-after, piece-stop, piece-then, piece-wanting}
+use Rattle.cw_desk.specs.{Meaning.is_open, Told.Told}
+use Rattle.cw_lines.specs.{Writes.Adds, Writes.HasAdded, declared.put_error.PutError.PutError}
+use Rattle.cw_lines.specs.{declared.put_error.PutError.TheVariants.Memory}
 
 -- Bytes are written; with the rest they are all.
 pub record Writing (rest all : List ℕ) (before now : Told) : Type 0 where
@@ -20,10 +12,6 @@ pub record Writing (rest all : List ℕ) (before now : Told) : Type 0 where
   pub written : HasAdded (byte_events Tex done) before now
   pub goes : done ++ rest ≡ all
   pub made : IsTrue (is_open now.outputs Tex)
-
-pub writing-begun : (all : List ℕ) (told : Told) → IsTrue (is_open told.outputs Tex) → Writing all all told told
-writing-begun all told made =
-    record { done = []; written = adds-none {T = ⊤} told (tt {0}); goes = refl; made = made }
 
 pub writing-next : {T : Type 0} (bytes : List ℕ) {rest all : List ℕ} {before between now : Told} {value : T}
     → Writing (bytes ++ rest) all before between → Adds {T = T} (byte_events Tex bytes) between now (Ok value)
@@ -37,40 +25,26 @@ writing-next bytes {rest = rest} {now = now} w piece = record {
 }
 
 -- the piece was refused, and the rest is not written
-pub writing-stopped : {T U : Type 0} (bytes rest : List ℕ) {all : List ℕ} {before between now : Told}
-    {error : PutError} {result : Result U PutError}
-    → Writing (bytes ++ rest) all before between → Adds {T = T} (byte_events Tex bytes) between now (Err error)
-    → IsErrAnd result (λ found. found ≡ error) → Adds (byte_events Tex all) before now result
-writing-stopped bytes rest w piece is =
-    adds-events (ap (byte_events Tex) w.goes)
+pub writing-stopped : {T U : Type 0} (bytes rest : List ℕ) {all : List ℕ} {before between now : Told} {error : PutError}
+    {result : Result U PutError} → Writing (bytes ++ rest) all before between → Adds {T = T} (byte_events Tex bytes)
+    between now (Err error) → IsErrAnd result (λ found. found ≡ error) → Adds (byte_events Tex all) before now result
+writing-stopped bytes rest w piece is = adds-events (ap (byte_events Tex) w.goes)
     (piece-then Tex w.done (bytes ++ rest) w.written (piece-stop Tex bytes rest piece is))
 
 -- memory was wanting before the rest
-pub writing-wanting : {U : Type 0} {rest all : List ℕ} {before now : Told} {result : Result U PutError}
-    → Writing rest all before now → IsErrAnd result (λ found. found ≡ Memory)
-    → Adds (byte_events Tex all) before now result
-writing-wanting {rest = rest} w is =
-    adds-events (ap (byte_events Tex) w.goes)
+pub writing-wanting : {U : Type 0} {rest all : List ℕ} {before now : Told} {result : Result U PutError} → Writing rest
+    all before now → IsErrAnd result (λ found. found ≡ Memory) → Adds (byte_events Tex all) before now result
+writing-wanting {rest = rest} w is = adds-events (ap (byte_events Tex) w.goes)
     (piece-then Tex w.done rest w.written (piece-wanting Tex rest is))
-
-pub writing-ended : {all : List ℕ} {before now : Told} → Writing [] all before now
-    → HasAdded (byte_events Tex all) before now
-writing-ended w = adds-events (ap (byte_events Tex) (sym (append-nil w.done) ∙ w.goes)) w.written
 
 -- the same rest
 pub writing-as : {rest rest' all : List ℕ} {before now : Told} → rest ≡ rest' → Writing rest all before now
     → Writing rest' all before now
-writing-as same w = record {
-  done = w.done;
-  written = w.written;
-  goes = ap (λ (rest : List ℕ). w.done ++ rest) (sym same) ∙ w.goes;
-  made = w.made;
-}
+writing-as same w = rw (← same) w
 
 -- what is left to write of sections behind so many, the first of which comes next
-pub left-next : (f : ℕ → List ℕ) (before count : ℕ) → before < count
-    → flat_map f (range_with_len (before + 1) (count - before))
-    ≡ f (before + 1) ++ flat_map f (range_with_len (before + 1 + 1) (count - (before + 1)))
+pub left-next : (f : ℕ → List ℕ) (before count : ℕ) → before < count → flat_map f (range_with_len (before + 1)
+    (count - before)) ≡ f (before + 1) ++ flat_map f (range_with_len (before + 1 + 1) (count - (before + 1)))
 left-next f before count low =
     let one : count - before ≡ suc (count - (before + 1)) = omega arith in
     ap (λ (n : ℕ). flat_map f (range_with_len (before + 1) n)) one

@@ -1,45 +1,20 @@
 -- One production as a whole.
-use Rattle.std.proofs.Common.{◌≡◌, ℕ, zero, suc, ◌+◌, ◌-◌, ◌<◌, ◌≤◌, true, List, [], ◌∷◌, ◌++◌, length, map, take, drop}
-use Rattle.std.proofs.Common.{set, Option, Some, None, unwrap_or, refl, sym, ap, ◌∙◌, arith}
-use Rattle.std.specs.List.{All, list_all}
-use Rattle.std.specs.Option.{option_to_list}
-use Rattle.std.proofs.lemmas.List.{map-append, drop-map, append_assoc, take_at, drop_at, take-append-drop}
-use Rattle.std.proofs.lemmas.List.{length-append, length-take, length-take-le, length-drop}
-use Rattle.std.proofs.lemmas.List.Elements.{All-drop}
-use Rattle.cw_base.specs.declared.category.Cat.TheVariants.{RawInt}
-use Rattle.cw_base.specs.declared.flags.Flags.{Flags}
-use Rattle.cw_names.specs.declared.NameId.{NameId}
-use Rattle.cw_names.specs.Names.{Entry, with_category}
-use Rattle.cw_trees.specs.Tree.{Search, Found}
-use Rattle.cw_trees.specs.Joining.{Scrap}
-use Rattle.cw_table.specs.declared.types.Row.{Row}
-use Rattle.cw_table.specs.Fitting.{row_fits}
-use Rattle.cw_table.specs.Normal.{is_fine}
-use Rattle.cw_table.specs.Rewriting.{cats_of, new_scrap, search_in, reserved_at, named_right, rewrite_from, found_names}
-use Rattle.cw_table.specs.Rewriting.{with_type, rewrite}
-use Rattle.cw_table.proofs.Falling.{falls, Falls}
+use Rattle.cw_scraps.proofs.Terms.{◌≡◌, ℕ, zero, suc, ◌+◌, ◌-◌, ◌<◌, ◌≤◌, true, List, [], ◌∷◌, ◌++◌, length, map, take}
+use Rattle.cw_scraps.proofs.Terms.{drop, set, Option, Some, None, unwrap_or, refl, sym, ap, ◌∙◌, arith, All, list_all}
+use Rattle.cw_scraps.proofs.Terms.{option_to_list, map-append, drop-map, append_assoc, take_at, drop_at}
+use Rattle.cw_scraps.proofs.Terms.{take-append-drop, length-append, length-take, length-take-le, length-drop, All-drop}
+use Rattle.cw_scraps.proofs.Terms.{RawInt, Flags, NameId, Entry, with_category, Search, Found, Scrap, Row, row_fits}
+use Rattle.cw_scraps.proofs.Terms.{is_fine, cats_of, new_scrap, search_in, reserved_at, named_right, rewrite_from}
+use Rattle.cw_scraps.proofs.Terms.{found_names, with_type, rewrite, falls, Falls, Token, token_count, IsTied}
+use Rattle.cw_scraps.proofs.Terms.{StoredLists, LineEntry, scraps_of, roots_of, AreRoots, IsNamedBelow, IsSoundLine}
+use Rattle.cw_scraps.proofs.Terms.{entry_cats, Changes, Keeps, Replaces, named_by, productions, no_row, row_numbered}
+use Rattle.cw_scraps.proofs.Terms.{row_of, categories, looked_at, state_of, retyped, retyped_by}
 use Rattle.cw_table.proofs.ScrapFacts.{at-length}
-use Rattle.cw_tokens.specs.declared.token.Token.{Token}
-use Rattle.cw_tokens.specs.Counting.{token_count}
-use Rattle.cw_tokens.specs.References.{IsTied}
-use Rattle.cw_tokens.specs.Stored.{StoredLists}
 use Rattle.cw_tokens.specs.Walking.{found_name}
-use Rattle.cw_scraps.specs.declared.line.LineEntry.{LineEntry}
-use Rattle.cw_scraps.specs.Lines.{scraps_of, roots_of, AreRoots, IsNamedBelow, IsSoundLine}
-use Rattle.cw_scraps.specs.Inserting.{entry_cats}
-use Rattle.cw_scraps.specs.Changing.{Changes, Keeps}
-use Rattle.cw_scraps.specs.Replacing.{Replaces}
-use Rattle.cw_scraps.specs.Turning.{named_by}
 use Rattle.cw_scraps.specs.Marking.{MarkList}
-use Rattle.cw_table.specs.Productions.{productions}
-use Rattle.cw_table.specs.Rows.{no_row, row_numbered, row_of}
-use Rattle.cw_scraps.specs.Applying.{categories, looked_at, state_of, retyped, retyped_by}
-use Rattle.cw_scraps.proofs.Buildings.{length-roots}
+use Rattle.cw_scraps.proofs.{Buildings.length-roots, Fits.FitsAt, Fits.place-inside, Keeping.keeps-modes}
+use Rattle.cw_scraps.proofs.{Keeping.keeps-named, Keeping.search-named, Productions.cats-same, Reservings.length-scraps}
 use Rattle.cw_scraps.proofs.Changings.{roots-stay, outside-stay, trees-outside}
-use Rattle.cw_scraps.proofs.Fits.{FitsAt, place-inside}
-use Rattle.cw_scraps.proofs.Keeping.{keeps-modes, keeps-named, search-named}
-use Rattle.cw_scraps.proofs.Productions.{cats-same}
-use Rattle.cw_scraps.proofs.Reservings.{length-scraps}
 
 -- where a name is marked, the row names a scrap in which it is looked for
 pub marked-named : (named : Option ℕ) (scraps : List Scrap) (name : Option NameId) (id : NameId) (spare : ℕ)
@@ -59,9 +34,8 @@ right-is : (s : Search) (xs : List Scrap) → map (named_by (found_name s)) xs �
 right-is s xs = grind (arith, map-none)
 
 -- the row fits the entries as it fits their scraps
-pub fits-line : (row : Row) (lists : List (List Token)) (line : List LineEntry) (place : ℕ)
-    → row_fits row (drop place (cats_of (scraps_of lists line))) ≡ true → row_fits row (entry_cats (drop place line))
-    ≡ true
+pub fits-line : (row : Row) (lists : List (List Token)) (line : List LineEntry) (place : ℕ) → row_fits row
+    (drop place (cats_of (scraps_of lists line))) ≡ true → row_fits row (entry_cats (drop place line)) ≡ true
 fits-line row lists line place h = grind (arith, cats-same, drop-map)
 
 pub keeps-changed : (old new : List (List Token)) (rs : List ℕ) → IsTied old → Changes old new rs → Keeps old new rs rs
@@ -136,21 +110,15 @@ module _ (flags : Flags) (row : Row) (place : ℕ) (l0 l1 l2 l3 : List (List Tok
     scraps = scraps-are;
     roots = rw same (roots-stay l2 l3 (roots_of line1) (roots_of line1) ch3 r.roots);
     keeps = rw same (keeps-trans l0 l1 l3 (roots_of line0) (roots_of line0) (roots_of line1)
-        (keeps-changed l0 l1 (roots_of line0) tied ch1)
-        (keeps-trans l1 l2 l3 (roots_of line0) (roots_of line1) (roots_of line1) r.keeps
-        (keeps-changed l2 l3 (roots_of line1) tied2 ch3)));
-    few =
-        let more : token_count l2 ≤ token_count l1 + 24 = r.few in
-        let before : token_count l1 ≡ token_count l0 = ch1.same_count in
-        let behind : token_count l3 ≡ token_count l2 = ch3.same_count in
-        omega arith;
+        (keeps-changed l0 l1 (roots_of line0) tied ch1) (keeps-trans l1 l2 l3 (roots_of line0) (roots_of line1)
+        (roots_of line1) r.keeps (keeps-changed l2 l3 (roots_of line1) tied2 ch3)));
+    few = omega arith;
   }
 
 -- the steps that were counted, where a row reserves
 pub ticked-is : (given reserve : Option ℕ) (line1 line2 : List LineEntry) (start start' steps steps' : ℕ)
-    → given ≡ reserve → start ≡ start' → roots_of line2 ≡ roots_of line1
-    → steps' ≡ steps + looked_at given (length line1 - start)
-    → steps' ≡ steps + looked_at reserve (length line2 - start')
+    → given ≡ reserve → start ≡ start' → roots_of line2 ≡ roots_of line1 → steps'
+    ≡ steps + looked_at given (length line1 - start) → steps' ≡ steps + looked_at reserve (length line2 - start')
 ticked-is given reserve line1 line2 start start' steps steps' n s same e = grind (arith, length-roots)
 
 -- the row of a number is the same in a table as among the productions
@@ -165,9 +133,8 @@ some-found s id e = grind arith
 pub reserved-there : (names : List Entry) (reserve : Option ℕ) (place : ℕ) (scraps : List Scrap)
     (reserved : Option NameId) (id : NameId) → All (λ scrap. IsNamedBelow (length names) scrap.tree) scraps → reserved
     ≡ found_name (search_in reserve (drop place scraps)) → reserved ≡ Some id → id.index < length names
-reserved-there names reserve place scraps reserved id all is e =
-    search-named (length names) reserve (drop place scraps) id.index
-    (All-drop (λ scrap. IsNamedBelow (length names) scrap.tree) place scraps all)
+reserved-there names reserve place scraps reserved id all is e = search-named (length names) reserve
+    (drop place scraps) id.index (All-drop (λ scrap. IsNamedBelow (length names) scrap.tree) place scraps all)
     (some-found (search_in reserve (drop place scraps)) id (sym is ∙ e))
 
 pub retyped-is : (s : Search) (names : List Entry) → retyped_by (found_name s) names ≡ retyped s names
@@ -196,28 +163,25 @@ marks-found s = grind arith
 -- the state as a whole
 pub state-is : (flags : Flags) (row : Row) (place : ℕ) (old : List (List Token)) (line : List LineEntry)
     (marks : MarkList) (names : List Entry) (new : List (List Token)) (after : List LineEntry) (marks' : MarkList)
-    (names' : List Entry) (marked : Option NameId)
-    → Applies flags row place old line new after → marks'.names ≡ marks.names ++ option_to_list marked
-    → marked ≡ found_name (search_in row.action.underline (drop place (scraps_of old line)))
-    → names' ≡ retyped (search_in row.action.reserve (drop place (scraps_of old line))) names
+    (names' : List Entry) (marked : Option NameId) → Applies flags row place old line new after → marks'.names
+    ≡ marks.names ++ option_to_list marked → marked ≡ found_name (search_in row.action.underline (drop place
+    (scraps_of old line))) → names' ≡ retyped (search_in row.action.reserve (drop place (scraps_of old line))) names
     → state_of new after marks' names' ≡ rewrite flags row place (state_of old line marks names)
 state-is flags row place old line marks names new after marks' names' marked a m n e =
     grind (arith, map-append, marks-found, categories-are)
 
 pub sound-after : (flags : Flags) (row : Row) (place : ℕ) (old new : StoredLists) (line after : List LineEntry)
     (names names' : List Entry) → FitsAt flags row (drop place line)
-    → row_fits row (drop place (cats_of (scraps_of old.lists line))) ≡ true
-    → IsSoundLine old names line → Applies flags row place old.lists line new.lists after → new.building ≡ None
-    → names' ≡ retyped (search_in row.action.reserve (drop place (scraps_of old.lists line))) names
-    → IsSoundLine new names' after
+    → row_fits row (drop place (cats_of (scraps_of old.lists line))) ≡ true → IsSoundLine old names line
+    → Applies flags row place old.lists line new.lists after → new.building ≡ None → names' ≡ retyped
+    (search_in row.action.reserve (drop place (scraps_of old.lists line))) names → IsSoundLine new names' after
 sound-after flags row place old new line after names names' f fits sound a idle e =
     let same : length names' ≡ length names = ap length e
     ∙ length-retyped (search_in row.action.reserve (drop place (scraps_of old.lists line))) names in
     let short : place ≤ length (scraps_of old.lists line) = let h : place < length line =
     place-inside flags row line place f in omega (arith, length-scraps old.lists line) in
-    let fall : Falls flags row place (record { scraps = scraps_of old.lists line; marks = []; cats = [] }) =
-    falls flags row place (record { scraps = scraps_of old.lists line; marks = []; cats = [] }) f.is_sound fits
-    sound.fine short in
+    let fall : Falls flags row place (record { scraps = scraps_of old.lists line; marks = []; cats = [] }) = falls flags
+    row place (record { scraps = scraps_of old.lists line; marks = []; cats = [] }) f.is_sound fits sound.fine short in
     record {
       idle = idle;
       roots = a.roots;

@@ -1,25 +1,14 @@
 -- One piece more goes into the list that is being built.
-use Rattle.std.proofs.Common.{◌≡◌, ℕ, suc, ◌+◌, ◌-◌, ◌*◌, ◌<◌, ◌≤◌, List, [], ◌∷◌, ◌++◌, length, map, drop, get_or}
-use Rattle.std.proofs.Common.{Option, Some, None, refl, sym, ap, ◌∙◌, subst, option_map, arith}
-use Rattle.std.proofs.lemmas.List.{append_assoc, append-nil, length-append, length_push}
-use Rattle.cw_base.specs.declared.mode.MathMode.{MathMode}
-use Rattle.cw_base.specs.declared.mode.MathMode.TheVariants.{Math, Maybe}
-use Rattle.cw_trees.specs.Joining.{after, first_mode}
-use Rattle.cw_table.specs.declared.types.Piece.{Piece}
-use Rattle.cw_table.specs.declared.types.Piece.TheVariants as piece
-use Rattle.cw_table.specs.Sound.{scraps_in, numbers_from}
-use Rattle.cw_tokens.specs.declared.token.Token.{Token}
+use Rattle.cw_scraps.proofs.Terms.{◌≡◌, ℕ, suc, ◌+◌, ◌-◌, ◌*◌, ◌<◌, ◌≤◌, List, [], ◌∷◌, ◌++◌, length, map, drop, get_or}
+use Rattle.cw_scraps.proofs.Terms.{Option, Some, None, refl, sym, ap, ◌∙◌, subst, option_map, arith, append_assoc}
+use Rattle.cw_scraps.proofs.Terms.{append-nil, length-append, length_push, MathMode, Math, Maybe, after, first_mode}
+use Rattle.cw_scraps.proofs.Terms.{Piece, scraps_in, numbers_from, Token, StoredLists, MayBePushed, all_lists, shape}
+use Rattle.cw_scraps.proofs.Terms.{ref_of, IsUnreferred, refers-more, pushed-ref, LineEntry, Insert, no_entry, roots_of}
+use Rattle.cw_scraps.proofs.Terms.{AreRoots, insert_in, inserting, IsPieceWithin, toggle, tokens_of, left_of}
+use Rattle.cw_scraps.proofs.Terms.{right_after, IsRun, Joins}
+use Rattle.cw_scraps.specs.Inserting.{toggled}
 use Rattle.cw_tokens.specs.declared.token.Token.TheVariants.{«List» as ListOf}
-use Rattle.cw_tokens.specs.Stored.{StoredLists, MayBePushed, all_lists}
-use Rattle.cw_tokens.specs.Shapes.{shape, ref_of}
-use Rattle.cw_tokens.specs.References.{IsUnreferred}
-use Rattle.cw_tokens.proofs.Linking.{refers-more, pushed-ref}
-use Rattle.cw_scraps.specs.declared.line.LineEntry.{LineEntry}
-use Rattle.cw_scraps.specs.declared.pieces.Insert.{Insert}
-use Rattle.cw_scraps.specs.Lines.{no_entry, roots_of, AreRoots}
-use Rattle.cw_scraps.specs.Inserting.{insert_in, inserting, IsPieceWithin, toggle, toggled, tokens_of, left_of}
-use Rattle.cw_scraps.specs.Inserting.{right_after, IsRun}
-use Rattle.cw_scraps.specs.Building.{Joins}
+use Rattle.cw_table.specs.declared.types.Piece.TheVariants as piece
 
 pub root-entry : (es : List LineEntry) (k : ℕ) → get_or (roots_of es) k 0 ≡ (get_or es k no_entry).list.index
 root-entry (e ∷ es) (suc k) = root-entry es k
@@ -34,9 +23,8 @@ pub unreferred-begun : (lists : List (List Token)) (x : ℕ) → IsUnreferred li
 unreferred-begun lists x free l p e = grind (arith, refers-more)
 
 -- a token that refers to another list, or to none
-pub unreferred-pushed : (lists : List (List Token)) (ts : List Token) (t : Token) (x : ℕ)
-    → (ref_of (shape t) ≡ Some x → ⊥) → IsUnreferred (lists ++ ts ∷ []) x
-    → IsUnreferred (lists ++ (ts ++ t ∷ []) ∷ []) x
+pub unreferred-pushed : (lists : List (List Token)) (ts : List Token) (t : Token) (x : ℕ) → (ref_of (shape t) ≡ Some x
+    → ⊥) → IsUnreferred (lists ++ ts ∷ []) x → IsUnreferred (lists ++ (ts ++ t ∷ []) ∷ []) x
 unreferred-pushed lists ts t x other free l p e = grind (arith, pushed-ref)
 
 pub unreferred-toggled : (lists : List (List Token)) (ts : List Token) (mode left : MathMode) (x : ℕ)
@@ -67,9 +55,8 @@ pub data Kind (entries : List LineEntry) (p : Piece) : Type 0 where
 
 pub kind : (entries : List LineEntry) (p : Piece) → Kind entries p
 kind entries (piece.Scrap k) = scrap k (λ rest. refl) refl (λ place count h. h)
-kind entries (piece.MathScrap k) = scrap k (λ rest. refl)
-    (ap (λ t. ref_of (shape t)) (math-token (ListOf (get_or entries k no_entry).list) (get_or entries k no_entry).left
-    (get_or entries k no_entry).right)) (λ place count h. h)
+kind entries (piece.MathScrap k) = scrap k (λ rest. refl) (ap (λ t. ref_of (shape t)) (math-token (ListOf (get_or
+    entries k no_entry).list) (get_or entries k no_entry).left (get_or entries k no_entry).right)) (λ place count h. h)
 kind entries _ = sign (λ rest. refl) refl (λ place count. tt)
 
 -- the run goes on behind its first scrap
@@ -83,9 +70,8 @@ pub goes : (k first more : ℕ) (rest : List ℕ) → k ∷ rest ≡ numbers_fro
 goes k first more rest e = grind arith
 
 pub joins-start : (lists : List (List Token)) (entries : List LineEntry) (pieces : List Piece) (spare : ℕ)
-    (store : StoredLists) → store.lists ≡ lists → store.building ≡ Some [] → store.spare + 1 ≡ spare
-    → IsRun pieces (length entries) → AreRoots lists (roots_of entries)
-    → Joins lists entries pieces spare 0 Maybe Maybe store
+    (store : StoredLists) → store.lists ≡ lists → store.building ≡ Some [] → store.spare + 1 ≡ spare → IsRun pieces
+    (length entries) → AreRoots lists (roots_of entries) → Joins lists entries pieces spare 0 Maybe Maybe store
 joins-start lists entries pieces spare store same is spent run roots = record {
   done = [];
   is = is;
@@ -98,9 +84,8 @@ joins-start lists entries pieces spare store same is spent run roots = record {
   left_is = refl;
   right_is = refl;
   rest = run;
-  fresh = λ k low high. unreferred-begun lists (get_or (roots_of entries) k 0)
-      (roots.free k (let h : run.first + run.more ≤ length entries = run.within in
-      omega (arith, length-roots entries)));
+  fresh = λ k low high. unreferred-begun lists (get_or (roots_of entries) k 0) (roots.free k
+      (let h : run.first + run.more ≤ length entries = run.within in omega (arith, length-roots entries)));
 }
 
 -- What one turn asks, and what it leaves.
@@ -240,19 +225,17 @@ joins-put lists entries pieces spare i left mode store j p at roots room =
     let pushed : StoredLists = record {
       lists = before.lists;
       building = option_map (λ tokens. tokens ++ (inserting entries p).token ∷ []) before.building;
-      spare =
-          before.spare - 1;
+      spare = before.spare - 1;
     } in
     (joins-more lists entries pieces spare i left mode store j p at roots 0 (0 + length entries) refl before pushed refl
     refl (omega arith) refl refl (omega arith)).may
 
 pub joins-next : (lists : List (List Token)) (entries : List LineEntry) (pieces : List Piece) (spare i : ℕ)
     (left mode : MathMode) (store : StoredLists) → Joins lists entries pieces spare i left mode store → (p : Piece)
-    → drop i pieces ≡ p ∷ drop (i + 1) pieces → AreRoots lists (roots_of entries) → (new : StoredLists)
-    → new.building ≡ option_map (λ tokens. tokens ++ (inserting entries p).token ∷ [])
-    (toggled mode (inserting entries p).left store).building → new.lists ≡ store.lists
-    → new.spare + 1 + length (toggle mode (inserting entries p).left) ≡ store.spare
-    → Joins lists entries pieces spare (i + 1) (first_mode left (inserting entries p).left)
+    → drop i pieces ≡ p ∷ drop (i + 1) pieces → AreRoots lists (roots_of entries) → (new : StoredLists) → new.building
+    ≡ option_map (λ tokens. tokens ++ (inserting entries p).token ∷ []) (toggled mode (inserting entries p).left
+    store).building → new.lists ≡ store.lists → new.spare + 1 + length (toggle mode (inserting entries p).left)
+    ≡ store.spare → Joins lists entries pieces spare (i + 1) (first_mode left (inserting entries p).left)
     (after mode (inserting entries p).left (inserting entries p).right) new
 joins-next lists entries pieces spare i left mode store j p at roots new nb nl ns =
     (joins-more lists entries pieces spare i left mode store j p at roots 0 (0 + length entries) refl

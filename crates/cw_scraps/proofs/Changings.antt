@@ -1,15 +1,9 @@
 -- Steps that change no reference.
-use Rattle.std.proofs.Common.{◌≡◌, ℕ, ◌<◌, List, [], ◌∷◌, length, get_or, None, sym, ap, ◌∙◌, subst, arith}
-use Rattle.cw_tokens.specs.declared.token.Token.{Token}
-use Rattle.cw_tokens.specs.Shapes.{unfolded}
-use Rattle.cw_tokens.specs.References.{refers, IsTied, Reach, here, next}
-use Rattle.cw_tokens.specs.Reserving.{Reserves}
-use Rattle.cw_tokens.specs.Stored.{StoredLists, all_lists, with_built}
-use Rattle.cw_tokens.proofs.Unfolding.{unfolded-same, reach-le, reach-trans}
+use Rattle.cw_scraps.proofs.Terms.{◌≡◌, ℕ, ◌<◌, List, [], ◌∷◌, length, get_or, None, sym, ap, ◌∙◌, subst, arith, Token}
+use Rattle.cw_scraps.proofs.Terms.{unfolded, refers, IsTied, Reach, here, next, Reserves, StoredLists, all_lists}
+use Rattle.cw_scraps.proofs.Terms.{with_built, unfolded-same, reach-le, reach-trans, LineEntry, seen, AreRoots}
+use Rattle.cw_scraps.proofs.Terms.{IsOutside, Changes}
 use Rattle.cw_tokens.proofs.Reaching.{comparable, unreferred-reach}
-use Rattle.cw_scraps.specs.declared.line.LineEntry.{LineEntry}
-use Rattle.cw_scraps.specs.Lines.{seen, AreRoots, IsOutside}
-use Rattle.cw_scraps.specs.Changing.{Changes}
 
 pub reach-same : (old new : List (List Token)) → ((l p : ℕ) → refers new l p ≡ refers old l p) → (a b : ℕ)
     → Reach old a b → Reach new a b

@@ -1,24 +1,13 @@
 -- The first row that fits at a place of a line, by the four categories that are read there.
-use Rattle.std.proofs.Common.{◌≡◌, ℕ, ◌+◌, true, Option, Some, None, List, [], ◌∷◌, drop, get_or, unwrap_or, IfSome}
-use Rattle.std.proofs.Common.{refl, sym, ◌∙◌, ap, arith}
-use Rattle.std.specs.Option.{option_map}
-use Rattle.std.proofs.lemmas.List.{get_or-drop}
+use Rattle.cw_scraps.proofs.Terms.{◌≡◌, ℕ, ◌+◌, true, Option, Some, None, List, [], ◌∷◌, drop, get_or, unwrap_or}
+use Rattle.cw_scraps.proofs.Terms.{IfSome, refl, sym, ◌∙◌, ap, arith, option_map, get_or-drop, Cat, End, Row, row_fits}
+use Rattle.cw_scraps.proofs.Terms.{first_of, window_of, productions, row_numbered, first-window, LineEntry, entry_cats}
+use Rattle.cw_scraps.proofs.Terms.{no_entry}
 use Rattle.std.proofs.Math.ListN.{get_or-map}
-use Rattle.cw_base.specs.declared.category.Cat.{Cat}
-use Rattle.cw_base.specs.declared.category.Cat.TheVariants.{End}
-use Rattle.cw_table.specs.declared.types.Row.{Row}
 use Rattle.cw_table.specs.declared.types.RowNo.{RowNo}
-use Rattle.cw_table.specs.Fitting.{row_fits, first_of, window_of}
-use Rattle.cw_table.specs.Productions.{productions}
-use Rattle.cw_table.specs.Rows.{row_numbered}
-use Rattle.cw_table.proofs.Examples.{productions-sound, productions-numbered}
-use Rattle.cw_table.proofs.FirstLaws.{first-window}
-use Rattle.cw_table.proofs.Numbers.{first-numbered}
-use Rattle.cw_table.proofs.SafeLaws.{first-fits}
-use Rattle.cw_scraps.specs.declared.line.LineEntry.{LineEntry}
+use Rattle.cw_table.proofs.{Examples.productions-sound, Examples.productions-numbered, Numbers.first-numbered}
+use Rattle.cw_table.proofs.{SafeLaws.first-fits}
 use Rattle.cw_scraps.specs.Applying.{row_of, no_row}
-use Rattle.cw_scraps.specs.Inserting.{entry_cats}
-use Rattle.cw_scraps.specs.Lines.{no_entry}
 
 window-four : (cats : List Cat) → window_of cats ≡ get_or cats 0 End ∷ get_or cats 1 End ∷ get_or cats 2 End
     ∷ get_or cats 3 End ∷ []
@@ -33,11 +22,9 @@ cat-line line place i = sym (get_or-drop place (entry_cats line) i End
 pub window-line : (line : List LineEntry) (place : ℕ)
     → (get_or line place no_entry).cat ∷ (get_or line (place + 1) no_entry).cat ∷ (get_or line (place + 2) no_entry).cat
     ∷ (get_or line (place + 3) no_entry).cat ∷ [] ≡ window_of (drop place (entry_cats line))
-window-line line place =
-    ap (λ i. (get_or line i no_entry).cat ∷ (get_or line (place + 1) no_entry).cat
-    ∷ (get_or line (place + 2) no_entry).cat ∷ (get_or line (place + 3) no_entry).cat ∷ []) (let e : place
-    ≡ place + 0 = omega arith in e)
-    ∙ (rw (cat-line line place 0, cat-line line place 1, cat-line line place 2, cat-line line place 3)
+window-line line place = ap (λ i. (get_or line i no_entry).cat ∷ (get_or line (place + 1) no_entry).cat ∷ (get_or line
+    (place + 2) no_entry).cat ∷ (get_or line (place + 3) no_entry).cat ∷ []) (let e : place ≡ place + 0 = omega arith in
+    e) ∙ (rw (cat-line line place 0, cat-line line place 1, cat-line line place 2, cat-line line place 3)
     (sym (window-four (drop place (entry_cats line)))))
 
 abbrev number_of : Option Row → Option RowNo
@@ -62,6 +49,5 @@ pub first-line : (line : List LineEntry) (place : ℕ) (window : List Cat) (o : 
     → window ≡ window_of (drop place (entry_cats line))
     → o ≡ option_map (λ row. row.number) (first_of productions window) → fits_at (drop place (entry_cats line)) o
 first-line line place window o w is = first-is (drop place (entry_cats line)) o
-    (first_of productions (drop place (entry_cats line))) refl (is
-    ∙ ap number_of (ap (first_of productions) w ∙ first-window productions (drop place (entry_cats line))
-    productions-sound))
+    (first_of productions (drop place (entry_cats line))) refl (is ∙ ap number_of (ap (first_of productions) w
+    ∙ first-window productions (drop place (entry_cats line)) productions-sound))

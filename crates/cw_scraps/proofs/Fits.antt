@@ -1,25 +1,12 @@
 -- What a sound row that fits reads of a line is there.
-use Rattle.std.proofs.Common.{◌≡◌, ℕ, suc, ◌+◌, ◌<◌, ◌≤◌, Bool, true, false, List, [], ◌∷◌, length, drop, get_or, Some}
-use Rattle.std.proofs.Common.{inl, inr, refl, sym, ap, ◌∙◌, arith}
-use Rattle.std.proofs.lemmas.List.{get_or_past, length-drop, length-take, get_or-drop}
-use Rattle.std.proofs.lemmas.Bool.{cases_lt}
-use Rattle.cw_base.specs.declared.flags.Flags.{Flags}
-use Rattle.cw_base.specs.declared.category.Cat.{Cat}
-use Rattle.cw_base.specs.declared.category.Cat.TheVariants.{End}
+use Rattle.cw_scraps.proofs.Terms.{◌≡◌, ℕ, suc, ◌+◌, ◌<◌, ◌≤◌, Bool, true, false, List, [], ◌∷◌, length, drop, get_or}
+use Rattle.cw_scraps.proofs.Terms.{Some, inl, inr, refl, sym, ap, ◌∙◌, arith, get_or_past, length-drop, length-take}
+use Rattle.cw_scraps.proofs.Terms.{get_or-drop, cases_lt, Flags, Cat, End, Row, SameAs, row_fits, pieces_for, test}
+use Rattle.cw_scraps.proofs.Terms.{tests_of, IsSound, row_is_sound, scraps_in, numbers_from, alone, takes_other}
+use Rattle.cw_scraps.proofs.Terms.{length-tests_of, hold-at, room, alone-at, pieces-whole, LineEntry, no_entry}
+use Rattle.cw_scraps.proofs.Terms.{entry_cats, IsRun, pieces_at}
 use Rattle.cw_base.specs.Category.{in_set}
-use Rattle.cw_table.specs.declared.types.Row.{Row}
-use Rattle.cw_table.specs.declared.types.RowResult.TheVariants.{SameAs}
-use Rattle.cw_table.specs.Fitting.{row_fits}
-use Rattle.cw_table.specs.Rows.{pieces_for, test, tests_of}
-use Rattle.cw_table.specs.Sound.{IsSound, row_is_sound, scraps_in, numbers_from}
-use Rattle.cw_table.specs.Rewriting.{alone, takes_other}
 use Rattle.cw_table.proofs.Soundness.{sound-row}
-use Rattle.cw_table.proofs.FirstLaws.{length-tests_of}
-use Rattle.cw_table.proofs.Falling.{hold-at, room, alone-at, pieces-whole}
-use Rattle.cw_scraps.specs.declared.line.LineEntry.{LineEntry}
-use Rattle.cw_scraps.specs.Lines.{no_entry}
-use Rattle.cw_scraps.specs.Inserting.{entry_cats, IsRun}
-use Rattle.cw_scraps.specs.Making.{pieces_at}
 
 pub length-entry_cats : (entries : List LineEntry) → length (entry_cats entries) ≡ length entries
 length-entry_cats [] = refl

@@ -1,12 +1,9 @@
 -- The gap moves, and what stands around it stays.
-use Rattle.std.proofs.Common.{◌≡◌, ℕ, suc, ◌+◌, ◌-◌, ◌<◌, ◌≤◌, List, ◌∷◌, ◌++◌, length, take, drop, set, refl, sym, ap}
-use Rattle.std.proofs.Common.{◌∙◌, arith}
+use Rattle.cw_scraps.proofs.Terms.{◌≡◌, ℕ, suc, ◌+◌, ◌-◌, ◌<◌, ◌≤◌, List, ◌∷◌, ◌++◌, length, take, drop, set, refl, sym}
+use Rattle.cw_scraps.proofs.Terms.{ap, ◌∙◌, arith, take-set-le, drop-set, drop-set-lt, set-append_left}
+use Rattle.cw_scraps.proofs.Terms.{set-append_right, length-take-le, length-take, length-append, length-drop}
+use Rattle.cw_scraps.proofs.Terms.{drop-set-add, take-take, take-append-le, drop-drop, LineEntry, around, IsGap}
 use Rattle.std.proofs.Math.Seq.{drop-append-add}
-use Rattle.std.proofs.lemmas.List.{take-set-le, drop-set, drop-set-lt, set-append_left, set-append_right}
-use Rattle.std.proofs.lemmas.List.{length-take-le, length-take, length-append, length-drop, drop-set-add, take-take}
-use Rattle.std.proofs.lemmas.List.{take-append-le, drop-drop}
-use Rattle.cw_scraps.specs.declared.line.LineEntry.{LineEntry}
-use Rattle.cw_scraps.specs.Gap.{around, IsGap}
 
 take-set-in : (n : ℕ) (xs : List LineEntry) (p : ℕ) (u : LineEntry) → take n (set xs p u) ≡ set (take n xs) p u
 take-set-in (suc n) (t ∷ xs) (suc p) u = ap (λ us. t ∷ us) (take-set-in n xs p u)
@@ -19,14 +16,9 @@ put-left items l r i e g lt = grind (arith, length-take, take-set-in, drop-set-l
 pub put-right : (items : List LineEntry) (l r i : ℕ) (e : LineEntry) → IsGap l r items → l ≤ i
     → around l r (set items (i + (r - l)) e) ≡ set (around l r items) i e
 put-right items l r i e g ge =
-    let a : l ≤ r = g.order in
-    let b : r ≤ length items = g.within in
-    let high : l ≤ i + (r - l) = omega arith in
-    let size : length (take l items) ≡ l = length-take-le l items (omega arith) in
-    let split : i + (r - l) ≡ r + (i - l) = omega arith in
-    ap (λ us. us ++ drop r (set items (i + (r - l)) e)) (take-set-le l items (i + (r - l)) e high)
-    ∙ (ap (λ us. take l items ++ us) (ap (λ k. drop r (set items k e)) split ∙ drop-set-add r items (i - l) e)
-    ∙ sym (set-append_right (take l items) (drop r items) l i e size ge))
+    ap (λ us. us ++ drop r (set items (i + (r - l)) e)) (take-set-le l items (i + (r - l)) e (omega arith))
+    ∙ (ap (λ us. take l items ++ us) (ap (λ k. drop r (set items k e)) (omega arith) ∙ drop-set-add r items (i - l) e)
+    ∙ sym (set-append_right (take l items) (drop r items) l i e (length-take-le l items (omega arith)) ge))
 
 pub put-left-at : (items : List LineEntry) (l r i at : ℕ) (e : LineEntry) (v : List LineEntry) → IsGap l r items
     → around l r items ≡ v → i < l → at ≡ i → around l r (set items at e) ≡ set v i e
@@ -58,7 +50,6 @@ replaced-behind items at gap count last e v g q some within is =
     grind (arith, take-set-le, gap-before, drop-set, gap-behind)
 
 -- over scraps that stand there, the gap ends within the vector
-pub over-within : (items : List LineEntry) (new : List LineEntry) (l r to gap : ℕ) (v : List LineEntry)
-    → IsGap l r items → around l r items ≡ v → to ≤ length v → gap ≡ to + (r - l) → length new ≡ length items
-    → gap ≤ length new
+pub over-within : (items : List LineEntry) (new : List LineEntry) (l r to gap : ℕ) (v : List LineEntry) → IsGap l r
+    items → around l r items ≡ v → to ≤ length v → gap ≡ to + (r - l) → length new ≡ length items → gap ≤ length new
 over-within items new l r to gap v g q le is same = grind (arith, length-append, length-take-le, length-drop)

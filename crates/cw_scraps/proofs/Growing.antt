@@ -1,14 +1,9 @@
 -- A new list takes the place of some roots, to which it refers.
-use Rattle.std.proofs.Common.{◌≡◌, ℕ, ◌+◌, ◌<◌, ◌≤◌, List, [], ◌∷◌, ◌++◌, length, take, drop, get_or, Some, ◌⊎◌, inl}
-use Rattle.std.proofs.Common.{inr, refl, sym, ap, ◌∙◌, subst, arith}
-use Rattle.std.specs.List.{slice_get}
-use Rattle.std.proofs.lemmas.List.{length_push, map-append, take-map, drop-map, drop_more, take-append-drop}
-use Rattle.cw_tokens.specs.declared.token.Token.{Token}
-use Rattle.cw_tokens.specs.References.{token_ref, refers, IsTied, IsUnreferred, Reach, here, next}
-use Rattle.cw_tokens.proofs.Linking.{refers-within, refers-more, refers-old}
-use Rattle.cw_tokens.proofs.Unfolding.{reach-le}
-use Rattle.cw_scraps.specs.declared.line.LineEntry.{LineEntry}
-use Rattle.cw_scraps.specs.Lines.{roots_of, AreRoots, IsOutside}
+use Rattle.cw_scraps.proofs.Terms.{◌≡◌, ℕ, ◌+◌, ◌<◌, ◌≤◌, List, [], ◌∷◌, ◌++◌, length, take, drop, get_or, Some, ◌⊎◌}
+use Rattle.cw_scraps.proofs.Terms.{inl, inr, refl, sym, ap, ◌∙◌, subst, arith, slice_get, length_push, map-append}
+use Rattle.cw_scraps.proofs.Terms.{take-map, drop-map, drop_more, take-append-drop, Token, token_ref, refers, IsTied}
+use Rattle.cw_scraps.proofs.Terms.{IsUnreferred, Reach, here, next, refers-within, refers-more, refers-old, reach-le}
+use Rattle.cw_scraps.proofs.Terms.{LineEntry, roots_of, AreRoots, IsOutside}
 use Rattle.cw_scraps.proofs.Splices.{spliced, Spliced, low, mid, high, splice}
 
 -- the list to which a token of the new list refers, among the roots
@@ -109,8 +104,14 @@ module _ (old : List (List Token)) (ts : List Token) (rs : List ℕ) (at n : ℕ
   reach-first k here = inl refl
   reach-first k (next l p m e r) = elim (reach-first l r) [
     | inl d ↦ elim (refers-cases l p k e) [
-      | inl q ↦ (let b : l < length old = refers-within old l p k q in absurd (omega arith))
-      | inr q ↦ inr (q.1.place, q.1.from_at, q.1.below_n, subst (λ x. Reach new x k) q.1.is here)
+      | inl q ↦ (let b : l
+          < length old = refers-within old l p k q in absurd (omega arith))
+      | inr q ↦ inr (
+        q.1.place,
+        q.1.from_at,
+        q.1.below_n,
+        subst (λ x. Reach new x k) q.1.is here,
+      )
     ]
     | inr s ↦ inr (s.0, s.1, s.2, next l p k e s.3)
   ]
@@ -122,8 +123,8 @@ module _ (old : List (List Token)) (ts : List Token) (rs : List ℕ) (at n : ℕ
   pub grown-free : (k : ℕ) → IsOutside old rs k → IsUnreferred old k → IsUnreferred new k
   grown-free k o u l p e = elim (refers-cases l p k e) [
     | inl q ↦ u l p q
-    | inr q ↦ o.below q.1.place (let h : q.1.place < n = q.1.below_n in omega arith)
-        (subst (λ x. Reach old x k) q.1.is here)
+    | inr q ↦ o.below q.1.place
+        (let h : q.1.place < n = q.1.below_n in omega arith) (subst (λ x. Reach old x k) q.1.is here)
   ]
 
 -- the lists of a line in which entries are replaced

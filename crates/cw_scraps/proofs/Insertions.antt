@@ -1,25 +1,14 @@
 -- What the insertion of a piece puts into the list that is being built is what the piece puts there.
-use Rattle.std.proofs.Common.{◌≡◌, ℕ, ◌+◌, ◌<◌, ◌≤◌, List, [], ◌∷◌, ◌++◌, length, drop, get_or, Some, sym, ap, ◌∙◌}
-use Rattle.std.proofs.Common.{subst, option_map, arith}
-use Rattle.std.proofs.lemmas.List.{drop_more}
+use Rattle.cw_scraps.proofs.Terms.{◌≡◌, ℕ, ◌+◌, ◌<◌, ◌≤◌, List, [], ◌∷◌, ◌++◌, length, drop, get_or, Some, sym, ap, ◌∙◌}
+use Rattle.cw_scraps.proofs.Terms.{subst, option_map, arith, drop_more, MathMode, Maybe, after, first_mode, Piece}
+use Rattle.cw_scraps.proofs.Terms.{Token, StoredLists, MayBePushed, LineEntry, Insert, roots_of, AreRoots, insert_in}
+use Rattle.cw_scraps.proofs.Terms.{inserted_by, inserting, toggle, IsInsertionWithin, IsPieceWithin, Joins}
 use Rattle.std.proofs.lemmas.Option.{slice_get-get_or}
 use Rattle.std.specs.Prelude.{slice_get}
-use Rattle.cw_base.specs.declared.mode.MathMode.{MathMode}
-use Rattle.cw_base.specs.declared.mode.MathMode.TheVariants.{Maybe}
-use Rattle.cw_trees.specs.Joining.{after, first_mode}
-use Rattle.cw_table.specs.declared.types.Insertion.{Insertion}
-use Rattle.cw_table.specs.declared.types.Piece.{Piece}
-use Rattle.cw_table.specs.declared.types.Piece.TheVariants as piece
-use Rattle.cw_table.specs.Insertions.{insertion_of}
-use Rattle.cw_tokens.specs.declared.token.Token.{Token}
-use Rattle.cw_tokens.specs.Stored.{StoredLists, MayBePushed}
-use Rattle.cw_scraps.specs.declared.line.LineEntry.{LineEntry}
-use Rattle.cw_scraps.specs.declared.pieces.Insert.{Insert}
-use Rattle.cw_scraps.specs.Lines.{roots_of, AreRoots}
-use Rattle.cw_scraps.specs.Inserting.{insert_in, inserted_by, inserting, toggle, toggled, IsInsertionWithin}
-use Rattle.cw_scraps.specs.Inserting.{IsPieceWithin}
-use Rattle.cw_scraps.specs.Building.{Joins}
+use Rattle.cw_table.specs.{declared.types.Insertion.Insertion, Insertions.insertion_of}
+use Rattle.cw_scraps.specs.Inserting.{toggled}
 use Rattle.cw_scraps.proofs.Buildings.{joins-next, joins-put, joins-within}
+use Rattle.cw_table.specs.declared.types.Piece.TheVariants as piece
 
 -- the next of the pieces, by its insertion
 pub record Inserts (pieces : List Piece) (i : ℕ) (insertion : Insertion) : Type 0 where
@@ -62,14 +51,12 @@ module _ (lists : List (List Token)) (entries : List LineEntry) (pieces : List P
 
   pub inserts-put : 2 ≤ store.spare
       → MayBePushed (toggled mode (inserted_by entries insertion).left store) (inserted_by entries insertion).token
-  inserts-put room =
-      subst (λ (x : Insert). MayBePushed (toggled mode x.left store) x.token) same
+  inserts-put room = subst (λ (x : Insert). MayBePushed (toggled mode x.left store) x.token) same
       (joins-put lists entries pieces spare i left mode store j next.piece next.at roots room)
 
-  pub inserts-next : (new : StoredLists) → new.building
-      ≡ option_map (λ tokens. tokens ++ (inserted_by entries insertion).token ∷ [])
-      (toggled mode (inserted_by entries insertion).left store).building → new.lists ≡ store.lists
-      → new.spare + 1 + length (toggle mode (inserted_by entries insertion).left) ≡ store.spare
-      → Joins lists entries pieces spare (i + 1) (first_mode left (inserted_by entries insertion).left)
+  pub inserts-next : (new : StoredLists) → new.building ≡ option_map (λ tokens. tokens
+      ++ (inserted_by entries insertion).token ∷ []) (toggled mode (inserted_by entries insertion).left store).building
+      → new.lists ≡ store.lists → new.spare + 1 + length (toggle mode (inserted_by entries insertion).left)
+      ≡ store.spare → Joins lists entries pieces spare (i + 1) (first_mode left (inserted_by entries insertion).left)
       (after mode (inserted_by entries insertion).left (inserted_by entries insertion).right) new
   inserts-next new built same_lists spent = grind (arith, same, joins-next, option_map)

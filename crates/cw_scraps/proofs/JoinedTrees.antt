@@ -1,19 +1,10 @@
 -- The tokens of a new list have the joined tree.
-use Rattle.std.proofs.Common.{◌≡◌, ℕ, suc, ◌+◌, ◌≤◌, List, [], ◌∷◌, ◌++◌, length, map, refl, sym, ◌∙◌, arith}
-use Rattle.cw_base.specs.declared.mode.MathMode.{MathMode}
-use Rattle.cw_base.specs.declared.mode.MathMode.TheVariants.{Math}
-use Rattle.cw_trees.specs.Tree.{Sign, Tree, Then, Sub}
-use Rattle.cw_trees.specs.Joining.{Joined, Whole, Mark, needs, after, first_mode, toggled, joined_tree, joined_left}
-use Rattle.cw_trees.specs.Joining.{joined_right}
-use Rattle.cw_table.specs.declared.types.Piece.{Piece}
-use Rattle.cw_table.specs.Sound.{scraps_in, numbers_from}
-use Rattle.cw_table.specs.Rewriting.{math_piece, joined_of}
-use Rattle.cw_tokens.specs.declared.token.Token.{Token}
-use Rattle.cw_tokens.specs.Shapes.{shape, item_of, tree_in, trees_from}
-use Rattle.cw_scraps.specs.declared.line.LineEntry.{LineEntry}
-use Rattle.cw_scraps.specs.declared.pieces.Insert.{Insert}
-use Rattle.cw_scraps.specs.Lines.{scraps_of}
-use Rattle.cw_scraps.specs.Inserting.{insert_in, inserting, IsPieceWithin, toggle, tokens_of, left_of, right_after}
+use Rattle.cw_scraps.proofs.Terms.{◌≡◌, ℕ, suc, ◌+◌, ◌≤◌, List, [], ◌∷◌, ◌++◌, length, map, refl, sym, ◌∙◌, arith}
+use Rattle.cw_scraps.proofs.Terms.{MathMode, Math, Sign, Tree, Then, Sub, Joined, Whole, Mark, needs, after, first_mode}
+use Rattle.cw_scraps.proofs.Terms.{toggled, joined_tree, joined_left, joined_right, Piece, scraps_in, numbers_from}
+use Rattle.cw_scraps.proofs.Terms.{math_piece, joined_of, Token, shape, item_of, tree_in, trees_from, LineEntry, Insert}
+use Rattle.cw_scraps.proofs.Terms.{scraps_of, insert_in, inserting, IsPieceWithin, toggle, tokens_of, left_of}
+use Rattle.cw_scraps.proofs.Terms.{right_after}
 use Rattle.cw_scraps.proofs.Buildings.{Kind, scrap, sign, kind, Goes, goes}
 use Rattle.cw_scraps.proofs.Reservings.{seen-get}
 
@@ -40,9 +31,8 @@ toggle-tree : (trees : List Tree) (mode left : MathMode) (ts : List Token) → t
 toggle-tree trees mode left ts = grind arith
 
 -- one piece more in front
-cons-tree : (mode : MathMode) (j : Joined) (js : List Joined)
-    → toggled mode (left_mode j) (joined_item j (joined_tree (after mode (left_mode j) (right_mode j)) js))
-    ≡ joined_tree mode (j ∷ js)
+cons-tree : (mode : MathMode) (j : Joined) (js : List Joined) → toggled mode (left_mode j)
+    (joined_item j (joined_tree (after mode (left_mode j) (right_mode j)) js)) ≡ joined_tree mode (j ∷ js)
 cons-tree mode j js = grind arith
 
 cons-left : (j : Joined) (js : List Joined) → first_mode (left_mode j) (joined_left js) ≡ joined_left (j ∷ js)
@@ -52,9 +42,8 @@ cons-right : (mode : MathMode) (j : Joined) (js : List Joined)
     → joined_right (after mode (left_mode j) (right_mode j)) js ≡ joined_right mode (j ∷ js)
 cons-right mode j js = grind arith
 
-math-matches : (trees : List Tree) (token : Token) (tree : Tree) (l r : MathMode)
-    → ((rest : Tree) → item_of trees (shape token) rest ≡ Sub tree rest)
-    → Matches trees (insert_in Math token l r) (math_piece tree l r)
+math-matches : (trees : List Tree) (token : Token) (tree : Tree) (l r : MathMode) → ((rest : Tree) → item_of trees
+    (shape token) rest ≡ Sub tree rest) → Matches trees (insert_in Math token l r) (math_piece tree l r)
 math-matches trees token tree l r h = grind arith
 
 module _ (lists : List (List Token)) (entries : List LineEntry) where
@@ -73,9 +62,8 @@ module _ (lists : List (List Token)) (entries : List LineEntry) where
     pub right : right_after mode (map (inserting entries) pieces)
         ≡ joined_right mode (map (joined_of (scraps_of lists entries)) pieces)
 
-  joint-cons : (mode : MathMode) (p : Piece) (pieces : List Piece)
-      → Matches trees (inserting entries p) (joined_of (scraps_of lists entries) p)
-      → Joint (after mode (left_mode (joined_of (scraps_of lists entries) p))
+  joint-cons : (mode : MathMode) (p : Piece) (pieces : List Piece) → Matches trees (inserting entries p)
+      (joined_of (scraps_of lists entries) p) → Joint (after mode (left_mode (joined_of (scraps_of lists entries) p))
       (right_mode (joined_of (scraps_of lists entries) p))) pieces → Joint mode (p ∷ pieces)
   joint-cons mode p pieces m rest = grind (arith, toggle-tree, cons-tree, cons-left, cons-right)
 

@@ -1,31 +1,16 @@
 -- What one production keeps of every scrap.
-use Rattle.std.proofs.Common.{◌≡◌, ℕ, ◌+◌, ◌<◌, Bool, true, false, ◌&&◌, List, [], ◌∷◌, ◌++◌, map, take, drop, get_or}
-use Rattle.std.proofs.Common.{Option, Some, None, ◌⊎◌, inl, inr, refl, sym, ap, subst, arith}
-use Rattle.std.specs.List.{All}
-use Rattle.std.proofs.lemmas.List.{get_or_past}
-use Rattle.std.proofs.lemmas.List.Elements.{All-append, All-take, All-drop, All-set, All-map, All-cons, All-head}
-use Rattle.std.proofs.lemmas.List.Elements.{All-tail}
-use Rattle.std.proofs.lemmas.Bool.{cases_lt}
-use Rattle.cw_base.specs.declared.category.Cat.{Cat}
-use Rattle.cw_base.specs.declared.category.Cat.TheVariants.{RawInt}
-use Rattle.cw_base.specs.declared.flags.Flags.{Flags}
-use Rattle.cw_base.specs.declared.mode.MathMode.{MathMode}
-use Rattle.cw_base.specs.declared.mode.MathMode.TheVariants.{Text, Math, Maybe}
-use Rattle.cw_trees.specs.Tree.{Leaf, Tree, Empty, Then, Sub, Inner, bare_name, Search, Found, Nothing, or_else}
-use Rattle.cw_trees.specs.Tree.{search_leaf, first_ident, reserve_first}
-use Rattle.cw_trees.specs.Joining.{Scrap, no_scrap, scrap_agrees, Joined, Whole, Mark, needs, after, toggled}
-use Rattle.cw_trees.specs.Joining.{joined_tree, join, Agrees}
-use Rattle.cw_table.specs.declared.types.Piece.{Piece}
-use Rattle.cw_table.specs.declared.types.Piece.TheVariants as piece
-use Rattle.cw_table.specs.declared.types.Row.{Row}
-use Rattle.cw_table.specs.Rows.{result_at}
-use Rattle.cw_table.specs.Sound.{is_exp}
-use Rattle.cw_table.specs.Rewriting.{cats_of, row_pieces, math_piece, joined_of, alone, with_cat, new_from, new_scrap}
-use Rattle.cw_table.specs.Rewriting.{search_in, reserved_in, reserved_at, is_bare_name, named_scrap, named_right}
-use Rattle.cw_table.specs.Rewriting.{rewrite_from}
-use Rattle.cw_scraps.specs.Lines.{leaf_named_below, IsNamedBelow}
-use Rattle.cw_scraps.specs.Modes.{piece_agrees}
+use Rattle.cw_scraps.proofs.Terms.{◌≡◌, ℕ, ◌+◌, ◌<◌, Bool, true, false, ◌&&◌, List, [], ◌∷◌, ◌++◌, map, take, drop}
+use Rattle.cw_scraps.proofs.Terms.{get_or, Option, Some, None, ◌⊎◌, inl, inr, refl, sym, ap, subst, arith, All}
+use Rattle.cw_scraps.proofs.Terms.{get_or_past, All-append, All-take, All-drop, All-set, All-map, All-cons, All-head}
+use Rattle.cw_scraps.proofs.Terms.{All-tail, cases_lt, Cat, RawInt, Flags, MathMode, Text, Math, Maybe, Leaf, Tree}
+use Rattle.cw_scraps.proofs.Terms.{Empty, Then, Sub, Inner, bare_name, Search, Found, Nothing, or_else, search_leaf}
+use Rattle.cw_scraps.proofs.Terms.{first_ident, reserve_first, Scrap, no_scrap, scrap_agrees, Joined, Whole, Mark}
+use Rattle.cw_scraps.proofs.Terms.{needs, after, toggled, joined_tree, join, Agrees, Piece, Row, result_at, is_exp}
+use Rattle.cw_scraps.proofs.Terms.{cats_of, row_pieces, math_piece, joined_of, alone, with_cat, new_from, new_scrap}
+use Rattle.cw_scraps.proofs.Terms.{search_in, reserved_in, reserved_at, is_bare_name, named_scrap, named_right}
+use Rattle.cw_scraps.proofs.Terms.{rewrite_from, leaf_named_below, IsNamedBelow, piece_agrees}
 use Rattle.cw_scraps.proofs.ModeLaw.{join-agrees, agrees-same, reserve-reads}
+use Rattle.cw_table.specs.declared.types.Piece.TheVariants as piece
 
 module _ (P : Scrap → Type 0) (none : P no_scrap) (reserves : (s : Scrap) → P s → P (reserved_in s))
     (recats : (cat : Cat) (s : Scrap) → P s → P (with_cat cat s))
@@ -42,11 +27,10 @@ module _ (P : Scrap → Type 0) (none : P no_scrap) (reserves : (s : Scrap) → 
   in_new : (o : Option ℕ) (cat : Cat) (n : ℕ) (pieces : List Piece) (scraps : List Scrap) → alone n pieces ≡ o
       → All P scraps → P (new_from cat n pieces scraps)
   in_new (Some k) cat n pieces scraps e all = grind (arith, at)
-  in_new None cat n pieces scraps e all =
-      subst P (sym (ap (λ (q : Option ℕ). elim q [
-        | Some m ↦ with_cat cat (get_or scraps m no_scrap)
-        | None ↦ join cat (map (joined_of scraps) pieces)
-      ]) e)) (joins cat scraps pieces all)
+  in_new None cat n pieces scraps e all = subst P (sym (ap (λ (q : Option ℕ). elim q [
+    | Some m ↦ with_cat cat (get_or scraps m no_scrap)
+    | None ↦ join cat (map (joined_of scraps) pieces)
+  ]) e)) (joins cat scraps pieces all)
 
   in_scrap : (b : Bool) (name : ℕ) (s : Scrap) → (is_exp s.cat && is_bare_name name (bare_name s.tree)) ≡ b → P s
       → P (named_scrap name s)
@@ -54,33 +38,27 @@ module _ (P : Scrap → Type 0) (none : P no_scrap) (reserves : (s : Scrap) → 
   in_scrap false name s e h = rw (e, named_scrap) h
 
   in_right : (found : Search) (scraps : List Scrap) → All P scraps → All P (named_right found scraps)
-  in_right (Found name) scraps all = All-map P (named_scrap name) scraps
-      (λ k d h. in_scrap (is_exp (get_or scraps k d).cat && is_bare_name name (bare_name (get_or scraps k d).tree)) name
-      (get_or scraps k d) refl (all k d h))
+  in_right (Found name) scraps all = All-map P (named_scrap name) scraps (λ k d h. in_scrap (is_exp (get_or scraps k
+      d).cat && is_bare_name name (bare_name (get_or scraps k d).tree)) name (get_or scraps k d) refl (all k d h))
   in_right _ _ all = all
 
   pub keeps-all : (flags : Flags) (row : Row) (place : ℕ) (scraps : List Scrap) → All P scraps
       → All P (take place scraps ++ rewrite_from flags row (drop place scraps))
   keeps-all flags row place scraps all =
-      let rest : All P (drop place scraps) = All-drop P place scraps all in
-      let named : All P (reserved_at row.action.reserve (drop place scraps)) =
-      in_named row.action.reserve (drop place scraps) rest in
-      let qs : List Scrap = reserved_at row.action.reserve (drop place scraps) in
+      let named : All P (reserved_at row.action.reserve (drop place scraps)) = in_named row.action.reserve
+      (drop place scraps) (All-drop P place scraps all) in
       All-append P (take place scraps) (rewrite_from flags row (drop place scraps)) (All-take P place scraps all)
-      (All-append P (take row.offset (reserved_at row.action.reserve (drop place scraps)))
-      (new_scrap flags row (reserved_at row.action.reserve (drop place scraps))
-      ∷ named_right (search_in row.action.reserve (drop place scraps))
-      (drop (row.offset + row.replaced) (reserved_at row.action.reserve (drop place scraps))))
-      (All-take P row.offset (reserved_at row.action.reserve (drop place scraps)) named)
-      (All-cons P (new_scrap flags row (reserved_at row.action.reserve (drop place scraps)))
-      (named_right (search_in row.action.reserve (drop place scraps))
-      (drop (row.offset + row.replaced) (reserved_at row.action.reserve (drop place scraps))))
+      (All-append P (take row.offset (reserved_at row.action.reserve (drop place scraps))) (new_scrap flags row
+      (reserved_at row.action.reserve (drop place scraps)) ∷ named_right (search_in row.action.reserve
+      (drop place scraps)) (drop (row.offset + row.replaced) (reserved_at row.action.reserve (drop place scraps))))
+      (All-take P row.offset (reserved_at row.action.reserve (drop place scraps)) named) (All-cons P (new_scrap flags
+      row (reserved_at row.action.reserve (drop place scraps))) (named_right (search_in row.action.reserve
+      (drop place scraps)) (drop (row.offset + row.replaced) (reserved_at row.action.reserve (drop place scraps))))
       (in_new (alone row.replaced (row_pieces flags row (cats_of (reserved_at row.action.reserve (drop place scraps)))))
       (result_at row.result (cats_of (reserved_at row.action.reserve (drop place scraps)))) row.replaced
       (row_pieces flags row (cats_of (reserved_at row.action.reserve (drop place scraps))))
-      (reserved_at row.action.reserve (drop place scraps)) refl named)
-      (in_right (search_in row.action.reserve (drop place scraps))
-      (drop (row.offset + row.replaced) (reserved_at row.action.reserve (drop place scraps)))
+      (reserved_at row.action.reserve (drop place scraps)) refl named) (in_right (search_in row.action.reserve
+      (drop place scraps)) (drop (row.offset + row.replaced) (reserved_at row.action.reserve (drop place scraps)))
       (All-drop P (row.offset + row.replaced) (reserved_at row.action.reserve (drop place scraps)) named))))
 
 -- modes
@@ -108,10 +86,8 @@ agrees-pieces scraps pieces all = All-map piece_agrees (joined_of scraps) pieces
 pub keeps-modes : (flags : Flags) (row : Row) (place : ℕ) (scraps : List Scrap) → All scrap_agrees scraps
     → All scrap_agrees (take place scraps ++ rewrite_from flags row (drop place scraps))
 keeps-modes flags row place scraps all = keeps-all scrap_agrees (λ m. refl)
-    (λ s h. agrees-same (reserve_first s.tree) s.tree s.left s.right (reserve-reads s.tree) h)
-    (λ cat s h. h)
-    (λ cat ss pieces h. join-agrees (map (joined_of ss) pieces) (agrees-pieces ss pieces h))
-    flags row place scraps all
+    (λ s h. agrees-same (reserve_first s.tree) s.tree s.left s.right (reserve-reads s.tree) h) (λ cat s h. h)
+    (λ cat ss pieces h. join-agrees (map (joined_of ss) pieces) (agrees-pieces ss pieces h)) flags row place scraps all
 
 then-named : (s : Search) (n : ℕ) (leaf : Leaf) (rest : Tree) → search_leaf leaf ≡ s → IsNamedBelow n (Then leaf rest)
     → IsNamedBelow n (reserve_first rest) → IsNamedBelow n (reserve_first (Then leaf rest))
@@ -139,8 +115,7 @@ joined-named : (n : ℕ) (m : MathMode) (js : List Joined) → All (piece_named 
 joined-named n m [] all = tt
 joined-named n m (Whole tree l r ∷ js) all = toggled-named n m l (Sub tree (joined_tree (after m l r) js)) (
   All-head (piece_named n) (Whole tree l r) js all,
-  joined-named n (after m l r) js
-      (All-tail (piece_named n) (Whole tree l r) js all),
+  joined-named n (after m l r) js (All-tail (piece_named n) (Whole tree l r) js all),
 )
 joined-named n m (Mark c ∷ js) all =
     grind (arith, joined-named n (after m (needs c) (needs c)) js (All-tail (piece_named n) (Mark c) js all))
@@ -155,20 +130,15 @@ math-named n tree Math r h = h
 named-piece : (n : ℕ) (scraps : List Scrap) (p : Piece) → All (λ s. IsNamedBelow n s.tree) scraps
     → piece_named n (joined_of scraps p)
 named-piece n scraps (piece.Scrap k) all = all-at (λ s. IsNamedBelow n s.tree) tt scraps k all
-named-piece n scraps (piece.MathScrap k) all = math-named n (get_or scraps k no_scrap).tree
-    (get_or scraps k no_scrap).left (get_or scraps k no_scrap).right (all-at (λ s. IsNamedBelow n s.tree) tt scraps k
-    all)
+named-piece n scraps (piece.MathScrap k) all = math-named n (get_or scraps k no_scrap).tree (get_or scraps k
+    no_scrap).left (get_or scraps k no_scrap).right (all-at (λ s. IsNamedBelow n s.tree) tt scraps k all)
 named-piece n scraps _ all = tt
 
-pub keeps-named : (n : ℕ) (flags : Flags) (row : Row) (place : ℕ) (scraps : List Scrap)
-    → All (λ s. IsNamedBelow n s.tree) scraps → All (λ s. IsNamedBelow n s.tree)
-    (take place scraps ++ rewrite_from flags row (drop place scraps))
-keeps-named n flags row place scraps all = keeps-all (λ s. IsNamedBelow n s.tree) tt
-    (λ s h. reserve-named n s.tree h)
-    (λ cat s h. h)
-    (λ cat ss pieces h. joined-named n Maybe (map (joined_of ss) pieces) (All-map (piece_named n) (joined_of ss) pieces
-    (λ k d lt. named-piece n ss (get_or pieces k d) h)))
-    flags row place scraps all
+pub keeps-named : (n : ℕ) (flags : Flags) (row : Row) (place : ℕ) (scraps : List Scrap) → All (λ s. IsNamedBelow n
+    s.tree) scraps → All (λ s. IsNamedBelow n s.tree) (take place scraps ++ rewrite_from flags row (drop place scraps))
+keeps-named n flags row place scraps all = keeps-all (λ s. IsNamedBelow n s.tree) tt (λ s h. reserve-named n s.tree h)
+    (λ cat s h. h) (λ cat ss pieces h. joined-named n Maybe (map (joined_of ss) pieces) (All-map (piece_named n)
+    (joined_of ss) pieces (λ k d lt. named-piece n ss (get_or pieces k d) h))) flags row place scraps all
 
 -- the first identifier of a tree is one of its names
 leaf-found : (n : ℕ) (leaf : Leaf) (name : ℕ) → leaf_named_below n leaf → search_leaf leaf ≡ Found name → name < n

@@ -1,40 +1,20 @@
 -- The scrap of a token keeps a line sound.
-use Rattle.std.proofs.Common.{◌≡◌, ℕ, zero, suc, ◌<◌, ◌≤◌, Bool, true, List, [], ◌∷◌, ◌++◌, length, take, Option, Some}
-use Rattle.std.proofs.Common.{None, IfSome, IsSome, unwrap_or, option_map, sym, ap, ◌∙◌, subst, arith}
-use Rattle.std.specs.List.{slice_get}
-use Rattle.std.proofs.lemmas.List.{map-append, take_all, drop_all, length-append}
-use Rattle.std.proofs.lemmas.Bool.Decides.{nat_tests}
-use Rattle.std.proofs.lemmas.Grind.{common_steps}
-use Rattle.cw_base.specs.declared.category.Cat.{Cat}
-use Rattle.cw_base.specs.declared.category.Cat.TheVariants as cat
-use Rattle.cw_base.specs.declared.mode.MathMode.{MathMode}
-use Rattle.cw_base.specs.declared.mode.MathMode.TheVariants.{Text, Math, Maybe}
-use Rattle.cw_rules.specs.declared.codes.Code.{Code}
-use Rattle.cw_rules.specs.declared.tokens.TokKind.{TokKind}
-use Rattle.cw_rules.specs.declared.tokens.TokKind.TheVariants as kind
-use Rattle.cw_names.specs.declared.NameId.{NameId}
+use Rattle.cw_scraps.proofs.Terms.{◌≡◌, ℕ, zero, suc, ◌<◌, ◌≤◌, Bool, true, List, [], ◌∷◌, ◌++◌, length, take, Option}
+use Rattle.cw_scraps.proofs.Terms.{Some, None, IfSome, IsSome, unwrap_or, option_map, sym, ap, ◌∙◌, subst, arith}
+use Rattle.cw_scraps.proofs.Terms.{slice_get, map-append, take_all, drop_all, length-append, nat_tests, common_steps}
+use Rattle.cw_scraps.proofs.Terms.{Cat, MathMode, Text, Math, Maybe, NameId, Ident as ident_kind, Entry, place_of}
+use Rattle.cw_scraps.proofs.Terms.{with_entry, Tree, Empty, Then, Sub, Inner, bare_name, Control, Agrees, needs, stays}
+use Rattle.cw_scraps.proofs.Terms.{reads_sign, fine_with, Token, shape, ref_of, tree_in, token_ref, IsTied, StoredLists}
+use Rattle.cw_scraps.proofs.Terms.{unfolded-old, unfolded-new, LineEntry, seen, roots_of, AreRoots, IsNamedBelow}
+use Rattle.cw_scraps.proofs.Terms.{IsSoundLine, LeafForm, source, code_form, form_of, word_form, word_cat, own_cat}
+use Rattle.cw_scraps.proofs.Terms.{token_form, MakesLeaf, HasForm, entry_of}
+use Rattle.cw_rules.specs.{declared.codes.Code.Code, declared.tokens.TokKind.TokKind}
 use Rattle.cw_names.specs.declared.entry.EntryKind.{EntryKind}
-use Rattle.cw_names.specs.declared.entry.EntryKind.TheVariants.{Ident as ident_kind}
-use Rattle.cw_names.specs.Names.{Entry, place_of, with_entry}
-use Rattle.cw_trees.specs.Tree.{Tree, Empty, Then, Sub, Inner, bare_name}
-use Rattle.cw_trees.specs.declared.Control.{Control}
-use Rattle.cw_trees.specs.Joining.{Agrees, needs, stays, reads_sign}
-use Rattle.cw_table.specs.Normal.{fine_with}
-use Rattle.cw_tokens.specs.declared.token.Token.{Token}
 use Rattle.cw_tokens.specs.declared.token.Token.TheVariants.{Control as ControlOf}
-use Rattle.cw_tokens.specs.Shapes.{shape, ref_of, tree_in}
-use Rattle.cw_tokens.specs.References.{token_ref, IsTied}
-use Rattle.cw_tokens.specs.Stored.{StoredLists}
-use Rattle.cw_tokens.proofs.Unfolding.{unfolded-old, unfolded-new}
 use Rattle.cw_scraps.specs.declared.leaves.Leaf.{Leaf}
-use Rattle.cw_scraps.specs.declared.line.LineEntry.{LineEntry}
-use Rattle.cw_scraps.specs.Lines.{seen, roots_of, AreRoots, IsNamedBelow, IsSoundLine}
-use Rattle.cw_scraps.specs.Leaves.{LeafForm, source, code_form, form_of, word_form, word_cat, own_cat, token_form}
-use Rattle.cw_scraps.specs.Leaves.{MakesLeaf, HasForm, entry_of}
-use Rattle.cw_scraps.proofs.Growing.{grown-roots}
-use Rattle.cw_scraps.proofs.Productions.{seen-line}
-use Rattle.cw_scraps.proofs.Reservings.{entry-there}
-use Rattle.cw_scraps.proofs.Splices.{spliced}
+use Rattle.cw_scraps.proofs.{Growing.grown-roots, Productions.seen-line, Reservings.entry-there, Splices.spliced}
+use Rattle.cw_base.specs.declared.category.Cat.TheVariants as cat
+use Rattle.cw_rules.specs.declared.tokens.TokKind.TheVariants as kind
 
 plain-form : (c : Cat) (name : NameId) (number : ℕ) → (c ≡ cat.TexLike → ⊥)
     → ((word_form c name number).cat ≡ c) × ((word_form c name number).mode ≡ Maybe)
@@ -43,22 +23,18 @@ plain-form c name number other = grind arith
 -- the form of an identifier
 pub word-has : (k : TokKind) (text : List ℕ) (hash : Bool) (number : ℕ) (names names' : List Entry) (name : NameId)
     (own c : Cat) (leaf : Leaf) (old new : List (List Token)) → k ≡ kind.Identifier → name.index
-    ≡ place_of ident_kind text names → names' ≡ with_entry ident_kind text names
-    → option_map (λ entry. entry.category) (slice_get names' name.index) ≡ Some own → c ≡ word_cat hash text own
-    → HasForm (word_form c name number) leaf old new
-    → IfSome (token_form k text hash number names) (λ form. HasForm form leaf old new)
+    ≡ place_of ident_kind text names → names' ≡ with_entry ident_kind text names → option_map (λ entry. entry.category)
+    (slice_get names' name.index) ≡ Some own → c ≡ word_cat hash text own → HasForm (word_form c name number) leaf old
+    new → IfSome (token_form k text hash number names) (λ form. HasForm form leaf old new)
 word-has k text hash number names names' name own c leaf old new is at grown value cat_is has =
     let same_name : name ≡ record { index = place_of ident_kind text names } = ap (λ i. record { index = i }) at in
-    let same_own : own_cat (with_entry ident_kind text names) (place_of ident_kind text names) ≡ own =
-    ap (λ o. unwrap_or o cat.Exp) (ap (λ es. option_map (λ entry. entry.category)
-    (slice_get es (place_of ident_kind text names))) (sym grown)
-    ∙ (ap (λ i. option_map (λ entry. entry.category) (slice_get names' i)) (sym at) ∙ value)) in
-    let form : word_form c name number ≡ word_form
-    (word_cat hash text (own_cat (with_entry ident_kind text names) (place_of ident_kind text names)))
-    (record { index = place_of ident_kind text names }) number =
-    ap (λ x. word_form x name number) (cat_is ∙ ap (word_cat hash text) (sym same_own))
-    ∙ ap (λ x. word_form (word_cat hash text (own_cat (with_entry ident_kind text names)
-    (place_of ident_kind text names))) x number) same_name in
+    let same_own : own_cat (with_entry ident_kind text names) (place_of ident_kind text names) ≡ own = ap
+    (λ o. unwrap_or o cat.Exp) (ap (λ es. option_map (λ entry. entry.category) (slice_get es (place_of ident_kind text
+    names))) (sym grown) ∙ (ap (λ i. option_map (λ entry. entry.category) (slice_get names' i)) (sym at) ∙ value)) in
+    let form : word_form c name number ≡ word_form (word_cat hash text (own_cat (with_entry ident_kind text names)
+    (place_of ident_kind text names))) (record { index = place_of ident_kind text names }) number = ap
+    (λ x. word_form x name number) (cat_is ∙ ap (word_cat hash text) (sym same_own)) ∙ ap (λ x. word_form (word_cat hash
+    text (own_cat (with_entry ident_kind text names) (place_of ident_kind text names))) x number) same_name in
     subst (λ q. IfSome (token_form q text hash number names) (λ form. HasForm form leaf old new)) (sym is)
     (subst (λ x. HasForm x leaf old new) form has)
 
@@ -136,12 +112,8 @@ leaf-roots : (old : List (List Token)) (ts : List Token) (line : List LineEntry)
     → AreRoots old (roots_of line) → ((p x : ℕ) → token_ref (slice_get ts p) ≡ Some x → ⊥) → made.list.index
     ≡ length old → AreRoots (old ++ ts ∷ []) (roots_of (line ++ made ∷ []))
 leaf-roots old ts line made tied roots plain is =
-    let rs : List ℕ = roots_of line in
-    let n : ℕ = length (roots_of line) in
     let same : roots_of (line ++ made ∷ []) ≡ spliced (roots_of line) (length (roots_of line)) (length (roots_of line))
-    (length old) =
-    map-append (λ entry. entry.list.index) line (made ∷ [])
-    ∙ (ap (λ x. roots_of line ++ x ∷ []) is
+    (length old) = map-append (λ entry. entry.list.index) line (made ∷ []) ∙ (ap (λ x. roots_of line ++ x ∷ []) is
     ∙ (ap (λ xs. xs ++ length old ∷ []) (sym (take_all (length (roots_of line)) (roots_of line) (omega arith)))
     ∙ ap (λ xs. take (length (roots_of line)) (roots_of line) ++ length old ∷ xs)
     (sym (drop_all (length (roots_of line)) (roots_of line) (omega arith))))) in
@@ -173,9 +145,8 @@ form-some : (k : TokKind) (number : ℕ) → (k ≡ kind.Identifier → ⊥) →
 form-some k number not h = grind (arith, code-some)
 
 some-sound : (o : Option LeafForm) (leaf : Leaf) (old new : StoredLists) (names : List Entry) (line : List LineEntry)
-    → IsSome o → IfSome o (IsGood (length names)) → IfSome o (λ form. HasForm form leaf old.lists new.lists)
-    → IsTied old.lists → new.building ≡ None
-    → IsSoundLine old names line → IsSoundLine new names (line ++ entry_of leaf ∷ [])
+    → IsSome o → IfSome o (IsGood (length names)) → IfSome o (λ form. HasForm form leaf old.lists new.lists) → IsTied
+    old.lists → new.building ≡ None → IsSoundLine old names line → IsSoundLine new names (line ++ entry_of leaf ∷ [])
 some-sound None leaf old new names line some good has tied idle sound = cc
 some-sound (Some form) leaf old new names line some good has tied idle sound =
     leaf-sound form leaf old new names names line good has tied idle (omega arith) sound

@@ -1,4 +1,5 @@
 -- The laws of a line of scraps and of one production on it: its gap, lists, trees, modes and reservings.
+mod Terms
 pub mod Gaps
 pub mod RowPieces
 pub mod Buildings

@@ -1,15 +1,10 @@
 -- What is joined of pieces that agree with their modes agrees with its own.
-use Rattle.std.proofs.Common.{◌≡◌, List, [], ◌∷◌, Option, Some, refl, sym, ap, ◌∙◌, subst, arith}
-use Rattle.std.specs.List.{All}
-use Rattle.std.proofs.lemmas.List.Elements.{All-head, All-tail}
-use Rattle.cw_base.specs.declared.mode.MathMode.{MathMode}
-use Rattle.cw_base.specs.declared.mode.MathMode.TheVariants.{Text, Math, Maybe}
-use Rattle.cw_trees.specs.declared.Control.{Control}
-use Rattle.cw_trees.specs.Tree.{Leaf, Sign, Tree, Empty, Then, Sub, Inner, Search, search_leaf, first_ident}
-use Rattle.cw_trees.specs.Tree.{reserved_leaf, reserve_first}
-use Rattle.cw_trees.specs.Joining.{Joined, Whole, Mark, needs, after, first_mode, toggled, joined_tree, joined_left}
-use Rattle.cw_trees.specs.Joining.{joined_right, stays, reads_sign, reads_leaf, leads_on, reads, Agrees}
-use Rattle.cw_scraps.specs.Modes.{IsSteady, piece_agrees, JoinsAgree}
+use Rattle.cw_scraps.proofs.Terms.{◌≡◌, List, [], ◌∷◌, Option, Some, refl, sym, ap, ◌∙◌, subst, arith, All, All-head}
+use Rattle.cw_scraps.proofs.Terms.{All-tail, MathMode, Text, Math, Maybe, Control, Leaf, Sign, Tree, Empty, Then, Sub}
+use Rattle.cw_scraps.proofs.Terms.{Inner, Search, search_leaf, first_ident, reserved_leaf, reserve_first, Joined, Whole}
+use Rattle.cw_scraps.proofs.Terms.{Mark, needs, after, first_mode, toggled, joined_tree, joined_left, joined_right}
+use Rattle.cw_scraps.proofs.Terms.{stays, reads_sign, reads_leaf, leads_on, reads, Agrees, IsSteady, piece_agrees}
+use Rattle.cw_scraps.proofs.Terms.{JoinsAgree}
 
 -- a mode that is told
 abbrev pub IsTold : MathMode → Type 0
@@ -80,10 +75,9 @@ from-told m (Whole tree l r ∷ js) t all = go (told l)
         let f : FromTold r js = rec r w.told in
         record {
           told_right = subst (λ n. IsTold (joined_right n js)) (sym (after-told m l r tl)) f.told_right;
-          reading = toggled-reads m l (Sub tree (joined_tree (after m l r) js)) t tl
-              ∙ (ap (λ n. leads_on (reads tree l) (reads (joined_tree n js))) (after-told m l r tl)
-              ∙ (ap (λ o. leads_on o (reads (joined_tree r js))) w.reading
-              ∙ (f.reading ∙ ap (λ n. Some (joined_right n js)) (sym (after-told m l r tl)))));
+          reading = toggled-reads m l (Sub tree (joined_tree (after m l r) js)) t tl ∙ (ap (λ n. leads_on (reads tree l)
+              (reads (joined_tree n js))) (after-told m l r tl) ∙ (ap (λ o. leads_on o (reads (joined_tree r js)))
+              w.reading ∙ (f.reading ∙ ap (λ n. Some (joined_right n js)) (sym (after-told m l r tl)))));
         }
     go (is_maybe e) rec =
         let h : Agrees tree Maybe r = subst (λ n. Agrees tree n r) e here in
@@ -92,10 +86,9 @@ from-told m (Whole tree l r ∷ js) t all = go (told l)
         record {
           told_right = subst (λ n. IsTold (joined_right n js)) (sym same) f.told_right;
           reading = ap (λ n. reads (toggled m n (Sub tree (joined_tree (after m l r) js))) m) e
-              ∙ (ap (λ s. reads s m) (toggled-maybe m (Sub tree (joined_tree (after m l r) js)))
-              ∙ (ap (λ n. leads_on (reads tree m) (reads (joined_tree n js))) same
-              ∙ (ap (λ o. leads_on o (reads (joined_tree m js))) (maybe-reads tree r h m)
-              ∙ (f.reading ∙ ap (λ n. Some (joined_right n js)) (sym same)))));
+              ∙ (ap (λ s. reads s m) (toggled-maybe m (Sub tree (joined_tree (after m l r) js))) ∙ (ap (λ n. leads_on
+              (reads tree m) (reads (joined_tree n js))) same ∙ (ap (λ o. leads_on o (reads (joined_tree m js)))
+              (maybe-reads tree r h m) ∙ (f.reading ∙ ap (λ n. Some (joined_right n js)) (sym same)))));
         }
 from-told m (Mark c ∷ js) t all = go (needs c) refl (told (needs c))
     (λ n u. from-told n js u (All-tail piece_agrees (Mark c) js all))
@@ -110,10 +103,9 @@ from-told m (Mark c ∷ js) t all = go (needs c) refl (told (needs c))
         record {
           told_right = subst (λ k. IsTold (joined_right k js)) (sym next) f.told_right;
           reading = ap (λ k. reads (toggled m k (Then (Sign c) (joined_tree (after m (needs c) (needs c)) js))) m) e
-              ∙ (toggled-reads m n (Then (Sign c) (joined_tree (after m (needs c) (needs c)) js)) t tn
-              ∙ (ap (λ k. leads_on (reads_sign c n) (reads (joined_tree k js))) next
-              ∙ (ap (λ o. leads_on o (reads (joined_tree n js))) (steady-reads c n here e tn)
-              ∙ (f.reading ∙ ap (λ k. Some (joined_right k js)) (sym next)))));
+              ∙ (toggled-reads m n (Then (Sign c) (joined_tree (after m (needs c) (needs c)) js)) t tn ∙ (ap (λ k.
+              leads_on (reads_sign c n) (reads (joined_tree k js))) next ∙ (ap (λ o. leads_on o (reads (joined_tree n
+              js))) (steady-reads c n here e tn) ∙ (f.reading ∙ ap (λ k. Some (joined_right k js)) (sym next)))));
         }
     go n e (is_maybe d) rec =
         let f : FromTold m js = rec m t in
@@ -136,9 +128,8 @@ join-agrees (Whole tree l r ∷ js) all = go (told l) (join-agrees js (All-tail 
     here : Agrees tree l r
     here = All-head piece_agrees (Whole tree l r) js all
 
-    go : Told l → Agrees (joined_tree Maybe js) (joined_left js) (joined_right Maybe js)
-        → Agrees (joined_tree Maybe (Whole tree l r ∷ js)) (joined_left (Whole tree l r ∷ js))
-        (joined_right Maybe (Whole tree l r ∷ js))
+    go : Told l → Agrees (joined_tree Maybe js) (joined_left js) (joined_right Maybe js) → Agrees (joined_tree Maybe
+        (Whole tree l r ∷ js)) (joined_left (Whole tree l r ∷ js)) (joined_right Maybe (Whole tree l r ∷ js))
     go (is_told tl) rec =
         let w : Leads tree l r = leads tree l r tl here in
         let f : FromTold r js = from-told r js w.told (All-tail piece_agrees (Whole tree l r) js all) in
@@ -163,10 +154,9 @@ join-agrees (Mark c ∷ js) all = go (needs c) refl (told (needs c))
         rw (e, first-told n (joined_left js) tn, after-told Maybe n n tn)
         (agrees-told (Then (Sign c) (joined_tree n js)) n (joined_right n js) tn f.told_right
         (ap (λ o. leads_on o (reads (joined_tree n js))) (steady-reads c n here e tn) ∙ f.reading))
-    go n e (is_maybe d) rec =
-        rw (e, d) (agrees-same (Then (Sign c) (joined_tree Maybe js)) (joined_tree Maybe js) (joined_left js)
-        (joined_right Maybe js) (λ m. ap (λ o. leads_on o (reads (joined_tree Maybe js))) (here m
-        ∙ ap (λ k. stays k m) (e ∙ d))) rec)
+    go n e (is_maybe d) rec = rw (e, d) (agrees-same (Then (Sign c) (joined_tree Maybe js)) (joined_tree Maybe js)
+        (joined_left js) (joined_right Maybe js)
+        (λ m. ap (λ o. leads_on o (reads (joined_tree Maybe js))) (here m ∙ ap (λ k. stays k m) (e ∙ d))) rec)
 
 -- an identifier and a reserved word need no mode
 reserved-leaf-reads : (leaf : Leaf) (m : MathMode) → reads_leaf (reserved_leaf leaf) m ≡ reads_leaf leaf m
@@ -176,15 +166,13 @@ same-leads : (o : Option MathMode) (f g : MathMode → Option MathMode) → ((m 
     ≡ leads_on o g
 same-leads o f g h = grind arith
 
-reserve-then-reads : (s : Search) (leaf : Leaf) (rest : Tree) (m : MathMode) → search_leaf leaf ≡ s
-    → ((n : MathMode) → reads (reserve_first rest) n ≡ reads rest n) → reads (reserve_first (Then leaf rest)) m
-    ≡ reads (Then leaf rest) m
+reserve-then-reads : (s : Search) (leaf : Leaf) (rest : Tree) (m : MathMode) → search_leaf leaf ≡ s → ((n : MathMode)
+    → reads (reserve_first rest) n ≡ reads rest n) → reads (reserve_first (Then leaf rest)) m ≡ reads (Then leaf rest) m
 reserve-then-reads s leaf rest m e rec = grind (arith, reserved-leaf-reads, same-leads)
 
-reserve-sub-reads : (s : Search) (tree rest : Tree) (m : MathMode) → first_ident tree ≡ s
-    → ((n : MathMode) → reads (reserve_first tree) n ≡ reads tree n)
-    → ((n : MathMode) → reads (reserve_first rest) n ≡ reads rest n) → reads (reserve_first (Sub tree rest)) m
-    ≡ reads (Sub tree rest) m
+reserve-sub-reads : (s : Search) (tree rest : Tree) (m : MathMode) → first_ident tree ≡ s → ((n : MathMode) → reads
+    (reserve_first tree) n ≡ reads tree n) → ((n : MathMode) → reads (reserve_first rest) n ≡ reads rest n)
+    → reads (reserve_first (Sub tree rest)) m ≡ reads (Sub tree rest) m
 reserve-sub-reads s tree rest m e here rec = grind (arith, same-leads)
 
 pub reserve-reads : (t : Tree) (m : MathMode) → reads (reserve_first t) m ≡ reads t m

@@ -1,38 +1,17 @@
 -- One production, up to the scraps to the right.
-use Rattle.std.proofs.Common.{◌≡◌, ℕ, zero, suc, ◌+◌, ◌*◌, ◌<◌, ◌≤◌, List, [], ◌∷◌, ◌++◌, length, map, take, drop}
-use Rattle.std.proofs.Common.{get_or, Some, refl, sym, ap, ◌∙◌, subst, arith}
-use Rattle.std.specs.List.{slice_get}
-use Rattle.std.proofs.lemmas.List.{map-append, take-map, drop-map, append_assoc, length-drop, length-take}
-use Rattle.std.proofs.lemmas.List.{length-append, length-map, get_or-drop, drop-drop, get_or_append_left}
+use Rattle.cw_scraps.proofs.Terms.{◌≡◌, ℕ, zero, suc, ◌+◌, ◌*◌, ◌<◌, ◌≤◌, List, [], ◌∷◌, ◌++◌, length, map, take, drop}
+use Rattle.cw_scraps.proofs.Terms.{get_or, Some, refl, sym, ap, ◌∙◌, arith, slice_get, map-append, take-map, drop-map}
+use Rattle.cw_scraps.proofs.Terms.{append_assoc, length-drop, length-take, length-append, length-map, get_or-drop}
+use Rattle.cw_scraps.proofs.Terms.{drop-drop, get_or_append_left, nat_tests, common_steps, Cat, Flags, Maybe, MathMode}
+use Rattle.cw_scraps.proofs.Terms.{Scrap, no_scrap, after, Piece, Row, cats_of, alone, with_cat, new_from, new_scrap}
+use Rattle.cw_scraps.proofs.Terms.{Token, token_count, unfolded, token_ref, IsTied, IsUnreferred, StoredLists}
+use Rattle.cw_scraps.proofs.Terms.{unfolded-old, unfolded-new, LineEntry, seen, scraps_of, roots_of, no_entry, AreRoots}
+use Rattle.cw_scraps.proofs.Terms.{IsOutside, Insert, entry_cats, inserting, tokens_of, pieces_at, IsMade, kept, joined}
+use Rattle.cw_scraps.proofs.Terms.{replaced_from, Replaces}
 use Rattle.std.proofs.lemmas.List.Sums.{sum_by_push}
-use Rattle.std.proofs.lemmas.Bool.Decides.{nat_tests}
-use Rattle.std.proofs.lemmas.Grind.{common_steps}
-use Rattle.cw_base.specs.declared.category.Cat.{Cat}
-use Rattle.cw_base.specs.declared.flags.Flags.{Flags}
-use Rattle.cw_base.specs.declared.mode.MathMode.TheVariants.{Maybe}
-use Rattle.cw_base.specs.declared.mode.MathMode.{MathMode}
-use Rattle.cw_trees.specs.Joining.{Scrap, no_scrap, after}
-use Rattle.cw_table.specs.declared.types.Piece.{Piece}
-use Rattle.cw_table.specs.declared.types.Row.{Row}
-use Rattle.cw_table.specs.Rewriting.{cats_of, alone, with_cat, new_from, new_scrap}
-use Rattle.cw_tokens.specs.declared.token.Token.{Token}
-use Rattle.cw_tokens.specs.Counting.{token_count}
-use Rattle.cw_tokens.specs.Shapes.{unfolded}
-use Rattle.cw_tokens.specs.References.{token_ref, IsTied, IsUnreferred}
-use Rattle.cw_tokens.specs.Stored.{StoredLists}
-use Rattle.cw_tokens.proofs.Unfolding.{unfolded-old, unfolded-new}
-use Rattle.cw_scraps.specs.declared.line.LineEntry.{LineEntry}
-use Rattle.cw_scraps.specs.Lines.{seen, scraps_of, roots_of, no_entry, AreRoots, IsOutside}
-use Rattle.cw_scraps.specs.declared.pieces.Insert.{Insert}
-use Rattle.cw_scraps.specs.Inserting.{entry_cats, inserting, tokens_of}
-use Rattle.cw_scraps.specs.Making.{pieces_at, IsMade, kept, joined}
-use Rattle.cw_scraps.specs.Replacing.{replaced_from, Replaces}
-use Rattle.cw_scraps.proofs.Fits.{FitsAt, kept-there, place-inside}
-use Rattle.cw_scraps.proofs.JoinedTrees.{joint}
-use Rattle.cw_scraps.proofs.Reservings.{seen-get}
+use Rattle.cw_scraps.proofs.{Fits.FitsAt, Fits.kept-there, Fits.place-inside, JoinedTrees.joint, Reservings.seen-get}
+use Rattle.cw_scraps.proofs.{Changings.seen-same, Splices.spliced, Splices.tokens-ref, Splices.FromScrap}
 use Rattle.cw_scraps.proofs.Buildings.{root-entry, length-roots, toggle-short}
-use Rattle.cw_scraps.proofs.Changings.{seen-same}
-use Rattle.cw_scraps.proofs.Splices.{spliced, tokens-ref, FromScrap}
 use Rattle.cw_scraps.proofs.Growing.{FromRoot, grown-roots, grown-outside, grown-free, roots-replaced, same-spliced}
 
 pub cats-same : (lists : List (List Token)) (entries : List LineEntry) → cats_of (scraps_of lists entries)
@@ -57,9 +36,8 @@ module _ (flags : Flags) (row : Row) (entries : List LineEntry) (f : FitsAt flag
   )
 
   -- the lists that were there stay
-  pub made-old : (old new : StoredLists) (made : LineEntry) → IsMade flags row entries old new made → (k : ℕ)
-      → k < length old.lists → (unfolded new.lists k ≡ unfolded old.lists k)
-      × (get_or new.lists k [] ≡ get_or old.lists k [])
+  pub made-old : (old new : StoredLists) (made : LineEntry) → IsMade flags row entries old new made → (k : ℕ) → k <
+      length old.lists → (unfolded new.lists k ≡ unfolded old.lists k) × (get_or new.lists k [] ≡ get_or old.lists k [])
   made-old old new made h k g = grind (arith, unfolded-old, get_or_append_left)
 
 -- each piece puts at most two tokens into a list
@@ -69,9 +47,8 @@ tokens-most mode (i ∷ inserts) =
     grind (arith, tokens-most (after mode i.left i.right) inserts, length-append, toggle-short)
 
 -- a new scrap takes at most 24 tokens, since a row has at most twelve pieces
-few-more : (flags : Flags) (row : Row) (entries : List LineEntry) (old new : StoredLists) (made : LineEntry)
-    → FitsAt flags row entries → IsMade flags row entries old new made → token_count new.lists ≤ token_count old.lists
-    + 24
+few-more : (flags : Flags) (row : Row) (entries : List LineEntry) (old new : StoredLists) (made : LineEntry) → FitsAt
+    flags row entries → IsMade flags row entries old new made → token_count new.lists ≤ token_count old.lists + 24
 few-more flags row entries old new made f (kept k a same is) = grind arith
 few-more flags row entries old new made f (joined a grown idle spent cat list left right) =
     let twelve : length (pieces_at flags row entries) ≤ 12 = f.few in
@@ -85,10 +62,9 @@ few-more flags row entries old new made f (joined a grown idle spent cat list le
     ∙ sum_by_push length old.lists (tokens_of Maybe (map (inserting entries) (pieces_at flags row entries))) in
     omega arith
 
-pub seen-line : (old new : List (List Token)) (line : List LineEntry)
-    → ((k : ℕ) → k < length old → unfolded new k ≡ unfolded old k)
-    → ((i : ℕ) → i < length line → (get_or line i no_entry).list.index < length old) → scraps_of new line
-    ≡ scraps_of old line
+pub seen-line : (old new : List (List Token)) (line : List LineEntry) → ((k : ℕ) → k < length old → unfolded new k
+    ≡ unfolded old k) → ((i : ℕ) → i < length line → (get_or line i no_entry).list.index < length old)
+    → scraps_of new line ≡ scraps_of old line
 seen-line old new [] same there = refl
 seen-line old new (e ∷ line) same there =
     ap (λ s. s ∷ scraps_of new line) (seen-same old new e (same e.list.index (there 0 (omega arith))))
@@ -119,8 +95,7 @@ module _ (flags : Flags) (row : Row) (place : ℕ) (line : List LineEntry) (old 
   long = grind (arith, place-inside, length-drop)
 
   line-there : (i : ℕ) → i < length line → (get_or line i no_entry).list.index < length old.lists
-  line-there i h = subst (λ n. n < length old.lists) (root-entry line i)
-      (roots.there i (omega (arith, length-roots line)))
+  line-there i h = rw (← root-entry line i) (roots.there i (omega (arith, length-roots line)))
 
   same-line : scraps_of new.lists line ≡ scraps_of old.lists line
   same-line = seen-line old.lists new.lists line (λ k h. (made-old flags row (drop place line) f old new made is_made k
@@ -131,20 +106,17 @@ module _ (flags : Flags) (row : Row) (place : ℕ) (line : List LineEntry) (old 
   scraps-are =
       let three : place + row.offset + row.replaced ≡ place + (row.offset + row.replaced) = omega arith in
       map-append (seen new.lists) (take at line) (made ∷ drop (at + row.replaced) line)
-      ∙ (ap (λ xs. xs ++ seen new.lists made ∷ map (seen new.lists) (drop (at + row.replaced) line))
-      (sym (take-map (seen new.lists) at line)
-      ∙ (ap (take at) same-line ∙ take-add (scraps_of old.lists line) place row.offset))
+      ∙ (ap (λ xs. xs ++ seen new.lists made ∷ map (seen new.lists) (drop (at + row.replaced) line)) (sym (take-map
+      (seen new.lists) at line) ∙ (ap (take at) same-line ∙ take-add (scraps_of old.lists line) place row.offset))
       ∙ (ap (λ xs. (take place (scraps_of old.lists line) ++ take row.offset (drop place (scraps_of old.lists line)))
       ++ seen new.lists made ∷ xs) (sym (drop-map (seen new.lists) (at + row.replaced) line)
-      ∙ (ap (drop (at + row.replaced)) same-line ∙ (ap (λ n. drop n (scraps_of old.lists line)) three
-      ∙ sym (drop-drop (row.offset + row.replaced) place (scraps_of old.lists line)))))
-      ∙ (ap (λ s. (take place (scraps_of old.lists line) ++ take row.offset (drop place (scraps_of old.lists line)))
-      ++ s ∷ drop (row.offset + row.replaced) (drop place (scraps_of old.lists line)))
-      (made-seen flags row (drop place line) f old new made is_made
-      ∙ ap (new_scrap flags row) (sym (drop-map (seen old.lists) place line)))
-      ∙ append_assoc (take place (scraps_of old.lists line)) (take row.offset (drop place (scraps_of old.lists line)))
-      (new_scrap flags row (drop place (scraps_of old.lists line)) ∷ drop (row.offset + row.replaced)
-      (drop place (scraps_of old.lists line))))))
+      ∙ (ap (drop (at + row.replaced)) same-line ∙ (ap (λ n. drop n (scraps_of old.lists line)) three ∙ sym (drop-drop
+      (row.offset + row.replaced) place (scraps_of old.lists line))))) ∙ (ap (λ s. (take place (scraps_of old.lists
+      line) ++ take row.offset (drop place (scraps_of old.lists line))) ++ s ∷ drop (row.offset + row.replaced)
+      (drop place (scraps_of old.lists line))) (made-seen flags row (drop place line) f old new made is_made
+      ∙ ap (new_scrap flags row) (sym (drop-map (seen old.lists) place line))) ∙ append_assoc (take place
+      (scraps_of old.lists line)) (take row.offset (drop place (scraps_of old.lists line))) (new_scrap flags row (drop
+      place (scraps_of old.lists line)) ∷ drop (row.offset + row.replaced) (drop place (scraps_of old.lists line))))))
 
   count-is : length result + row.replaced ≡ length line + 1
   count-is = grind (arith, long, length-append, length-take, length-drop)
@@ -160,9 +132,8 @@ module _ (flags : Flags) (row : Row) (place : ℕ) (line : List LineEntry) (old 
   from-kept k a same is =
       grind (arith, long, length-roots, get_or-drop, root-entry, roots-replaced, spliced, same-spliced)
 
-  from-joined : new.lists ≡ old.lists ++ tokens_of Maybe
-      (map (inserting (drop place line)) (pieces_at flags row (drop place line))) ∷ [] → made.list.index
-      ≡ length old.lists → NewRoots
+  from-joined : new.lists ≡ old.lists ++ tokens_of Maybe (map (inserting (drop place line))
+      (pieces_at flags row (drop place line))) ∷ [] → made.list.index ≡ length old.lists → NewRoots
   from-joined grown list =
       let rs : List ℕ = roots_of line in
       let ordered : at ≤ at + row.replaced = omega arith in
@@ -170,19 +141,16 @@ module _ (flags : Flags) (row : Row) (place : ℕ) (line : List LineEntry) (old 
       let all : roots_of result ≡ spliced (roots_of line) at (at + row.replaced) (length old.lists) =
       roots-replaced line at (at + row.replaced) made ∙ ap (spliced (roots_of line) at (at + row.replaced)) list in
       record {
-        are = rw (all, grown) (grown-roots old.lists
-            (tokens_of Maybe (map (inserting (drop place line)) (pieces_at flags row (drop place line))))
-            (roots_of line) at (at + row.replaced) ordered fits tied roots refs);
+        are = rw (all, grown) (grown-roots old.lists (tokens_of Maybe (map (inserting (drop place line)) (pieces_at
+            flags row (drop place line)))) (roots_of line) at (at + row.replaced) ordered fits tied roots refs);
         outside = λ m o. rw (all, grown) (grown-outside old.lists
             (tokens_of Maybe (map (inserting (drop place line)) (pieces_at flags row (drop place line))))
             (roots_of line) at (at + row.replaced) ordered fits tied roots refs m o);
-        free = λ m o u. rw grown (grown-free old.lists
-            (tokens_of Maybe (map (inserting (drop place line)) (pieces_at flags row (drop place line))))
-            (roots_of line) at (at + row.replaced) ordered fits tied roots refs m o u);
+        free = λ m o u. rw grown (grown-free old.lists (tokens_of Maybe (map (inserting (drop place line)) (pieces_at
+            flags row (drop place line)))) (roots_of line) at (at + row.replaced) ordered fits tied roots refs m o u);
       }
     where
-      refs : (p x : ℕ)
-          → token_ref (slice_get (tokens_of Maybe (map (inserting (drop place line))
+      refs : (p x : ℕ) → token_ref (slice_get (tokens_of Maybe (map (inserting (drop place line))
           (pieces_at flags row (drop place line)))) p) ≡ Some x → FromRoot (roots_of line) at (at + row.replaced) x
       refs p x e =
           let s : FromScrap (drop place line) row.offset row.replaced x = tokens-ref (drop place line) Maybe

@@ -1,21 +1,11 @@
 -- Reserving in a line: the scrap that a row names, and the scraps to the right.
-use Rattle.std.proofs.Common.{◌≡◌, ℕ, zero, suc, ◌+◌, ◌-◌, ◌<◌, ◌≤◌, List, [], ◌∷◌, ◌++◌, length, map, take, drop, set}
-use Rattle.std.proofs.Common.{get_or, Option, Some, inl, inr, refl, sym, ap, ◌∙◌, subst, arith}
-use Rattle.std.proofs.lemmas.List.{get_or-set_same, get_or-set_other, get_or-drop, get_or-take, get_or-map}
-use Rattle.std.proofs.lemmas.List.{get_or_append_left, get_or-append_right, length-set, length-map, length-drop}
-use Rattle.std.proofs.lemmas.List.{length-append, length-take-le, ext_get_or}
-use Rattle.std.proofs.lemmas.Bool.{cases_eq, cases_lt}
-use Rattle.cw_names.specs.declared.NameId.{NameId}
-use Rattle.cw_trees.specs.Joining.{Scrap, no_scrap}
-use Rattle.cw_table.specs.Rewriting.{reserved_in, reserved_at}
-use Rattle.cw_tokens.specs.declared.token.Token.{Token}
-use Rattle.cw_tokens.specs.Shapes.{unfolded}
-use Rattle.cw_tokens.specs.References.{IsTied}
-use Rattle.cw_tokens.specs.Reserving.{Reserves}
-use Rattle.cw_scraps.specs.declared.line.LineEntry.{LineEntry}
-use Rattle.cw_scraps.specs.Lines.{seen, scraps_of, roots_of, no_entry, AreRoots, IsOutside}
-use Rattle.cw_scraps.specs.Changing.{Changes}
-use Rattle.cw_scraps.specs.Turning.{named_by, Turns}
+use Rattle.cw_scraps.proofs.Terms.{◌≡◌, ℕ, zero, suc, ◌+◌, ◌-◌, ◌<◌, ◌≤◌, List, [], ◌∷◌, ◌++◌, length, map, take, drop}
+use Rattle.cw_scraps.proofs.Terms.{set, get_or, Option, Some, inl, inr, refl, sym, ap, ◌∙◌, subst, arith}
+use Rattle.cw_scraps.proofs.Terms.{get_or-set_same, get_or-set_other, get_or-drop, get_or-take, get_or-map}
+use Rattle.cw_scraps.proofs.Terms.{get_or_append_left, get_or-append_right, length-set, length-map, length-drop}
+use Rattle.cw_scraps.proofs.Terms.{length-append, length-take-le, ext_get_or, cases_eq, cases_lt, NameId, Scrap}
+use Rattle.cw_scraps.proofs.Terms.{no_scrap, reserved_in, reserved_at, Token, unfolded, IsTied, Reserves, LineEntry}
+use Rattle.cw_scraps.proofs.Terms.{seen, scraps_of, roots_of, no_entry, AreRoots, IsOutside, Changes, named_by, Turns}
 use Rattle.cw_scraps.proofs.Buildings.{root-entry, length-roots}
 use Rattle.cw_scraps.proofs.Changings.{changes-trans, changes-more, roots-stay, root-outside, trees-outside}
 use Rattle.cw_scraps.proofs.Changings.{reserves-changes, seen-same, tied-same}
@@ -30,21 +20,17 @@ seen-get lists line i h = get_or-map (seen lists) line i no_entry no_scrap h
 
 pub entry-there : (lists : List (List Token)) (line : List LineEntry) (i : ℕ) → AreRoots lists (roots_of line)
     → i < length line → (get_or line i no_entry).list.index < length lists
-entry-there lists line i r h = subst (λ n. n < length lists) (root-entry line i)
-    (r.there i (omega (arith, length-roots line)))
+entry-there lists line i r h = rw (← root-entry line i) (r.there i (omega (arith, length-roots line)))
 
 -- Two entries of a line have trees of their own: where one changes the other stays.
 pub seen-other : (old new : List (List Token)) (line : List LineEntry) (i m : ℕ) → IsTied old
-    → AreRoots old (roots_of line) → i < length line → m < length line → (m ≡ i → ⊥)
-    → Changes old new ((get_or line i no_entry).list.index ∷ []) → seen new (get_or line m no_entry)
-    ≡ seen old (get_or line m no_entry)
+    → AreRoots old (roots_of line) → i < length line → m < length line → (m ≡ i → ⊥) → Changes old new
+    ((get_or line i no_entry).list.index ∷ []) → seen new (get_or line m no_entry) ≡ seen old (get_or line m no_entry)
 seen-other old new line i m tied roots hi hm apart ch =
-    let ri : i < length (roots_of line) = omega (arith, length-roots line) in
-    let rm : m < length (roots_of line) = omega (arith, length-roots line) in
-    let out : IsOutside old (get_or (roots_of line) i 0 ∷ []) (get_or (roots_of line) m 0) =
-    root-outside old (roots_of line) i m tied roots ri rm apart in
-    let ch2 : Changes old new (get_or (roots_of line) i 0 ∷ []) =
-    subst (λ n. Changes old new (n ∷ [])) (sym (root-entry line i)) ch in
+    let out : IsOutside old (get_or (roots_of line) i 0 ∷ []) (get_or (roots_of line) m 0) = root-outside old
+    (roots_of line) i m tied roots (omega (arith, length-roots line)) (omega (arith, length-roots line)) apart in
+    let ch2 : Changes old new (get_or (roots_of line) i 0 ∷ []) = subst (λ n. Changes old new (n ∷ []))
+    (sym (root-entry line i)) ch in
     seen-same old new (get_or line m no_entry) (subst (λ n. unfolded new n ≡ unfolded old n) (root-entry line m)
     (trees-outside old new (get_or (roots_of line) i 0 ∷ []) (get_or (roots_of line) m 0) tied ch2 out))
 
@@ -60,17 +46,14 @@ set-behind [] (suc place) k x h = absurd (omega arith)
 set-behind (y ∷ xs) (suc place) k x h = grind (arith, set-behind xs place k x (omega arith))
 
 -- the scrap that a row names has its first identifier reserved
-pub reserve-scraps : (old new : List (List Token)) (line : List LineEntry) (place k : ℕ) → IsTied old
-    → AreRoots old (roots_of line) → place + k < length line
-    → Reserves old new (get_or line (place + k) no_entry).list.index
+pub reserve-scraps : (old new : List (List Token)) (line : List LineEntry) (place k : ℕ) → IsTied old → AreRoots old
+    (roots_of line) → place + k < length line → Reserves old new (get_or line (place + k) no_entry).list.index
     → scraps_of new line ≡ take place (scraps_of old line) ++ reserved_at (Some k) (drop place (scraps_of old line))
-reserve-scraps old new line place k tied roots h r =
-    ext_get_or no_scrap (scraps_of new line) (set (scraps_of old line) (place + k)
-    (reserved_in (get_or (scraps_of old line) (place + k) no_scrap))) len each
+reserve-scraps old new line place k tied roots h r = ext_get_or no_scrap (scraps_of new line)
+    (set (scraps_of old line) (place + k) (reserved_in (get_or (scraps_of old line) (place + k) no_scrap))) len each
     ∙ (set-behind (scraps_of old line) place k (reserved_in (get_or (scraps_of old line) (place + k) no_scrap))
-    (omega (arith, length-scraps old line))
-    ∙ ap (λ s. take place (scraps_of old line) ++ set (drop place (scraps_of old line)) k (reserved_in s))
-    (sym (get_or-drop place (scraps_of old line) k no_scrap)))
+    (omega (arith, length-scraps old line)) ∙ ap (λ s. take place (scraps_of old line) ++ set
+    (drop place (scraps_of old line)) k (reserved_in s)) (sym (get_or-drop place (scraps_of old line) k no_scrap)))
   where
     len : length (scraps_of new line)
         ≡ length (set (scraps_of old line) (place + k) (reserved_in (get_or (scraps_of old line) (place + k) no_scrap)))
@@ -78,39 +61,30 @@ reserve-scraps old new line place k tied roots h r =
       arith,
       length-scraps old line,
       length-scraps new line,
-      length-set (scraps_of old line) (place + k)
-          (reserved_in (get_or (scraps_of old line) (place + k) no_scrap)),
+      length-set (scraps_of old line) (place + k) (reserved_in (get_or (scraps_of old line) (place + k) no_scrap)),
     )
 
     here : get_or (scraps_of new line) (place + k) no_scrap
         ≡ reserved_in (get_or (scraps_of old line) (place + k) no_scrap)
-    here =
-        seen-get new line (place + k) h
-        ∙ (ap (λ t. record {
-          cat = (get_or line (place + k) no_entry).cat;
-          tree = t;
-          left = (get_or line (place + k) no_entry).left;
-          right = (get_or line (place + k) no_entry).right;
-        }) r.tree
-        ∙ ap reserved_in (sym (seen-get old line (place + k) h)))
+    here = seen-get new line (place + k) h ∙ (ap (λ t. record {
+      cat = (get_or line (place + k) no_entry).cat;
+      tree = t;
+      left = (get_or line (place + k) no_entry).left;
+      right = (get_or line (place + k) no_entry).right;
+    }) r.tree ∙ ap reserved_in (sym (seen-get old line (place + k) h)))
 
-    each : (i : ℕ) → i < length (scraps_of new line) → get_or (scraps_of new line) i no_scrap
-        ≡ get_or (set (scraps_of old line) (place + k) (reserved_in (get_or (scraps_of old line) (place + k) no_scrap)))
-        i no_scrap
+    each : (i : ℕ) → i < length (scraps_of new line) → get_or (scraps_of new line) i no_scrap ≡ get_or (set
+        (scraps_of old line) (place + k) (reserved_in (get_or (scraps_of old line) (place + k) no_scrap))) i no_scrap
     each i lt =
         let hi : i < length line = omega (arith, length-scraps new line) in
         elim (cases_eq i (place + k)) [
-          | inl e ↦ ap (λ n. get_or (scraps_of new line) n no_scrap) e
-              ∙ (here ∙ (sym (get_or-set_same (scraps_of old line) (place + k)
-              (reserved_in (get_or (scraps_of old line) (place + k) no_scrap)) no_scrap
-              (omega (arith, length-scraps old line)))
-              ∙ ap (λ n. get_or (set (scraps_of old line) (place + k)
+          | inl e ↦ ap (λ n. get_or (scraps_of new line) n no_scrap) e ∙ (here ∙ (sym (get_or-set_same
+              (scraps_of old line) (place + k) (reserved_in (get_or (scraps_of old line) (place + k) no_scrap)) no_scrap
+              (omega (arith, length-scraps old line))) ∙ ap (λ n. get_or (set (scraps_of old line) (place + k)
               (reserved_in (get_or (scraps_of old line) (place + k) no_scrap))) n no_scrap) (sym e)))
-          | inr ne ↦ seen-get new line i hi
-              ∙ (seen-other old new line (place + k) i tied roots h hi ne
+          | inr ne ↦ seen-get new line i hi ∙ (seen-other old new line (place + k) i tied roots h hi ne
               (reserves-changes old new (get_or line (place + k) no_entry).list.index r)
-              ∙ (sym (seen-get old line i hi)
-              ∙ sym (get_or-set_other (scraps_of old line) (place + k) i
+              ∙ (sym (seen-get old line i hi) ∙ sym (get_or-set_other (scraps_of old line) (place + k) i
               (reserved_in (get_or (scraps_of old line) (place + k) no_scrap)) no_scrap ne)))
         ]
 
@@ -134,15 +108,13 @@ module _ (name : Option NameId) (old_lists : List (List Token)) (old : List Line
   turn-inside h = omega (arith, turned-length)
 
   pub turns-more : start ≤ i → i < length old → (new : List (List Token)) (entry : LineEntry) → seen new entry
-      ≡ named_by name (seen lists (get_or line i no_entry)) → entry.list ≡ (get_or line i no_entry).list
-      → Changes lists new ((get_or line i no_entry).list.index ∷ [])
-      → Turns name old_lists old start (i + 1) new (set line i entry)
+      ≡ named_by name (seen lists (get_or line i no_entry)) → entry.list ≡ (get_or line i no_entry).list → Changes lists
+      new ((get_or line i no_entry).list.index ∷ []) → Turns name old_lists old start (i + 1) new (set line i entry)
   turns-more low h new entry is same ch = record {
     done = λ m a b. elim (cases_eq m i) [
       | inl e ↦ ap (λ n. seen new (get_or (set line i entry) n no_entry)) e
-          ∙ (ap (seen new) (get_or-set_same line i entry no_entry in_line)
-          ∙ (is ∙ (ap (named_by name) (t.same i h (inr (omega arith)))
-          ∙ ap (λ n. named_by name (seen old_lists (get_or old n no_entry))) (sym e))))
+          ∙ (ap (seen new) (get_or-set_same line i entry no_entry in_line) ∙ (is ∙ (ap (named_by name)
+          (t.same i h (inr (omega arith))) ∙ ap (λ n. named_by name (seen old_lists (get_or old n no_entry))) (sym e))))
       | inr ne ↦ other m (omega arith) ne ∙ t.done m a (omega arith)
     ];
     same = λ m hm o. elim (cases_eq m i) [
@@ -173,8 +145,7 @@ module _ (name : Option NameId) (old_lists : List (List Token)) (old : List Line
 
 pub turns-end : (name : Option NameId) (old_lists : List (List Token)) (old : List LineEntry) (start i : ℕ)
     (lists : List (List Token)) (line : List LineEntry) → Turns name old_lists old start i lists line
-    → start ≤ length old → length old ≤ i
-    → scraps_of lists line ≡ take start (scraps_of old_lists old)
+    → start ≤ length old → length old ≤ i → scraps_of lists line ≡ take start (scraps_of old_lists old)
     ++ map (named_by name) (drop start (scraps_of old_lists old))
 turns-end name old_lists old start i lists line t low high = ext_get_or no_scrap (scraps_of lists line)
     (take start (scraps_of old_lists old) ++ map (named_by name) (drop start (scraps_of old_lists old))) len each
@@ -191,17 +162,15 @@ turns-end name old_lists old start i lists line t low high = ext_get_or no_scrap
       arith,
       length-scraps lists line,
       same-length,
-      length-append (take start (scraps_of old_lists old))
-          (map (named_by name) (drop start (scraps_of old_lists old))),
+      length-append (take start (scraps_of old_lists old)) (map (named_by name) (drop start (scraps_of old_lists old))),
       front,
       length-map (drop start (scraps_of old_lists old)) (named_by name),
       length-drop start (scraps_of old_lists old),
       length-scraps old_lists old,
     )
 
-    each : (m : ℕ) → m < length (scraps_of lists line) → get_or (scraps_of lists line) m no_scrap
-        ≡ get_or (take start (scraps_of old_lists old) ++ map (named_by name) (drop start (scraps_of old_lists old))) m
-        no_scrap
+    each : (m : ℕ) → m < length (scraps_of lists line) → get_or (scraps_of lists line) m no_scrap ≡ get_or
+        (take start (scraps_of old_lists old) ++ map (named_by name) (drop start (scraps_of old_lists old))) m no_scrap
     each m h =
         let hm : m < length line = omega (arith, length-scraps lists line) in
         let ho : m < length old = omega (arith, same-length) in

@@ -1,20 +1,10 @@
 -- The lists of a line in which some entries are replaced by one.
-use Rattle.std.proofs.Common.{◌≡◌, ℕ, zero, suc, ◌+◌, ◌-◌, ◌<◌, ◌≤◌, List, [], ◌∷◌, ◌++◌, length, map, take, drop}
-use Rattle.std.proofs.Common.{get_or, Option, Some, None, ◌⊎◌, inl, inr, sym, ap, ◌∙◌, subst, arith}
-use Rattle.std.specs.List.{slice_get}
-use Rattle.std.proofs.lemmas.List.{get_or-take, get_or-drop, get_or_append_left, get_or-append_right, length-append}
-use Rattle.std.proofs.lemmas.List.{length-take-le, length-drop}
-use Rattle.std.proofs.lemmas.Bool.{cases_lt, cases_eq}
-use Rattle.cw_base.specs.declared.mode.MathMode.{MathMode}
-use Rattle.cw_trees.specs.Joining.{after}
-use Rattle.cw_table.specs.declared.types.Piece.{Piece}
-use Rattle.cw_table.specs.Sound.{scraps_in, numbers_from}
-use Rattle.cw_tokens.specs.declared.token.Token.{Token}
-use Rattle.cw_tokens.specs.Shapes.{shape, ref_of}
-use Rattle.cw_tokens.specs.References.{token_ref}
-use Rattle.cw_scraps.specs.declared.line.LineEntry.{LineEntry}
-use Rattle.cw_scraps.specs.Lines.{no_entry}
-use Rattle.cw_scraps.specs.Inserting.{inserting, toggle, tokens_of}
+use Rattle.cw_scraps.proofs.Terms.{◌≡◌, ℕ, zero, suc, ◌+◌, ◌-◌, ◌<◌, ◌≤◌, List, [], ◌∷◌, ◌++◌, length, map, take, drop}
+use Rattle.cw_scraps.proofs.Terms.{get_or, Option, Some, None, ◌⊎◌, inl, inr, sym, ap, ◌∙◌, subst, arith, slice_get}
+use Rattle.cw_scraps.proofs.Terms.{get_or-take, get_or-drop, get_or_append_left, get_or-append_right, length-append}
+use Rattle.cw_scraps.proofs.Terms.{length-take-le, length-drop, cases_lt, cases_eq, MathMode, after, Piece, scraps_in}
+use Rattle.cw_scraps.proofs.Terms.{numbers_from, Token, shape, ref_of, token_ref, LineEntry, no_entry, inserting}
+use Rattle.cw_scraps.proofs.Terms.{toggle, tokens_of}
 use Rattle.cw_scraps.proofs.Buildings.{Kind, scrap, sign, kind, Goes, goes}
 
 abbrev pub spliced : List ℕ → ℕ → ℕ → ℕ → List ℕ
@@ -40,11 +30,9 @@ splice rs at n x i h k lt =
             length-append (take at rs) (x ∷ drop n rs) in
             let step : i - at ≡ suc (i - at - 1) = omega arith in
             let place : n + (i - at - 1) ≡ (i + n) - (at + 1) = omega arith in
-            high ((i + n) - (at + 1)) (omega arith) (omega (arith, length-drop n rs, all))
-            (get_or-append_right (take at rs) (x ∷ drop n rs) at i 0 front b
-            ∙ (ap (λ m. get_or (x ∷ drop n rs) m 0) step
-            ∙ (get_or-drop n rs (i - at - 1) 0 ∙ ap (λ m. get_or rs m 0) place)))
-            (omega arith)
+            high ((i + n) - (at + 1)) (omega arith) (omega (arith, length-drop n rs, all)) (get_or-append_right
+            (take at rs) (x ∷ drop n rs) at i 0 front b ∙ (ap (λ m. get_or (x ∷ drop n rs) m 0) step
+            ∙ (get_or-drop n rs (i - at - 1) 0 ∙ ap (λ m. get_or rs m 0) place))) (omega arith)
       ]
     ]
   where
@@ -63,15 +51,13 @@ toggle-ref : (mode left : MathMode) (ts : List Token) (p x : ℕ) → token_ref 
 toggle-ref mode left ts p x e = grind arith
 
 pub tokens-ref : (entries : List LineEntry) (mode : MathMode) (pieces : List Piece) (first more p x : ℕ)
-    → scraps_in pieces ≡ numbers_from first more
-    → token_ref (slice_get (tokens_of mode (map (inserting entries) pieces)) p) ≡ Some x
-    → FromScrap entries first more x
+    → scraps_in pieces ≡ numbers_from first more → token_ref (slice_get
+    (tokens_of mode (map (inserting entries) pieces)) p) ≡ Some x → FromScrap entries first more x
 tokens-ref entries mode [] first more p x run e = grind arith
 tokens-ref entries mode (q ∷ pieces) first more p x run e = go (kind entries q)
-    (toggle-ref mode (inserting entries q).left ((inserting entries q).token
-    ∷ tokens_of (after mode (inserting entries q).left (inserting entries q).right) (map (inserting entries) pieces)) p
-    x e) (λ f m n r k. tokens-ref entries (after mode (inserting entries q).left (inserting entries q).right) pieces f m
-    n x r k)
+    (toggle-ref mode (inserting entries q).left ((inserting entries q).token ∷ tokens_of
+    (after mode (inserting entries q).left (inserting entries q).right) (map (inserting entries) pieces)) p x e) (λ f m
+    n r k. tokens-ref entries (after mode (inserting entries q).left (inserting entries q).right) pieces f m n x r k)
   where
     rest : List Token
     rest = tokens_of (after mode (inserting entries q).left (inserting entries q).right)
@@ -98,23 +84,17 @@ tokens-ref entries mode (q ∷ pieces) first more p x run e = go (kind entries q
       is = sym (some-is _ _ (sym ref ∙ k));
     }
 
-    find : (n : ℕ)
-        → token_ref (slice_get ((inserting entries q).token
-        ∷ tokens_of (after mode (inserting entries q).left (inserting entries q).right)
-        (map (inserting entries) pieces)) n) ≡ Some x
-        → (ref_of (shape (inserting entries q).token) ≡ Some x)
-        ⊎ ((m : ℕ) × (token_ref
-        (slice_get (tokens_of (after mode (inserting entries q).left (inserting entries q).right)
-        (map (inserting entries) pieces)) m) ≡ Some x))
+    find : (n : ℕ) → token_ref (slice_get ((inserting entries q).token ∷ tokens_of (after mode
+        (inserting entries q).left (inserting entries q).right) (map (inserting entries) pieces)) n) ≡ Some x → (ref_of
+        (shape (inserting entries q).token) ≡ Some x) ⊎ ((m : ℕ) × (token_ref (slice_get (tokens_of (after mode
+        (inserting entries q).left (inserting entries q).right) (map (inserting entries) pieces)) m) ≡ Some x))
     find zero k = inl k
     find (suc n) k = inr (n, k)
 
-    go : Kind entries q
-        → (n : ℕ) × (token_ref (slice_get ((inserting entries q).token
-        ∷ tokens_of (after mode (inserting entries q).left (inserting entries q).right)
-        (map (inserting entries) pieces)) n) ≡ Some x)
-        → ((f m n : ℕ) → scraps_in pieces ≡ numbers_from f m
-        → token_ref (slice_get (tokens_of (after mode (inserting entries q).left (inserting entries q).right)
+    go : Kind entries q → (n : ℕ) × (token_ref (slice_get ((inserting entries q).token ∷ tokens_of (after mode
+        (inserting entries q).left (inserting entries q).right) (map (inserting entries) pieces)) n) ≡ Some x)
+        → ((f m n : ℕ) → scraps_in pieces ≡ numbers_from f m → token_ref
+        (slice_get (tokens_of (after mode (inserting entries q).left (inserting entries q).right)
         (map (inserting entries) pieces)) n) ≡ Some x → FromScrap entries f m x) → FromScrap entries first more x
     go (sign skip ref within) at rec = elim (find at.0 at.1) [
       | inl k ↦ absurd (none-some x (sym ref ∙ k))

@@ -1,10 +1,6 @@
 -- The joiner prints the word, and at the end nothing more.
-use Rattle.std.proofs.Common.{◌≡◌, ◌∙◌, ℕ, List, [], ◌∷◌, ◌++◌, ap, length, refl}
-use Rattle.std.proofs.lemmas.List.{append-nil}
-use Rattle.std.proofs.lemmas.Result.{on_ok_weaker}
-use Rattle.std.specs.Prelude.{OnOk}
-use Rattle.cw_join.specs.Early.{late}
-use Rattle.cw_join.specs.Tokens.{alone, item_bytes}
+use Rattle.cw_mini.proofs.Terms.{◌≡◌, ◌∙◌, ℕ, List, [], ◌∷◌, ◌++◌, ap, length, refl, append-nil, on_ok_weaker, OnOk}
+use Rattle.cw_mini.proofs.Terms.{late, alone, item_bytes}
 use Rattle.cw_mini.proofs.WordLaws.{word-added, word-closed, word-comes, word-late}
 use Rattle.cw_mini.proofs.names.append_item.Goals as goal
 
@@ -15,9 +11,8 @@ append-requires c = record {
 
 pub append_end-requires : goal.append_end-requires
 append_end-requires c = record {
-  closed = (c.in_ok-append.ensures.stands [] (alone c.args.names.now c.args.item)
-      c.new-joiner.ensures.stands refl).depth
-      ∙ word-closed c.args.names.now (length c.args.names.now) c.args.item c.requires;
+  closed = (c.in_ok-append.ensures.stands [] (alone c.args.names.now c.args.item) c.new-joiner.ensures.stands
+      refl).depth ∙ word-closed c.args.names.now (length c.args.names.now) c.args.item c.requires;
 }
 
 pub returns : goal.returns
@@ -25,18 +20,12 @@ returns c =
     let names = c.args.names.now in
     let count : ℕ = length names in
     let item = c.args.item in
-    let bytes : List ℕ = item_bytes names item [] in
-    let first : c.append.new.out ≡ c.args.line.now ++ bytes =
-    c.in_ok-append.ensures.bytes [] c.new-joiner.ensures.stands
-    ∙ ap (λ (more : List ℕ). c.args.line.now ++ more)
+    let first : c.append.new.out ≡ c.args.line.now ++ (item_bytes names item []) = c.in_ok-append.ensures.bytes []
+    c.new-joiner.ensures.stands ∙ ap (λ (more : List ℕ). c.args.line.now ++ more)
     (word-added names count c.new-joiner.result.inner item c.requires c.new-joiner.ensures.inner) in
-    let ended : OnOk c.append_end.result
-    (c.append_end.new.out ≡ c.append.new.out ++ late c.append.new.self.inner (alone names item ∷ [])) =
-    c.append_end.ensures.bytes (alone names item ∷ [])
+    let ended : OnOk c.append_end.result (c.append_end.new.out ≡ c.append.new.out ++ late c.append.new.self.inner
+    (alone names item ∷ [])) = c.append_end.ensures.bytes (alone names item ∷ [])
     (c.in_ok-append.ensures.stands [] (alone names item) c.new-joiner.ensures.stands refl) in
-    on_ok_weaker c.append_end.result
-    (λ e. e
-    ∙ ap (λ (more : List ℕ). c.append.new.out ++ more)
-    (word-late names count c.append.new.self.inner item c.requires
-    (c.in_ok-append.ensures.inner ∙ c.new-joiner.ensures.inner))
-    ∙ append-nil c.append.new.out ∙ first) ended
+    on_ok_weaker c.append_end.result (λ e. e
+    ∙ ap (λ (more : List ℕ). c.append.new.out ++ more) (word-late names count c.append.new.self.inner item c.requires
+    (c.in_ok-append.ensures.inner ∙ c.new-joiner.ensures.inner)) ∙ append-nil c.append.new.out ∙ first) ended

@@ -1,6 +1,5 @@
 -- The marks so far stand behind the occurrences; with those to come they are all.
-use Rattle.std.proofs.Common.{◌≡◌, drop}
-use Rattle.cw_mini.specs.Marks.{with_marks}
+use Rattle.cw_mini.proofs.Terms.{◌≡◌, drop, with_marks}
 use Rattle.cw_mini.proofs.rows.add_marks.Given as goal
 
 abbrev pub invariant-loop-mark : goal.invariant-loop-mark

@@ -1,5 +1,5 @@
 -- What is copied, with the occurrences to come, are all.
-use Rattle.std.proofs.Common.{◌≡◌, ◌++◌, drop}
+use Rattle.cw_mini.proofs.Terms.{◌≡◌, ◌++◌, drop}
 use Rattle.cw_mini.proofs.rows.copy_of.Given as goal
 
 abbrev pub invariant-loop-place : goal.invariant-loop-place

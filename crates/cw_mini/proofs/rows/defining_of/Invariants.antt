@@ -1,6 +1,5 @@
 -- The sections so far, with those to come, are all.
-use Rattle.std.proofs.Common.{◌≡◌, ◌++◌, drop}
-use Rattle.cw_mini.specs.Mini.{defining, numbers}
+use Rattle.cw_mini.proofs.Terms.{◌≡◌, ◌++◌, drop, defining, numbers}
 use Rattle.cw_mini.proofs.rows.defining_of.Given as goal
 
 abbrev pub invariant-loop-place : goal.invariant-loop-place

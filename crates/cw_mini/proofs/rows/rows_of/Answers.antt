@@ -1,13 +1,7 @@
 -- The next name has its row, if the section lists it.
-use Rattle.std.proofs.Common.{◌≡◌, ◌∙◌, ℕ, ◌+◌, List, Some, ap, drop, get_or, subst, sym}
-use Rattle.std.specs.Prelude.{slice_get}
-use Rattle.cw_names.specs.Names.{Entry}
-use Rattle.cw_names.specs.declared.entry.NameId.{NameId}
-use Rattle.cw_names.specs.declared.xrefs.Occurrence.{Occurrence}
-use Rattle.cw_names.specs.declared.xrefs.SectionRef.{SectionRef}
-use Rattle.cw_index.specs.Mentions.{Row, index_rows}
-use Rattle.cw_mini.specs.Mini.{MiniRow, defining, numbers}
-use Rattle.cw_mini.specs.RowForms.{positions, row_names}
+use Rattle.cw_mini.proofs.Terms.{◌≡◌, ◌∙◌, ℕ, ◌+◌, List, Some, ap, drop, get_or, subst, sym, slice_get, Entry, NameId}
+use Rattle.cw_mini.proofs.Terms.{Occurrence, SectionRef, Row, index_rows, MiniRow, defining, numbers, positions}
+use Rattle.cw_mini.proofs.Terms.{row_names}
 use Rattle.cw_mini.proofs.NamedRows.{IsRowOf, index-named}
 use Rattle.cw_mini.proofs.RowPlaces.{IsHere, listed_by, row-here, row-kept, row-left, rows_with}
 use Rattle.cw_mini.proofs.rows.rows_of.Goals.{else-lists, then-lists+in_ok-sections+in_ok-push}
@@ -31,13 +25,11 @@ loop-id-preserved c =
     let with : List MiniRow → List MiniRow = λ rows. rows_with c.args.section occurrences rows (drop (i + 1) all) in
     elim c.if-lists.branch [
       | then-lists+in_ok-sections+in_ok-push w ↦
-          ap with w.rows-is
-          ∙ row-kept occurrences c.args.section ids all i none names here c.loop-id.rows w.push.new.self
-          w.in_ok-sections.sections.items (sym known ∙ w.if-lists.true)
-          (w.in_ok-sections.ensures ∙ ap (λ (ms : List SectionRef). numbers (defining ms)) w.sections_of.ensures.value)
-          w.in_ok-push.ensures ∙ c.loop-id.invariant
+          ap with w.rows-is ∙ row-kept occurrences c.args.section ids all i none names here c.loop-id.rows
+          w.push.new.self w.in_ok-sections.sections.items (sym known ∙ w.if-lists.true) (w.in_ok-sections.ensures
+          ∙ ap (λ (ms : List SectionRef). numbers (defining ms)) w.sections_of.ensures.value) w.in_ok-push.ensures
+          ∙ c.loop-id.invariant
       | else-lists w ↦
-          ap with w.rows-is
-          ∙ row-left occurrences c.args.section ids all i none names here c.loop-id.rows
-          (sym known ∙ w.if-lists.false) ∙ c.loop-id.invariant
+          ap with w.rows-is ∙ row-left occurrences c.args.section ids all i none names here c.loop-id.rows (sym known
+          ∙ w.if-lists.false) ∙ c.loop-id.invariant
     ]

@@ -1,10 +1,6 @@
 -- The lines of the next section go behind those before them.
-use Rattle.std.proofs.Common.{◌∙◌, ℕ, ◌+◌, ◌-◌, ◌<◌, List, ap, length, subst}
-use Rattle.std.specs.List.{flat_map, range_with_len}
-use Rattle.cw_base.specs.declared.event.Out.TheVariants.{Tex}
-use Rattle.cw_desk.specs.Journal.{byte_events}
-use Rattle.cw_lines.specs.WritesLaws.{adds-events}
-use Rattle.cw_mini.specs.MiniFile.{section_lines}
+use Rattle.cw_mini.proofs.Terms.{◌∙◌, ℕ, ◌+◌, ◌-◌, ◌<◌, List, ap, length, subst, flat_map, range_with_len, Tex}
+use Rattle.cw_mini.proofs.Terms.{byte_events, adds-events, section_lines}
 use Rattle.cw_mini.proofs.Writing.{left-next, writing-as, writing-next, writing-stopped, writing-wanting}
 use Rattle.cw_mini.proofs.sections.write_sections.Goals as goal
 
@@ -19,9 +15,8 @@ returns-in_err-write_all g c =
     let low : before < count =
     subst (λ (n : ℕ). before < n) c.section_count-before-end.ensures c.loop-before-test.true in
     writing-stopped (f (before + 1)) (flat_map f (range_with_len (before + 1 + 1) (count - (before + 1))))
-    (writing-as (left-next f before count low) c.loop-before.invariant)
-    (adds-events (ap (byte_events Tex) (c.as_slice.ensures ∙ c.in_ok-lines.ensures)) c.in_err-write_all.ensures)
-    c.from_residual-in_err-write_all.ensures.1
+    (writing-as (left-next f before count low) c.loop-before.invariant) (adds-events (ap (byte_events Tex)
+    (c.as_slice.ensures ∙ c.in_ok-lines.ensures)) c.in_err-write_all.ensures) c.from_residual-in_err-write_all.ensures.1
 
 pub loop-before-preserved : goal.loop-before-preserved
 loop-before-preserved g c =

@@ -1,7 +1,5 @@
 -- The next text leaves its own.
-use Rattle.std.proofs.Common.{◌∙◌, subst, sym}
-use Rattle.cw_texpart.specs.Texts.{Lasting}
-use Rattle.cw_translator.specs.NameParts.{AreNamesOf}
+use Rattle.cw_mini.proofs.Terms.{◌∙◌, subst, sym, Lasting, AreNamesOf}
 use Rattle.cw_mini.proofs.LeftLaws.{left-next, whole-at}
 use Rattle.cw_mini.proofs.texts.leave_each.Goals as goal
 

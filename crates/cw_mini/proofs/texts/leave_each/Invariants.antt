@@ -1,7 +1,5 @@
 -- The texts to come leave, of the book so far, what all texts leave.
-use Rattle.std.proofs.Common.{◌≡◌, drop}
-use Rattle.cw_texpart.specs.Texts.{lasting}
-use Rattle.cw_mini.specs.Left.{left_by_texts}
+use Rattle.cw_mini.proofs.Terms.{◌≡◌, drop, lasting, left_by_texts}
 use Rattle.cw_mini.proofs.texts.leave_each.Given as goal
 
 abbrev pub invariant-loop-i : goal.invariant-loop-i

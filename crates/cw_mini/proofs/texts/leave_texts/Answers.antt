@@ -1,5 +1,5 @@
 -- The texts are those of the web, and each can be translated.
-use Rattle.std.proofs.lemmas.Result.{on_ok_weaker}
+use Rattle.cw_mini.proofs.Terms.{on_ok_weaker}
 use Rattle.cw_mini.proofs.LeftLaws.{left-whole, names-kept, texts-whole}
 use Rattle.cw_mini.proofs.texts.leave_texts.Goals as goal
 
@@ -12,7 +12,6 @@ leave_each-requires g c = record {
 }
 
 pub returns : goal.returns
-returns g c =
-    on_ok_weaker c.leave_each.result
+returns g c = on_ok_weaker c.leave_each.result
     (left-whole c.args.web.now.lines c.text.result.now c.in_ok-list.list c.args.book.now c.leave_each.new.book
     c.text.ensures.lines c.in_ok-list.ensures c.requires.same) c.leave_each.ensures

@@ -1,7 +1,5 @@
 -- The pieces so far stand in the list that is being built, with the modes in which it begins and ends so far.
-use Rattle.std.proofs.Common.{drop}
-use Rattle.cw_table.specs.Rows.{pieces_for}
-use Rattle.cw_scraps.specs.Building.{Joins}
+use Rattle.cw_scraps.proofs.Terms.{drop, pieces_for, Joins}
 use Rattle.cw_scraps.proofs.joining.join.Given as goal
 
 abbrev pub invariant-loop-i : goal.invariant-loop-i

@@ -1,6 +1,5 @@
 -- `is_laid_out`: answer in the last case; said here, so that a wrong one fails at once.
-use Rattle.std.proofs.Common.{arith}
-use Rattle.std.proofs.lemmas.Grind.{common_steps}
+use Rattle.cw_scraps.proofs.Terms.{arith, common_steps}
 use Rattle.cw_scraps.proofs.kinds.is_laid_out.Goals as goal
 
 pub returns-in_default : goal.returns-in_default

@@ -1,7 +1,6 @@
 -- A macro of TeX is an expression in math; every other identifier has the category of its name, in either mode.
-use Rattle.std.proofs.Common.{◌≡◌, Option, Some, List, [], ◌∷◌, ◌++◌, ap, length, option_map, ◌∙◌}
-use Rattle.std.specs.Option.{option_to_list}
-use Rattle.cw_tokens.specs.declared.token.Token.{Token}
+use Rattle.cw_scraps.proofs.Terms.{◌≡◌, Option, Some, List, [], ◌∷◌, ◌++◌, ap, length, option_map, ◌∙◌, option_to_list}
+use Rattle.cw_scraps.proofs.Terms.{Token}
 use Rattle.cw_scraps.proofs.LeafForms.{macro-has, plain-has}
 use Rattle.cw_scraps.proofs.leaves.word_leaf.Goals as goal
 
@@ -17,12 +16,11 @@ word-last word old begun built new first last f l b d n =
 
 pub returns-in-TexLike-clause-form : goal.returns-in-TexLike-clause-form
 returns-in-TexLike-clause-form c = macro-has c.args.cat c.args.name c.args.number c.token_of_word.result c.ended.result
-    c.args.store.now.lists c.ended.new.store.lists c.token_of_word.ensures.tokens
-    (c.ended.ensures.list ∙ ap length (c.push.ensures.lists ∙ c.begin.ensures.lists))
-    (word-last c.token_of_word.result c.args.store.now.lists c.begin.new.self.lists c.push.new.self.lists
-    c.ended.new.store.lists c.begin.new.self.building c.push.new.self.building c.begin.ensures.building
-    c.push.ensures.building c.begin.ensures.lists c.push.ensures.lists c.ended.ensures.lists)
-    c.in-TexLike.is c.ended.ensures.cat c.ended.ensures.left c.ended.ensures.right
+    c.args.store.now.lists c.ended.new.store.lists c.token_of_word.ensures.tokens (c.ended.ensures.list
+    ∙ ap length (c.push.ensures.lists ∙ c.begin.ensures.lists)) (word-last c.token_of_word.result c.args.store.now.lists
+    c.begin.new.self.lists c.push.new.self.lists c.ended.new.store.lists c.begin.new.self.building
+    c.push.new.self.building c.begin.ensures.building c.push.ensures.building c.begin.ensures.lists c.push.ensures.lists
+    c.ended.ensures.lists) c.in-TexLike.is c.ended.ensures.cat c.ended.ensures.left c.ended.ensures.right
 
 pub returns-in_default-clause-form : goal.returns-in_default-clause-form
 returns-in_default-clause-form c = plain-has c.args.cat c.args.name c.args.number c.token_of_word.result

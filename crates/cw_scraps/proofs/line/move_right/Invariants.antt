@@ -1,6 +1,5 @@
 -- The gap has moved right by the scraps moved so far, and the same scraps stand around it.
-use Rattle.std.proofs.Common.{◌≡◌, ◌+◌}
-use Rattle.cw_scraps.specs.Gap.{around}
+use Rattle.cw_scraps.proofs.Terms.{◌≡◌, ◌+◌, around}
 use Rattle.cw_scraps.proofs.line.move_right.Given as goal
 
 abbrev pub invariant-loop-moved : goal.invariant-loop-moved

@@ -1,7 +1,5 @@
 -- What the row reads of the line is there, and the new scrap is the one that stays alone or is joined of the pieces.
-use Rattle.std.proofs.Common.{◌<◌, length, drop, refl, sym, ap, ◌∙◌, arith}
-use Rattle.cw_table.specs.Rewriting.{alone}
-use Rattle.cw_scraps.specs.Making.{kept}
+use Rattle.cw_scraps.proofs.Terms.{◌<◌, length, drop, refl, sym, ap, ◌∙◌, arith, alone, kept}
 use Rattle.cw_scraps.proofs.Fits.{fits-at, run-at, behind, kept-there, place-inside, kept-is}
 use Rattle.cw_scraps.proofs.making.make.Goals as goal
 

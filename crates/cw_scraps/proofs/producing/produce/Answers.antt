@@ -1,9 +1,6 @@
 -- The scraps that a row replaces lie in the line, and the one that it makes takes their place.
-use Rattle.std.proofs.Common.{◌+◌, ◌≤◌, length, drop, arith}
-use Rattle.std.proofs.lemmas.List.{length-drop}
-use Rattle.cw_scraps.proofs.Changings.{tied-idle}
-use Rattle.cw_scraps.proofs.Fits.{fits-at}
-use Rattle.cw_scraps.proofs.Productions.{drop-there, replaces}
+use Rattle.cw_scraps.proofs.Terms.{drop, arith, length-drop}
+use Rattle.cw_scraps.proofs.{Changings.tied-idle, Fits.fits-at, Productions.drop-there, Productions.replaces}
 use Rattle.cw_scraps.proofs.producing.produce.Goals as goal
 
 pub make-entry-requires-clause-roots : goal.make-entry-requires-clause-roots
@@ -11,11 +8,8 @@ make-entry-requires-clause-roots c = drop-there _ _ _ c.requires.roots
 
 pub overflow_add-place : goal.overflow_add-place
 overflow_add-place c =
-    let f = fits-at c.args.flags.now c.args.row.now (drop c.args.place c.args.line.now) c.requires.sound
-    c.requires.fits in
-    let some : 1 ≤ c.args.row.now.replaced = f.some in
-    let inside : c.args.row.now.offset + c.args.row.now.replaced ≤ length (drop c.args.place c.args.line.now) =
-    f.inside in
+    let f = fits-at c.args.flags.now c.args.row.now
+    (drop c.args.place c.args.line.now) c.requires.sound c.requires.fits in
     omega (arith, c.len-length.ensures, c.len-length.type_inv, length-drop c.args.place c.args.line.now)
 
 pub replace-requires-clause-some : goal.replace-requires-clause-some
@@ -26,11 +20,8 @@ replace-requires-clause-some c =
 
 pub replace-requires-clause-within : goal.replace-requires-clause-within
 replace-requires-clause-within c =
-    let f = fits-at c.args.flags.now c.args.row.now (drop c.args.place c.args.line.now) c.requires.sound
-    c.requires.fits in
-    let some : 1 ≤ c.args.row.now.replaced = f.some in
-    let inside : c.args.row.now.offset + c.args.row.now.replaced ≤ length (drop c.args.place c.args.line.now) =
-    f.inside in
+    let f = fits-at c.args.flags.now c.args.row.now
+    (drop c.args.place c.args.line.now) c.requires.sound c.requires.fits in
     omega (arith, length-drop c.args.place c.args.line.now)
 
 pub returns-clause-replaced : goal.returns-clause-replaced

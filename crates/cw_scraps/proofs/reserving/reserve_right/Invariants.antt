@@ -1,6 +1,5 @@
 -- The scraps from the first place up to this one are turned, with a step for each, and the others stay.
-use Rattle.std.proofs.Common.{◌≡◌, ◌+◌, ◌-◌, None}
-use Rattle.cw_scraps.specs.Turning.{Turns}
+use Rattle.cw_scraps.proofs.Terms.{◌≡◌, ◌+◌, ◌-◌, None, Turns}
 use Rattle.cw_scraps.proofs.reserving.reserve_right.Given as goal
 
 abbrev pub invariant-loop-i : goal.invariant-loop-i

@@ -1,6 +1,5 @@
 -- Where a row names no scrap there is no name, and no scrap is turned.
-use Rattle.std.proofs.Common.{arith}
-use Rattle.std.proofs.lemmas.Grind.{common_steps}
+use Rattle.cw_scraps.proofs.Terms.{arith, common_steps}
 use Rattle.cw_scraps.proofs.Applied.{unturned}
 use Rattle.cw_scraps.proofs.reserving.turn_right.Goals as goal
 

@@ -1,6 +1,5 @@
 -- Each section lists the name if some place so far is a use in it; those behind them decide of the rest.
-use Rattle.std.proofs.Common.{◌≡◌, ℕ, ◌<◌, drop, length}
-use Rattle.cw_mini.specs.RowForms.{names_at}
+use Rattle.cw_mini.proofs.Terms.{◌≡◌, ℕ, ◌<◌, drop, length, names_at}
 use Rattle.cw_mini.proofs.ListingLaws.{with_later}
 use Rattle.cw_mini.proofs.listing.Listing.add.Given as goal
 

@@ -1,6 +1,5 @@
 -- No section has a name, and at each turn fewer lists are wanting.
-use Rattle.std.proofs.Common.{◌≡◌, ℕ, ◌+◌, ◌-◌, ◌≤◌, [], length}
-use Rattle.cw_mini.specs.RowForms.{names_at}
+use Rattle.cw_mini.proofs.Terms.{◌≡◌, ℕ, ◌+◌, ◌-◌, ◌≤◌, [], length, names_at}
 use Rattle.cw_mini.proofs.listing.Listing.for_sections.Given as goal
 
 abbrev pub invariant-sections : goal.invariant-sections

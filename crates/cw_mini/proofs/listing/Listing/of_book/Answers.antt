@@ -1,11 +1,6 @@
 -- The next name goes to the sections that list its row.
-use Rattle.std.proofs.Common.{◌≡◌, ◌∙◌, ℕ, List, Some, ap, arith, subst}
-use Rattle.std.specs.Prelude.{slice_get}
-use Rattle.cw_names.specs.Names.{Entry}
-use Rattle.cw_names.specs.declared.entry.NameId.{NameId}
-use Rattle.cw_names.specs.declared.xrefs.Occurrence.{Occurrence}
-use Rattle.cw_index.specs.Mentions.{Row, index_rows}
-use Rattle.cw_mini.specs.RowForms.{names_at, positions, row_names}
+use Rattle.cw_mini.proofs.Terms.{◌≡◌, ◌∙◌, ℕ, List, Some, ap, arith, subst, slice_get, Entry, NameId, Occurrence, Row}
+use Rattle.cw_mini.proofs.Terms.{index_rows, names_at, positions, row_names}
 use Rattle.cw_mini.proofs.NamedRows.{IsRowOf, index-named}
 use Rattle.cw_mini.proofs.RowPlaces.{IsHere, row-here, with-next}
 use Rattle.cw_mini.proofs.listing.Listing.of_book.Goals as goal
@@ -23,12 +18,9 @@ loop-id-preserved c =
     let here : IsHere (IsRowOf names occurrences) ids rows i none =
     row-here (IsRowOf names occurrences) ids rows i none same (index-named names occurrences) c.loop-id-test.true in
     record {
-      listed = λ section last.
-          with-next occurrences section (names_at section c.loop-id.listing.by_section.items)
-          (names_at section c.add.new.self.by_section.items) ids rows i none names here
-          (c.in_ok-add.ensures.listed here.row.entry
-          (subst (λ (n : ℕ). slice_get names n ≡ Some here.row.entry) here.name here.is.there) section
-          (omega (arith, last, c.loop-id.invariant.len)))
-          ∙ c.loop-id.invariant.listed section last;
+      listed = λ section last. with-next occurrences section (names_at section c.loop-id.listing.by_section.items)
+          (names_at section c.add.new.self.by_section.items) ids rows i none names here (c.in_ok-add.ensures.listed
+          here.row.entry (subst (λ (n : ℕ). slice_get names n ≡ Some here.row.entry) here.name here.is.there) section
+          (omega (arith, last, c.loop-id.invariant.len))) ∙ c.loop-id.invariant.listed section last;
       len = c.add.ensures.len ∙ c.loop-id.invariant.len;
     }

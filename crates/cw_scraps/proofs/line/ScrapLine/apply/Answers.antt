@@ -1,7 +1,5 @@
 -- The row of that number in the table is the one of the program's own data.
-use Rattle.std.proofs.Common.{◌≡◌}
-use Rattle.cw_table.specs.Productions.{productions}
-use Rattle.cw_table.specs.Rows.{row_of}
+use Rattle.cw_scraps.proofs.Terms.{◌≡◌, productions, row_of}
 use Rattle.cw_scraps.proofs.Applied.{same-row}
 use Rattle.cw_scraps.proofs.line.ScrapLine.apply.Goals as goal
 

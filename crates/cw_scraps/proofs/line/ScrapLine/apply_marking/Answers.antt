@@ -1,6 +1,5 @@
 -- The row at hand is that of the production's number.
-use Rattle.std.proofs.Common.{arith}
-use Rattle.std.proofs.lemmas.Grind.{common_steps}
+use Rattle.cw_scraps.proofs.Terms.{arith, common_steps}
 use Rattle.cw_scraps.proofs.line.ScrapLine.apply_marking.Goals as goal
 
 pub apply_naming-requires-clause-fits : goal.apply_naming-requires-clause-fits

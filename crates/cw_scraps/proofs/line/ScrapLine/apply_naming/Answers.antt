@@ -1,8 +1,6 @@
 -- The six steps of a production, one after another, are one production with its marks and its reserving.
-use Rattle.std.proofs.Common.{◌≡◌, ◌+◌, ◌≤◌, length, drop, sym, ap, ◌∙◌, arith}
-use Rattle.cw_table.specs.Rewriting.{search_in}
-use Rattle.cw_scraps.specs.Lines.{scraps_of}
-use Rattle.cw_scraps.specs.Applying.{retyped, retyped_by}
+use Rattle.cw_scraps.proofs.Terms.{◌≡◌, ◌+◌, ◌≤◌, length, drop, sym, ap, ◌∙◌, arith, search_in, scraps_of, retyped}
+use Rattle.cw_scraps.proofs.Terms.{retyped_by}
 use Rattle.cw_scraps.proofs.Fits.{fits-at, behind}
 use Rattle.cw_scraps.proofs.Applied.{marked-named, fits-line, right-inside, reserved-there, applies, retyped-is}
 use Rattle.cw_scraps.proofs.Applied.{state-is, sound-after, ticked-is}
@@ -11,17 +9,15 @@ use Rattle.cw_scraps.proofs.line.ScrapLine.apply_naming.Goals as goal
 pub named_ident-marked-requires-clause-named : goal.named_ident-marked-requires-clause-named
 named_ident-marked-requires-clause-named g c =
     let f = fits-at c.args.production.now.flags.now c.args.production.now.row.now
-    (drop c.args.production.now.place c.args.self.now) c.requires.row
-    (fits-line c.args.production.now.row.now c.args.store.now.lists c.args.self.now c.args.production.now.place
-    c.requires.fits) in
+    (drop c.args.production.now.place c.args.self.now) c.requires.row (fits-line c.args.production.now.row.now
+    c.args.store.now.lists c.args.self.now c.args.production.now.place c.requires.fits) in
     λ k e. behind c.args.self.now c.args.production.now.place k (f.underline_there k (sym c.requires.underline ∙ e))
 
 pub reserve_named-reserved-requires-clause-named : goal.reserve_named-reserved-requires-clause-named
 reserve_named-reserved-requires-clause-named g c =
     let f = fits-at c.args.production.now.flags.now c.args.production.now.row.now
-    (drop c.args.production.now.place c.args.self.now) c.requires.row
-    (fits-line c.args.production.now.row.now c.args.store.now.lists c.args.self.now c.args.production.now.place
-    c.requires.fits) in
+    (drop c.args.production.now.place c.args.self.now) c.requires.row (fits-line c.args.production.now.row.now
+    c.args.store.now.lists c.args.self.now c.args.production.now.place c.requires.fits) in
     λ k e. behind c.args.self.now c.args.production.now.place k (f.reserve_there k (sym c.requires.reserve ∙ e))
 
 pub produce-requires-clause-fits : goal.produce-requires-clause-fits
@@ -31,9 +27,8 @@ produce-requires-clause-fits g c = fits-line c.args.production.now.row.now c.arg
 pub overflow_add-right : goal.overflow_add-right
 overflow_add-right g c =
     let f = fits-at c.args.production.now.flags.now c.args.production.now.row.now
-    (drop c.args.production.now.place c.args.self.now) c.requires.row
-    (fits-line c.args.production.now.row.now c.args.store.now.lists c.args.self.now c.args.production.now.place
-    c.requires.fits) in
+    (drop c.args.production.now.place c.args.self.now) c.requires.row (fits-line c.args.production.now.row.now
+    c.args.store.now.lists c.args.self.now c.args.production.now.place c.requires.fits) in
     let h : c.args.production.now.place + c.args.production.now.row.now.offset + 1 ≤ length c.produce.new.line =
     right-inside c.args.production.now.flags.now c.args.production.now.row.now c.args.production.now.place
     c.reserve_named-reserved.new.store.lists c.args.self.now c.produce.new.store.lists c.produce.new.line f
@@ -43,9 +38,8 @@ overflow_add-right g c =
 pub overflow_add-right-2 : goal.overflow_add-right-2
 overflow_add-right-2 g c =
     let f = fits-at c.args.production.now.flags.now c.args.production.now.row.now
-    (drop c.args.production.now.place c.args.self.now) c.requires.row
-    (fits-line c.args.production.now.row.now c.args.store.now.lists c.args.self.now c.args.production.now.place
-    c.requires.fits) in
+    (drop c.args.production.now.place c.args.self.now) c.requires.row (fits-line c.args.production.now.row.now
+    c.args.store.now.lists c.args.self.now c.args.production.now.place c.requires.fits) in
     let h : c.args.production.now.place + c.args.production.now.row.now.offset + 1 ≤ length c.produce.new.line =
     right-inside c.args.production.now.flags.now c.args.production.now.row.now c.args.production.now.place
     c.reserve_named-reserved.new.store.lists c.args.self.now c.produce.new.store.lists c.produce.new.line f
@@ -55,9 +49,8 @@ overflow_add-right-2 g c =
 pub turn_right-requires-clause-start : goal.turn_right-requires-clause-start
 turn_right-requires-clause-start g c =
     let f = fits-at c.args.production.now.flags.now c.args.production.now.row.now
-    (drop c.args.production.now.place c.args.self.now) c.requires.row
-    (fits-line c.args.production.now.row.now c.args.store.now.lists c.args.self.now c.args.production.now.place
-    c.requires.fits) in
+    (drop c.args.production.now.place c.args.self.now) c.requires.row (fits-line c.args.production.now.row.now
+    c.args.store.now.lists c.args.self.now c.args.production.now.place c.requires.fits) in
     rw c.offset.ensures (right-inside c.args.production.now.flags.now c.args.production.now.row.now
     c.args.production.now.place c.reserve_named-reserved.new.store.lists c.args.self.now c.produce.new.store.lists
     c.produce.new.line f c.produce.ensures.replaced)
@@ -74,9 +67,8 @@ retype-requires g c = λ id e. reserved-there c.args.names.now c.args.production
 pub returns : goal.returns
 returns g c =
     let f = fits-at c.args.production.now.flags.now c.args.production.now.row.now
-    (drop c.args.production.now.place c.args.self.now) c.requires.row
-    (fits-line c.args.production.now.row.now c.args.store.now.lists c.args.self.now c.args.production.now.place
-    c.requires.fits) in
+    (drop c.args.production.now.place c.args.self.now) c.requires.row (fits-line c.args.production.now.row.now
+    c.args.store.now.lists c.args.self.now c.args.production.now.place c.requires.fits) in
     let a = applies c.args.production.now.flags.now c.args.production.now.row.now c.args.production.now.place
     c.args.store.now.lists c.reserve_named-reserved.new.store.lists c.produce.new.store.lists
     c.turn_right.new.store.lists c.args.self.now c.produce.new.line c.turn_right.new.line
@@ -84,9 +76,8 @@ returns g c =
     (rw c.requires.reserve at c.reserve_named-reserved.ensures.scraps) c.reserve_named-reserved.ensures.lists
     c.produce.ensures.replaced (rw c.offset.ensures at c.turn_right.ensures.scraps) c.turn_right.ensures.same_roots
     c.turn_right.ensures.lists (rw c.requires.reserve at c.reserve_named-reserved.ensures.name) in
-    let named : c.retype.new.names ≡ retyped (search_in c.args.production.now.row.now.action.reserve
-    (drop c.args.production.now.place (scraps_of c.args.store.now.lists c.args.self.now)))
-    c.args.names.now = c.retype.ensures
+    let named : c.retype.new.names ≡ retyped (search_in c.args.production.now.row.now.action.reserve (drop
+    c.args.production.now.place (scraps_of c.args.store.now.lists c.args.self.now))) c.args.names.now = c.retype.ensures
     ∙ (ap (λ n. retyped_by n c.args.names.now) (rw c.requires.reserve at c.reserve_named-reserved.ensures.name)
     ∙ retyped-is (search_in c.args.production.now.row.now.action.reserve
     (drop c.args.production.now.place (scraps_of c.args.store.now.lists c.args.self.now))) c.args.names.now) in

@@ -1,6 +1,5 @@
 -- `cat_at`: clause `steps`; said here, so that a wrong one fails at once.
-use Rattle.std.proofs.Common.{arith}
-use Rattle.std.proofs.lemmas.Grind.{common_steps}
+use Rattle.cw_scraps.proofs.Terms.{arith, common_steps}
 use Rattle.cw_scraps.proofs.line.ScrapLine.cat_at.Goals as goal
 
 pub returns-clause-steps : goal.returns-clause-steps
