@@ -244,7 +244,7 @@ fn empty_buffer(alloc: Global, items: usize) -> Result<Bytes, Memory>
     Ok(Bytes::from_vec(Vec::with_capacity(alloc, room)?))
 }
 
-// Empties a buffer, whose room it keeps.
+// Empties a buffer, and keeps its capacity.
 fn clear(alloc: Global, buffer: &mut Bytes)
     ensures { buffer.new ≡ [] }
 {
