@@ -16,6 +16,7 @@ use cw_lex::Tok;
 use cw_secnames::next_part;
 use std::alloc::Global;
 use std::marker::Model;
+use std::mem::replace;
 
 /// Where the printing stands in a section name. It is seen as the answers of the inner text at hand, and the pieces
 /// that are still to come.
@@ -72,29 +73,29 @@ impl<'a> NameWalk<'a> {
             rest: Some(0),
             inner: None,
         };
-        walk.next(out)?;
-        Ok(walk)
+        walk.next(out).and(Ok(walk))
     }
 
-    /// Appends the next piece of the name's text.
+    /// Appends the next piece of the name's text. The inner text before it is dropped by a call, which is proved sooner
+    /// than its drop in place.
     pub(crate) fn next(&mut self, out: &mut Bytes) -> Result<(), Memory>
         ensures bytes { OnOk result (out.new ≡ out.old ++ next_bytes self.old.pieces) }
         ensures behind { OnOk result (self.new ≡ behind_next self.old.pieces) }
     {
         let Some(place) = self.rest else {
-            self.inner = None;
+            drop(replace(&mut self.inner, None));
             return Ok(());
         };
         match next_part(self.text, place) {
             Some(span) => {
                 out.append(&self.text[place..span.start - 1])?;
                 let (inner, rest) = inner_at(self.alloc, self.text, span)?;
-                self.inner = Some(inner);
+                drop(replace(&mut self.inner, Some(inner)));
                 self.rest = Some(rest);
             }
             None => {
                 out.append(&self.text[place..])?;
-                self.inner = None;
+                drop(replace(&mut self.inner, None));
                 self.rest = None;
             }
         }

@@ -34,6 +34,7 @@ use cw_phase1::Book;
 use cw_tokens::{FlatItem, FlatTokens, ListId, TokenStore};
 use cw_trees::Control;
 use std::alloc::Global;
+use std::mem::replace;
 
 /// A C text of which the scanner's answers are kept, and where it is printed.
 #[derive(Clone, Copy)]
@@ -111,6 +112,33 @@ impl<'s, 'a> Printer<'s, 'a> {
             }
         }
         Ok(())
+    }
+
+    // Prints all items, through a buffer that is empty at first.
+    fn print_all<D: Desk>(
+        &mut self,
+        alloc: Global,
+        items: &[FlatItem],
+        buffer: &mut Bytes,
+        sheet: &mut Sheet<D>,
+    ) -> Result<(), PutError>
+        requires can { CanPrint D.told sheet.old }
+        requires empty { buffer.old ≡ [] }
+        requires midway { IsMidway (items_are items.now) 0 self.old }
+        ensures { (s : Source) (inner : Bool) → Midway s inner (items_are items.now) 0 self.old
+            → Prints D.told (printed inner (shown s (items_are items.now))) sheet.old sheet.new result }
+    {
+        let mut at = 0;
+        while items.len() - at > TOGETHER {
+            let to = at + TOGETHER;
+            self.print(items, at, to, buffer)?;
+            sheet.put_all(buffer.as_slice())?;
+            clear(alloc, buffer);
+            at = to;
+        }
+        self.print(items, at, items.len(), buffer)?;
+        self.joiner.append_end(buffer)?;
+        sheet.put_all(buffer.as_slice())
     }
 
     // Appends what a token of the text prints behind the items before it.
@@ -216,12 +244,13 @@ fn empty_buffer(alloc: Global, items: usize) -> Result<Bytes, Memory>
     Ok(Bytes::from_vec(Vec::with_capacity(alloc, room)?))
 }
 
-fn cleared(buffer: Bytes) -> Bytes
-    ensures { result ≡ [] }
+// Empties a buffer, and keeps its capacity.
+fn clear(alloc: Global, buffer: &mut Bytes)
+    ensures { buffer.new ≡ [] }
 {
-    let mut bytes = buffer.into_vec();
+    let mut bytes = replace(buffer, Bytes::new_in(alloc)).into_vec();
     bytes.clear();
-    Bytes::from_vec(bytes)
+    *buffer = Bytes::from_vec(bytes);
 }
 
 fn print_items<D: Desk>(
@@ -235,19 +264,9 @@ fn print_items<D: Desk>(
     ensures { Prints D.told (printed c.entry.inner (shown (source_of c.entry) (items_are items.now)))
         sheet.old sheet.new result }
 {
-    let mut printer = Printer::over(alloc, c);
     let mut buffer = empty_buffer(alloc, items.len())?;
-    let mut at = 0;
-    while items.len() - at > TOGETHER {
-        let to = at + TOGETHER;
-        printer.print(items, at, to, &mut buffer)?;
-        sheet.put_all(buffer.as_slice())?;
-        buffer = cleared(buffer);
-        at = to;
-    }
-    printer.print(items, at, items.len(), &mut buffer)?;
-    printer.joiner.append_end(&mut buffer)?;
-    sheet.put_all(buffer.as_slice())
+    let mut printer = Printer::over(alloc, c);
+    printer.print_all(alloc, items, &mut buffer, sheet)
 }
 
 impl<'s, 'a> KeptText<'s, 'a> {

@@ -11,13 +11,20 @@ use std::env::Env;
 /// are.
 pub fn command_line<E: Env>(env: &E, alloc: Global) -> Result<Words, Memory> {
     let mut line = Words::new_in(alloc);
+    add_words(env, alloc, &mut line).and(Ok(line))
+}
+
+// Adds all words of the command line.
+fn add_words<E: Env>(env: &E, alloc: Global, line: &mut Words) -> Result<(), Memory> {
     for number in 0..usize::MAX {
-        match argument(env, alloc, number)? {
-            Some(word) => line.push(word.as_slice())?,
-            None => break,
-        }
+        let Some(word) = argument(env, alloc, number)? else {
+            return Ok(());
+        };
+        let added = line.push(word.as_slice());
+        drop(word);
+        added?;
     }
-    Ok(line)
+    Ok(())
 }
 
 /// The words behind the program's name.

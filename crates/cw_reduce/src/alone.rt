@@ -103,8 +103,13 @@ fn translate_on<L: Ledger, R: Recorder>(
         ++ reader.old.coming)) (progress_over work.old (of_leaf leaf))) (of_leaf leaf) work.old work.new result }
 {
     let mut translator = with_leaf(leaf, context.alloc)?;
-    read_behind(&mut translator, &headless(*next), reader, context, work)?;
-    translator.end(context, work)
+    match read_behind(&mut translator, &headless(*next), reader, context, work) {
+        Ok(()) => translator.end(context, work),
+        Err(memory) => {
+            drop(translator);
+            Err(memory)
+        }
+    }
 }
 
 /// Ends a text that begins with this scrap.

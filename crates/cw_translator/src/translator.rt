@@ -66,7 +66,7 @@ fn translate_line<L: Ledger, R: Recorder>(
     done
 }
 
-// The same in a line that the caller lets go.
+// The same in a line that the caller drops.
 fn end_line<L: Ledger, R: Recorder>(
     line: &mut ScrapLine,
     context: &Context,
@@ -298,7 +298,7 @@ impl Translator {
         done
     }
 
-    // The same of a translation that the caller lets go.
+    // The same of a translation that the caller drops.
     fn close<L: Ledger, R: Recorder>(
         &mut self,
         context: &Context,
