@@ -119,6 +119,15 @@ fn webs_are_logged(rt: HostRuntime) -> Result<(), Fail> {
     Ok(())
 }
 
+#[test]
+fn a_log_that_would_overwrite_its_web(rt: HostRuntime) -> Result<(), Fail> {
+    let words: [&[u8]; 4] = [b"write", b"foo", b"-", b"foo.w"];
+    let (text, exit) = seen(rt.alloc(), &words, b"foo.w", b"@ |a|\n")?;
+    let told = b"! Output file would overwrite foo.w\n".as_slice();
+    assert_eq!(rt; (text.as_slice(), exit), (told, Exit::Errors));
+    Ok(())
+}
+
 // Words that ask for nothing.
 const IDLE: [&[&[u8]]; 9] = [
     &[],

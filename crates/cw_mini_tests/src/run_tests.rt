@@ -217,3 +217,13 @@ fn words_that_ask_for_nothing(rt: HostRuntime) -> Result<(), Fail> {
     assert_eq!(rt; (text.as_slice(), exit), (usage, Exit::Errors));
     Ok(())
 }
+
+#[test]
+fn a_file_that_would_overwrite_its_web(rt: HostRuntime) -> Result<(), Fail> {
+    let mut desk = desk_with(rt.alloc(), &[(b"foo.w", b"@ One.\n")])?;
+    let exit = run(rt.alloc(), &[b"foo", b"-", b"foo.w"], &mut desk)?;
+    let text = journal_text(rt.alloc(), desk.journal())?;
+    let told = b"! Output file would overwrite foo.w\n".as_slice();
+    assert_eq!(rt; (text.as_slice(), exit), (told, Exit::Errors));
+    Ok(())
+}

@@ -7,6 +7,7 @@ use cw_tool::tool_files;
 use std::alloc::Global;
 use std::env::Env;
 use std::fs;
+use std::os::unix::fs::symlink;
 use std::test::Fail;
 use std::time::{SystemTime, UNIX_EPOCH};
 
@@ -22,11 +23,13 @@ struct Run {
 
 const USAGE: &[u8] = b"! Usage: cwcount web change|- out\n";
 
-const WEBS: [(&[u8], &[u8]); 4] = [
+const WEBS: [(&[u8], &[u8]); 6] = [
     (b"foo.w", b"@ One.\n@c a;\n@ Two.\n"),
     (b"foo.ch", b"@x\n@c a;\n@y\n@c b;\n@z\n"),
     (b"empty.w", b""),
     (b"bad.w", b"@ One.\n@c @<Never@>\n"),
+    (b"two.w", b"@i part\n@ One.\n"),
+    (b"part", b"% part\n"),
 ];
 
 /// Words that ask for nothing.
@@ -40,7 +43,7 @@ const IDLE: [&[&[u8]]; 7] = [
     &[b"foo", b"-", b"-"],
 ];
 
-const RUNS: [Run; 7] = [
+const RUNS: [Run; 11] = [
     Run {
         words: &[b"none", b"-", b"out"],
         files: &WEBS,
@@ -91,6 +94,35 @@ const RUNS: [Run; 7] = [
         told: b"[tex]out\n@ One.\n@c @<Never@>\n1\n",
         exit: Exit::Clean,
         calls: 6,
+    },
+    // The file would overwrite the web, the change file, and an included file. What lacks is told before that.
+    Run {
+        words: &[b"foo", b"-", b"foo.w"],
+        files: &WEBS,
+        told: b"! Output file would overwrite foo.w\n",
+        exit: Exit::Errors,
+        calls: 4,
+    },
+    Run {
+        words: &[b"foo", b"foo", b"foo.ch"],
+        files: &WEBS,
+        told: b"! Output file would overwrite foo.ch\n",
+        exit: Exit::Errors,
+        calls: 7,
+    },
+    Run {
+        words: &[b"two", b"-", b"part"],
+        files: &WEBS,
+        told: b"! Output file would overwrite part\n",
+        exit: Exit::Errors,
+        calls: 7,
+    },
+    Run {
+        words: &[b"foo", b"none", b"foo.w"],
+        files: &WEBS,
+        told: b"! Cannot open change file none\n",
+        exit: Exit::Errors,
+        calls: 5,
     },
 ];
 
@@ -169,6 +201,22 @@ fn a_web_that_is_a_real_file(rt: HostRuntime) -> Result<(), Fail> {
     assert_eq!(rt;
         (exit, written.as_slice()),
         (Exit::Clean, b"@ One.\n1\n".as_slice())
+    );
+    Ok(())
+}
+
+#[test]
+fn a_file_that_leads_to_its_web(rt: HostRuntime) -> Result<(), Fail> {
+    let alloc = rt.alloc();
+    enter_new_folder(rt)?;
+    fs::write(&rt, "foo.w", b"@ One.\n".as_slice())?;
+    symlink(&rt, "foo.w", "out")?;
+    let line = list_of(alloc, &[b"cwcount", b"foo", b"-", b"out"])?;
+    let (exit, _desk) = tool_files(rt, alloc, &Counting, &line);
+    let web = fs::read(&rt, "foo.w")?;
+    assert_eq!(rt;
+        (exit, web.as_slice()),
+        (Exit::Fault, b"@ One.\n".as_slice())
     );
     Ok(())
 }

@@ -25,7 +25,9 @@ use crate::source::Source;
 use crate::tex_file::{totals_of, write_tex};
 use cw_base::{Exit, Ledger, Steps, Words};
 use cw_desk::Desk;
-use cw_input::{Command, CommandLine, LoadError, load, overwriting, read_command};
+use cw_input::{
+    Command, CommandLine, LoadError, first_overwriting, load, outputs_of, read_command,
+};
 use cw_lines::PutError;
 use cw_phase1::Book;
 use cw_program::status_of;
@@ -108,7 +110,7 @@ fn weave_web<D: Desk, L: Ledger>(
     weave_book(source, &mut book, desk, steps)
 }
 
-// Weaves a web that was read, if no output would overwrite an input.
+// Weaves a web that was read, if no output would overwrite an input or an output before it.
 fn weave_whole<D: Desk, L: Ledger>(
     source: Source,
     desk: &mut D,
@@ -121,7 +123,8 @@ fn weave_whole<D: Desk, L: Ledger>(
         (book_of (flags_in source.entry) source.entry.web.now) }
     ensures real { IfOk result (λ exit. exit ≢ Exit.Fault) }
 {
-    match overwriting(source.web, source.line) {
+    let outputs = outputs_of(source.alloc, source.line)?;
+    match first_overwriting(source.web, &outputs) {
         Some(name) => stop_before_overwriting(source.alloc, desk, name),
         None => weave_web(source, desk, steps),
     }

@@ -4,7 +4,7 @@ use crate::runs::{FOO, HELLO};
 use std::test::Fail;
 
 /// Command lines, and what each has to tell.
-const RUNS: [Run; 6] = [
+const RUNS: [Run; 8] = [
     Run {
         name: "help",
         words: &[b"--help"],
@@ -87,10 +87,28 @@ Errors",
 (That was a fatal error, my friend.)
 Errors",
     },
+    Run {
+        name: "an unknown word behind the number of a sample",
+        words: &[b"--sample", b"2", b"--x"],
+        files: &[],
+        told: b"[term]This is CWEAVE (profile 3)
+! Unknown option --x
+(That was a fatal error, my friend.)
+Errors",
+    },
+    Run {
+        name: "an unknown word in place of the number of a sample",
+        words: &[b"--sample", b"--help"],
+        files: &[],
+        told: b"[term]This is CWEAVE (profile 3)
+! Unknown option --help
+(That was a fatal error, my friend.)
+Errors",
+    },
 ];
 
 /// Command lines whose outputs would overwrite an input or one another, and what each has to tell.
-const OVERWRITING: [Run; 5] = [
+const OVERWRITING: [Run; 9] = [
     Run {
         name: "the web",
         words: &[b"foo.tex"],
@@ -117,6 +135,47 @@ Errors",
 ! Output file would overwrite foo.scn
 (That was a fatal error, my friend.)
 Errors",
+    },
+    Run {
+        name: "the change file",
+        words: &[FOO, b"foo.idx"],
+        files: &[(b"foo.w", HELLO), (b"foo.idx", b"")],
+        told: b"[term]This is CWEAVE (profile 3)
+! Output file would overwrite foo.idx
+(That was a fatal error, my friend.)
+Errors",
+    },
+    Run {
+        name: "the web by a draft",
+        words: &[b"+k", b"a.tex.new", b"-", b"a"],
+        files: &[(b"a.tex.new", HELLO)],
+        told: b"[term]This is CWEAVE (profile 3)
+! Output file would overwrite a.tex.new
+(That was a fatal error, my friend.)
+Errors",
+    },
+    Run {
+        name: "an included file by the draft of the index",
+        words: &[b"+k", FOO],
+        files: &[(b"foo.w", b"@i foo.idx.new\n"), (b"foo.idx.new", HELLO)],
+        told: b"[term]This is CWEAVE (profile 3)
+! Output file would overwrite foo.idx.new
+(That was a fatal error, my friend.)
+Errors",
+    },
+    Run {
+        name: "no draft of an index",
+        words: &[b"+k", b"-x", b"-bph", FOO],
+        files: &[(b"foo.w", b"@i foo.idx.new\n"), (b"foo.idx.new", HELLO)],
+        told: b"[tex] is drafted for foo.tex
+[tex]\\input cwebmac
+% limbo
+\\M{1}Hello.
+\\fi
+
+\\end
+[tex] is replaced
+Clean",
     },
     Run {
         name: "the TeX file by the index",

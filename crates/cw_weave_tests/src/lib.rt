@@ -18,6 +18,8 @@ mod failing_tests;
 #[cfg(test)]
 mod forty_sections;
 #[cfg(test)]
+mod input_file_tests;
+#[cfg(test)]
 mod keeping_tests;
 #[cfg(test)]
 mod large_tests;

@@ -71,7 +71,7 @@ const RUNS: [Run; 11] = [
         ],
         links: &[],
     },
-    // An input has the name of a draft.
+    // The draft would be written over the web.
     Run {
         words: &[b"+k", b"foo.tex.new", b"-", b"foo"],
         files: &[(b"foo.tex.new", HELLO)],
@@ -117,7 +117,7 @@ pub(crate) fn enter_new_folder(rt: HostRuntime) -> Result<(), Fail> {
     Ok(())
 }
 
-fn write_files(rt: HostRuntime, files: &[(&[u8], &[u8])]) -> Result<(), Fail> {
+pub(crate) fn write_files(rt: HostRuntime, files: &[(&[u8], &[u8])]) -> Result<(), Fail> {
     for (name, bytes) in files {
         let Ok(name) = str::from_utf8(name) else {
             return Err(Fail::from("the name of a file is text"));
@@ -137,7 +137,7 @@ fn make_files(rt: HostRuntime, run: &Run) -> Result<(), Fail> {
     Ok(())
 }
 
-fn has_bytes(rt: HostRuntime, name: &str, wanted: &[u8]) -> Result<bool, Fail> {
+pub(crate) fn has_bytes(rt: HostRuntime, name: &str, wanted: &[u8]) -> Result<bool, Fail> {
     let bytes = fs::read(&rt, name)?;
     Ok(bytes.as_slice() == wanted)
 }
