@@ -1,21 +1,14 @@
 -- A reader keeps each answer behind those before it, and all of them stand in the text.
-use Rattle.std.proofs.Common.{◌≡◌, ℕ, inl, inr, Bool, true, false, List, [], ◌∷◌, ◌++◌, All, length}
-use Rattle.std.proofs.Common.{refl, sym, ap, subst, ◌∙◌, Some}
-use Rattle.std.proofs.lemmas.List.{append_assoc}
-use Rattle.std.proofs.lemmas.List.Elements.{All-push, All-tail}
+use Rattle.cw_answers.proofs.Terms.{◌≡◌, ℕ, inl, inr, Bool, true, false, List, [], ◌∷◌, ◌++◌, All, length, refl, sym}
+use Rattle.cw_answers.proofs.Terms.{ap, subst, ◌∙◌, Some, append_assoc, All-push, All-tail, Answer, Note, Kept}
+use Rattle.cw_answers.proofs.Terms.{IsWithin, answers_at, Goes, GoesByNote, IsReading, Stand, Stays, all_of}
 use Rattle.cw_base.specs.declared.notes.NoteKind.{NoteKind}
-use Rattle.cw_rules.specs.Answers.{Answer, Note}
-use Rattle.cw_answers.specs.declared.kept.Kept.{Kept}
 use Rattle.cw_answers.specs.declared.reader.Room.{Room}
-use Rattle.cw_answers.specs.Kept.{IsWithin, answers_at}
-use Rattle.cw_answers.specs.Reading.{Goes, GoesByNote, IsReading, Stand, Stays, all_of}
 
 -- so many answers are kept behind those before them, or not each from now on
-stays : (text : List ℕ) (old new : Room) (xs l m : List Answer) → l ≡ xs ++ m
-    → (new.whole ≡ true → (old.whole ≡ true) × (answers_at text new.items.items ≡ answers_at text old.items.items
-    ++ xs))
-    → Stays (all_of old.whole (answers_at text old.items.items ++ l))
-    (all_of new.whole (answers_at text new.items.items ++ m))
+stays : (text : List ℕ) (old new : Room) (xs l m : List Answer) → l ≡ xs ++ m → (new.whole ≡ true → (old.whole ≡ true)
+    × (answers_at text new.items.items ≡ answers_at text old.items.items ++ xs)) → Stays (all_of old.whole
+    (answers_at text old.items.items ++ l)) (all_of new.whole (answers_at text new.items.items ++ m))
 stays text old new xs l m e h = by new.whole refl
   where
     before : List Answer
@@ -45,9 +38,8 @@ token-reading text old new one x l m e w g h = record {
 
 -- a note is kept
 pub note-stays : (text : List ℕ) (old new : Room) (kind : NoteKind) (place : ℕ) (l m : List Answer)
-    → l ≡ Note kind place ∷ m → GoesByNote old kind place new
-    → Stays (all_of old.whole (answers_at text old.items.items ++ l))
-    (all_of new.whole (answers_at text new.items.items ++ m))
+    → l ≡ Note kind place ∷ m → GoesByNote old kind place new → Stays (all_of old.whole
+    (answers_at text old.items.items ++ l)) (all_of new.whole (answers_at text new.items.items ++ m))
 note-stays text old new kind place l m e g =
     stays text old new (Note kind place ∷ []) l m e (λ whole. let k = g whole in (k.0, k.1 text))
 

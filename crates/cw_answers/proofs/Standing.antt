@@ -1,14 +1,10 @@
 -- The tokens of a scan stand in the text.
-use Rattle.std.proofs.Common.{◌≡◌, ℕ, ◌+◌, ◌≤◌, ◌<◌, List, [], ◌∷◌, ◌++◌, All, arith, length, refl, ap, sym, subst, ◌∙◌}
-use Rattle.std.proofs.Common.{get_or, drop, suc}
-use Rattle.std.proofs.lemmas.List.Elements.{All-nil, All-cons, All-tail, All-push}
-use Rattle.cw_rules.specs.Answers.{Answer, Token, Begin, Finish, Note, Seen}
+use Rattle.cw_answers.proofs.Terms.{◌≡◌, ℕ, ◌+◌, ◌≤◌, ◌<◌, List, [], ◌∷◌, ◌++◌, All, arith, length, refl, ap, sym}
+use Rattle.cw_answers.proofs.Terms.{subst, ◌∙◌, get_or, drop, suc, All-nil, All-cons, All-tail, All-push, Answer, Token}
+use Rattle.cw_answers.proofs.Terms.{Begin, Finish, Note, Seen, Kept, BeginWith, StandsIn, IsWithin, answer_at}
+use Rattle.cw_answers.proofs.Terms.{answers_at, Stand, map-append, append_assoc}
 use Rattle.cw_rules.specs.Order.{Covers, AreWithin, Stands, LiesWithin}
-use Rattle.cw_answers.specs.declared.kept.Kept.{Kept}
-use Rattle.cw_answers.specs.Kept.{BeginWith, StandsIn, IsWithin, answer_at, answers_at}
-use Rattle.cw_answers.specs.Reading.{Stand}
 use Rattle.std.proofs.Math.Seq.{drop-cons}
-use Rattle.std.proofs.lemmas.List.{map-append, append_assoc}
 
 stands : (text : List ℕ) (from start end : ℕ) (t : Seen) → end ≤ length text → Stands text from t
     → LiesWithin start end t.span → StandsIn text t
@@ -17,15 +13,12 @@ stands text from start end t le s (a, b, c) = record { order = b; within = omega
 pub all-stand : (text : List ℕ) (from start end last : ℕ) (answers : List Answer) → end ≤ length text
     → Covers text from last answers → AreWithin start end answers → All (Stand text) answers
 all-stand text from start end last [] le c w = All-nil (Stand text)
-all-stand text from start end last (Token t ∷ answers) le (s, _, c) (l, w) =
-    All-cons (Stand text) (Token t) answers (stands text from start end t le s l)
-    (all-stand text t.span.end start end last answers le c w)
-all-stand text from start end last (Begin t ∷ answers) le (s, c) (l, w) =
-    All-cons (Stand text) (Begin t) answers (stands text from start end t le s l)
-    (all-stand text t.span.end start end last answers le c w)
-all-stand text from start end last (Finish t ∷ answers) le (s, c) (l, w) =
-    All-cons (Stand text) (Finish t) answers (stands text from start end t le s l)
-    (all-stand text t.span.end start end last answers le c w)
+all-stand text from start end last (Token t ∷ answers) le (s, _, c) (l, w) = All-cons (Stand text) (Token t) answers
+    (stands text from start end t le s l) (all-stand text t.span.end start end last answers le c w)
+all-stand text from start end last (Begin t ∷ answers) le (s, c) (l, w) = All-cons (Stand text) (Begin t) answers
+    (stands text from start end t le s l) (all-stand text t.span.end start end last answers le c w)
+all-stand text from start end last (Finish t ∷ answers) le (s, c) (l, w) = All-cons (Stand text) (Finish t) answers
+    (stands text from start end t le s l) (all-stand text t.span.end start end last answers le c w)
 all-stand text from start end last (Note kind place ∷ answers) le c w =
     All-cons (Stand text) (Note kind place) answers tt (all-stand text from start end last answers le c w)
 
@@ -57,19 +50,15 @@ pub push : (text inside : List ℕ) (all : List Answer) (kept : List Kept) (k : 
     → Keeping text inside all (kept ++ k ∷ []) new
 push text inside all kept k x old new gives is w h = record {
   same = h.same;
-  whole =
-      ap (λ l. l ++ new) (map-append (answer_at inside) kept (k ∷ []))
-      ∙ append_assoc (answers_at inside kept) (answer_at inside k ∷ []) new
-      ∙ ap (λ a. answers_at inside kept ++ a ∷ new) (ap (λ t. answer_at t k) h.same ∙ is)
-      ∙ ap (λ l. answers_at inside kept ++ l) (sym gives)
-      ∙ h.whole;
+  whole = ap (λ l. l ++ new) (map-append (answer_at inside) kept (k ∷ [])) ∙ append_assoc (answers_at inside kept)
+      (answer_at inside k ∷ []) new ∙ ap (λ a. answers_at inside kept ++ a ∷ new) (ap (λ t. answer_at t k) h.same ∙ is)
+      ∙ ap (λ l. answers_at inside kept ++ l) (sym gives) ∙ h.whole;
   stand = All-tail (Stand text) x new (subst (All (Stand text)) gives h.stand);
   within = All-push (IsWithin (length inside)) kept k h.within (subst (λ t. IsWithin (length t) k) (sym h.same) w);
 }
 
 pub pushed : (text inside : List ℕ) (all : List Answer) (kept items : List Kept) (k : Kept) (x : Answer)
-    (old new : List Answer)
-    → items ≡ kept ++ k ∷ [] → old ≡ x ∷ new → answer_at text k ≡ x → IsWithin (length text) k
+    (old new : List Answer) → items ≡ kept ++ k ∷ [] → old ≡ x ∷ new → answer_at text k ≡ x → IsWithin (length text) k
     → Keeping text inside all kept old → Keeping text inside all items new
 pushed text inside all kept items k x old new e gives is w h =
     subst (λ l. Keeping text inside all l new) (sym e) (push text inside all kept k x old new gives is w h)

@@ -1,7 +1,5 @@
 -- All answers stay known over several steps.
-use Rattle.std.proofs.Common.{inl, inr, List, Option, ◌∙◌}
-use Rattle.cw_rules.specs.Answers.{Answer}
-use Rattle.cw_answers.specs.Reading.{IsReadUp, Reading, Stays}
+use Rattle.cw_answers.proofs.Terms.{inl, inr, List, Option, ◌∙◌, Answer, IsReadUp, Reading, Stays}
 
 pub stays-trans : (a b c : Option (List Answer)) → Stays a b → Stays b c → Stays a c
 stays-trans a b c (inl e) (inl f) = inl (f ∙ e)

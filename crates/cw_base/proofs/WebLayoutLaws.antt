@@ -1,12 +1,9 @@
 -- The table of lines and the text say the same as the list of lines.
-use Rattle.std.proofs.Common.{◌≡◌, ℕ, ◌+◌, ◌-◌, ◌≤◌, List, [], ◌∷◌, ◌++◌, length, drop, get_or, slice_range, refl, ap}
-use Rattle.std.proofs.Common.{◌∙◌, sym, suc, arith, append_assoc, length-append, length-drop, length-take, drop-drop}
-use Rattle.std.proofs.Common.{take-append-drop}
-use Rattle.std.proofs.lemmas.List.{drop_all, drop_more, drop-append-le, take-append-le, get_or_append_left, get_or_at}
-use Rattle.std.proofs.lemmas.List.{drop_at, take_at}
-use Rattle.std.proofs.lemmas.Bool.Decides.{nat_tests}
-use Rattle.cw_base.specs.declared.web.LineInfo.{LineInfo}
-use Rattle.cw_base.specs.Web.{text_of, info_from, infos_of}
+use Rattle.cw_base.proofs.Terms.{◌≡◌, ℕ, ◌+◌, ◌-◌, ◌≤◌, List, [], ◌∷◌, ◌++◌, length, drop, get_or, slice_range, refl}
+use Rattle.cw_base.proofs.Terms.{ap, ◌∙◌, sym, suc, arith, append_assoc, length-append, length-drop, length-take}
+use Rattle.cw_base.proofs.Terms.{drop-drop, take-append-drop, drop_all, drop_more, drop-append-le, take-append-le}
+use Rattle.cw_base.proofs.Terms.{get_or_append_left, get_or_at, drop_at, take_at, nat_tests, LineInfo, text_of}
+use Rattle.cw_base.proofs.Terms.{info_from, infos_of}
 use Rattle.cw_base.specs.WebLayout.{read_line, read_lines, Covers}
 
 pub length-read_lines : (text : List ℕ) (infos : List LineInfo) → length (read_lines text infos) ≡ length infos
@@ -39,10 +36,9 @@ infos_of-read_lines text from [] at = refl
 infos_of-read_lines text from (info ∷ infos) (start, ends, within, code, rest) =
     let stop : from + length (slice_range text info.start info.«end») ≡ info.«end» =
     omega (arith, length-slice_range text info.start info.«end» (omega arith)) in
-    ap (λ i. info_from from (read_line text info) ∷ infos_of (i + 1) (read_lines text infos)) stop
-    ∙ ap (λ more. info_from from (read_line text info) ∷ more) (infos_of-read_lines text (info.«end» + 1) infos rest)
-    ∙ ap (λ first. first ∷ infos) (same_info info from (from + length (slice_range text info.start info.«end»))
-    (sym start) stop)
+    ap (λ i. info_from from (read_line text info) ∷ infos_of (i + 1) (read_lines text infos)) stop ∙ ap (λ more.
+    info_from from (read_line text info) ∷ more) (infos_of-read_lines text (info.«end» + 1) infos rest) ∙ ap (λ first.
+    first ∷ infos) (same_info info from (from + length (slice_range text info.start info.«end»)) (sym start) stop)
 
 -- more text behind changes no line
 slice_range-more : (text more : List ℕ) (from to : ℕ) → from ≤ to → to ≤ length text
@@ -80,9 +76,8 @@ pub read_line-more : (text line : List ℕ) (info : LineInfo) → info.start ≡
     → read_line (text ++ line ++ 10 ∷ []) info ≡ record { text = line; place = info.place; changed = info.changed }
 read_line-more text line info starts ends = grind (arith, nat_tests, append_assoc, drop_at, take_at)
 
-pub read_lines-push : (text line : List ℕ) (infos : List LineInfo) (info : LineInfo)
-    → info.start ≡ length text → info.«end» ≡ length text + length line → Covers text 0 infos
-    → read_lines (text ++ line ++ 10 ∷ []) (infos ++ info ∷ [])
-    ≡ read_lines text infos ++ record { text = line; place = info.place; changed = info.changed } ∷ []
+pub read_lines-push : (text line : List ℕ) (infos : List LineInfo) (info : LineInfo) → info.start ≡ length text
+    → info.«end» ≡ length text + length line → Covers text 0 infos → read_lines (text ++ line ++ 10 ∷ []) (infos ++ info
+    ∷ []) ≡ read_lines text infos ++ record { text = line; place = info.place; changed = info.changed } ∷ []
 read_lines-push text line infos info starts ends covers =
     grind (arith, nat_tests, read_lines-append, append_assoc, read_lines-more, read_line-more)

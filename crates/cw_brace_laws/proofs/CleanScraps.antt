@@ -1,11 +1,6 @@
 -- Scraps that hold no text where they may become part of an operator.
-use Rattle.std.proofs.Common.{◌≡◌, Bool, true, arith}
-use Rattle.cw_base.specs.declared.category.Cat.{Cat}
-use Rattle.cw_base.specs.declared.category.Cat.TheVariants.{Binop, Colon}
-use Rattle.cw_table.specs.Braces.{is_binop, is_calm}
-use Rattle.cw_trees.specs.Joining.{Scrap}
-use Rattle.cw_brace_laws.specs.Bracing.{HoldsNoText, IsBraced, IsBracedScrap}
-use Rattle.std.proofs.lemmas.Bool.Decides.{nat_tests}
+use Rattle.cw_brace_laws.proofs.Terms.{◌≡◌, Bool, true, arith, Cat, Binop, Colon, is_binop, is_calm, Scrap, HoldsNoText}
+use Rattle.cw_brace_laws.proofs.Terms.{IsBraced, IsBracedScrap, nat_tests}
 
 -- the calm categories, operators and the colon, with which some operators begin
 abbrev pub is_clean : Cat → Bool

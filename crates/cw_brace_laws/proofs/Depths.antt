@@ -1,11 +1,7 @@
 -- Depths of braces: of trees whose first identifier was reserved, and of ends of scraps.
-use Rattle.std.proofs.Common.{◌≡◌, ℕ, Option, Some, refl, ap, arith}
-use Rattle.cw_base.specs.declared.mode.MathMode.{MathMode}
-use Rattle.cw_base.specs.declared.mode.MathMode.TheVariants.{Math, Maybe}
-use Rattle.cw_trees.specs.Joining.{first_mode, after}
-use Rattle.cw_trees.specs.Tree.{Leaf, Tree, Empty, Then, Sub, Inner, Search, search_leaf, first_ident, reserve_first}
-use Rattle.cw_brace_laws.specs.Bracing.{leads_on, outside, depth_of, EndsAt}
-use Rattle.std.proofs.lemmas.Bool.Decides.{nat_tests}
+use Rattle.cw_brace_laws.proofs.Terms.{◌≡◌, ℕ, Option, Some, refl, ap, arith, MathMode, Math, Maybe, first_mode, after}
+use Rattle.cw_brace_laws.proofs.Terms.{Leaf, Tree, Empty, Then, Sub, Inner, Search, search_leaf, first_ident}
+use Rattle.cw_brace_laws.proofs.Terms.{reserve_first, leads_on, outside, depth_of, EndsAt, nat_tests}
 
 pub same-leads : (o : Option ℕ) (f g : ℕ → Option ℕ) → ((d : ℕ) → f d ≡ g d) → leads_on o f ≡ leads_on o g
 same-leads o f g h = grind (arith, nat_tests)
@@ -21,9 +17,8 @@ then-depth : (s : Search) (leaf : Leaf) (rest : Tree) (d : ℕ) → search_leaf 
     → depth_of (reserve_first (Then leaf rest)) d ≡ depth_of (Then leaf rest) d
 then-depth s leaf rest d e rec = grind (arith, nat_tests, same-leads)
 
-sub-depth : (s : Search) (tree rest : Tree) (d : ℕ) → first_ident tree ≡ s
-    → ((n : ℕ) → depth_of (reserve_first tree) n ≡ depth_of tree n)
-    → ((n : ℕ) → depth_of (reserve_first rest) n ≡ depth_of rest n)
+sub-depth : (s : Search) (tree rest : Tree) (d : ℕ) → first_ident tree ≡ s → ((n : ℕ) → depth_of (reserve_first tree) n
+    ≡ depth_of tree n) → ((n : ℕ) → depth_of (reserve_first rest) n ≡ depth_of rest n)
     → depth_of (reserve_first (Sub tree rest)) d ≡ depth_of (Sub tree rest) d
 sub-depth s tree rest d e here rec = grind (arith, nat_tests, same-leads)
 
@@ -32,9 +27,8 @@ reserve-depth Empty d = refl
 reserve-depth (Then leaf rest) d = then-depth (search_leaf leaf) leaf rest d refl (λ n. reserve-depth rest n)
 reserve-depth (Sub tree rest) d = sub-depth (first_ident tree) tree rest d refl (λ n. reserve-depth tree n)
     (λ n. reserve-depth rest n)
-reserve-depth (Inner tree rest) d =
-    same-leads (leads_on (leads_on (outside d) (depth_of tree)) outside) (depth_of (reserve_first rest)) (depth_of rest)
-    (λ n. reserve-depth rest n)
+reserve-depth (Inner tree rest) d = same-leads (leads_on (leads_on (outside d) (depth_of tree)) outside)
+    (depth_of (reserve_first rest)) (depth_of rest) (λ n. reserve-depth rest n)
 
 -- ## Ends
 

@@ -1,12 +1,10 @@
 -- A braced tree is braced when it is laid flat and trimmed.
-use Rattle.std.proofs.Common.{◌≡◌, ℕ, Bool, true, false, ◌&&◌, Option, Some, List, [], ◌∷◌, ◌++◌, refl, ap, ◌∙◌, sym}
-use Rattle.std.proofs.Common.{append_assoc, if◌then◌else◌, arith}
-use Rattle.cw_trees.specs.Flat.{Item, Close, begins_after, ends_text, flat, is_break, is_inserted, leaf_item, trim_back}
-use Rattle.cw_trees.specs.Flat.{trim_front, trimmed_items, without_inserted}
-use Rattle.cw_trees.specs.Tree.{Leaf, Tree, Empty, Then, Sub, Inner}
-use Rattle.cw_brace_laws.specs.Bracing.{IsBraced, depth_of, leads_on, leaf_depth, outside}
-use Rattle.cw_brace_laws.specs.Printed.{AreBraced, item_depth, items_depth}
-use Rattle.std.proofs.lemmas.Bool.Decides.{nat_tests}
+use Rattle.cw_brace_laws.proofs.Terms.{◌≡◌, ℕ, Bool, true, false, ◌&&◌, Option, Some, List, [], ◌∷◌, ◌++◌, refl, ap}
+use Rattle.cw_brace_laws.proofs.Terms.{◌∙◌, sym, append_assoc, if◌then◌else◌, arith, Item, Close, begins_after}
+use Rattle.cw_brace_laws.proofs.Terms.{ends_text, flat, is_break, is_inserted, leaf_item, trim_back, trim_front}
+use Rattle.cw_brace_laws.proofs.Terms.{trimmed_items, without_inserted, Leaf, Tree, Empty, Then, Sub, Inner, IsBraced}
+use Rattle.cw_brace_laws.proofs.Terms.{depth_of, leads_on, leaf_depth, outside, AreBraced, item_depth, items_depth}
+use Rattle.cw_brace_laws.proofs.Terms.{nat_tests}
 
 -- ## Flat lists
 
@@ -40,11 +38,9 @@ flat-leads (Inner a b) rest d e h =
     let w = by-way (leads_on (leads_on (outside d) (depth_of a)) outside) (depth_of b) e h in
     let v = by-way (leads_on (outside d) (depth_of a)) outside w.depth w.first in
     let u = by-way (outside d) (depth_of a) v.depth v.first in
-    ap (λ o. leads_on o (items_depth ((flat a ++ Close ∷ flat b) ++ rest))) u.first
-    ∙ ap (λ items. items_depth items u.depth) (append_assoc (flat a) (Close ∷ flat b) rest)
-    ∙ flat-leads a (Close ∷ (flat b ++ rest)) u.depth v.depth u.second
-    ∙ ap (λ o. leads_on o (items_depth (flat b ++ rest))) v.second
-    ∙ flat-leads b rest w.depth e w.second
+    ap (λ o. leads_on o (items_depth ((flat a ++ Close ∷ flat b) ++ rest))) u.first ∙ ap (λ items. items_depth items
+    u.depth) (append_assoc (flat a) (Close ∷ flat b) rest) ∙ flat-leads a (Close ∷ (flat b ++ rest)) u.depth v.depth
+    u.second ∙ ap (λ o. leads_on o (items_depth (flat b ++ rest))) v.second ∙ flat-leads b rest w.depth e w.second
 
 -- ## Trimming
 
@@ -62,13 +58,11 @@ inserted-out (item ∷ items) d e h = go (is_inserted item) refl (λ n k. insert
 front-out : (begins : Bool) (items : List Item) (d e : ℕ) → items_depth items d ≡ Some e
     → items_depth (trim_front begins items) d ≡ Some e
 front-out begins [] d e h = h
-front-out begins (item ∷ items) d e h =
-    go (begins && is_break item) refl (λ more n k. front-out more items n e k)
+front-out begins (item ∷ items) d e h = go (begins && is_break item) refl (λ more n k. front-out more items n e k)
   where
-    go : (b : Bool) → (begins && is_break item) ≡ b
-        → ((more : Bool) (n : ℕ) → items_depth items n ≡ Some e → items_depth (trim_front more items) n ≡ Some e)
-        → items_depth (if b then trim_front begins items
-        else item ∷ trim_front (begins_after begins item) items) d ≡ Some e
+    go : (b : Bool) → (begins && is_break item) ≡ b → ((more : Bool)
+        (n : ℕ) → items_depth items n ≡ Some e → items_depth (trim_front more items) n ≡ Some e) → items_depth
+        (if b then trim_front begins items else item ∷ trim_front (begins_after begins item) items) d ≡ Some e
     go true is rec = rec begins d (grind (arith, nat_tests))
     go false is rec = grind (arith, nat_tests)
 
@@ -76,9 +70,8 @@ back-out : (items : List Item) (d e : ℕ) → items_depth items d ≡ Some e �
 back-out [] d e h = h
 back-out (item ∷ items) d e h = go (is_break item && ends_text items) refl (λ n k. back-out items n e k)
   where
-    go : (b : Bool) → (is_break item && ends_text items) ≡ b
-        → ((n : ℕ) → items_depth items n ≡ Some e → items_depth (trim_back items) n ≡ Some e)
-        → items_depth (if b then trim_back items else item ∷ trim_back items) d ≡ Some e
+    go : (b : Bool) → (is_break item && ends_text items) ≡ b → ((n : ℕ) → items_depth items n ≡ Some e → items_depth
+        (trim_back items) n ≡ Some e) → items_depth (if b then trim_back items else item ∷ trim_back items) d ≡ Some e
     go true is rec = rec d (grind (arith, nat_tests))
     go false is rec = grind (arith, nat_tests)
 

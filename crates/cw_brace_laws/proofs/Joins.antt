@@ -1,12 +1,9 @@
 -- What is joined of pieces that can stand where they stand is braced.
-use Rattle.std.proofs.Common.{◌≡◌, ℕ, Option, Some, None, IfSome, List, [], ◌∷◌, refl, ap, ◌∙◌, subst, arith}
-use Rattle.cw_base.specs.declared.mode.MathMode.{MathMode}
-use Rattle.cw_trees.specs.Joining.{Joined, Whole, Mark, needs, after, first_mode, joined_tree, joined_left}
-use Rattle.cw_trees.specs.Joining.{joined_right}
-use Rattle.cw_trees.specs.declared.Control.{Control}
-use Rattle.cw_brace_laws.specs.Bracing.{leads_on, sign_depth, depth_of, EndsAt, StandsAt}
+use Rattle.cw_brace_laws.proofs.Terms.{◌≡◌, ℕ, Option, Some, None, IfSome, List, [], ◌∷◌, refl, ap, ◌∙◌, subst, arith}
+use Rattle.cw_brace_laws.proofs.Terms.{MathMode, Joined, Whole, Mark, needs, after, first_mode, joined_tree}
+use Rattle.cw_brace_laws.proofs.Terms.{joined_left, joined_right, Control, leads_on, sign_depth, depth_of, EndsAt}
+use Rattle.cw_brace_laws.proofs.Terms.{StandsAt, nat_tests}
 use Rattle.cw_brace_laws.proofs.Depths.{ends-maybe, first-ends, after-ends}
-use Rattle.std.proofs.lemmas.Bool.Decides.{nat_tests}
 
 -- it leads somewhere, and there this holds
 abbrev pub Then_ : Option ℕ → (ℕ → Type 0) → Type 0
@@ -39,10 +36,9 @@ led e d m (Whole tree l r ∷ js) h f =
 led e d m (Mark c ∷ js) h f = go (sign_depth c d)
     refl h (grind (arith, nat_tests)) (grind (arith, nat_tests)) (λ n k g. led e n (after m (needs c) (needs c)) js k g)
   where
-    go : (o : Option ℕ) → sign_depth c d ≡ o → Then_ o (λ n. Lead e n js) → IfSome o (λ n. EndsAt d (needs c))
-        → IfSome o (λ n. EndsAt n (after m (needs c) (needs c)))
-        → ((n : ℕ) → Lead e n js → EndsAt n (after m (needs c) (needs c))
-        → Led e n (after m (needs c) (needs c)) js) → Led e d m (Mark c ∷ js)
+    go : (o : Option ℕ) → sign_depth c d ≡ o → Then_ o (λ n. Lead e n js) → IfSome o (λ n. EndsAt d (needs c)) → IfSome
+        o (λ n. EndsAt n (after m (needs c) (needs c))) → ((n : ℕ) → Lead e n js → EndsAt n
+        (after m (needs c) (needs c)) → Led e n (after m (needs c) (needs c)) js) → Led e d m (Mark c ∷ js)
     go None is h b g rec = absurd h
     go (Some n) is h b g rec =
         let rest = rec n h g in
@@ -55,8 +51,7 @@ led e d m (Mark c ∷ js) h f = go (sign_depth c d)
 pub led-left : (e d : ℕ) (js : List Joined) → Lead e d js → EndsAt d (joined_left js)
 led-left e d [] h = ends-maybe d
 led-left e d (Whole tree l r ∷ js) h = first-ends d l (joined_left js) h.0.begins (led-left e d js h.1)
-led-left e d (Mark c ∷ js) h =
-    sign-first c d (joined_left js) (go (sign_depth c d) h (λ n k. led-left e n js k))
+led-left e d (Mark c ∷ js) h = sign-first c d (joined_left js) (go (sign_depth c d) h (λ n k. led-left e n js k))
   where
     go : (o : Option ℕ) → Then_ o (λ n. Lead e n js) → ((n : ℕ) → Lead e n js → EndsAt n (joined_left js))
         → Then_ o (λ n. EndsAt n (joined_left js))

@@ -1,18 +1,11 @@
 -- The scrap of each token is braced, and holds no text where its category is calm, an operator or a colon.
-use Rattle.std.proofs.Common.{◌≡◌, ℕ, Bool, false, Option, Some, None, IfSome, List, [], ◌∷◌, ◌++◌, ◌∙◌, refl, arith}
-use Rattle.cw_base.specs.declared.mode.MathMode.{MathMode}
-use Rattle.cw_names.specs.Names.{Entry}
-use Rattle.cw_rules.specs.declared.tokens.TokKind.{TokKind}
-use Rattle.cw_scraps.specs.Leaves.{LeafForm, token_form}
-use Rattle.cw_table.specs.Braces.{is_text}
+use Rattle.cw_brace_laws.proofs.Terms.{◌≡◌, ℕ, Bool, false, Option, Some, None, IfSome, List, [], ◌∷◌, ◌++◌, ◌∙◌, refl}
+use Rattle.cw_brace_laws.proofs.Terms.{arith, MathMode, Entry, TokKind, LeafForm, token_form, is_text, Token}
+use Rattle.cw_brace_laws.proofs.Terms.{form_tokens, leaf_scrap, Tree, EndsAt, IsBraced, IsBracedScrap, depth_of}
+use Rattle.cw_brace_laws.proofs.Terms.{nat_tests}
 use Rattle.cw_tokens.specs.Shapes.{item_of, shape, tree_in}
-use Rattle.cw_tokens.specs.declared.token.Token.{Token}
-use Rattle.cw_translator.specs.Translating.{form_tokens, leaf_scrap}
-use Rattle.cw_trees.specs.Tree.{Tree}
-use Rattle.cw_brace_laws.specs.Bracing.{EndsAt, IsBraced, IsBracedScrap, depth_of}
 use Rattle.cw_brace_laws.proofs.CleanScraps.{IsLeafScrap, leaf-is-braced}
 use Rattle.cw_brace_laws.proofs.Depths.{ends-maybe, ends-math}
-use Rattle.std.proofs.lemmas.Bool.Decides.{nat_tests}
 
 -- ## Scraps
 

@@ -1,4 +1,5 @@
 -- The proofs of the laws of braces.
+mod Terms
 pub mod Depths
 pub mod Joins
 pub mod RowPieces

@@ -1,34 +1,17 @@
 -- The scrap that a production makes is braced.
-use Rattle.std.proofs.Common.{arith, ◌≡◌, ℕ, ◌+◌, ◌<◌, Bool, true, false, not, ◌&&◌, ◌||◌, Option, Some, None, List, []}
-use Rattle.std.proofs.Common.{get_or, map, refl, sym, ap, ◌∙◌, subst, zero-add}
-use Rattle.std.proofs.lemmas.Bool.Decides.{nat_tests}
-use Rattle.std.specs.List.{All}
-use Rattle.std.proofs.lemmas.Bool.{cases_lt, eqb-true, ltb-true}
+use Rattle.cw_brace_laws.proofs.Terms.{arith, ◌≡◌, ℕ, ◌+◌, ◌<◌, Bool, true, false, not, ◌&&◌, ◌||◌, Option, Some, None}
+use Rattle.cw_brace_laws.proofs.Terms.{List, [], get_or, map, refl, sym, ap, ◌∙◌, subst, zero-add, nat_tests, All}
+use Rattle.cw_brace_laws.proofs.Terms.{cases_lt, eqb-true, ltb-true, All-head, AllPass-from_list_all, both-left}
+use Rattle.cw_brace_laws.proofs.Terms.{both-right, not-both, not-true, other-one, unless, in_set, Cat, Flags, Maybe}
+use Rattle.cw_brace_laws.proofs.Terms.{cats-get, admits_only, are_quiet, between, braces_pair, is_calm, is_quiet}
+use Rattle.cw_brace_laws.proofs.Terms.{makes_calm, may_be_calm, may_stand, pieces_are_braced, insertion_of, cats_of}
+use Rattle.cw_brace_laws.proofs.Terms.{joined_of, alone, with_cat, row_pieces, new_scrap, takes_other, pieces_for}
+use Rattle.cw_brace_laws.proofs.Terms.{result_at, test, Piece, MathScrap, Row, RowResult, Is, SameAs, Scrap, no_scrap}
+use Rattle.cw_brace_laws.proofs.Terms.{join, StandsAt, HoldsNoText, IsBracedScrap, IsCleanOperator, PutsCleanOperator}
 use Rattle.std.proofs.lemmas.List.{get_or_past}
-use Rattle.std.proofs.lemmas.List.Elements.{All-head}
-use Rattle.std.proofs.lemmas.List.Sums.{AllPass-from_list_all}
 use Rattle.cw_base.proofs.CategoryLaws.{every-cat}
-use Rattle.cw_base.proofs.TestLaws.{both-left, both-right, not-both, not-true, other-one, unless}
-use Rattle.cw_base.specs.Category.{in_set}
-use Rattle.cw_base.specs.declared.category.Cat.{Cat}
-use Rattle.cw_base.specs.declared.flags.Flags.{Flags}
-use Rattle.cw_base.specs.declared.mode.MathMode.TheVariants.{Maybe}
-use Rattle.cw_table.proofs.ScrapFacts.{cats-get}
-use Rattle.cw_table.specs.Braces.{admits_only, are_quiet, between, braces_pair, is_calm, is_quiet, makes_calm}
-use Rattle.cw_table.specs.Braces.{may_be_calm, may_stand, pieces_are_braced, row_is_braced}
-use Rattle.cw_table.specs.Insertions.{insertion_of}
-use Rattle.cw_table.specs.Rewriting.{cats_of, joined_of, alone, with_cat, row_pieces, new_scrap, takes_other}
-use Rattle.cw_table.specs.Rows.{pieces_for, result_at, test}
-use Rattle.cw_table.specs.declared.types.Piece.{Piece}
-use Rattle.cw_table.specs.declared.types.Piece.TheVariants.{Scrap as ScrapOf, MathScrap}
-use Rattle.cw_table.specs.declared.types.Row.{Row}
-use Rattle.cw_table.specs.declared.types.RowResult.{RowResult}
-use Rattle.cw_table.specs.declared.types.RowResult.TheVariants.{Is, SameAs}
-use Rattle.cw_trees.specs.Joining.{Scrap, no_scrap, join}
-use Rattle.cw_brace_laws.specs.Bracing.{StandsAt, HoldsNoText, IsBracedScrap}
-use Rattle.cw_brace_laws.specs.Operators.{IsCleanOperator, PutsCleanOperator}
-use Rattle.cw_brace_laws.proofs.Depths.{ends-maybe}
-use Rattle.cw_brace_laws.proofs.Joins.{Lead, led, led-left}
+use Rattle.cw_table.specs.{Braces.row_is_braced, declared.types.Piece.TheVariants.Scrap as ScrapOf}
+use Rattle.cw_brace_laws.proofs.{Depths.ends-maybe, Joins.Lead, Joins.led, Joins.led-left}
 use Rattle.cw_brace_laws.proofs.RowPieces.{Stands, alone-pieces, math-stands, pieces-lead}
 
 -- ## Rows
@@ -51,8 +34,7 @@ parts row ps ok = record {
       (not (may_be_calm row row.result) || are_quiet (makes_calm row.result) row ps) ok;
 }
 
-pub row-braced : (row : Row) → row_is_braced row ≡ true → (other : Bool)
-    → IsBracedRow row (pieces_for other row)
+pub row-braced : (row : Row) → row_is_braced row ≡ true → (other : Bool) → IsBracedRow row (pieces_for other row)
 unfolding row_is_braced
 row-braced row h other = grind (arith, nat_tests, parts, both-right, both-left)
 
@@ -97,18 +79,15 @@ module _ (row : Row) (scraps : List Scrap)
   ScrapStands m k = StandsAt m (get_or scraps k no_scrap).tree (get_or scraps k no_scrap).left
       (get_or scraps k no_scrap).right
 
-  pub quiet-stands : (these : ℕ → Cat → Bool) (m : ℕ) (p : Piece)
-      → AtScrap (λ k. these k (get_or scraps k no_scrap).cat ≡ true → ScrapStands m k) p
-      → is_quiet these row (insertion_of p) ≡ true → Stands scraps m p
+  pub quiet-stands : (these : ℕ → Cat → Bool) (m : ℕ) (p : Piece) → AtScrap (λ k. these k (get_or scraps k no_scrap).cat
+      ≡ true → ScrapStands m k) p → is_quiet these row (insertion_of p) ≡ true → Stands scraps m p
   quiet-stands these m p at h = grind (arith, nat_tests, admitted, ltb-true, both-left, both-right, math-stands)
 
   -- a new scrap whose pieces can stand between braces
   pub new-holds : (ps : List Piece) → braces_pair 0 ps ≡ true → All (λ p. (m : ℕ) → Stands scraps m p) (between 0 ps)
       → ((m : ℕ) → All (Stands scraps m) ps) → (c : Cat) (o : Option ℕ) → alone row.replaced ps ≡ o
-      → HoldsNoText (elim o as (λ _. Scrap) [
-        | Some k ↦ with_cat c (get_or scraps k no_scrap)
-        | None ↦ join c (map (joined_of scraps) ps)
-      ])
+      → HoldsNoText (elim o as (λ _. Scrap)
+      [ Some k ↦ with_cat c (get_or scraps k no_scrap) | None ↦ join c (map (joined_of scraps) ps) ])
   new-holds ps pair held stand c (Some k) e m = All-head (Stands scraps m) (ScrapOf k) []
       (subst (All (Stands scraps m)) (alone-pieces row.replaced ps k e) (stand m))
   new-holds ps pair held stand c None e m =
@@ -153,19 +132,18 @@ module _ (row : Row) (scraps : List Scrap) (all : All IsBracedScrap scraps)
       λ h. (at-braced scraps k all).calm (grind (arith, nat_tests, eqb-true, other-one, cats-get)) m
   calm-at m _ calm = tt
 
-  calm-stand : (ps : List Piece) → is_calm (result_at row.result (cats_of scraps)) ≡ true
-      → (not (may_be_calm row row.result) || are_quiet (makes_calm row.result) row ps) ≡ true
-      → (m : ℕ) → All (Stands scraps m) ps
-  calm-stand ps calm h m = λ i d lt.
-      quiet-stands row scraps fits (makes_calm row.result) m (get_or ps i d) (calm-at m (get_or ps i d) calm)
-      (AllPass-from_list_all (λ p. is_quiet (makes_calm row.result) row (insertion_of p)) ps
+  calm-stand : (ps : List Piece) → is_calm (result_at row.result (cats_of scraps)) ≡ true → (not (may_be_calm row
+      row.result) || are_quiet (makes_calm row.result) row ps) ≡ true → (m : ℕ) → All (Stands scraps m) ps
+  calm-stand ps calm h m = λ i d lt. quiet-stands row scraps fits (makes_calm row.result) m (get_or ps i d) (calm-at m
+      (get_or ps i d) calm) (AllPass-from_list_all (λ p. is_quiet (makes_calm row.result) row (insertion_of p)) ps
       (unless _ _ h (may-calm row.result refl calm)) i d lt)
 
   -- the new scrap
-  new-by : (ps : List Piece) → IsBracedRow row ps → All (PutsCleanOperator scraps) (between 0 ps)
-      → (o : Option ℕ) → alone row.replaced ps ≡ o
+  new-by : (ps : List Piece) → IsBracedRow row ps → All (PutsCleanOperator scraps) (between 0 ps) → (o : Option ℕ)
+      → alone row.replaced ps ≡ o
       → IsBracedScrap (elim o as (λ _. Scrap) [
-        | Some k ↦ with_cat (result_at row.result (cats_of scraps)) (get_or scraps k no_scrap)
+        | Some k ↦ with_cat (result_at row.result (cats_of scraps))
+            (get_or scraps k no_scrap)
         | None ↦ join (result_at row.result (cats_of scraps)) (map (joined_of scraps) ps)
       ])
   new-by ps ok clean (Some k) e = record {
@@ -180,9 +158,7 @@ module _ (row : Row) (scraps : List Scrap) (all : All IsBracedScrap scraps)
         (calm-stand ps c ok.calm) (result_at row.result (cats_of scraps)) None e;
   }
 
-  pub new-braced : (flags : Flags) → row_is_braced row ≡ true
-      → All (PutsCleanOperator scraps) (between 0 (row_pieces flags row (cats_of scraps)))
-      → IsBracedScrap (new_scrap flags row scraps)
-  new-braced flags h clean = new-by (row_pieces flags row (cats_of scraps))
-      (row-braced row h (takes_other flags row.action.choice (cats_of scraps))) clean
-      (alone row.replaced (row_pieces flags row (cats_of scraps))) refl
+  pub new-braced : (flags : Flags) → row_is_braced row ≡ true → All (PutsCleanOperator scraps)
+      (between 0 (row_pieces flags row (cats_of scraps))) → IsBracedScrap (new_scrap flags row scraps)
+  new-braced flags h clean = new-by (row_pieces flags row (cats_of scraps)) (row-braced row h (takes_other flags
+      row.action.choice (cats_of scraps))) clean (alone row.replaced (row_pieces flags row (cats_of scraps))) refl

@@ -1,38 +1,16 @@
 -- In a text without comments, `#` lines, question marks and attributes no production gives text to an operator.
-use Rattle.std.proofs.Common.{arith, ◌≡◌, ℕ, ◌<◌, Bool, true, false, not, ◌&&◌, ◌||◌, eqb, ltb, List, get_or, take}
-use Rattle.std.proofs.Common.{drop, refl, sym, ap, ◌∙◌}
-use Rattle.std.proofs.lemmas.Bool.Decides.{nat_tests}
-use Rattle.std.specs.List.{All, list_all}
-use Rattle.std.proofs.lemmas.Bool.{eqb-true, ltb-true}
-use Rattle.std.proofs.lemmas.List.Elements.{All-append, All-drop, All-take}
-use Rattle.std.proofs.lemmas.List.Sums.{AllPass-from_list_all}
-use Rattle.cw_base.proofs.TestLaws.{both, both-left, both-right, not-both, not-true, other-one, unless}
-use Rattle.cw_base.specs.Category.{in_set}
-use Rattle.cw_base.specs.declared.category.Cat.{Cat}
-use Rattle.cw_base.specs.declared.category.Cat.TheVariants.{RawInt}
-use Rattle.cw_base.specs.declared.flags.Flags.{Flags}
-use Rattle.cw_table.proofs.BraceRows.{rows-braced}
-use Rattle.cw_table.proofs.Examples.{productions-sound}
-use Rattle.cw_table.proofs.ScrapFacts.{at-cats, cats-get}
-use Rattle.cw_table.proofs.Soundness.{sound-row}
-use Rattle.cw_table.specs.Braces.{admits_only, are_quiet, between, is_quiet, may_stand, row_is_braced}
-use Rattle.cw_table.specs.Fitting.{row_fits}
-use Rattle.cw_table.specs.Insertions.{insertion_of}
-use Rattle.cw_table.specs.Normal.{At, next_place, steps}
-use Rattle.cw_table.specs.Productions.{productions}
-use Rattle.cw_table.specs.Rewriting.{State, alone, cats_of, new_scrap, reserved_at, reserved_in, rewrite, rewrite_from}
-use Rattle.cw_table.specs.Rewriting.{row_pieces, takes_other, with_cat}
-use Rattle.cw_table.specs.Rows.{pieces_for, result_at, test}
-use Rattle.cw_table.specs.Sound.{IsSound}
-use Rattle.cw_table.specs.declared.types.Piece.{Piece}
-use Rattle.cw_table.specs.declared.types.Piece.TheVariants.{Scrap as ScrapOf, MathScrap}
-use Rattle.cw_table.specs.declared.types.Row.{Row}
-use Rattle.cw_table.specs.declared.types.RowResult.{RowResult}
-use Rattle.cw_table.specs.declared.types.RowResult.TheVariants.{Is, SameAs}
-use Rattle.cw_trees.specs.Joining.{Scrap, no_scrap}
-use Rattle.cw_brace_laws.specs.Bracing.{HoldsNoText, StandsAt}
-use Rattle.cw_brace_laws.specs.Operators.{HasCleanOperators, PutsCleanOperator}
-use Rattle.cw_brace_laws.specs.PlainTexts.{IsPlainText, is_plain}
+use Rattle.cw_brace_laws.proofs.Terms.{arith, ◌≡◌, ℕ, ◌<◌, Bool, true, false, not, ◌&&◌, ◌||◌, eqb, ltb, List, get_or}
+use Rattle.cw_brace_laws.proofs.Terms.{take, drop, refl, sym, ap, ◌∙◌, nat_tests, All, list_all, eqb-true, ltb-true}
+use Rattle.cw_brace_laws.proofs.Terms.{All-append, All-drop, All-take, AllPass-from_list_all, both, both-left}
+use Rattle.cw_brace_laws.proofs.Terms.{both-right, not-both, not-true, other-one, unless, in_set, Cat, RawInt, Flags}
+use Rattle.cw_brace_laws.proofs.Terms.{rows-braced, productions-sound, at-cats, cats-get, sound-row, admits_only}
+use Rattle.cw_brace_laws.proofs.Terms.{are_quiet, between, is_quiet, may_stand, row_is_braced, row_fits, insertion_of}
+use Rattle.cw_brace_laws.proofs.Terms.{At, next_place, steps, State, alone, cats_of, new_scrap, reserved_at}
+use Rattle.cw_brace_laws.proofs.Terms.{reserved_in, rewrite, rewrite_from, row_pieces, takes_other, with_cat}
+use Rattle.cw_brace_laws.proofs.Terms.{pieces_for, result_at, test, IsSound, Piece, MathScrap, Row, RowResult, Is}
+use Rattle.cw_brace_laws.proofs.Terms.{SameAs, Scrap, no_scrap, HoldsNoText, StandsAt, HasCleanOperators}
+use Rattle.cw_brace_laws.proofs.Terms.{PutsCleanOperator, IsPlainText, is_plain}
+use Rattle.cw_table.specs.{Productions.productions, declared.types.Piece.TheVariants.Scrap as ScrapOf}
 use Rattle.cw_brace_laws.proofs.CleanScraps.{IsLeafScrap, binop-clean, calm-clean, is_clean}
 use Rattle.cw_brace_laws.proofs.NewScraps.{AtScrap, IsBracedRow, admitted, all-at, new-holds, quiet-stands, row-braced}
 use Rattle.cw_brace_laws.proofs.Productions.{fits-at, named-keeps, reserve-holds, rewritten-keeps, steps-keep, taken}
@@ -107,13 +85,11 @@ module _ (row : Row) (scraps : List Scrap) (all : All IsPlainScrap scraps)
     where
       go : (b : Bool) → asks row k ≡ b → b ≡ false
       go false e = refl
-      go true e = not-both (is_plain (get_or scraps k no_scrap).cat) (at k).plain
-          (not-true _ (admitted row scraps fits (λ cat. not (is_plain cat)) k (ltb-true _ _ (both-left _ _ e))
-          (both-right _ _ e)))
+      go true e = not-both (is_plain (get_or scraps k no_scrap).cat) (at k).plain (not-true _
+          (admitted row scraps fits (λ cat. not (is_plain cat)) k (ltb-true _ _ (both-left _ _ e)) (both-right _ _ e)))
 
-  works : row_is_plain row ≡ true
-      → (plain_result row.result && (plain_pieces row (pieces_for false row) && plain_pieces row (pieces_for true row)))
-      ≡ true
+  works : row_is_plain row ≡ true → (plain_result row.result &&
+      (plain_pieces row (pieces_for false row) && plain_pieces row (pieces_for true row))) ≡ true
   unfolding row_is_plain
   works h = other-one _ _ h (none-of-two (asks row 0 || asks row 1 || asks row 2) (asks row 3)
       (none-of-two (asks row 0 || asks row 1) (asks row 2)
@@ -137,23 +113,20 @@ module _ (row : Row) (scraps : List Scrap) (all : All IsPlainScrap scraps)
     where
       go : (b : Bool) → admits_only (λ cat. not (is_plain cat && is_clean cat)) (test row j) ≡ b → not b ≡ true
       go false e = refl
-      go true e =
-          not-both (is_plain (get_or scraps j no_scrap).cat && is_clean (get_or scraps j no_scrap).cat)
+      go true e = not-both (is_plain (get_or scraps j no_scrap).cat && is_clean (get_or scraps j no_scrap).cat)
           (both _ _ (at j).plain (ap is_clean (sym (cats-get scraps j)) ∙ clean))
           (not-true _ (admitted row scraps fits (λ cat. not (is_plain cat && is_clean cat)) j (tested j is) e))
 
-  held-at : (m : ℕ) (p : Piece)
-      → AtScrap (λ k. may_stand row.result k (get_or scraps k no_scrap).cat ≡ true
-      → StandsAt m (get_or scraps k no_scrap).tree (get_or scraps k no_scrap).left (get_or scraps k no_scrap).right) p
+  held-at : (m : ℕ) (p : Piece) → AtScrap (λ k. may_stand row.result k (get_or scraps k no_scrap).cat ≡ true → StandsAt
+      m (get_or scraps k no_scrap).tree (get_or scraps k no_scrap).left (get_or scraps k no_scrap).right) p
   held-at m (ScrapOf k) = λ h. (at k).clean (stand-clean row.result k (get_or scraps k no_scrap).cat h) m
   held-at m (MathScrap k) = λ h. (at k).clean (stand-clean row.result k (get_or scraps k no_scrap).cat h) m
   held-at m _ = tt
 
   held-stand : (ps : List Piece) → are_quiet (may_stand row.result) row ps ≡ true
       → All (λ p. (m : ℕ) → Stands scraps m p) ps
-  held-stand ps h = λ i d lt m.
-      quiet-stands row scraps fits (may_stand row.result) m (get_or ps i d) (held-at m (get_or ps i d))
-      (AllPass-from_list_all (λ p. is_quiet (may_stand row.result) row (insertion_of p)) ps h i d lt)
+  held-stand ps h = λ i d lt m. quiet-stands row scraps fits (may_stand row.result) m (get_or ps i d) (held-at m
+      (get_or ps i d)) (AllPass-from_list_all (λ p. is_quiet (may_stand row.result) row (insertion_of p)) ps h i d lt)
 
   clean-at : (m : ℕ) (p : Piece) → is_clean (result_at row.result (cats_of scraps)) ≡ true
       → AtScrap (λ k. makes_clean row.result k (get_or scraps k no_scrap).cat ≡ true
@@ -164,10 +137,9 @@ module _ (row : Row) (scraps : List Scrap) (all : All IsPlainScrap scraps)
 
   clean-stand : (ps : List Piece) → is_clean (result_at row.result (cats_of scraps)) ≡ true
       → plain_pieces row ps ≡ true → (m : ℕ) → All (Stands scraps m) ps
-  clean-stand ps clean h m = λ i d lt.
-      quiet-stands row scraps fits (makes_clean row.result) m (get_or ps i d) (clean-at m (get_or ps i d) clean)
-      (AllPass-from_list_all (λ p. is_quiet (makes_clean row.result) row (insertion_of p)) ps
-      (unless _ _ h (may-clean row.result refl clean)) i d lt)
+  clean-stand ps clean h m = λ i d lt. quiet-stands row scraps fits (makes_clean row.result) m (get_or ps i d)
+      (clean-at m (get_or ps i d) clean) (AllPass-from_list_all (λ p. is_quiet (makes_clean row.result) row
+      (insertion_of p)) ps (unless _ _ h (may-clean row.result refl clean)) i d lt)
 
   new-cat : (flags : Flags) → (new_scrap flags row scraps).cat ≡ result_at row.result (cats_of scraps)
   new-cat flags = grind (arith, nat_tests)
@@ -179,12 +151,10 @@ module _ (row : Row) (scraps : List Scrap) (all : All IsPlainScrap scraps)
       row-braced row braced (takes_other flags row.action.choice (cats_of scraps)) in
       record {
         plain = ap is_plain (new-cat flags) ∙ result-plain row.result (both-left _ _ (works plain));
-        clean = λ c. new-holds row scraps fits (row_pieces flags row (cats_of scraps)) ok.pair
-            (held-stand (between 0 (row_pieces flags row (cats_of scraps))) ok.held)
-            (clean-stand (row_pieces flags row (cats_of scraps)) (ap is_clean (sym (new-cat flags)) ∙ c)
-            (works-by plain (takes_other flags row.action.choice (cats_of scraps))))
-            (result_at row.result (cats_of scraps))
-            (alone row.replaced (row_pieces flags row (cats_of scraps))) refl;
+        clean = λ c. new-holds row scraps fits (row_pieces flags row (cats_of scraps)) ok.pair (held-stand (between 0
+            (row_pieces flags row (cats_of scraps))) ok.held) (clean-stand (row_pieces flags row (cats_of scraps)) (ap
+            is_clean (sym (new-cat flags)) ∙ c) (works-by plain (takes_other flags row.action.choice (cats_of scraps))))
+            (result_at row.result (cats_of scraps)) (alone row.replaced (row_pieces flags row (cats_of scraps))) refl;
       }
 
 -- ## Productions
@@ -192,12 +162,11 @@ module _ (row : Row) (scraps : List Scrap) (all : All IsPlainScrap scraps)
 plain-rewritten : (flags : Flags) (row : Row) (scraps : List Scrap) → IsSound row → row_is_braced row ≡ true
     → row_is_plain row ≡ true → row_fits row (cats_of scraps) ≡ true → All IsPlainScrap scraps
     → All IsPlainScrap (rewrite_from flags row scraps)
-plain-rewritten flags row scraps sound braced plain fits all =
-    rewritten-keeps IsPlainScrap none-plain reserve-plain types-plain flags row scraps all
-    (new-plain row (reserved_at row.action.reserve scraps)
+plain-rewritten flags row scraps sound braced plain fits all = rewritten-keeps IsPlainScrap none-plain reserve-plain
+    types-plain flags row scraps all (new-plain row (reserved_at row.action.reserve scraps)
     (named-keeps IsPlainScrap none-plain reserve-plain types-plain row.action.reserve scraps all)
-    (fits-at row (reserved_at row.action.reserve scraps) sound
-    (ap (row_fits row) (at-cats row.action.reserve scraps) ∙ fits)) sound.same_as_tested flags braced plain)
+    (fits-at row (reserved_at row.action.reserve scraps) sound (ap (row_fits row) (at-cats row.action.reserve scraps)
+    ∙ fits)) sound.same_as_tested flags braced plain)
 
 abbrev HasPlainScraps : State → Type 0
 HasPlainScraps state = All IsPlainScrap state.scraps
@@ -207,9 +176,8 @@ plain-next : (flags : Flags) (st : State) (i : ℕ) (r : Row) → next_place pro
 plain-next flags st i r e all =
     let t = taken productions-sound st i r e in
     All-append IsPlainScrap (take i st.scraps) (rewrite_from flags r (drop i st.scraps))
-    (All-take IsPlainScrap i st.scraps all)
-    (plain-rewritten flags r (drop i st.scraps) (sound-row r t.sound) (t.passes row_is_braced rows-braced)
-    (t.passes row_is_plain rows-plain) t.fits (All-drop IsPlainScrap i st.scraps all))
+    (All-take IsPlainScrap i st.scraps all) (plain-rewritten flags r (drop i st.scraps) (sound-row r t.sound) (t.passes
+    row_is_braced rows-braced) (t.passes row_is_plain rows-plain) t.fits (All-drop IsPlainScrap i st.scraps all))
 
 -- so the operators that a production puts between braces hold no text
 clean-piece : (scraps : List Scrap) (p : Piece) → All IsPlainScrap scraps → PutsCleanOperator scraps p
@@ -220,11 +188,10 @@ clean-piece scraps (MathScrap k) all = λ b.
 clean-piece scraps _ all = tt
 
 plain-clean : (flags : Flags) (st : State) → HasPlainScraps st → HasCleanOperators flags st
-plain-clean flags st all number place row e = λ i d lt.
-    clean-piece (drop place (steps productions flags number st).scraps)
-    (get_or (between 0 (row_pieces flags row (cats_of (drop place (steps productions flags number st).scraps)))) i d)
-    (All-drop IsPlainScrap place (steps productions flags number st).scraps
-    (steps-keep flags HasPlainScraps (plain-next flags) number st all))
+plain-clean flags st all number place row e = λ i d lt. clean-piece
+    (drop place (steps productions flags number st).scraps) (get_or (between 0 (row_pieces flags row
+    (cats_of (drop place (steps productions flags number st).scraps)))) i d) (All-drop IsPlainScrap place
+    (steps productions flags number st).scraps (steps-keep flags HasPlainScraps (plain-next flags) number st all))
 
 -- a text of leaves
 pub text-clean : (flags : Flags) (st : State) → IsPlainText st → All IsLeafScrap st.scraps → HasCleanOperators flags st

@@ -1,15 +1,11 @@
 -- What the signs of a braced list print is braced.
-use Rattle.std.proofs.Common.{◌≡◌, ℕ, zero, suc, Bool, true, false, ◌||◌, ltb, Option, Some, None, List, [], ◌∷◌, ◌++◌}
-use Rattle.std.proofs.Common.{map, refl, ap, ◌∙◌, if◌then◌else◌, arith}
-use Rattle.cw_trees.specs.Flat.{Item, SourceItem, IdentItem, ReservedItem, SignItem, Open, Close, flat, is_run_sign}
-use Rattle.cw_trees.specs.Flat.{trimmed_items}
+use Rattle.cw_brace_laws.proofs.Terms.{◌≡◌, ℕ, zero, suc, Bool, true, false, ◌||◌, ltb, Option, Some, None, List, []}
+use Rattle.cw_brace_laws.proofs.Terms.{◌∷◌, ◌++◌, map, refl, ap, ◌∙◌, if◌then◌else◌, arith, Item, SourceItem, IdentItem}
+use Rattle.cw_brace_laws.proofs.Terms.{ReservedItem, SignItem, Open, Close, flat, is_run_sign, trimmed_items, Tree}
+use Rattle.cw_brace_laws.proofs.Terms.{Control, IsBraced, leads_on, sign_depth, PrintsBraced, byte_depth, bytes_depth}
+use Rattle.cw_brace_laws.proofs.Terms.{items_depth, own_sign, sign_alone, nat_tests}
 use Rattle.cw_trees.specs.Printing.{indent_bytes, indents, opened, printed_from, run_bytes}
-use Rattle.cw_trees.specs.Tree.{Tree}
-use Rattle.cw_trees.specs.declared.Control.{Control}
-use Rattle.cw_brace_laws.specs.Bracing.{IsBraced, leads_on, sign_depth}
-use Rattle.cw_brace_laws.specs.Printed.{PrintsBraced, byte_depth, bytes_depth, items_depth, own_sign, sign_alone}
 use Rattle.cw_brace_laws.proofs.Flats.{by-way, trimmed-braced}
-use Rattle.std.proofs.lemmas.Bool.Decides.{nat_tests}
 
 -- ## Bytes
 
@@ -61,23 +57,20 @@ printed-leads inner depth run (IdentItem name number ∷ items) d e h =
 printed-leads inner depth run (ReservedItem name number ∷ items) d e h =
     three-lead (run_bytes (inner || ltb 0 depth) run) [] (printed_from inner depth [] (map sign_alone items)) d d e
     (run-plain (inner || ltb 0 depth) run) refl (printed-leads inner depth [] items d e h)
-printed-leads inner depth run (Open ∷ items) zero e h =
-    three-lead (run_bytes (inner || ltb 0 depth) run) [] (printed_from inner (opened depth Open) []
-    (map sign_alone items)) 0 0 e
-    (run-plain (inner || ltb 0 depth) run) refl (printed-leads inner (opened depth Open) [] items 0 e h)
+printed-leads inner depth run (Open ∷ items) zero e h = three-lead (run_bytes (inner || ltb 0 depth) run) []
+    (printed_from inner (opened depth Open) [] (map sign_alone items)) 0 0 e (run-plain (inner || ltb 0 depth) run) refl
+    (printed-leads inner (opened depth Open) [] items 0 e h)
 printed-leads inner depth run (Open ∷ items) (suc d) e h = absurd cc
-printed-leads inner depth run (Close ∷ items) zero e h =
-    three-lead (run_bytes (inner || ltb 0 depth) run) [] (printed_from inner (opened depth Close) []
-    (map sign_alone items)) 0 0 e
+printed-leads inner depth run (Close ∷ items) zero e h = three-lead (run_bytes (inner || ltb 0 depth) run) []
+    (printed_from inner (opened depth Close) [] (map sign_alone items)) 0 0 e
     (run-plain (inner || ltb 0 depth) run) refl (printed-leads inner (opened depth Close) [] items 0 e h)
 printed-leads inner depth run (Close ∷ items) (suc d) e h = absurd cc
 printed-leads inner depth run (SignItem c ∷ items) d e h =
     go (is_run_sign c) refl (λ more n k. printed-leads inner depth more items n e k)
   where
-    go : (b : Bool) → is_run_sign c ≡ b
-        → ((more : List Control) (n : ℕ) → items_depth items n ≡ Some e
-        → bytes_depth (printed_from inner depth more (map sign_alone items)) n ≡ Some e)
-        → bytes_depth (elim (if b then Some c else None) as (λ _. List ℕ) [
+    go : (b : Bool) → is_run_sign c ≡ b → ((more : List Control) (n : ℕ) → items_depth items n ≡ Some e → bytes_depth
+        (printed_from inner depth more (map sign_alone items)) n ≡ Some e) → bytes_depth
+        (elim (if b then Some c else None) as (λ _. List ℕ) [
           | Some control ↦ printed_from inner depth (run ++ control ∷ []) (map sign_alone items)
           | None ↦ run_bytes (inner || ltb 0 depth) run ++ (own_sign c ++ printed_from inner depth []
               (map sign_alone items))

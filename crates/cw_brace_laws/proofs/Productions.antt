@@ -1,35 +1,19 @@
 -- One production keeps the braces of all scraps, and so do all of them.
-use Rattle.std.proofs.Common.{◌≡◌, ℕ, zero, suc, ◌+◌, ◌<◌, Bool, true, false, Option, Some, None, List, [], ◌∷◌, ◌++◌}
-use Rattle.std.proofs.Common.{get_or, take, drop, set, refl, sym, ap, ◌∙◌, subst, arith, if◌then◌else◌}
-use Rattle.std.specs.List.{All, list_all}
-use Rattle.std.proofs.lemmas.List.Elements.{All-append, All-take, All-drop, All-set, All-map, All-cons}
-use Rattle.cw_base.proofs.TestLaws.{both-left, both-right}
-use Rattle.cw_base.specs.Category.{in_set}
-use Rattle.cw_base.specs.declared.category.Cat.{Cat}
-use Rattle.cw_base.specs.declared.category.Cat.TheVariants.{RawInt}
-use Rattle.cw_base.specs.declared.flags.Flags.{Flags}
-use Rattle.cw_table.proofs.FirstLaws.{length-tests_of}
+use Rattle.cw_brace_laws.proofs.Terms.{◌≡◌, ℕ, zero, suc, ◌+◌, ◌<◌, Bool, true, false, Option, Some, None, List, []}
+use Rattle.cw_brace_laws.proofs.Terms.{◌∷◌, ◌++◌, get_or, take, drop, set, refl, sym, ap, ◌∙◌, subst, arith}
+use Rattle.cw_brace_laws.proofs.Terms.{if◌then◌else◌, All, list_all, All-append, All-take, All-drop, All-set, All-map}
+use Rattle.cw_brace_laws.proofs.Terms.{All-cons, both-left, both-right, in_set, Cat, RawInt, Flags, at-cats, cats-drop}
+use Rattle.cw_brace_laws.proofs.Terms.{cats-get, sound-row, between, row_is_braced, first_of, row_fits, Place, Nowhere}
+use Rattle.cw_brace_laws.proofs.Terms.{At, next_place, steps, weight, productions, State, cats_of, named_right}
+use Rattle.cw_brace_laws.proofs.Terms.{named_scrap, new_scrap, reserved_at, reserved_in, rewrite, rewrite_from}
+use Rattle.cw_brace_laws.proofs.Terms.{row_pieces, search_in, with_cat, test, tests_of, IsSound, row_is_sound, Piece}
+use Rattle.cw_brace_laws.proofs.Terms.{Row, Scrap, no_scrap, Search, Found as FoundName, HoldsNoText, IsBracedScrap}
+use Rattle.cw_brace_laws.proofs.Terms.{HasCleanOperators, IsCleanOperator, PutsCleanOperator, PutsCleanOperators}
+use Rattle.cw_brace_laws.proofs.Terms.{nat_tests}
+use Rattle.cw_table.proofs.{FirstLaws.length-tests_of, SafeLaws.hold-at}
 use Rattle.cw_table.proofs.Normals.{first-found, least-at, steps-none, steps-turn}
-use Rattle.cw_table.proofs.SafeLaws.{hold-at}
-use Rattle.cw_table.proofs.ScrapFacts.{at-cats, cats-drop, cats-get}
-use Rattle.cw_table.proofs.Soundness.{sound-row}
-use Rattle.cw_table.specs.Braces.{between, row_is_braced}
-use Rattle.cw_table.specs.Fitting.{first_of, row_fits}
-use Rattle.cw_table.specs.Normal.{Place, Nowhere, At, next_place, normal, steps, weight}
-use Rattle.cw_table.specs.Productions.{productions}
-use Rattle.cw_table.specs.Rewriting.{State, cats_of, named_right, named_scrap, new_scrap, reserved_at, reserved_in}
-use Rattle.cw_table.specs.Rewriting.{rewrite, rewrite_from, row_pieces, search_in, with_cat}
-use Rattle.cw_table.specs.Rows.{test, tests_of}
-use Rattle.cw_table.specs.Sound.{IsSound, row_is_sound}
-use Rattle.cw_table.specs.declared.types.Piece.{Piece}
-use Rattle.cw_table.specs.declared.types.Row.{Row}
-use Rattle.cw_trees.specs.Joining.{Scrap, no_scrap}
-use Rattle.cw_trees.specs.Tree.{Search, Found as FoundName}
-use Rattle.cw_brace_laws.specs.Bracing.{HoldsNoText, IsBracedScrap}
-use Rattle.cw_brace_laws.specs.Operators.{HasCleanOperators, IsCleanOperator, PutsCleanOperator, PutsCleanOperators}
-use Rattle.cw_brace_laws.proofs.Depths.{reserve-depth}
-use Rattle.cw_brace_laws.proofs.NewScraps.{all-at, new-braced, none-braced}
-use Rattle.std.proofs.lemmas.Bool.Decides.{nat_tests}
+use Rattle.cw_table.specs.Normal.{normal}
+use Rattle.cw_brace_laws.proofs.{Depths.reserve-depth, NewScraps.all-at, NewScraps.new-braced, NewScraps.none-braced}
 use Rattle.cw_table.specs.declared.types.Piece.TheVariants as piece
 
 -- ## Reserving
@@ -77,15 +61,12 @@ module _ (P : Scrap → Type 0) (none : P no_scrap) (reserves : (s : Scrap) → 
   rewritten-keeps flags row scraps all new =
       let kept : All P (reserved_at row.action.reserve scraps) = named-keeps row.action.reserve scraps all in
       All-append P (take row.offset (reserved_at row.action.reserve scraps))
-      (new_scrap flags row (reserved_at row.action.reserve scraps)
-      ∷ named_right (search_in row.action.reserve scraps)
+      (new_scrap flags row (reserved_at row.action.reserve scraps) ∷ named_right (search_in row.action.reserve scraps)
       (drop (row.offset + row.replaced) (reserved_at row.action.reserve scraps)))
-      (All-take P row.offset (reserved_at row.action.reserve scraps) kept)
-      (All-cons P (new_scrap flags row (reserved_at row.action.reserve scraps))
-      (named_right (search_in row.action.reserve scraps)
-      (drop (row.offset + row.replaced) (reserved_at row.action.reserve scraps))) new
-      (right-keeps (search_in row.action.reserve scraps)
-      (drop (row.offset + row.replaced) (reserved_at row.action.reserve scraps))
+      (All-take P row.offset (reserved_at row.action.reserve scraps) kept) (All-cons P
+      (new_scrap flags row (reserved_at row.action.reserve scraps)) (named_right (search_in row.action.reserve scraps)
+      (drop (row.offset + row.replaced) (reserved_at row.action.reserve scraps))) new (right-keeps
+      (search_in row.action.reserve scraps) (drop (row.offset + row.replaced) (reserved_at row.action.reserve scraps))
       (All-drop P (row.offset + row.replaced) (reserved_at row.action.reserve scraps) kept)))
 
 -- ## One production
@@ -108,34 +89,28 @@ rewritten-braced flags row scraps sound braced fits clean all =
     let same = at-cats row.action.reserve scraps in
     let kept : All IsBracedScrap (reserved_at row.action.reserve scraps) =
     named-keeps IsBracedScrap none-braced reserve-braced types-braced row.action.reserve scraps all in
-    let held : All (PutsCleanOperator (reserved_at row.action.reserve scraps))
-    (between 0 (row_pieces flags row (cats_of (reserved_at row.action.reserve scraps)))) =
-    subst (λ cats. All (PutsCleanOperator (reserved_at row.action.reserve scraps))
-    (between 0 (row_pieces flags row cats))) (sym same)
-    (λ i d lt. clean-piece row.action.reserve scraps (get_or (between 0 (row_pieces flags row (cats_of scraps))) i d)
-    (clean i d lt)) in
-    rewritten-keeps IsBracedScrap none-braced reserve-braced types-braced flags row scraps all
-    (new-braced row (reserved_at row.action.reserve scraps) kept
-    (fits-at row (reserved_at row.action.reserve scraps) sound (ap (row_fits row) same ∙ fits)) sound.same_as_tested
-    flags braced held)
+    let held : All (PutsCleanOperator (reserved_at row.action.reserve scraps)) (between 0
+    (row_pieces flags row (cats_of (reserved_at row.action.reserve scraps)))) = subst (λ cats. All (PutsCleanOperator
+    (reserved_at row.action.reserve scraps)) (between 0 (row_pieces flags row cats))) (sym same) (λ i d lt. clean-piece
+    row.action.reserve scraps (get_or (between 0 (row_pieces flags row (cats_of scraps))) i d) (clean i d lt)) in
+    rewritten-keeps IsBracedScrap none-braced reserve-braced types-braced flags row scraps all (new-braced row
+    (reserved_at row.action.reserve scraps) kept (fits-at row (reserved_at row.action.reserve scraps) sound
+    (ap (row_fits row) same ∙ fits)) sound.same_as_tested flags braced held)
 
 pub production-keeps : (flags : Flags) (row : Row) (place : ℕ) (scraps : List Scrap) → row_is_sound row ≡ true
     → row_is_braced row ≡ true → row_fits row (cats_of (drop place scraps)) ≡ true
     → PutsCleanOperators flags row (drop place scraps) → All IsBracedScrap scraps
     → All IsBracedScrap (take place scraps ++ rewrite_from flags row (drop place scraps))
-production-keeps flags row place scraps sound braced fits clean all =
-    All-append IsBracedScrap (take place scraps) (rewrite_from flags row (drop place scraps))
-    (All-take IsBracedScrap place scraps all)
-    (rewritten-braced flags row (drop place scraps) (sound-row row sound) braced fits clean
-    (All-drop IsBracedScrap place scraps all))
+production-keeps flags row place scraps sound braced fits clean all = All-append IsBracedScrap (take place scraps)
+    (rewrite_from flags row (drop place scraps)) (All-take IsBracedScrap place scraps all) (rewritten-braced flags row
+    (drop place scraps) (sound-row row sound) braced fits clean (All-drop IsBracedScrap place scraps all))
 
 -- ## All productions
 
 first-passes : (p : Row → Bool) (rows : List Row) (cs : List Cat) (r : Row) → list_all p rows ≡ true
     → first_of rows cs ≡ Some r → p r ≡ true
 first-passes p [] cs r all h = absurd cc
-first-passes p (x ∷ rows) cs r all h =
-    go (λ k. first-passes p rows cs r (both-right (p x) _ all) k) (row_fits x cs) h
+first-passes p (x ∷ rows) cs r all h = go (λ k. first-passes p rows cs r (both-right (p x) _ all) k) (row_fits x cs) h
   where
     go : (first_of rows cs ≡ Some r → p r ≡ true) → (b : Bool)
         → (if b then Some x else first_of rows cs) ≡ Some r → p r ≡ true
@@ -154,9 +129,8 @@ taken sound st i r e =
     grind (arith, least-at productions 0 (cats_of st.scraps) i r e, cats-drop, first-found, first-passes)
 
 -- what each production keeps is kept by all
-pub steps-keep : (flags : Flags) (Q : State → Type 0)
-    → ((st : State) (i : ℕ) (r : Row) → next_place productions st ≡ At i r → Q st → Q (rewrite flags r i st))
-    → (n : ℕ) (st : State) → Q st → Q (steps productions flags n st)
+pub steps-keep : (flags : Flags) (Q : State → Type 0) → ((st : State) (i : ℕ) (r : Row) → next_place productions st ≡ At
+    i r → Q st → Q (rewrite flags r i st)) → (n : ℕ) (st : State) → Q st → Q (steps productions flags n st)
 steps-keep flags Q next zero st h = h
 steps-keep flags Q next (suc n) st h = go (next_place productions st) refl (λ s. steps-keep flags Q next n s)
   where
@@ -169,9 +143,8 @@ steps-keep flags Q next (suc n) st h = go (next_place productions st) refl (λ s
 -- the productions behind the first
 later-clean : (flags : Flags) (st : State) (i : ℕ) (r : Row) → next_place productions st ≡ At i r
     → HasCleanOperators flags st → HasCleanOperators flags (rewrite flags r i st)
-later-clean flags st i r e clean = λ number place row.
-    subst (λ (s : State). next_place productions s ≡ At place row
-    → PutsCleanOperators flags row (drop place s.scraps))
+later-clean flags st i r e clean = λ number place row. subst
+    (λ (s : State). next_place productions s ≡ At place row → PutsCleanOperators flags row (drop place s.scraps))
     (steps-turn productions flags number i r st e) (clean (suc number) place row)
 
 pub normal-keeps : (flags : Flags) → list_all row_is_sound productions ≡ true
@@ -179,10 +152,8 @@ pub normal-keeps : (flags : Flags) → list_all row_is_sound productions ≡ tru
     → All IsBracedScrap st.scraps → All IsBracedScrap (normal productions flags st).scraps
 unfolding normal
 normal-keeps flags sound braced st clean all =
-    (steps-keep flags (λ s. HasCleanOperators flags s × All IsBracedScrap s.scraps)
-    (λ s i r e h.
+    (steps-keep flags (λ s. HasCleanOperators flags s × All IsBracedScrap s.scraps) (λ s i r e h.
     let t = taken sound s i r e in (
       later-clean flags s i r e h.0,
       production-keeps flags r i s.scraps t.sound (t.passes row_is_braced braced) t.fits (h.0 0 i r e) h.1,
-    ))
-    (weight st.scraps) st (clean, all)).1
+    )) (weight st.scraps) st (clean, all)).1

@@ -1,21 +1,11 @@
 -- Worked trees and texts: what is braced, what isn't, and why the operators are a premise.
-use Rattle.std.proofs.Common.{◌≡◌, ℕ, true, None, List, [], ◌∷◌, codes, map, refl, replicate}
+use Rattle.cw_brace_laws.proofs.Terms.{◌≡◌, ℕ, true, None, List, [], ◌∷◌, codes, map, refl, replicate, Cat, Binop}
+use Rattle.cw_brace_laws.proofs.Terms.{ConstLike, Exp, RawInt, RawUbin, Semi, Ubinop, MathMode, Math, Maybe, State}
+use Rattle.cw_brace_laws.proofs.Terms.{comment_scrap, flat, trimmed_items, Scrap, whole, Empty, Then, Source, Ident}
+use Rattle.cw_brace_laws.proofs.Terms.{Reserved, Sign, IsBraced, depth_of, IsPlainText, signs_printed}
 use Rattle.cw_base.specs.Flags.{start_flags}
-use Rattle.cw_base.specs.declared.category.Cat.{Cat}
-use Rattle.cw_base.specs.declared.category.Cat.TheVariants.{Binop, ConstLike, Exp, RawInt, RawUbin, Semi, Ubinop}
-use Rattle.cw_base.specs.declared.mode.MathMode.{MathMode}
-use Rattle.cw_base.specs.declared.mode.MathMode.TheVariants.{Math, Maybe}
-use Rattle.cw_table.specs.Normal.{log, normal}
-use Rattle.cw_table.specs.Productions.{productions}
-use Rattle.cw_table.specs.Rewriting.{State}
-use Rattle.cw_translator.specs.Translating.{comment_scrap}
-use Rattle.cw_trees.specs.Flat.{flat, trimmed_items}
-use Rattle.cw_trees.specs.Joining.{Scrap, whole}
-use Rattle.cw_trees.specs.Tree.{Empty, Then, Source, Ident, Reserved, Sign}
+use Rattle.cw_table.specs.{Normal.log, Normal.normal, Productions.productions}
 use Rattle.cw_trees.specs.declared.Control.TheVariants.{Blank, CloseBrace, OpenBrace, ThinSpace, ToMath, ToText}
-use Rattle.cw_brace_laws.specs.Bracing.{IsBraced, depth_of}
-use Rattle.cw_brace_laws.specs.PlainTexts.{IsPlainText}
-use Rattle.cw_brace_laws.specs.Printed.{signs_printed}
 
 -- `{*const\,}`, and with a blank in the place of the thin space
 thin_space : IsBraced (Then (Sign OpenBrace) (Then (Source 0 Math) (Then (Reserved 0 1 ConstLike)

@@ -1,35 +1,19 @@
 -- The tree of a translation is braced, where the operators of all texts that ended hold no text.
-use Rattle.std.proofs.Common.{arith, ◌≡◌, ℕ, true, false, Option, Some, None, List, [], ◌∷◌, ◌++◌, get_or, refl, ap}
-use Rattle.std.proofs.Common.{◌∙◌}
-use Rattle.std.proofs.lemmas.Bool.Decides.{nat_tests}
-use Rattle.std.specs.List.{All, list_all}
-use Rattle.std.proofs.lemmas.List.Elements.{All-append, All-cons, All-head, All-nil, All-tail}
-use Rattle.cw_base.proofs.TestLaws.{not-both}
-use Rattle.cw_base.specs.declared.category.Cat.{Cat}
-use Rattle.cw_base.specs.declared.flags.Flags.{Flags}
-use Rattle.cw_base.specs.declared.mode.MathMode.{MathMode}
-use Rattle.cw_base.specs.declared.mode.MathMode.TheVariants.{Text, Maybe}
+use Rattle.cw_brace_laws.proofs.Terms.{arith, ◌≡◌, ℕ, true, false, Option, Some, None, List, [], ◌∷◌, ◌++◌, get_or}
+use Rattle.cw_brace_laws.proofs.Terms.{refl, ap, ◌∙◌, nat_tests, All, list_all, All-append, All-cons, All-head, All-nil}
+use Rattle.cw_brace_laws.proofs.Terms.{All-tail, not-both, Cat, Flags, MathMode, Text, Maybe, Entry, TokKind, LeafForm}
+use Rattle.cw_brace_laws.proofs.Terms.{names_with, token_form, row_is_braced, State, productions, row_is_sound, Token}
+use Rattle.cw_brace_laws.proofs.Terms.{CommentItem, Ended, InnerText, Known, Made, NameTexts, begin, beside}
+use Rattle.cw_brace_laws.proofs.Terms.{comment_rest, comment_scrap, dead, dollared, end_of, first_word, form_made}
+use Rattle.cw_brace_laws.proofs.Terms.{group_made, head_made, headed_made, later_words, leaf_of_name, leaf_scrap, made}
+use Rattle.cw_brace_laws.proofs.Terms.{name_in_text, names_in_text, no_name, nothing, one_scrap, plain_text}
+use Rattle.cw_brace_laws.proofs.Terms.{sign_behind, spelled, state_in, texts_made, texts_named, token_made, with_names}
+use Rattle.cw_brace_laws.proofs.Terms.{word_tokens, Scrap, Tree, Empty, Then, Inner, Sign, IsBraced, depth_of, leads_on}
+use Rattle.cw_brace_laws.proofs.Terms.{outside, HasCleanOperators}
 use Rattle.cw_lex.specs.Heads.{Head, Headed, Headless, Macro, Format, Silent, Named, headed}
 use Rattle.cw_lex.specs.Nest.{Nest, End, Leaf, Group, nest}
-use Rattle.cw_names.specs.Names.{Entry}
 use Rattle.cw_rules.specs.Answers.{Answer, Seen}
-use Rattle.cw_rules.specs.declared.tokens.TokKind.{TokKind}
-use Rattle.cw_scraps.specs.Leaves.{LeafForm, names_with, token_form}
-use Rattle.cw_table.specs.Braces.{row_is_braced}
-use Rattle.cw_table.specs.Rewriting.{State}
-use Rattle.cw_table.specs.Productions.{productions}
-use Rattle.cw_table.specs.Sound.{row_is_sound}
-use Rattle.cw_tokens.specs.declared.token.Token.{Token}
-use Rattle.cw_translator.specs.Translating.{CommentItem, Ended, InnerText, Known, Made, NameTexts, Piece, begin, beside}
-use Rattle.cw_translator.specs.Translating.{comment_rest, comment_scrap, dead, dollared, end_of, first_word, form_made}
-use Rattle.cw_translator.specs.Translating.{group_made, head_made, headed_made, later_words, leaf_of_name, leaf_scrap}
-use Rattle.cw_translator.specs.Translating.{made, name_in_text, names_in_text, no_name, nothing, one_scrap, plain_text}
-use Rattle.cw_translator.specs.Translating.{sign_behind, spelled, state_in, texts_made, texts_named, token_made}
-use Rattle.cw_translator.specs.Translating.{translated, with_names, word_tokens}
-use Rattle.cw_trees.specs.Joining.{Scrap}
-use Rattle.cw_trees.specs.Tree.{Tree, Empty, Then, Inner, Sign}
-use Rattle.cw_brace_laws.specs.Bracing.{IsBraced, depth_of, leads_on, outside}
-use Rattle.cw_brace_laws.specs.Operators.{HasCleanOperators}
+use Rattle.cw_translator.specs.Translating.{Piece, translated}
 use Rattle.cw_brace_laws.proofs.CleanScraps.{IsLeafScrap, is_clean, leaf-is-braced}
 use Rattle.cw_brace_laws.proofs.Leaves.{AreFlat, FormBraced, flat-append, flat-braced, token-braced, token-flat}
 use Rattle.cw_brace_laws.proofs.Wholes.{reduction-braced}
@@ -69,9 +53,8 @@ ItemBraced (InnerText tree) = IsBraced tree
 comment-braced : (items : List CommentItem) → All ItemBraced items → IsBraced (comment_rest items)
 comment-braced [] all = refl
 comment-braced (Piece number ∷ items) all = comment-braced items (All-tail ItemBraced (Piece number) items all)
-comment-braced (InnerText tree ∷ items) all = inner-braced tree (comment_rest items)
-    (All-head ItemBraced (InnerText tree) items all)
-    (comment-braced items (All-tail ItemBraced (InnerText tree) items all))
+comment-braced (InnerText tree ∷ items) all = inner-braced tree (comment_rest items) (All-head ItemBraced
+    (InnerText tree) items all) (comment-braced items (All-tail ItemBraced (InnerText tree) items all))
 
 -- ## What is made
 
@@ -126,9 +109,8 @@ names-flat (word ∷ words) all = flat-append
 
 spelled-flat : (words : List Seen) (names : List Entry) → AreFlat (spelled words names).tokens
 spelled-flat [] names = tt
-spelled-flat (word ∷ words) names = flat-append (word_tokens word names)
-    (spelled words (names_with word.kind word.text names)).tokens
-    (token-flat word.kind word.text word.hash_line word.span.start names)
+spelled-flat (word ∷ words) names = flat-append (word_tokens word names) (spelled words
+    (names_with word.kind word.text names)).tokens (token-flat word.kind word.text word.hash_line word.span.start names)
     (spelled-flat words (names_with word.kind word.text names))
 
 dead-braced : (number : ℕ) (tokens : List Token) → AreFlat tokens → IsLeafScrap (leaf_scrap (dead number tokens))
@@ -164,9 +146,8 @@ module _ (sound : list_all row_is_sound productions ≡ true) (braced : list_all
   }
   token-made name names (kind.Code code.SectionName) t known clean = names t.span.start known clean
   token-made name names (kind.Code code.FileName) t known clean = names t.span.start known clean
-  token-made name names k t known clean =
-      form-made (token_form k t.text t.hash_line t.span.start known.names) known (names_with k t.text known.names)
-      (token-braced k t.text t.hash_line t.span.start known.names) clean
+  token-made name names k t known clean = form-made (token_form k t.text t.hash_line t.span.start known.names) known
+      (names_with k t.text known.names) (token-braced k t.text t.hash_line t.span.start known.names) clean
 
   group-made : (k : TokKind) (t : Seen) (known : Known) (m : Made) → Makes C known m
       → Makes C known (group_made flags k t m)
@@ -202,8 +183,7 @@ module _ (sound : list_all row_is_sound productions ≡ true) (braced : list_all
   -- ## Section names
 
   texts-end : (texts : List (List Answer)) (behind : Tree) (known : Known) → IsBraced behind
-      → AreClean C (texts_made flags texts behind known).known
-      → Ends C known (texts_made flags texts behind known)
+      → AreClean C (texts_made flags texts behind known).known → Ends C known (texts_made flags texts behind known)
   texts-end [] behind known h clean = record { clean = clean; tree = h }
   texts-end (text ∷ texts) behind known h clean =
       let more = texts-end texts behind (plain_text flags text known).known h clean in
@@ -215,9 +195,8 @@ module _ (sound : list_all row_is_sound productions ≡ true) (braced : list_all
             (texts_made flags texts behind (plain_text flags text known).known).tree) here.tree more.tree;
       }
 
-  named-made : (o : Option (List (List Answer))) (c : Cat) (mode : MathMode) (behind : Tree) (number : ℕ)
-      (known : Known) → is_clean c ≡ false → IsBraced behind
-      → Makes C known (texts_named flags o c mode behind number known)
+  named-made : (o : Option (List (List Answer))) (c : Cat) (mode : MathMode) (behind : Tree) (number : ℕ) (known
+      : Known) → is_clean c ≡ false → IsBraced behind → Makes C known (texts_named flags o c mode behind number known)
   named-made None c mode behind number known other h clean = nothing-made C known clean
   named-made (Some texts) c mode behind number known other h clean =
       grind (arith, nat_tests, texts-end texts (Then (Sign control.NameEnd) behind) known h clean)
@@ -238,10 +217,9 @@ module _ (sound : list_all row_is_sound productions ≡ true) (braced : list_all
   head-made named (Format number words) known =
       let p = spelled (first_word words) known.names in
       let q = spelled (later_words words) p.names in
-      scrap-named C known q.names _ (dead-braced number
-      (names_in_text p.tokens ++ token.Control control.OptionalBreak ∷ names_in_text q.tokens)
-      (flat-append (names_in_text p.tokens) (token.Control control.OptionalBreak ∷ names_in_text q.tokens)
-      (names-flat p.tokens (spelled-flat (first_word words) known.names))
+      scrap-named C known q.names _ (dead-braced number (names_in_text p.tokens ++ token.Control control.OptionalBreak
+      ∷ names_in_text q.tokens) (flat-append (names_in_text p.tokens) (token.Control control.OptionalBreak
+      ∷ names_in_text q.tokens) (names-flat p.tokens (spelled-flat (first_word words) known.names))
       ((λ rest. refl), names-flat q.tokens (spelled-flat (later_words words) p.names))))
   head-made named (Named number sign) known =
       named-made (named number) cat.Dead Text (sign_behind sign) number known refl refl
@@ -258,6 +236,5 @@ module _ (sound : list_all row_is_sound productions ≡ true) (braced : list_all
       → All C (translated flags named answers names marks).known.ended
       → IsBraced (translated flags named answers names marks).tree
   unfolding translated
-  translation-braced named answers names marks clean =
-      (end-made (begin names marks) (headed_made flags named (headed (nest answers)) (begin names marks))
-      (headed-made named (headed (nest answers)) (begin names marks)) clean).tree
+  translation-braced named answers names marks clean = (end-made (begin names marks) (headed_made flags named (headed
+      (nest answers)) (begin names marks)) (headed-made named (headed (nest answers)) (begin names marks)) clean).tree

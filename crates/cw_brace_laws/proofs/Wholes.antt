@@ -1,19 +1,9 @@
 -- The tree of the scraps that no production joins is braced.
-use Rattle.std.proofs.Common.{◌≡◌, true, List, [], ◌∷◌, refl, arith}
-use Rattle.std.specs.List.{All, list_all}
-use Rattle.std.proofs.lemmas.List.Elements.{All-head, All-tail}
-use Rattle.cw_base.specs.declared.flags.Flags.{Flags}
-use Rattle.cw_table.specs.Braces.{row_is_braced}
-use Rattle.cw_table.specs.Normal.{normal}
-use Rattle.cw_table.specs.Productions.{productions}
-use Rattle.cw_table.specs.Rewriting.{State}
-use Rattle.cw_table.specs.Sound.{row_is_sound}
-use Rattle.cw_trees.specs.Joining.{Scrap, blank_and_whole, scrap_in_text, whole}
-use Rattle.cw_trees.specs.Tree.{Tree}
-use Rattle.cw_brace_laws.specs.Bracing.{IsBraced, IsBracedScrap}
-use Rattle.cw_brace_laws.specs.Operators.{HasCleanOperators}
+use Rattle.cw_brace_laws.proofs.Terms.{◌≡◌, true, List, [], ◌∷◌, refl, arith, All, list_all, All-head, All-tail, Flags}
+use Rattle.cw_brace_laws.proofs.Terms.{row_is_braced, normal, productions, State, row_is_sound, Scrap, blank_and_whole}
+use Rattle.cw_brace_laws.proofs.Terms.{scrap_in_text, whole, Tree, IsBraced, IsBracedScrap, HasCleanOperators}
+use Rattle.cw_brace_laws.proofs.Terms.{nat_tests}
 use Rattle.cw_brace_laws.proofs.Productions.{normal-keeps}
-use Rattle.std.proofs.lemmas.Bool.Decides.{nat_tests}
 
 in_text-braced : (s : Scrap) (rest : Tree) → IsBraced s.tree → IsBraced rest → IsBraced (scrap_in_text s rest)
 in_text-braced s rest here later = grind (arith, nat_tests)

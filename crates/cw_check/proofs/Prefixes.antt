@@ -1,22 +1,17 @@
 -- Common prefixes.
-use Rattle.std.proofs.Common.{◌≡◌, ◌≢◌, ℕ, zero, suc, ◌+◌, ◌<◌, ◌≤◌, Bool, true, false, not, ◌&&◌, eqb, List, [], ◌∷◌}
-use Rattle.std.proofs.Common.{◌++◌, length, take, slice_get, Option, Some, None, IfSome, is_some, refl, sym, ◌∙◌, ap}
-use Rattle.std.proofs.Common.{subst, arith, if◌then◌else◌}
-use Rattle.std.proofs.Math.Seq.{take-length}
-use Rattle.std.proofs.lemmas.Bool.{eq-eqb, eqb-true}
-use Rattle.std.proofs.lemmas.List.{length-take-le}
+use Rattle.cw_check.proofs.Terms.{◌≡◌, ◌≢◌, ℕ, zero, suc, ◌+◌, ◌<◌, ◌≤◌, Bool, true, false, not, ◌&&◌, eqb, List, []}
+use Rattle.cw_check.proofs.Terms.{◌∷◌, ◌++◌, length, take, slice_get, Option, Some, None, IfSome, is_some, refl, sym}
+use Rattle.cw_check.proofs.Terms.{◌∙◌, ap, subst, arith, if◌then◌else◌, same_item, differs_from, refused_by, common}
+use Rattle.cw_check.proofs.Terms.{Compared, Judges, StandsAt, StopsWithin, told_alone, verdict_of}
+use Rattle.std.proofs.{Math.Seq.take-length, lemmas.Bool.eq-eqb, lemmas.Bool.eqb-true, lemmas.List.length-take-le}
 use Rattle.cw_base.specs.declared.flags.Flags.{Flags}
-use Rattle.cw_table.specs.declared.types.Row.{Row}
+use Rattle.cw_table.specs.{declared.types.Row.Row, Productions.productions, Reaching.IsAfter, Rewriting.State}
+use Rattle.cw_table.specs.{Rewriting.rewrite}
 use Rattle.cw_table.specs.Normal.{Place, Nowhere, At, next_place, Production, steps, log_of, log, count, normal, weight}
-use Rattle.cw_table.specs.Productions.{productions}
-use Rattle.cw_table.specs.Reaching.{IsAfter}
-use Rattle.cw_table.specs.Rewriting.{State, rewrite}
 use Rattle.cw_table.proofs.Normals.{log-none-of, log-turn-of, steps-none, steps-turn}
 use Rattle.cw_rewrite.specs.Telling.{EndsWithin, StopsAt, Told, grown_by}
 use Rattle.cw_check.specs.declared.checking.Verdict.{Verdict}
 use Rattle.cw_check.specs.declared.checking.Verdict.TheVariants.{Accepted, Rejected}
-use Rattle.cw_check.specs.Judging.{same_item, differs_from, refused_by, common, Compared, Judges, StandsAt}
-use Rattle.cw_check.specs.Judging.{StopsWithin, told_alone, verdict_of}
 
 item-self : (p : Production) → same_item p p ≡ true
 item-self p = ap (λ b. b && eqb p.place p.place) (eq-eqb p.number p.number refl) ∙ eq-eqb p.place p.place refl
@@ -45,9 +40,8 @@ stop-common (x ∷ ps) (y ∷ qs) zero q le e at other =
     go false h = refl
 stop-common (x ∷ ps) (y ∷ qs) (suc n) q le e at other =
     let same : x ≡ y = cc in
-    ap (λ z. if same_item x z then suc (common ps qs) else 0) (sym same)
-    ∙ (ap (λ b. if b then suc (common ps qs) else 0) (item-self x)
-    ∙ ap suc (stop-common ps qs n q (omega arith) (let k : take n ps ≡ take n qs = cc in k) at other))
+    ap (λ z. if same_item x z then suc (common ps qs) else 0) (sym same) ∙ (ap (λ b. if b then suc (common ps qs) else
+    0) (item-self x) ∙ ap suc (stop-common ps qs n q (omega arith) (let k : take n ps ≡ take n qs = cc in k) at other))
 
 pub stop-differs : (ps qs : List Production) (n : ℕ) (q : Production) → slice_get qs n ≡ Some q
     → refused_by ps n q ≡ true → ps ≢ qs
@@ -131,10 +125,8 @@ stepped rows f (suc n) st = go (λ i r. stepped rows f n (rewrite f r i st)) (ne
         → steps rows f (length (log_of rows f (suc n) st)) st ≡ steps rows f (suc n) st
     go rec Nowhere e = ap (λ l. steps rows f (length l) st) (log-none-of rows f (suc n) st e)
         ∙ sym (steps-none rows f (suc n) st e)
-    go rec (At i r) e =
-        ap (λ l. steps rows f (length l) st) (log-turn-of rows f n i r st e)
-        ∙ (steps-turn rows f (length (log_of rows f n (rewrite f r i st))) i r st e
-        ∙ (rec i r ∙ sym (steps-turn rows f n i r st e)))
+    go rec (At i r) e = ap (λ l. steps rows f (length l) st) (log-turn-of rows f n i r st e) ∙ (steps-turn rows f
+        (length (log_of rows f n (rewrite f r i st))) i r st e ∙ (rec i r ∙ sym (steps-turn rows f n i r st e)))
 
 pub counted : (f : Flags) (st : State) → steps productions f (length (log productions f st)) st
     ≡ normal productions f st
@@ -151,8 +143,7 @@ stands f start now ps at le true all stop = go (eqb at (length ps))
     go true = (all refl).1
     go false = (all refl).1 ∙ (sym (counted f start) ∙ ap (λ n. steps productions f n start)
         (ap length (sym (all refl).0) ∙ length-take-le at ps le))
-stands f start now ps at le false all stop =
-    (stop refl).1
+stands f start now ps at le false all stop = (stop refl).1
     ∙ ap (λ n. steps productions f n start) (sym (stop-at ps (log productions f start) at le (stop refl).0))
 
 -- what a walk against a log has found
@@ -174,9 +165,8 @@ told-items e = ap items_in e
 
 pub found : {A : Type 0} (f : Flags) (start now : State) (ps : List Production) (at : ℕ) → at ≤ length ps
     → (o : Option A) → IfSome o (λ x. told_alone (take at ps) ≡ grown_by (log productions f start) (told_alone []))
-    → IfSome o (λ x. now ≡ normal productions f start)
-    → (o ≡ None → StopsAt f start now (told_alone []) (told_alone (take at ps)) (refused_by ps at))
-    → Found f start now ps (verdict_of (is_some o) (record { log = ps; at = at }))
+    → IfSome o (λ x. now ≡ normal productions f start) → (o ≡ None → StopsAt f start now (told_alone []) (told_alone
+    (take at ps)) (refused_by ps at)) → Found f start now ps (verdict_of (is_some o) (record { log = ps; at = at }))
 found f start now ps at le (Some x) told normal stop =
     let e : take at ps ≡ log productions f start = told-items told in
     record {
@@ -213,9 +203,8 @@ common-most (p ∷ ps) (q ∷ is) (suc n) le less e =
     let same : p ≡ q = cc in
     let more : n ≤ common ps is = common-most ps is n (omega arith) (omega arith)
     (let k : take n ps ≡ take n is = cc in k) in
-    let whole : common (p ∷ ps) (q ∷ is) ≡ suc (common ps is) =
-    ap (λ z. if same_item p z then suc (common ps is) else 0) (sym same)
-    ∙ ap (λ b. if b then suc (common ps is) else 0) (item-self p) in
+    let whole : common (p ∷ ps) (q ∷ is) ≡ suc (common ps is) = ap (λ z. if same_item p z then suc
+    (common ps is) else 0) (sym same) ∙ ap (λ b. if b then suc (common ps is) else 0) (item-self p) in
     omega (arith, more, whole)
 
 counts-within : (f : Flags) (start : State) (n : ℕ) → n ≤ count productions f start
@@ -235,9 +224,8 @@ take-within (suc n) [] = omega arith
 take-within (suc n) (p ∷ ps) = omega (arith, take-within n ps)
 
 -- what a walk against a log has found that ended for want of memory
-pub ended-within : (f : Flags) (start now : State) (ps qs : List Production) (at : ℕ)
-    → IsAfter productions f start now → EndsWithin f start now (told_alone []) (told_alone (take at ps)) → ps ≡ qs
-    → StopsWithin f start now qs
+pub ended-within : (f : Flags) (start now : State) (ps qs : List Production) (at : ℕ) → IsAfter productions f start now
+    → EndsWithin f start now (told_alone []) (told_alone (take at ps)) → ps ≡ qs → StopsWithin f start now qs
 ended-within f start now ps qs at after e same =
     let is : List Production = log productions f start in
     let number : e.done ≡ after.number = after.only e.done (omega (arith, e.all, e.inside))

@@ -1,5 +1,6 @@
 -- Files agree with what is read off them, and have what was read of them to its end.
-use Rattle.std.proofs.Common.{◌≡◌, ℕ, ◌==◌, List, [], ◌∷◌, ◌++◌, Some, None, Option, Bool, true, false, if◌then◌else◌, drop, take}
+use Rattle.std.proofs.Common.{◌≡◌, ℕ, ◌==◌, List, [], ◌∷◌, ◌++◌, Some, None, Option, Bool, true, false, if◌then◌else◌}
+use Rattle.std.proofs.Common.{drop, take}
 use Rattle.std.proofs.Common.{refl, sym, ap, subst, ◌∙◌, arith, append_assoc, length}
 use Rattle.std.proofs.lemmas.Bool.Decides.{nat_tests}
 use Rattle.std.proofs.lemmas.List.{append-nil, drop_min, length-take, take-append-drop}

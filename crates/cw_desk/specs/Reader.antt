@@ -80,7 +80,8 @@ pub record WasRead (name bytes : List ℕ) (answers : List Answer) : Type 0 wher
 abbrev pub FilesAgreeWithThemselves : Type 0
 FilesAgreeWithThemselves = (files : Files) (calls : List Request) → Agree (read_of files calls).answers files
 
--- Where a file was read to its end, files that agree have just these bytes under its name, whatever was answered besides.
+-- Where a file was read to its end, files that agree have just these bytes under its name, whatever was answered
+-- besides.
 abbrev pub WhatWasReadIsThere : Type 0
 WhatWasReadIsThere =
     (answers : List Answer) (name bytes : List ℕ) (files : Files) → WasRead name bytes answers → Agree answers files

@@ -71,11 +71,13 @@ sorting-more names old new stand listed s keys entered is k n at here l =
     subst (Holds stand_cmp name) (sym more) (elim (entered k at) [
       | inl same ↦ let one : IsStand
           (slice_get names listed.id.index) listed (stand_of stand) = stand-is (slice_get names listed.id.index) listed
-          (stand_of stand) is in let place : k ≡ listed.id.index = same ∙ ap (λ (t : StandingName). t.listed.id.index) one.is
+          (stand_of stand) is in let place : k ≡ listed.id.index = same ∙ ap (λ (t : StandingName). t.listed.id.index)
+          one.is
           in let which : one.name ≡ n = some-same one.name n (sym one.here ∙ sym (ap (slice_get names) place)
           ∙ here) in holds-like stand_cmp (stand_of stand) name (insert_key stand_cmp before (stand_of stand))
           (λ other. ap (λ (t : StandingName). stand_cmp t other) one.is ∙ ap (λ (m : SecName). stand_cmp (record
-          { kind = m.kind; text = m.text; listed = l }) other) which) (holds-new stand_cmp stand_cmp-total (stand_of stand)
+          { kind = m.kind; text = m.text; listed = l }) other) which)
+          (holds-new stand_cmp stand_cmp-total (stand_of stand)
           before)
       | inr earlier ↦ holds-still stand_cmp stand_cmp-total name (stand_of stand) before (s k n earlier here l)
     ])

@@ -1,8 +1,7 @@
 -- The first output that overwrites something, where the outputs are looked at one after another.
-use Rattle.std.proofs.Common.{◌≡◌, ℕ, zero, suc, ◌+◌, ◌<◌, ◌||◌, Bool, true, false, List, [], ◌∷◌, Option, Some, refl, ap, sym, ◌∙◌, subst}
-use Rattle.std.proofs.Common.{length, take, drop, slice_index_or, arith, cond}
-use Rattle.std.proofs.lemmas.Grind.{common_steps}
-use Rattle.cw_input.specs.Overwriting.{first_overwriting, is_among}
+use Rattle.cw_input.proofs.Terms.{◌≡◌, ℕ, zero, suc, ◌+◌, ◌<◌, ◌||◌, Bool, true, false, List, [], ◌∷◌, Option, Some}
+use Rattle.cw_input.proofs.Terms.{refl, ap, sym, ◌∙◌, subst, length, take, drop, slice_index_or, arith, cond}
+use Rattle.cw_input.proofs.Terms.{common_steps, first_overwriting, is_among}
 
 -- what is taken when so many outputs were looked at
 abbrev pub taken_after : ℕ → List (List ℕ) → List (List ℕ) → List (List ℕ)
@@ -18,14 +17,12 @@ taken-among (suc i) taken [] name = grind (arith, common_steps)
 taken-among (suc i) taken (other ∷ names) name = grind (arith, common_steps, taken-among i (other ∷ taken) names name)
 
 -- the next output decides, or is taken then too
-pub next-decides : (i : ℕ) (taken names : List (List ℕ)) → i < length names
-    → first_overwriting (taken_after i taken names) (drop i names)
-    ≡ cond (is_among (taken_after i taken names) (slice_index_or names i [])) (Some (slice_index_or names i []))
-    (first_overwriting (taken_after (suc i) taken names) (drop (suc i) names))
+pub next-decides : (i : ℕ) (taken names : List (List ℕ)) → i < length names → first_overwriting (taken_after i taken
+    names) (drop i names) ≡ cond (is_among (taken_after i taken names) (slice_index_or names i []))
+    (Some (slice_index_or names i [])) (first_overwriting (taken_after (suc i) taken names) (drop (suc i) names))
 next-decides i taken [] within = absurd (omega (arith, within))
 next-decides zero taken (other ∷ names) within = refl
-next-decides (suc i) taken (other ∷ names) within =
-    next-decides i (other ∷ taken) names (omega (arith, within))
+next-decides (suc i) taken (other ∷ names) within = next-decides i (other ∷ taken) names (omega (arith, within))
 
 pub next-overwrites : (i : ℕ) (files names : List (List ℕ)) (total : Option (List ℕ)) → i < length names
     → (is_among files (slice_index_or names i []) || is_among (take i names) (slice_index_or names i [])) ≡ true

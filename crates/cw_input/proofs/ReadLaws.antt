@@ -1,14 +1,10 @@
 -- How much is read of the files that are opened: one call after another, and one file after another.
-use Rattle.std.proofs.Common.{◌≡◌, ◌≢◌, ℕ, ◌+◌, ◌<◌, ◌≤◌, List, [], ◌∷◌, ◌++◌, length, sum_by, ◌∙◌, arith, Some, Result}
-use Rattle.std.proofs.Common.{OnOk}
-use Rattle.std.proofs.{lemmas.List.Sums.sum_by-append, lemmas.Bool.Decides.nat_tests}
-use Rattle.std.specs.FinMap.{get}
-use Rattle.cw_base.specs.declared.limits.TheConstants.{INPUT_LIMIT}
-use Rattle.cw_desk.specs.{Meaning.Files, Told.Told, Told.Narrows, Told.Opens}
+use Rattle.cw_input.proofs.Terms.{◌≡◌, ◌≢◌, ℕ, ◌+◌, ◌<◌, ◌≤◌, List, [], ◌∷◌, ◌++◌, length, sum_by, ◌∙◌, arith, Some}
+use Rattle.cw_input.proofs.Terms.{Result, OnOk, lemmas.List.Sums.sum_by-append, lemmas.Bool.Decides.nat_tests, get}
+use Rattle.cw_input.proofs.Terms.{INPUT_LIMIT, Meaning.Files, Told.Told, Told.Narrows, Told.Opens, AreRead, HasRead}
+use Rattle.cw_input.proofs.Terms.{ReadsAtMost, ReadsFirst, ReadsOn, ReadsOnly, ReadsTo, Moves}
+use Rattle.cw_input.proofs.Terms.{error.LoadError.LoadError, found.Found.Found, merger.Merger.Merger}
 use Rattle.cw_desk.specs.declared.{desk.FileId.FileId, desk.Opened.TheVariants.File}
-use Rattle.cw_input.specs.Reading.{AreRead, HasRead, ReadsAtMost, ReadsFirst, ReadsOn, ReadsOnly, ReadsTo}
-use Rattle.cw_input.specs.State.{Moves}
-use Rattle.cw_input.specs.declared.{error.LoadError.LoadError, found.Found.Found, merger.Merger.Merger}
 
 -- all files from the first on have been read
 are_read-count : (files : Files) (told : Told) (first : ℕ) (read : List (List ℕ)) → AreRead files told first read
@@ -34,8 +30,7 @@ are_read-more files old new first [] last same done each = grind arith
 are_read-more files old new first (bytes ∷ more) last same done each =
     grind (arith, are_read-more files old new (first + 1) more last same done each.1, are_read-count)
 
-sum-more : (read : List (List ℕ)) (last : List ℕ)
-    → sum_by length (read ++ last ∷ []) ≡ sum_by length read + length last
+sum-more : (read : List (List ℕ)) (last : List ℕ) → sum_by length (read ++ last ∷ []) ≡ sum_by length read + length last
 sum-more read last = grind (arith, sum_by-append length read (last ∷ []))
 
 has_read-more : {files : Files} {first a b : ℕ} {told : Told} → a ≤ b → HasRead files first a told
@@ -64,10 +59,8 @@ other i index before is less same = omega (arith, is, less, same)
 
 -- a file is opened and read
 pub reads_on-file : (sum most : ℕ) {name : List ℕ} {id : FileId} {first second third : Told}
-    → Opens name (File id) first second → ReadsOnly id.index second third
-    → ((files : Files) → third.agrees files
-    → ReadsAtMost most (second.rest files id.index) (third.rest files id.index))
-    → ReadsOn sum (sum + most) first third
+    → Opens name (File id) first second → ReadsOnly id.index second third → ((files : Files) → third.agrees files
+    → ReadsAtMost most (second.rest files id.index) (third.rest files id.index)) → ReadsOn sum (sum + most) first third
 reads_on-file sum most {name = name} {id = id} {first = first} {second = second} {third = third} opens same reads =
     record {
       most = λ files is from had.
@@ -78,8 +71,7 @@ reads_on-file sum most {name = name} {id = id} {first = first} {second = second}
             read = had.read ++ of_file.0 ∷ [];
             each = are_read-more files first third from had.read of_file.0
                 (λ i less. same.other_rests files i (other i id.index first.opened opens.next.0 less)
-                ∙ opens.same_rests files i less)
-                ((name, text), same.same_opened ∙ opens.next.1) had.each;
+                ∙ opens.same_rests files i less) ((name, text), same.same_opened ∙ opens.next.1) had.each;
             within = omega (arith, sum-more had.read of_file.0, within, of_file.2);
           };
     }
@@ -91,16 +83,14 @@ pub reads_on-kept : {a b : ℕ} (told : Told) → a ≤ b → ReadsOn a b told t
 reads_on-kept {a = a} told less = reads_on-more {b = a} less (reads_on-none a told)
 
 -- a call that reads nothing after others
-pub reads_to-kept : {T : Type 0} {a : ℕ} (m new : Merger) {old now : Told} (result : Result T LoadError)
-    → OnOk result (Moves 0 0 0 0 m new) → m.sum ≤ INPUT_LIMIT → ReadsOn a m.sum old now
-    → ReadsTo a new.sum old now result
+pub reads_to-kept : {T : Type 0} {a : ℕ} (m new : Merger) {old now : Told} (result : Result T LoadError) → OnOk result
+    (Moves 0 0 0 0 m new) → m.sum ≤ INPUT_LIMIT → ReadsOn a m.sum old now → ReadsTo a new.sum old now result
 reads_to-kept m new result moves less reads = grind (arith, reads_on-more)
 
 -- whatever is answered, at most one byte more than the limit on input
 pub reads_to-within : {T : Type 0} {a : ℕ} (text files text_left files_left : ℕ) (m new : Merger) {old now : Told}
-    (result : Result T LoadError)
-    → OnOk result (Moves text files text_left files_left m new) → ReadsTo a new.sum old now result
-    → ReadsOn a (INPUT_LIMIT + 1) old now
+    (result : Result T LoadError) → OnOk result (Moves text files text_left files_left m new)
+    → ReadsTo a new.sum old now result → ReadsOn a (INPUT_LIMIT + 1) old now
 reads_to-within text files text_left files_left m new result moves reads = grind (arith, reads_on-more)
 
 -- the file was not there under the first name

@@ -8,8 +8,8 @@ use Rattle.cw_input.specs.declared.words.OutputNames.{OutputNames}
 abbrev pub is_among : List (List ℕ) → List ℕ → Bool
 is_among names name = list_any (λ other. bytes_eq other name) names
 
--- The first of these outputs that has the name of a file that is taken, or of an output before it. Names are compared as
--- they are given.
+-- The first of these outputs that has the name of a file that is taken, or of an output before it. Names are compared
+-- as they are given.
 abbrev pub first_overwriting : List (List ℕ) → List (List ℕ) → Option (List ℕ)
 first_overwriting taken [] = None
 first_overwriting taken (name ∷ names) =

@@ -1,42 +1,22 @@
 -- Sections leave what their texts leave, one after another.
-use Rattle.std.proofs.Common.{◌≡◌, ℕ, suc, Bool, true, false, ◌||◌, List, [], ◌∷◌, ◌++◌, Option, Some, None, All, refl}
-use Rattle.std.proofs.Common.{sym, ap, ◌∙◌, append_assoc, arith}
-use Rattle.std.specs.Prelude.{is_some}
-use Rattle.std.proofs.lemmas.List.{append-nil}
-use Rattle.std.proofs.lemmas.List.Elements.{All-head, All-tail, filter-append}
-use Rattle.std.proofs.lemmas.Bool.Decides.{nat_tests}
-use Rattle.cw_base.specs.Conditions.{list_if}
-use Rattle.cw_base.specs.Web.{text_of}
-use Rattle.cw_base.specs.declared.span.Span.{Span}
+use Rattle.cw_laws.proofs.Terms.{◌≡◌, ℕ, suc, Bool, true, false, ◌||◌, List, [], ◌∷◌, ◌++◌, Option, Some, None, All}
+use Rattle.cw_laws.proofs.Terms.{refl, sym, ap, ◌∙◌, append_assoc, arith, is_some, append-nil, All-head, All-tail}
+use Rattle.cw_laws.proofs.Terms.{filter-append, nat_tests, list_if, text_of, Span, CTextsAreNested, Entry}
+use Rattle.cw_laws.proofs.Terms.{definition_done, definitions_done, first_opening, later_opening, paragraph_if}
+use Rattle.cw_laws.proofs.Terms.{part_done, at_section, ending, rest_done, section_done, sections_done, Section, book}
+use Rattle.cw_laws.proofs.Terms.{name_at, first_code, has_definition, has_prose, is_nothing, Done, as_it_is, reprinted}
+use Rattle.cw_laws.proofs.Terms.{done_then, head, prints, beside_in, piece_done, pieces_done, head_and_tex, tex_done}
+use Rattle.cw_laws.proofs.Terms.{Setting, name_done_by, setting, printed_definitions, has_scrap, is_printed, scanned}
+use Rattle.cw_laws.proofs.Terms.{TexPiece, Copied, InnerText, Cited, tex_pieces_of}
 use Rattle.cw_lex.specs.NestLaws.{NestsAreWell}
-use Rattle.cw_lex.specs.Nested.{CTextsAreNested}
-use Rattle.cw_names.specs.Names.{Entry}
-use Rattle.cw_part.specs.Parts.{definition_done, definitions_done, first_opening, later_opening, paragraph_if}
-use Rattle.cw_part.specs.Parts.{part_done}
-use Rattle.cw_part.specs.Sections.{at_section, ending, rest_done, section_done, sections_done}
-use Rattle.cw_phase1.specs.declared.sections.Section.{Section}
-use Rattle.cw_phase1.specs.Book.{book}
 use Rattle.cw_phase1.specs.Whole.{IsWholeSection, SectionsAreWhole}
-use Rattle.cw_rules.specs.declared.tokens.Mode.TheVariants as modes
-use Rattle.cw_secnames.specs.Uses.{name_at}
 use Rattle.cw_table.specs.Rewriting.{State}
-use Rattle.cw_texpart.specs.Beside.{first_code, has_definition, has_prose, is_nothing}
-use Rattle.cw_texpart.specs.Done.{Done, as_it_is, reprinted, done_then}
-use Rattle.cw_texpart.specs.Heads.{head}
-use Rattle.cw_texpart.specs.Inks.{prints}
-use Rattle.cw_texpart.specs.TexParts.{beside_in, piece_done, pieces_done, head_and_tex, tex_done}
-use Rattle.cw_texpart.specs.Texts.{Setting, name_done_by, setting}
-use Rattle.cw_texts.specs.declared.definitions.Definition.{Definition}
-use Rattle.cw_texts.specs.declared.text_list.TextRef.{TextRef}
-use Rattle.cw_texts.specs.Definitions.{printed_definitions}
-use Rattle.cw_texts.specs.Printed.{has_scrap, is_printed}
-use Rattle.cw_texts.specs.Scans.{scanned}
-use Rattle.cw_texts.specs.TexPieces.{TexPiece, Copied, InnerText, Cited, tex_pieces_of}
+use Rattle.cw_texts.specs.{declared.definitions.Definition.Definition, declared.text_list.TextRef.TextRef}
 use Rattle.cw_texts.specs.Texts.{definition_refs, part_refs, piece_refs, refs_from, section_refs, tex_refs, text_ref}
 use Rattle.cw_laws.specs.BookTexts.{EveryTextIsWoven, LeaveTheSame, TextsAreWoven, is_any, ref_done, refs_done}
 use Rattle.cw_laws.specs.BookTexts.{with_scraps}
-use Rattle.cw_laws.proofs.ProseLaws.{no-prose, no-refs}
-use Rattle.cw_laws.proofs.QuietParts.{quiet-text}
+use Rattle.cw_laws.proofs.{ProseLaws.no-prose, ProseLaws.no-refs, QuietParts.quiet-text}
+use Rattle.cw_rules.specs.declared.tokens.Mode.TheVariants as modes
 
 -- a piece that leaves nothing that is looked at
 record LeavesNothing (looked_at : List State → List State) (before : List Entry) (d : Done ℕ) : Type 0 where
@@ -64,14 +44,12 @@ module _ (looked_at : List State → List State)
   refs-joined s (r ∷ rs) qs names =
       let d : Done ℕ = ref_done s r names in
       let t : LeaveTheSame looked_at (done_then (refs_done s rs d.names) (refs_done s qs))
-      (refs_done s (rs ++ qs) d.names) =
-      refs-joined s rs qs d.names in
+      (refs_done s (rs ++ qs) d.names) = refs-joined s rs qs d.names in
       record {
         names = t.names;
         marks = append_assoc d.marks (refs_done s rs d.names).marks _ ∙ ap (λ ms. d.marks ++ ms) t.marks;
-        ended = ap looked_at (append_assoc d.ended (refs_done s rs d.names).ended _)
-            ∙ apart d.ended _ ∙ ap (λ es. looked_at d.ended ++ es) t.ended
-            ∙ sym (apart d.ended (refs_done s (rs ++ qs) d.names).ended);
+        ended = ap looked_at (append_assoc d.ended (refs_done s rs d.names).ended _) ∙ apart d.ended _
+            ∙ ap (λ es. looked_at d.ended ++ es) t.ended ∙ sym (apart d.ended (refs_done s (rs ++ qs) d.names).ended);
       }
 
   -- one text is what it leaves
@@ -87,33 +65,27 @@ module _ (looked_at : List State → List State)
   cited-left s n part None names = record { names = refl; marks = refl; ended = refl }
   cited-left s n part (Some k) names = one-left s (text_ref n modes.Inner part) prints names
 
-  piece-left : (s : Setting) (n : ℕ) (p : TexPiece) (names : List Entry)
-      → LeaveTheSame looked_at (piece_done (at_section s n) p names)
-      (refs_done s (piece_refs s.book.name_uses n p) names)
+  piece-left : (s : Setting) (n : ℕ) (p : TexPiece) (names : List Entry) → LeaveTheSame looked_at
+      (piece_done (at_section s n) p names) (refs_done s (piece_refs s.book.name_uses n p) names)
   piece-left s n (Copied token) names = record { names = refl; marks = refl; ended = refl }
   piece-left s n (InnerText part) names = one-left s (text_ref n modes.Inner part) prints names
   piece-left s n (Cited part) names = cited-left s n part (name_at part.start s.book.name_uses) names
 
-  pieces-left : (s : Setting) (n : ℕ) (ps : List TexPiece) (names : List Entry)
-      → LeaveTheSame looked_at (pieces_done (at_section s n) ps names)
-      (refs_done s (tex_refs s.book.name_uses n ps) names)
+  pieces-left : (s : Setting) (n : ℕ) (ps : List TexPiece) (names : List Entry) → LeaveTheSame looked_at
+      (pieces_done (at_section s n) ps names) (refs_done s (tex_refs s.book.name_uses n ps) names)
   pieces-left s n [] names = record { names = refl; marks = refl; ended = refl }
-  pieces-left s n (p ∷ ps) names =
-      trans (pieces_done (at_section s n) (p ∷ ps) names)
+  pieces-left s n (p ∷ ps) names = trans (pieces_done (at_section s n) (p ∷ ps) names)
       (done_then (refs_done s (piece_refs s.book.name_uses n p) names) (refs_done s (tex_refs s.book.name_uses n ps)))
-      (refs_done s (tex_refs s.book.name_uses n (p ∷ ps)) names)
-      (across (piece_done (at_section s n) p names) (refs_done s (piece_refs s.book.name_uses n p) names)
-      (pieces_done (at_section s n) ps) (refs_done s (tex_refs s.book.name_uses n ps)) (piece-left s n p names)
-      (λ ns. pieces-left s n ps ns))
+      (refs_done s (tex_refs s.book.name_uses n (p ∷ ps)) names) (across (piece_done (at_section s n) p names)
+      (refs_done s (piece_refs s.book.name_uses n p) names) (pieces_done (at_section s n) ps)
+      (refs_done s (tex_refs s.book.name_uses n ps)) (piece-left s n p names) (λ ns. pieces-left s n ps ns))
       (refs-joined s (piece_refs s.book.name_uses n p) (tex_refs s.book.name_uses n ps) names)
 
-  definitions-left : (s : Setting) (n : ℕ) (opening : List ℕ) (ds : List Definition) (names : List Entry)
-      → LeaveTheSame looked_at (definitions_done (at_section s n) opening ds names)
-      (refs_done s (definition_refs n ds) names)
+  definitions-left : (s : Setting) (n : ℕ) (opening : List ℕ) (ds : List Definition) (names : List Entry) → LeaveTheSame
+      looked_at (definitions_done (at_section s n) opening ds names) (refs_done s (definition_refs n ds) names)
   definitions-left s n opening [] names = record { names = refl; marks = refl; ended = refl }
-  definitions-left s n opening (d ∷ ds) names =
-      across (definition_done (at_section s n) opening d names) (ref_done s (text_ref n modes.Definition d.span) names)
-      (definitions_done (at_section s n) later_opening ds)
+  definitions-left s n opening (d ∷ ds) names = across (definition_done (at_section s n) opening d names)
+      (ref_done s (text_ref n modes.Definition d.span) names) (definitions_done (at_section s n) later_opening ds)
       (refs_done s (definition_refs n ds)) (record { names = refl; marks = refl; ended = refl })
       (λ ns. definitions-left s n later_opening ds ns)
 
@@ -122,9 +94,8 @@ module _ (looked_at : List State → List State)
   if-left : (b : Bool) (front : List ℕ) (d : Done ℕ) → LeaveTheSame looked_at (paragraph_if b front d) d
   if-left b front d = grind (arith, nat_tests)
 
-  part-alone : (s : Setting) (n : ℕ) (section : Section) (names : List Entry)
-      → LeaveTheSame looked_at (part_done (at_section s n) section names)
-      (ref_done s (text_ref n modes.CPart section.c_part) names)
+  part-alone : (s : Setting) (n : ℕ) (section : Section) (names : List Entry) → LeaveTheSame looked_at
+      (part_done (at_section s n) section names) (ref_done s (text_ref n modes.CPart section.c_part) names)
   part-alone s n section names = grind (arith, nat_tests, if-left)
 
   nothing-left : (s : Setting) (d : Done ℕ) (out : List ℕ) (names : List Entry) → LeavesNothing looked_at names d
@@ -148,18 +119,15 @@ module _ (looked_at : List State → List State)
   tex-left : (s : Setting) (n : ℕ) (section : Section) (names : List Entry)
       → LeaveTheSame looked_at (tex_done (at_section s n) section names)
       (refs_done s (tex_refs s.book.name_uses n (tex_pieces_of s.text section.tex)) names)
-  tex-left s n section names =
-      tex-by-left s n section (is_nothing (beside_in (at_section s n) section))
-      (head s.flags.ranged s.text n section) names
-      (λ e. no-refs s.text s.book.name_uses n (tex_pieces_of s.text section.tex)
-      (no-prose s.flags.ranged (has_prose s.text section.tex)
+  tex-left s n section names = tex-by-left s n section (is_nothing (beside_in (at_section s n) section))
+      (head s.flags.ranged s.text n section) names (λ e. no-refs s.text s.book.name_uses n
+      (tex_pieces_of s.text section.tex) (no-prose s.flags.ranged (has_prose s.text section.tex)
       (first_code (has_definition s.text section.definitions) (is_printed s.text s.book.name_uses section)) e))
 
   -- ## Sections
 
-  section-left : (s : Setting) (n : ℕ) (section : Section) (b : Bool) (names : List Entry)
-      → ((ns : List Entry) → b ≡ false
-      → LeavesNothing looked_at ns (ref_done s (text_ref n modes.CPart section.c_part) ns))
+  section-left : (s : Setting) (n : ℕ) (section : Section) (b : Bool) (names : List Entry) → ((ns : List Entry) → b
+      ≡ false → LeavesNothing looked_at ns (ref_done s (text_ref n modes.CPart section.c_part) ns))
       → LeaveTheSame looked_at (section_done (at_section s n) section names)
       (refs_done s (section_refs b s.text s.book.name_uses n section) names)
   section-left s n section b names none =
@@ -167,38 +135,29 @@ module _ (looked_at : List State → List State)
       let ps : List TextRef = tex_refs s.book.name_uses n (tex_pieces_of s.text section.tex) in
       let ds : List TextRef = definition_refs n (printed_definitions s.text section.definitions) in
       let part : List TextRef = part_refs b n section.c_part in
-      trans (section_done t section names) (done_then (refs_done s ps names) (refs_done s (ds ++ part)))
-      (refs_done s (ps ++ (ds ++ part)) names)
-      (across (tex_done t section names) (refs_done s ps names) (rest_done t section) (refs_done s (ds ++ part))
-      (tex-left s n section names)
-      (λ ns. trans (rest_done t section ns) (done_then (refs_done s ds ns) (refs_done s part))
-      (refs_done s (ds ++ part) ns)
-      (across (definitions_done t (first_opening (beside_in t section))
-      (printed_definitions s.text section.definitions) ns) (refs_done s ds ns)
-      (λ ms. done_then (part_done t section ms) (as_it_is (ending t section))) (refs_done s part)
-      (definitions-left s n (first_opening (beside_in t section)) (printed_definitions s.text section.definitions) ns)
-      (λ ms. part-left s n section b (ending t section) ms (none ms)))
-      (refs-joined s ds part ns)))
-      (refs-joined s ps (ds ++ part) names)
+      trans (section_done t section names) (done_then (refs_done s ps names) (refs_done s (ds ++ part))) (refs_done s
+      (ps ++ (ds ++ part)) names) (across (tex_done t section names) (refs_done s ps names) (rest_done t section)
+      (refs_done s (ds ++ part)) (tex-left s n section names) (λ ns. trans (rest_done t section ns)
+      (done_then (refs_done s ds ns) (refs_done s part)) (refs_done s (ds ++ part) ns) (across (definitions_done t
+      (first_opening (beside_in t section)) (printed_definitions s.text section.definitions) ns) (refs_done s ds ns)
+      (λ ms. done_then (part_done t section ms) (as_it_is (ending t section))) (refs_done s part) (definitions-left s n
+      (first_opening (beside_in t section)) (printed_definitions s.text section.definitions) ns) (λ ms. part-left s n
+      section b (ending t section) ms (none ms))) (refs-joined s ds part ns))) (refs-joined s ps (ds ++ part) names)
 
   sections-left : (s : Setting) (test : Section → Bool) (P : Section → Type 0)
-      → ((n : ℕ) (section : Section) → P section → test section ≡ false → (ns : List Entry)
-      → LeavesNothing looked_at ns (ref_done s (text_ref n modes.CPart section.c_part) ns))
-      → (n : ℕ) (sections : List Section) → All P sections → (names : List Entry)
-      → LeaveTheSame looked_at (sections_done s n sections names)
+      → ((n : ℕ) (section : Section) → P section → test section ≡ false → (ns : List Entry) → LeavesNothing looked_at ns
+      (ref_done s (text_ref n modes.CPart section.c_part) ns)) → (n : ℕ) (sections : List Section) → All P sections
+      → (names : List Entry) → LeaveTheSame looked_at (sections_done s n sections names)
       (refs_done s (refs_from test s.text s.book.name_uses n sections) names)
   sections-left s test P none n [] all names = record { names = refl; marks = refl; ended = refl }
   sections-left s test P none n (section ∷ sections) all names =
       let first : List TextRef = section_refs (test section) s.text s.book.name_uses n section in
       let rest : List TextRef = refs_from test s.text s.book.name_uses (suc n) sections in
       trans (sections_done s n (section ∷ sections) names) (done_then (refs_done s first names) (refs_done s rest))
-      (refs_done s (first ++ rest) names)
-      (across (section_done (at_section s n) section names) (refs_done s first names) (sections_done s (suc n) sections)
-      (refs_done s rest)
-      (section-left s n section (test section) names
-      (λ ns is. none n section (All-head P section sections all) is ns))
-      (λ ns. sections-left s test P none (suc n) sections (All-tail P section sections all) ns))
-      (refs-joined s first rest names)
+      (refs_done s (first ++ rest) names) (across (section_done (at_section s n) section names)
+      (refs_done s first names) (sections_done s (suc n) sections) (refs_done s rest) (section-left s n section
+      (test section) names (λ ns is. none n section (All-head P section sections all) is ns)) (λ ns. sections-left s
+      test P none (suc n) sections (All-tail P section sections all) ns)) (refs-joined s first rest names)
 
 -- ## With every C part
 
@@ -206,10 +165,9 @@ every-section : (sections : List Section) → All (λ (section : Section). Unit 
 every-section sections = λ i x within. tt
 
 pub every-text-is-woven : EveryTextIsWoven
-every-text-is-woven lines flags =
-    sections-left (λ ended. ended) (λ xs ys. refl) (setting (text_of lines) flags 0 (book lines)) (λ section. true)
-    (λ section. Unit {0}) (λ n section sound is ns. absurd cc) 1 (book lines).outline.sections
-    (every-section (book lines).outline.sections) (book lines).names
+every-text-is-woven lines flags = sections-left (λ ended. ended) (λ xs ys. refl) (setting (text_of lines) flags 0
+    (book lines)) (λ section. true) (λ section. Unit {0}) (λ n section sound is ns. absurd cc) 1
+    (book lines).outline.sections (every-section (book lines).outline.sections) (book lines).names
 
 -- ## With those that are printed
 
@@ -221,7 +179,10 @@ unprinted : NestsAreWell → CTextsAreNested → (s : Setting) (n : ℕ) (sectio
     → LeavesNothing with_scraps names (ref_done s (text_ref n modes.CPart section.c_part) names)
 unprinted well nested s n section whole is names = grind (
   arith,
-  quiet-text s.flags s.book.sec_names s.book.name_uses (scanned modes.CPart s.text section.c_part) names (well (scanned modes.CPart s.text section.c_part) (nested s.text section.c_part.start section.c_part.«end» modes.CPart refl whole.c_part)) (no-scrap (is_some section.name) (has_scrap s.book.name_uses (scanned modes.CPart s.text section.c_part)) is),
+  quiet-text s.flags s.book.sec_names s.book.name_uses (scanned modes.CPart s.text section.c_part) names
+      (well (scanned modes.CPart s.text section.c_part)
+      (nested s.text section.c_part.start section.c_part.«end» modes.CPart refl whole.c_part))
+      (no-scrap (is_some section.name) (has_scrap s.book.name_uses (scanned modes.CPart s.text section.c_part)) is),
 )
 
 pub texts-are-woven : NestsAreWell → CTextsAreNested → SectionsAreWhole → TextsAreWoven

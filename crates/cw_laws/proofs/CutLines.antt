@@ -1,14 +1,11 @@
 -- Bytes are cut line by line, and lines that are short enough are left as they are.
-use Rattle.std.proofs.Common.{arith, ◌≡◌, ℕ, ◌==◌, ◌≤◌, Bool, refl, sym, ap, ◌∙◌, subst, List, [], ◌∷◌, ◌++◌}
-use Rattle.std.proofs.Common.{append_assoc, inl, inr, length, eqb-true}
-use Rattle.std.proofs.lemmas.List.{append-nil}
+use Rattle.cw_laws.proofs.Terms.{arith, ◌≡◌, ℕ, ◌==◌, ◌≤◌, Bool, refl, sym, ap, ◌∙◌, subst, List, [], ◌∷◌, ◌++◌}
+use Rattle.cw_laws.proofs.Terms.{append_assoc, inl, inr, length, eqb-true, append-nil, AllByRecursion, flat_map}
+use Rattle.cw_laws.proofs.Terms.{nat_tests, EndInLine, HasLineEnd, HaveShortLines, written_of}
 use Rattle.std.proofs.lemmas.List.Concat.{flat_map-append}
-use Rattle.std.specs.List.{AllByRecursion, flat_map}
-use Rattle.std.proofs.lemmas.Bool.Decides.{nat_tests}
 use Rattle.cw_lines.specs.Cut.{CutLine, CutText, TextPieces, before_pieces, behind_by, cut, cut_behind, cut_pieces}
 use Rattle.cw_lines.specs.Cut.{cut_piece, ended_lines, split, split_by, unbroken_line, written}
 use Rattle.cw_lines.specs.CutLaws.{cut_piece-short}
-use Rattle.cw_laws.specs.Files.{EndInLine, HasLineEnd, HaveShortLines, written_of}
 use Rattle.cw_laws.proofs.Endings.{AreEnded, behind-any, ends-then, lines-end, none-pending, split-ended}
 
 -- ## Line by line
@@ -48,8 +45,7 @@ pub written-append : (front bytes : List ℕ) → EndInLine front
 unfolding cut_behind
 written-append front bytes (inl none) =
     subst (λ (f : List ℕ). written_of (f ++ bytes) ≡ written_of f ++ written_of bytes) (sym none) refl
-written-append front bytes (inr ended) =
-    ap written (cut-append front bytes ended)
+written-append front bytes (inr ended) = ap written (cut-append front bytes ended)
     ∙ flat_map-append (λ (line : CutLine). line.text ++ 10 ∷ []) (cut front).lines (cut bytes).lines
 
 -- ## What is written ends in a line
@@ -63,11 +59,9 @@ line-ends (first ∷ lines) line more rest = grind (arith, nat_tests, line-ends 
 pub written-ends : (bytes : List ℕ) → HasLineEnd bytes → HasLineEnd (written_of bytes)
 written-ends bytes ended =
     let each : AreEnded (split (ended.0 ++ 10 ∷ [])) = split-ended ended.0 in
-    subst HasLineEnd
-    (sym (ap written_of ended.1 ∙ ap (λ (c : CutText). written c.lines) (cut-is (ended.0 ++ 10 ∷ []))
-    ∙ ap (λ (p : TextPieces). written (cut_pieces p).lines) each.is))
-    (line-ends (cut_piece each.first).lines (unbroken_line (cut_piece each.first).pending)
-    (flat_map ended_lines each.more) [])
+    subst HasLineEnd (sym (ap written_of ended.1 ∙ ap (λ (c : CutText). written c.lines) (cut-is (ended.0 ++ 10 ∷ []))
+    ∙ ap (λ (p : TextPieces). written (cut_pieces p).lines) each.is)) (line-ends (cut_piece each.first).lines
+    (unbroken_line (cut_piece each.first).pending) (flat_map ended_lines each.more) [])
 
 -- ## Short lines
 
@@ -75,14 +69,12 @@ written-ends bytes ended =
 abbrev with_ends : List (List ℕ) → List ℕ
 with_ends pieces = flat_map (λ (piece : List ℕ). piece ++ 10 ∷ []) pieces
 
-before-whole : (byte : ℕ) (ended : List (List ℕ)) (last : List ℕ)
-    → with_ends (before_pieces byte ended last).ended ++ (before_pieces byte ended last).last
-    ≡ byte ∷ (with_ends ended ++ last)
+before-whole : (byte : ℕ) (ended : List (List ℕ)) (last : List ℕ) → with_ends (before_pieces byte ended last).ended
+    ++ (before_pieces byte ended last).last ≡ byte ∷ (with_ends ended ++ last)
 before-whole byte ended last = grind (arith, nat_tests)
 
-whole-step : (t : Bool) (byte : ℕ) (bytes : List ℕ) (pieces : TextPieces) → (byte == 10) ≡ t
-    → with_ends pieces.ended ++ pieces.last ≡ bytes
-    → with_ends (split_by t byte pieces).ended ++ (split_by t byte pieces).last ≡ byte ∷ bytes
+whole-step : (t : Bool) (byte : ℕ) (bytes : List ℕ) (pieces : TextPieces) → (byte == 10) ≡ t → with_ends pieces.ended
+    ++ pieces.last ≡ bytes → with_ends (split_by t byte pieces).ended ++ (split_by t byte pieces).last ≡ byte ∷ bytes
 whole-step t byte bytes pieces e is = grind (arith, nat_tests, eqb-true, before-whole)
 
 split-whole : (bytes : List ℕ) → with_ends (split bytes).ended ++ (split bytes).last ≡ bytes
@@ -94,8 +86,7 @@ lines-short : (pieces : List (List ℕ)) → AllByRecursion (λ line. length lin
 lines-short [] short = refl
 lines-short (piece ∷ pieces) short = grind (arith, nat_tests, lines-short pieces short.1, cut_piece-short)
 
-pieces-short : (pieces : TextPieces) → AllByRecursion (λ line. length line ≤ 80) pieces.ended
-    → length pieces.last ≤ 80
+pieces-short : (pieces : TextPieces) → AllByRecursion (λ line. length line ≤ 80) pieces.ended → length pieces.last ≤ 80
     → written (cut_pieces pieces).lines ++ (cut_pieces pieces).pending ≡ with_ends pieces.ended ++ pieces.last
 pieces-short pieces short last = grind (arith, nat_tests, cut_piece-short, append-nil, lines-short)
 

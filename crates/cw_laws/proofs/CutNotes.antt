@@ -1,16 +1,13 @@
 -- The notes of single tokens are about bytes of these tokens.
-use Rattle.std.proofs.Common.{ℕ, ◌+◌, ◌<◌, ◌≤◌, Bool, List, [], ◌∷◌, ◌++◌, Option, length, drop, take, not, arith}
-use Rattle.std.proofs.Common.{length-drop, if◌then◌else◌}
-use Rattle.std.proofs.{lemmas.Bool.Decides.nat_tests, lemmas.Grind.common_steps}
-use Rattle.cw_base.specs.declared.notes.NoteKind.{NoteKind}
-use Rattle.cw_rules.specs.declared.{bodies.Inside.Inside, bodies.Noted.Noted, codes.Code.Code, tokens.TokKind.TokKind}
+use Rattle.cw_laws.proofs.Terms.{ℕ, ◌+◌, ◌<◌, ◌≤◌, Bool, List, [], ◌∷◌, ◌++◌, Option, length, drop, take, not, arith}
+use Rattle.cw_laws.proofs.Terms.{length-drop, if◌then◌else◌, lemmas.Bool.Decides.nat_tests, lemmas.Grind.common_steps}
+use Rattle.cw_laws.proofs.Terms.{NoteKind, bodies.Inside.Inside, bodies.Noted.Noted, codes.Code.Code}
+use Rattle.cw_laws.proofs.Terms.{tokens.TokKind.TokKind, at_start, goes_on, note_here, stepped, with_note, noted}
+use Rattle.cw_laws.proofs.Terms.{extent, note_unless, one_note, and_last, all_notes, NotesLie}
 use Rattle.cw_rules.specs.{Answers.Cut, Answers.note_answers, Bytes.apostrophe, Names.is_void}
-use Rattle.cw_rules.specs.Bodies.{at_start, goes_on, note_here, stepped, with_note, noted, extent, note_unless}
-use Rattle.cw_rules.specs.Bodies.{one_note, and_last, all_notes}
 use Rattle.cw_rules.specs.Tokens.{string, include_name, control_text, section_name, is_name, is_quote, control_or_plain}
 use Rattle.cw_rules.specs.Tokens.{code_token, dropped_code, section_code}
 use Rattle.cw_rules.proofs.{Choices.if-both, Sizes.ended-most}
-use Rattle.cw_laws.specs.NotePlaces.{NotesLie}
 use Rattle.cw_base.specs.declared.notes.NoteKind.TheVariants as notes
 use Rattle.cw_rules.specs.declared.bodies.Body.TheVariants as bodies
 use Rattle.cw_rules.specs.declared.tokens.TokKind.TheVariants as kinds
@@ -50,15 +47,11 @@ with-in o low high place ns l h n = grind (arith, nat_tests)
 pub noted-in : (low : ℕ) (i : Inside) (bytes : List ℕ) → low ≤ i.place
     → NotedIn low (i.place + length bytes) (noted i bytes)
 noted-in low i [] l = tt
-noted-in low i (b ∷ bs) l =
-    by (goes_on i (b ∷ bs))
-    (wider-in low ((i.place + 1) + length bs) (i.place + length (b ∷ bs)) (noted (stepped i b bs) bs) (omega arith)
-    (noted-in low (stepped i b bs) bs (omega (arith, l))))
+noted-in low i (b ∷ bs) l = by (goes_on i (b ∷ bs)) (wider-in low ((i.place + 1) + length bs) (i.place + length
+    (b ∷ bs)) (noted (stepped i b bs) bs) (omega arith) (noted-in low (stepped i b bs) bs (omega (arith, l))))
   where
-    by : (t : Bool) → NotedIn low (i.place + length (b ∷ bs)) (noted (stepped i b bs) bs)
-        → NotedIn low (i.place + length (b ∷ bs)) (if t then
-        with_note (note_here i b bs) i.place (noted (stepped i b bs) bs)
-        else [])
+    by : (t : Bool) → NotedIn low (i.place + length (b ∷ bs)) (noted (stepped i b bs) bs) → NotedIn low
+        (i.place + length (b ∷ bs)) (if t then with_note (note_here i b bs) i.place (noted (stepped i b bs) bs) else [])
     by t rest = grind (arith, nat_tests, with-in)
 
 -- where a body stopped
@@ -94,9 +87,8 @@ control-in : (low : ℕ) (code : Code) (place byte next : ℕ) (bytes : List ℕ
     → NotedIn low (place + length (byte ∷ next ∷ bytes)) (control_text code place (byte ∷ next ∷ bytes)).notes
 control-in low code place byte next bytes l =
     let i = at_start bodies.ControlText (place + 2) in
-    wider-in low (i.place + length bytes) (place + length (byte ∷ next ∷ bytes))
-    (all_notes notes.ControlTextUnended i bytes) (omega arith)
-    (all-in low notes.ControlTextUnended i bytes (omega (arith, l)))
+    wider-in low (i.place + length bytes) (place + length (byte ∷ next ∷ bytes)) (all_notes notes.ControlTextUnended i
+    bytes) (omega arith) (all-in low notes.ControlTextUnended i bytes (omega (arith, l)))
 
 name-in : (low : ℕ) (code : Code) (place byte next : ℕ) (bytes : List ℕ) → low ≤ place
     → NotedIn low (place + length (byte ∷ next ∷ bytes)) (section_name code place (byte ∷ next ∷ bytes)).notes
@@ -106,10 +98,9 @@ name-in low code place byte next bytes l =
     let unended = one_note (note_unless (extent i bytes).closed notes.NameUnended place) in
     let empty = one_note (note_unless (not (is_void (take (extent i bytes).inner_size bytes))) notes.NameEmpty place) in
     append-in low high unended (empty ++ noted i bytes) (one-in (extent i bytes).closed notes.NameUnended low high place
-    l (omega arith)) (append-in low high empty (noted i bytes)
-    (one-in (not (is_void (take (extent i bytes).inner_size bytes))) notes.NameEmpty low high place l (omega arith))
-    (wider-in low (i.place + length bytes) high (noted i bytes) (omega arith)
-    (noted-in low i bytes (omega (arith, l)))))
+    l (omega arith)) (append-in low high empty (noted i bytes) (one-in (not
+    (is_void (take (extent i bytes).inner_size bytes))) notes.NameEmpty low high place l (omega arith)) (wider-in low
+    (i.place + length bytes) high (noted i bytes) (omega arith) (noted-in low i bytes (omega (arith, l)))))
 
 control-or-plain-in : (low : ℕ) (code : Code) (place byte next : ℕ) (bytes : List ℕ) → low ≤ place
     → NotedIn low (place + length (byte ∷ next ∷ bytes)) (control_or_plain code place (byte ∷ next ∷ bytes)).notes

@@ -1,17 +1,14 @@
 -- Each code goes up to its end.
-use Rattle.std.proofs.Common.{◌≡◌, ℕ, ◌+◌, ◌-◌, Bool, true, false, ◌==◌, List, [], ◌∷◌, ◌++◌, drop, length, take}
-use Rattle.std.proofs.Common.{if◌then◌else◌, refl, sym, ap, subst, ◌∙◌, arith}
-use Rattle.std.proofs.{lemmas.Bool.eqb-true, lemmas.Bool.Decides.nat_tests}
-use Rattle.cw_base.specs.declared.notes.NoteKind.{NoteKind}
-use Rattle.cw_rules.specs.declared.{codes.Code.Code, codes.Effect.Effect, parts.Part.Part, parts.Opened.Opened}
-use Rattle.cw_rules.specs.declared.{tokens.Mode.Mode, tokens.TokKind.TokKind}
-use Rattle.cw_rules.specs.Answers.{Answer, Note, Cut, note_answers, plain, dropped}
+use Rattle.cw_laws.proofs.Terms.{◌≡◌, ℕ, ◌+◌, ◌-◌, Bool, true, false, ◌==◌, List, [], ◌∷◌, ◌++◌, drop, length, take}
+use Rattle.cw_laws.proofs.Terms.{if◌then◌else◌, refl, sym, ap, subst, ◌∙◌, arith, lemmas.Bool.eqb-true}
+use Rattle.cw_laws.proofs.Terms.{lemmas.Bool.Decides.nat_tests, NoteKind, codes.Code.Code, codes.Effect.Effect}
+use Rattle.cw_laws.proofs.Terms.{parts.Part.Part, parts.Opened.Opened, tokens.Mode.Mode, tokens.TokKind.TokKind, Answer}
+use Rattle.cw_laws.proofs.Terms.{Note, Cut, note_answers, plain, dropped, code_at, code_of, is_section, effect_in_limbo}
+use Rattle.cw_laws.proofs.Terms.{effect_in_tex, effect_in_c, effect_in_definition, effect_at_begin, has_control_text}
+use Rattle.cw_laws.proofs.Terms.{if-both}
 use Rattle.cw_rules.specs.{Bodies.at_start, Bodies.extent, Bytes.apostrophe, Bytes.at_sign}
-use Rattle.cw_rules.specs.Codes.{code_at, code_of, is_section, effect_in_limbo, effect_in_tex, effect_in_c}
-use Rattle.cw_rules.specs.Codes.{effect_in_definition, effect_at_begin, has_control_text}
 use Rattle.cw_rules.specs.Tokens.{section_name, string, control_text, alone_size, is_quote, control_or_plain, effect_in}
 use Rattle.cw_rules.specs.Tokens.{code_token, is_name, may_head, dropped_code}
-use Rattle.cw_rules.proofs.Choices.{if-both}
 use Rattle.cw_lex.specs.{Nested.is_section_kind, Openings.is_limbo_mode}
 use Rattle.cw_laws.{specs.Strings.IsString, proofs.Insides.control-whole, proofs.Insides.name-whole}
 use Rattle.cw_laws.specs.Ends.{BeginsCode, CodeGoesToEnd, GoesToEnd, HasName, HasOwnText}
@@ -42,8 +39,7 @@ abbrev is_unknown : Code → Bool
 is_unknown at.Unknown = true
 is_unknown code = false
 
-two-bytes : (code : Code) (bytes : List ℕ) → BeginsCode code bytes → is_unknown code ≡ false
-    → 2 ≡ length (take 2 bytes)
+two-bytes : (code : Code) (bytes : List ℕ) → BeginsCode code bytes → is_unknown code ≡ false → 2 ≡ length (take 2 bytes)
 two-bytes code [] b h = absurd cc
 two-bytes code (byte ∷ []) b h = not-both (is_unknown code) (sym (ap is_unknown b.1)) h
 two-bytes code (byte ∷ next ∷ bytes) b h = refl
@@ -193,14 +189,12 @@ own-text code place byte (next ∷ bytes) later is = by (has_control_text code)
     by false = record { text = λ h. absurd cc; alone = λ h. refl }
 
 own-kind : (code : Code) (place : ℕ) (bytes : List ℕ) → (control_or_plain code place bytes).kind ≡ kinds.Code code
-own-kind code place bytes =
-    if-both (λ (c : Cut). c.kind ≡ kinds.Code code) (has_control_text code) (control_text code place bytes)
-    (plain (kinds.Code code) (alone_size bytes)) (λ h. refl) (λ h. refl)
+own-kind code place bytes = if-both (λ (c : Cut). c.kind ≡ kinds.Code code) (has_control_text code)
+    (control_text code place bytes) (plain (kinds.Code code) (alone_size bytes)) (λ h. refl) (λ h. refl)
 
 own-whole : (mode : Mode) (opened : List TokKind) (code : Code) (place byte : ℕ) (bytes : List ℕ)
     → (byte == at_sign) ≡ true → code_at bytes ≡ code → is_section code ≡ false → is_name code ≡ false
-    → is_quote code ≡ false
-    → IsWhole mode opened (byte ∷ bytes) (control_or_plain code place (byte ∷ bytes))
+    → is_quote code ≡ false → IsWhole mode opened (byte ∷ bytes) (control_or_plain code place (byte ∷ bytes))
 own-whole mode opened code place byte bytes sign is other n q =
     let cut = control_or_plain code place (byte ∷ bytes) in
     record {
@@ -219,18 +213,14 @@ code-whole mode opened place byte (next ∷ bytes) sign other =
     let all = byte ∷ next ∷ bytes in
     let code = code_of next in
     let P : Cut → Type 0 = IsWhole mode opened all in
-    if-both P (is_name code) (section_name code place all) _
-    (λ h. record {
+    if-both P (is_name code) (section_name code place all) _ (λ h. record {
       goes = λ later. name-goes code all _ _ h (sign, refl) (name-whole code place byte next bytes later);
       section = section-kind code other;
-    })
-    (λ n. if-both P (is_quote code) (string (kinds.Code code) 2 apostrophe place all)
-    (control_or_plain code place all)
-    (λ h. record {
+    }) (λ n. if-both P (is_quote code) (string (kinds.Code code) 2 apostrophe place all)
+    (control_or_plain code place all) (λ h. record {
       goes = λ later. quote-goes code all _ _ h (sign, refl) (string-goes place byte next bytes h);
       section = section-kind code other;
-    })
-    (λ q. own-whole mode opened code place byte (next ∷ bytes) sign refl other n q))
+    }) (λ q. own-whole mode opened code place byte (next ∷ bytes) sign refl other n q))
 
 -- ## Codes that are dropped
 
@@ -245,7 +235,6 @@ pub dropped-whole : (mode : Mode) (opened : List TokKind) (note : NoteKind) (pla
 dropped-whole mode opened note place byte bytes sign other = grind (arith, nat_tests, noted-on, own-text)
 
 pub limbo-dropped-whole : (mode : Mode) (opened : List TokKind) (note : NoteKind) (place byte : ℕ) (bytes : List ℕ)
-    → (byte == at_sign) ≡ true → is_limbo_mode mode ≡ true
-    → IsWhole mode opened (byte ∷ bytes)
+    → (byte == at_sign) ≡ true → is_limbo_mode mode ≡ true → IsWhole mode opened (byte ∷ bytes)
     (dropped note place (plain (kinds.Code (code_at bytes)) (alone_size (byte ∷ bytes))))
 limbo-dropped-whole mode opened note place byte bytes sign h = grind (arith, nat_tests, not-both, size-alone)

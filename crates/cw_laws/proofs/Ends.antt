@@ -1,20 +1,18 @@
 -- Each text of a code, comment and inner text goes up to its end.
-use Rattle.std.proofs.Common.{◌≡◌, ℕ, zero, suc, ◌+◌, ◌-◌, Bool, true, false, ◌&&◌, not, ◌==◌, List, [], ◌∷◌, ◌++◌}
-use Rattle.std.proofs.Common.{if◌then◌else◌, drop, refl, sym, ap, subst, ◌∙◌, arith, append_assoc, inl, inr, length}
-use Rattle.std.proofs.{lemmas.Bool.eqb-true, lemmas.List.append-nil, lemmas.Bool.Decides.nat_tests}
-use Rattle.cw_base.specs.{declared.notes.NoteKind.NoteKind, Text.bar, Bytes.newline}
-use Rattle.cw_base.proofs.TestLaws.{both-left}
-use Rattle.cw_rules.specs.declared.{bodies.Noted.Noted, codes.Effect.Effect, parts.Part.Part, parts.Opened.Opened}
-use Rattle.cw_rules.specs.declared.{signs.Sign.Sign, tokens.Mode.Mode, tokens.TokKind.TokKind}
-use Rattle.cw_rules.specs.Answers.{Answer, Where, Cut, Found, before, note_answers, plain, dropped}
-use Rattle.cw_rules.specs.Bodies.{note_unless, one_note, noted, ended, extent}
-use Rattle.cw_rules.specs.Bytes.{slash, star, at_sign, equals, run, begins}
+use Rattle.cw_laws.proofs.Terms.{◌≡◌, ℕ, zero, suc, ◌+◌, ◌-◌, Bool, true, false, ◌&&◌, not, ◌==◌, List, [], ◌∷◌, ◌++◌}
+use Rattle.cw_laws.proofs.Terms.{if◌then◌else◌, drop, refl, sym, ap, subst, ◌∙◌, arith, append_assoc, inl, inr, length}
+use Rattle.cw_laws.proofs.Terms.{lemmas.Bool.eqb-true, lemmas.List.append-nil, lemmas.Bool.Decides.nat_tests}
+use Rattle.cw_laws.proofs.Terms.{declared.notes.NoteKind.NoteKind, Text.bar, Bytes.newline, both-left}
+use Rattle.cw_laws.proofs.Terms.{bodies.Noted.Noted, codes.Effect.Effect, parts.Part.Part, parts.Opened.Opened}
+use Rattle.cw_laws.proofs.Terms.{signs.Sign.Sign, tokens.Mode.Mode, tokens.TokKind.TokKind, Answer, Where, Cut, Found}
+use Rattle.cw_laws.proofs.Terms.{before, note_answers, plain, dropped, note_unless, one_note, noted, ended, extent}
+use Rattle.cw_laws.proofs.Terms.{slash, star, at_sign, equals, run, begins, comment_text_apart, in_text_apart}
+use Rattle.cw_laws.proofs.Terms.{found_apart}
 use Rattle.cw_rules.specs.{Codes.code_at, Codes.begins_section, Codes.is_section, Signs.spelling}
 use Rattle.cw_rules.specs.Tokens.{in_hash_line, takes_hash_line, is_deep, ends_at_bar, moved, passed, one, line_end}
 use Rattle.cw_rules.specs.Tokens.{skipped_byte, comment_kind, all_cut, comment_end, part_cut, section, inner_cut}
 use Rattle.cw_rules.specs.Tokens.{behind_word, comment_begin, inner_end, inner_begin, identifier, piece_start}
 use Rattle.cw_rules.specs.Tokens.{code_token, is_code_part, dropped_code, alone_size}
-use Rattle.cw_rules.specs.Apart.{comment_text_apart, in_text_apart, found_apart}
 use Rattle.cw_rules.proofs.{Choices.if-both, Rules.code-rule, Rules.comment-rule, Rules.part-rule}
 use Rattle.cw_rules.proofs.Rules.{BeginsPart, Macro, IsPassed, Standing, Dropping, CodeRule, LineEnd, Space, HashLine}
 use Rattle.cw_rules.proofs.Rules.{Word, Passed, Heading, Beginning, Comment, InnerEnd, CommentRule, Closed, EndedLine}
@@ -70,9 +68,8 @@ module _ (text : List ℕ) where
 
   -- What begins at a place goes to its end, if what follows does.
   abbrev Goes : Mode → List TokKind → Found → Type 0
-  Goes mode opened f = (later : List Answer)
-      → ((after : Mode) (next : List TokKind) → Stands f.next after next → AllEnd text after next later)
-      → AllEnd text mode opened (f.answers ++ later)
+  Goes mode opened f = (later : List Answer) → ((after : Mode) (next : List TokKind) → Stands f.next after next → AllEnd
+      text after next later) → AllEnd text mode opened (f.answers ++ later)
 
   same-size : (place size : ℕ) → size ≡ (place + size) - place
   same-size place size = omega arith
@@ -97,9 +94,8 @@ module _ (text : List ℕ) where
   part-cut : (part : Part) (place about : ℕ) (mode : Mode) (opened : List TokKind) (later : List Answer)
       → CutsAll (drop place text) → opened ≡ base part → AllEnd text mode [] later
       → AllEnd text mode opened (part_cut part place about ++ later)
-  part-cut parts.TexInner place about mode opened later h is rest =
-      subst (λ o. AllEnd text mode o (part_cut parts.TexInner place about ++ later)) (sym is)
-      (refl, inr (inl h, (omega arith, inl refl)), rest)
+  part-cut parts.TexInner place about mode opened later h is rest = subst (λ o. AllEnd text mode o
+      (part_cut parts.TexInner place about ++ later)) (sym is) (refl, inr (inl h, (omega arith, inl refl)), rest)
   part-cut (parts.MacroName code) place about mode opened later h is rest =
       subst (λ o. AllEnd text mode o later) (sym is) rest
   part-cut (parts.MacroParen code) place about mode opened later h is rest =
@@ -122,9 +118,8 @@ module _ (text : List ℕ) where
   section-goes w place bytes mode opened h s later rest = grind (arith, nat_tests, append_assoc, all-cut, if-both)
 
   -- the bytes at a line's end
-  short-ends : (place : ℕ) (long : Bool) (around : List TokKind) (bytes : List ℕ) (more : List Answer)
-      → drop place text ≡ newline ∷ bytes → long ≡ false
-      → EndsAt (comment_kind long) around (drop place text) ((place + 0) - place) more
+  short-ends : (place : ℕ) (long : Bool) (around : List TokKind) (bytes : List ℕ) (more : List Answer) → drop place text
+      ≡ newline ∷ bytes → long ≡ false → EndsAt (comment_kind long) around (drop place text) ((place + 0) - place) more
   short-ends place true around bytes more here h = absurd cc
   short-ends place false around bytes more here h = inl (ap (begins newline) here, omega arith)
 
@@ -137,11 +132,9 @@ module _ (text : List ℕ) where
       let hash_line = in_hash_line part in
       let more = line_end (passed part) cs last place in
       let ends : Found = before (inner_cut hash_line place place ++ comment_end hash_line c place 0 []) more in
-      if-both (Goes mode opened) c.long _ ends
-      (λ h. skip-goes mode opened (record { part = part; comments = c ∷ cs })
+      if-both (Goes mode opened) c.long _ ends (λ h. skip-goes mode opened (record { part = part; comments = c ∷ cs })
       (record { fit = fits part (c ∷ cs) opened f; agrees = a }))
-      (λ h. subst (λ o. Goes mode o ends) (sym f.whole)
-      (λ later rest. (
+      (λ h. subst (λ o. Goes mode o ends) (sym f.whole) (λ later rest. (
         refl,
         inr (
           inr (λ j. begins newline (here j) && is_in_short (comment_kind (h j) ∷ f.rest)),
@@ -151,9 +144,8 @@ module _ (text : List ℕ) where
           refl,
           short-ends place c.long f.rest bytes _ here h,
           notes-between mode f.rest (missing c place) more.answers later
-              (line-end-goes (passed part) cs last place bytes mode f.rest here
-              (agrees-like part (passed part) mode (like-passed part) a)
-              (around-like part (passed part) cs f.rest (like-passed part) f.around) later rest),
+              (line-end-goes (passed part) cs last place bytes mode f.rest here (agrees-like part (passed part) mode
+              (like-passed part) a) (around-like part (passed part) cs f.rest (like-passed part) f.around) later rest),
         ),
       )))
 
@@ -163,34 +155,29 @@ module _ (text : List ℕ) where
   moved-goes : (w : Where) (other : Part) (hash_line : Bool) (place : ℕ) (bytes : List ℕ) (cut : Cut) (mode : Mode)
       (opened : List TokKind) → Like w.part other → InCode w mode opened → IsQuiet cut
       → Goes mode opened (one hash_line (moved w other) place bytes cut)
-  moved-goes w other hash_line place bytes cut mode opened l c q =
-      one-goes mode opened hash_line (moved w other) place bytes cut (code-like w other mode opened l c)
-      (q mode opened (drop place text))
+  moved-goes w other hash_line place bytes cut mode opened l c q = one-goes mode opened hash_line
+      (moved w other) place bytes cut (code-like w other mode opened l c) (q mode opened (drop place text))
 
   -- a code of two bytes, behind which a like part goes on
   begins-code : (place byte : ℕ) (bytes : List ℕ) → drop place text ≡ byte ∷ bytes → (byte == at_sign) ≡ true
       → BeginsCode (code_at bytes) (drop place text)
-  begins-code place byte bytes here at =
-      (ap (begins at_sign) here ∙ at, ap (λ l. code_at (drop 1 l)) here)
+  begins-code place byte bytes here at = (ap (begins at_sign) here ∙ at, ap (λ l. code_at (drop 1 l)) here)
 
   bare-goes : (w : Where) (other : Part) (place byte : ℕ) (bytes : List ℕ) (mode : Mode) (opened : List TokKind)
       → drop place text ≡ byte ∷ bytes → (byte == at_sign) ≡ true → Like w.part other → InCode w mode opened
       → IsBare (code_at bytes)
       → Goes mode opened (one false (moved w other) place (byte ∷ bytes) (plain (kinds.Code (code_at bytes)) 2))
-  bare-goes w other place byte bytes mode opened here at l c q =
-      one-goes mode opened false (moved w other) place (byte ∷ bytes) (plain (kinds.Code (code_at bytes)) 2)
-      (code-like w other mode opened l c)
+  bare-goes w other place byte bytes mode opened here at l c q = one-goes mode opened false (moved w other) place
+      (byte ∷ bytes) (plain (kinds.Code (code_at bytes)) 2) (code-like w other mode opened l c)
       (q mode opened (drop place text) (begins-code place byte bytes here at))
 
   begun-goes : (w : Where) (place byte : ℕ) (bytes : List ℕ) (mode : Mode) (opened : List TokKind)
       → drop place text ≡ byte ∷ bytes → (byte == at_sign) ≡ true → InCode w mode opened → (effect : Effect)
       (part : Part) → BeginsPart place effect part → Suits effect w.part (code_at bytes)
       → Goes mode opened (one false (moved w part) place (byte ∷ bytes) (plain (kinds.Code (code_at bytes)) 2))
-  begun-goes w place byte bytes mode opened here at c _ part Macro h =
-      bare-goes w _ place byte bytes mode opened here at
-      (like-ordinary w.part _ h.0 (record { base = refl; limbo = refl; inner = refl })) c h.1
-  begun-goes w place byte bytes mode opened here at c _ part _ h =
-      bare-goes w _ place byte bytes mode opened here at
+  begun-goes w place byte bytes mode opened here at c _ part Macro h = bare-goes w _ place byte bytes mode opened here
+      at (like-ordinary w.part _ h.0 (record { base = refl; limbo = refl; inner = refl })) c h.1
+  begun-goes w place byte bytes mode opened here at c _ part _ h = bare-goes w _ place byte bytes mode opened here at
       (like-ordinary w.part _ h.0 (record { base = refl; limbo = refl; inner = refl })) c h.1
 
   begins-here : (long : Bool) (place : ℕ) (mode : Mode) (opened : List TokKind)
@@ -222,8 +209,7 @@ module _ (text : List ℕ) where
   standing-whole : (place byte : ℕ) (bytes : List ℕ) (mode : Mode) (opened : List TokKind)
       → drop place text ≡ byte ∷ bytes → (byte == at_sign && begins_section bytes) ≡ false → (byte == at_sign) ≡ true
       → IsWhole mode opened (drop place text) (code_token (code_at bytes) place (byte ∷ bytes))
-  standing-whole place byte bytes mode opened here other at =
-      whole-here mode opened place (byte ∷ bytes) _ here
+  standing-whole place byte bytes mode opened here other at = whole-here mode opened place (byte ∷ bytes) _ here
       (code-whole mode opened place byte bytes at (unsectioned byte bytes other at))
 
   passed-whole : (w : Where) (fresh : Bool) (place byte : ℕ) (bytes : List ℕ) (mode : Mode) (opened : List TokKind)
@@ -231,19 +217,16 @@ module _ (text : List ℕ) where
       → (cut : Cut) → IsPassed w fresh place byte bytes cut → IsWhole mode opened (drop place text) cut
   passed-whole w fresh place byte bytes mode opened here other c _ (Standing at e) =
       standing-whole place byte bytes mode opened here other at
-  passed-whole w fresh place byte bytes mode opened here other c _ (Dropping note at e) =
-      whole-here mode opened place (byte ∷ bytes) _ here
-      (dropped-whole mode opened note place byte bytes at
-      (sym c.agrees.limbo ∙ not-limbo w.part w.comments opened c.around))
-  passed-whole w fresh place byte bytes mode opened here other c _ _ =
-      record { goes = λ later. tt; section = refl }
+  passed-whole w fresh place byte bytes mode opened here other c _ (Dropping note at e) = whole-here mode opened place
+      (byte ∷ bytes) _ here (dropped-whole mode opened note place byte bytes at (sym c.agrees.limbo
+      ∙ not-limbo w.part w.comments opened c.around))
+  passed-whole w fresh place byte bytes mode opened here other c _ _ = record { goes = λ later. tt; section = refl }
 
   code-goes : (w : Where) (fresh : Bool) (last place byte : ℕ) (bytes : List ℕ) (mode : Mode) (opened : List TokKind)
       → drop place text ≡ byte ∷ bytes → (byte == at_sign && begins_section bytes) ≡ false → InCode w mode opened
       → (f : Found) → CodeRule w fresh last place byte bytes f → Goes mode opened f
-  code-goes w fresh last place byte bytes mode opened here other c _ (LineEnd h) =
-      line-end-goes w.part w.comments last place bytes mode opened
-      (here ∙ ap (λ b. b ∷ bytes) (eqb-true byte newline h)) c.agrees c.around
+  code-goes w fresh last place byte bytes mode opened here other c _ (LineEnd h) = line-end-goes w.part w.comments last
+      place bytes mode opened (here ∙ ap (λ b. b ∷ bytes) (eqb-true byte newline h)) c.agrees c.around
   code-goes w fresh last place byte bytes mode opened here other c _ (Space line h) =
       skip-goes mode opened w (code-stands w mode opened c)
   code-goes w fresh last place byte bytes mode opened here other c _ (HashLine h takes first) =
@@ -253,27 +236,22 @@ module _ (text : List ℕ) where
     where
       takes-ordinary : (part : Part) (cs : List Opened) → takes_hash_line part cs ≡ true → IsOrdinary part
       takes-ordinary part cs h = grind (arith, nat_tests, base)
-  code-goes w fresh last place byte bytes mode opened here other c _ (Word bare h) =
-      moved-goes w (behind_word w.part (byte ∷ bytes)) (in_hash_line w.part) place (byte ∷ bytes)
-      (identifier (byte ∷ bytes)) mode opened (like-word w.part (byte ∷ bytes)) c
-      (λ m o b. record { goes = λ later. tt; section = refl })
-  code-goes w fresh last place byte bytes mode opened here other c _ (Passed cut p) =
-      one-goes mode opened (in_hash_line w.part) (moved w (passed w.part)) place (byte ∷ bytes) cut
-      (code-like w (passed w.part) mode opened (like-passed w.part) c)
-      (passed-whole w fresh place byte bytes mode opened here other c cut p)
-  code-goes w fresh last place byte bytes mode opened here other c _ (Heading at e name may headed) =
-      one-goes mode opened (in_hash_line w.part) (moved w parts.Head) place (byte ∷ bytes)
-      (code_token (code_at bytes) place (byte ∷ bytes))
-      (code-like w parts.Head mode opened
-      (like-ordinary w.part parts.Head (may-ordinary w.part w.comments may)
-      (record { base = refl; limbo = refl; inner = refl })) c)
+  code-goes w fresh last place byte bytes mode opened here other c _ (Word bare h) = moved-goes w (behind_word w.part
+      (byte ∷ bytes)) (in_hash_line w.part) place (byte ∷ bytes) (identifier (byte ∷ bytes)) mode opened
+      (like-word w.part (byte ∷ bytes)) c (λ m o b. record { goes = λ later. tt; section = refl })
+  code-goes w fresh last place byte bytes mode opened here other c _ (Passed cut p) = one-goes mode opened
+      (in_hash_line w.part) (moved w (passed w.part)) place (byte ∷ bytes) cut (code-like w (passed w.part) mode opened
+      (like-passed w.part) c) (passed-whole w fresh place byte bytes mode opened here other c cut p)
+  code-goes w fresh last place byte bytes mode opened here other c _ (Heading at e name may headed) = one-goes mode
+      opened (in_hash_line w.part) (moved w parts.Head) place (byte ∷ bytes) (code_token (code_at bytes) place
+      (byte ∷ bytes)) (code-like w parts.Head mode opened (like-ordinary w.part parts.Head
+      (may-ordinary w.part w.comments may) (record { base = refl; limbo = refl; inner = refl })) c)
       (standing-whole place byte bytes mode opened here other at)
   code-goes w fresh last place byte bytes mode opened here other c _ (Beginning effect part at e begun) =
       begun-goes w place byte bytes mode opened here at c effect part begun
       (subst (λ effect. Suits effect w.part (code_at bytes)) e (suits w.part w.comments (code_at bytes)))
-  code-goes w fresh last place byte bytes mode opened here other c _ (Comment long h) =
-      begin-goes long w place (byte ∷ bytes) mode opened
-      (ap (begins_two slash (if long then star else slash)) here ∙ h) c
+  code-goes w fresh last place byte bytes mode opened here other c _ (Comment long h) = begin-goes long w place
+      (byte ∷ bytes) mode opened (ap (begins_two slash (if long then star else slash)) here ∙ h) c
   code-goes w fresh last place byte bytes mode opened here other c _ (InnerEnd h ends) =
       inner-end-goes w.part w.comments place (byte ∷ bytes) mode opened (ap (begins bar) here ∙ h) ends c
 
@@ -319,8 +297,7 @@ module _ (text : List ℕ) where
       let size = (extent start (byte ∷ bytes)).size in
       one-goes mode (comment_kind c.long ∷ i.rest) (in_hash_line part)
       (record { part = part; comments = record c { braces = (ended start (byte ∷ bytes)).braces } ∷ cs }) place
-      (byte ∷ bytes) (record { kind = kinds.Text; size = size; notes = noted start (byte ∷ bytes) })
-      (record {
+      (byte ∷ bytes) (record { kind = kinds.Text; size = size; notes = noted start (byte ∷ bytes) }) (record {
         fit = record {
           rest = i.rest;
           is = refl;
@@ -328,50 +305,42 @@ module _ (text : List ℕ) where
           around = i.around;
         };
         agrees = a;
-      })
-      (record {
-        goes = λ later. subst (λ l. IsPieceIn mode (comment_kind c.long ∷ i.rest) l size) (sym here)
-            (piece-whole mode c.long deep c.braces place (byte ∷ bytes) i.rest
-            (deep-in part c cs mode i.rest a i.around));
+      }) (record {
+        goes = λ later. subst (λ l. IsPieceIn mode (comment_kind c.long ∷ i.rest) l size) (sym here) (piece-whole mode
+            c.long deep c.braces place (byte ∷ bytes) i.rest (deep-in part c cs mode i.rest a i.around));
         section = refl;
       })
 
   -- ## Limbo, TeX text and heads
 
   -- a piece of limbo or of TeX text
-  text-goes : (part : Part) (place : ℕ) (bytes : List ℕ) (mode : Mode) (opened : List TokKind)
-      → base part ≡ [] → drop place text ≡ bytes → Stands (bare part) mode opened
-      → Goes mode opened (one false (bare part) place bytes (plain kinds.Text
-      (run (if limbo_part part then classes.LimboText else classes.TexText) bytes)))
+  text-goes : (part : Part) (place : ℕ) (bytes : List ℕ) (mode : Mode) (opened : List TokKind) → base part ≡ []
+      → drop place text ≡ bytes → Stands (bare part) mode opened → Goes mode opened (one false (bare part) place bytes
+      (plain kinds.Text (run (if limbo_part part then classes.LimboText else classes.TexText) bytes)))
   text-goes part place bytes mode opened none here s = grind (arith, nat_tests, limbo_part, one-goes)
 
   limbo-goes : (place byte : ℕ) (bytes : List ℕ) (mode : Mode) (opened : List TokKind)
       → drop place text ≡ byte ∷ bytes → (byte == at_sign && begins_section bytes) ≡ false
       → Stands (bare parts.Limbo) mode opened → (f : Found) → LimboRule place byte bytes f → Goes mode opened f
-  limbo-goes place byte bytes mode opened here other s _ (LimboCode at e) =
-      one-goes mode opened false (bare parts.Limbo) place (byte ∷ bytes)
-      (code_token (code_at bytes) place (byte ∷ bytes)) s
+  limbo-goes place byte bytes mode opened here other s _ (LimboCode at e) = one-goes mode opened false
+      (bare parts.Limbo) place (byte ∷ bytes) (code_token (code_at bytes) place (byte ∷ bytes)) s
       (standing-whole place byte bytes mode opened here other at)
-  limbo-goes place byte bytes mode opened here other s _ (LimboFormat at e) =
-      one-goes mode opened false (bare (parts.FormatName place false true)) place (byte ∷ bytes)
-      (plain (kinds.Code (code_at bytes)) 2)
+  limbo-goes place byte bytes mode opened here other s _ (LimboFormat at e) = one-goes mode opened false
+      (bare (parts.FormatName place false true)) place (byte ∷ bytes) (plain (kinds.Code (code_at bytes)) 2)
       (bare-like parts.Limbo (parts.FormatName place false true) mode opened
-      (record { base = refl; limbo = refl; inner = refl }) s)
-      (subst (λ effect. SuitsLimbo effect (code_at bytes)) e (limbo-suits (code_at bytes)) mode opened
-      (drop place text) (begins-code place byte bytes here at))
-  limbo-goes place byte bytes mode opened here other s _ (LimboDropped note at e) =
-      one-goes mode opened false (bare parts.Limbo) place (byte ∷ bytes)
-      (dropped note place (plain (kinds.Code (code_at bytes)) (alone_size (byte ∷ bytes)))) s
-      (whole-here mode opened place (byte ∷ bytes) _ here
-      (limbo-dropped-whole mode opened note place byte bytes at (sym s.agrees.limbo)))
+      (record { base = refl; limbo = refl; inner = refl }) s) (subst (λ effect. SuitsLimbo effect (code_at bytes)) e
+      (limbo-suits (code_at bytes)) mode opened (drop place text) (begins-code place byte bytes here at))
+  limbo-goes place byte bytes mode opened here other s _ (LimboDropped note at e) = one-goes mode opened false
+      (bare parts.Limbo) place (byte ∷ bytes) (dropped note place
+      (plain (kinds.Code (code_at bytes)) (alone_size (byte ∷ bytes)))) s (whole-here mode opened place
+      (byte ∷ bytes) _ here (limbo-dropped-whole mode opened note place byte bytes at (sym s.agrees.limbo)))
   limbo-goes place byte bytes mode opened here other s _ (LimboText h) =
       text-goes parts.Limbo place (byte ∷ bytes) mode opened refl here s
 
   -- an identifier behind which a head goes on in some part
   word-goes : (next : Where) (place : ℕ) (bytes : List ℕ) (mode : Mode) (opened : List TokKind)
       → Stands next mode opened → Goes mode opened (one false next place bytes (identifier bytes))
-  word-goes next place bytes mode opened s =
-      one-goes mode opened false next place bytes (identifier bytes) s
+  word-goes next place bytes mode opened s = one-goes mode opened false next place bytes (identifier bytes) s
       (record { goes = λ later. tt; section = refl })
 
   like-begun : (place : ℕ) (bytes : List ℕ) (effect : Effect) (part : Part) → BeginsPart place effect part
@@ -403,82 +372,66 @@ module _ (text : List ℕ) where
   part-goes : (fresh : Bool) (last place byte : ℕ) (bytes : List ℕ) (mode : Mode) (opened : List TokKind)
       → drop place text ≡ byte ∷ bytes → (byte == at_sign && begins_section bytes) ≡ false → (part : Part)
       → Stands (bare part) mode opened → (f : Found) → PartRule fresh last place byte bytes part f → Goes mode opened f
-  part-goes fresh last place byte bytes mode opened here other _ s _ (OfCode part f is r) =
-      code-goes (bare part) fresh last place byte bytes mode opened here other
-      (bare-code part mode opened (no-limbo part is) s) f r
+  part-goes fresh last place byte bytes mode opened here other _ s _ (OfCode part f is r) = code-goes (bare part) fresh
+      last place byte bytes mode opened here other (bare-code part mode opened (no-limbo part is) s) f r
   part-goes fresh last place byte bytes mode opened here other _ s _ (OfLimbo f r) =
       limbo-goes place byte bytes mode opened here other s f r
-  part-goes fresh last place byte bytes mode opened here other _ s _ (TexCode at e) =
-      one-goes mode opened false (bare parts.Tex) place (byte ∷ bytes)
-      (code_token (code_at bytes) place (byte ∷ bytes)) s
+  part-goes fresh last place byte bytes mode opened here other _ s _ (TexCode at e) = one-goes mode opened false
+      (bare parts.Tex) place (byte ∷ bytes) (code_token (code_at bytes) place (byte ∷ bytes)) s
       (standing-whole place byte bytes mode opened here other at)
-  part-goes fresh last place byte bytes mode opened here other _ s _ (TexHeading at e name headed) =
-      one-goes mode opened false (bare parts.Head) place (byte ∷ bytes)
-      (code_token (code_at bytes) place (byte ∷ bytes))
+  part-goes fresh last place byte bytes mode opened here other _ s _ (TexHeading at e name headed) = one-goes mode
+      opened false (bare parts.Head) place (byte ∷ bytes) (code_token (code_at bytes) place (byte ∷ bytes))
       (bare-like parts.Tex parts.Head mode opened (record { base = refl; limbo = refl; inner = refl }) s)
       (standing-whole place byte bytes mode opened here other at)
-  part-goes fresh last place byte bytes mode opened here other _ s _ (TexDropped note at e) =
-      one-goes mode opened false (bare parts.Tex) place (byte ∷ bytes)
-      (dropped_code note (code_at bytes) place (byte ∷ bytes)) s
-      (whole-here mode opened place (byte ∷ bytes) _ here
-      (dropped-whole mode opened note place byte bytes at (sym s.agrees.limbo)))
+  part-goes fresh last place byte bytes mode opened here other _ s _ (TexDropped note at e) = one-goes mode opened false
+      (bare parts.Tex) place (byte ∷ bytes) (dropped_code note (code_at bytes) place (byte ∷ bytes)) s (whole-here mode
+      opened place (byte ∷ bytes) _ here (dropped-whole mode opened note place byte bytes at (sym s.agrees.limbo)))
   part-goes fresh last place byte bytes mode opened here other _ s _ (TexBeginning effect part at e begun) =
       let h = like-begun place bytes effect part begun
       (subst (λ effect. Suits effect parts.Tex (code_at bytes)) e (tex-suits (code_at bytes))) in
-      one-goes mode opened false (bare part) place (byte ∷ bytes)
-      (plain (kinds.Code (code_at bytes)) 2) (bare-like parts.Tex part mode opened h.0 s)
-      (h.1 mode opened (drop place text) (begins-code place byte bytes here at))
+      one-goes mode opened false (bare part) place (byte ∷ bytes) (plain (kinds.Code (code_at bytes)) 2) (bare-like
+      parts.Tex part mode opened h.0 s) (h.1 mode opened (drop place text) (begins-code place byte bytes here at))
   part-goes fresh last place byte bytes mode opened here other _ s _ (TexInner h) =
       bar-goes place byte bytes mode opened here h s
   part-goes fresh last place byte bytes mode opened here other _ s _ (TexText at h) =
       text-goes parts.Tex place (byte ∷ bytes) mode opened refl here s
   part-goes fresh last place byte bytes mode opened here other _ s _ (Blank h) =
       skip-goes mode opened (bare parts.Head) s
-  part-goes fresh last place byte bytes mode opened here other _ s _ (HeadSign h) =
-      one-goes mode opened false (bare (parts.Plain false false)) place (byte ∷ bytes)
-      (plain kinds.HeadSign (if begins equals bytes then 2 else 1))
+  part-goes fresh last place byte bytes mode opened here other _ s _ (HeadSign h) = one-goes mode opened false (bare
+      (parts.Plain false false)) place (byte ∷ bytes) (plain kinds.HeadSign (if begins equals bytes then 2 else 1))
       (bare-like parts.Head (parts.Plain false false) mode opened
       (record { base = refl; limbo = refl; inner = refl }) s) (record { goes = λ later. tt; section = refl })
   part-goes fresh last place byte bytes mode opened here other _ s _ (White part h wanted) =
       skip-goes mode opened (bare part) s
-  part-goes fresh last place byte bytes mode opened here other _ s _ (HeadWord part next h k) =
-      word-goes (bare next) place (byte ∷ bytes) mode opened
-      (bare-like part next mode opened (like-head (byte ∷ bytes) part next k) s)
-  part-goes fresh last place byte bytes mode opened here other _ s _ (Opening code) =
-      one-goes mode opened false (bare (parts.Parameters code)) place (byte ∷ bytes)
-      (plain (kinds.Sign signs.LeftParen) 1)
+  part-goes fresh last place byte bytes mode opened here other _ s _ (HeadWord part next h k) = word-goes (bare next)
+      place (byte ∷ bytes) mode opened (bare-like part next mode opened (like-head (byte ∷ bytes) part next k) s)
+  part-goes fresh last place byte bytes mode opened here other _ s _ (Opening code) = one-goes mode opened false
+      (bare (parts.Parameters code)) place (byte ∷ bytes) (plain (kinds.Sign signs.LeftParen) 1)
       (bare-like (parts.MacroParen code) (parts.Parameters code) mode opened
       (record { base = refl; limbo = refl; inner = refl }) s) (record { goes = λ later. tt; section = refl })
-  part-goes fresh last place byte bytes mode opened here other _ s _ (ParameterSign code sign next k) =
-      one-goes mode opened false (bare next) place (byte ∷ bytes)
-      (plain (kinds.Sign sign) (length (spelling sign)))
+  part-goes fresh last place byte bytes mode opened here other _ s _ (ParameterSign code sign next k) = one-goes mode
+      opened false (bare next) place (byte ∷ bytes) (plain (kinds.Sign sign) (length (spelling sign)))
       (bare-like (parts.Parameters code) next mode opened (like-sign code byte bytes sign next k) s)
       (record { goes = λ later. tt; section = refl })
-  part-goes fresh last place byte bytes mode opened here other _ s _ (Improper part kind code f i r) =
-      code-goes (bare parts.Definition) fresh last place byte bytes mode opened here other
-      (bare-code parts.Definition mode opened refl
-      (bare-like part parts.Definition mode opened (like-improper part kind code i) s)) f r
-  part-goes fresh last place byte bytes mode opened here other _ s _ (ImproperInLimbo code second f r) =
-      limbo-goes place byte bytes mode opened here other
-      (bare-like (parts.FormatName code second true) parts.Limbo mode opened
+  part-goes fresh last place byte bytes mode opened here other _ s _ (Improper part kind code f i r) = code-goes
+      (bare parts.Definition) fresh last place byte bytes mode opened here other (bare-code parts.Definition mode opened
+      refl (bare-like part parts.Definition mode opened (like-improper part kind code i) s)) f r
+  part-goes fresh last place byte bytes mode opened here other _ s _ (ImproperInLimbo code second f r) = limbo-goes
+      place byte bytes mode opened here other (bare-like (parts.FormatName code second true) parts.Limbo mode opened
       (record { base = refl; limbo = refl; inner = refl }) s) f r
 
   in-text-goes : (part : Part) (comments : List Opened) (fresh : Bool) (last place byte : ℕ) (bytes : List ℕ)
-      (mode : Mode) (opened : List TokKind) → drop place text ≡ byte ∷ bytes
-      → (byte == at_sign && begins_section bytes) ≡ false
-      → Stands (record { part = part; comments = comments }) mode opened
+      (mode : Mode) (opened : List TokKind) → drop place text ≡ byte ∷ bytes → (byte == at_sign && begins_section bytes)
+      ≡ false → Stands (record { part = part; comments = comments }) mode opened
       → Goes mode opened (in_text_apart part comments fresh last place byte bytes)
-  in-text-goes part [] fresh last place byte bytes mode opened here other s =
-      part-goes fresh last place byte bytes mode opened here other part s _
-      (part-rule fresh last place byte bytes part)
+  in-text-goes part [] fresh last place byte bytes mode opened here other s = part-goes fresh last place byte bytes mode
+      opened here other part s _ (part-rule fresh last place byte bytes part)
   in-text-goes part (c ∷ cs) fresh last place byte bytes mode opened here other s =
       let w : Where = record { part = part; comments = c ∷ cs } in
-      if-both (Goes mode opened) c.inner _ _
-      (λ h. code-goes w fresh last place byte bytes mode opened here other
-      (record { around = so true h; agrees = s.agrees }) _ (code-rule w fresh last place byte bytes))
-      (λ h. subst (λ o. Goes mode o (comment_text_apart part c cs last place byte bytes)) (sym (so false h).whole)
-      (comment-goes part c cs last place byte bytes mode opened here s.agrees (so false h) _
-      (comment-rule part c cs last place byte bytes)))
+      if-both (Goes mode opened) c.inner _ _ (λ h. code-goes w fresh last place byte bytes mode opened here other
+      (record { around = so true h; agrees = s.agrees }) _ (code-rule w fresh last place byte bytes)) (λ h. subst (λ o.
+      Goes mode o (comment_text_apart part c cs last place byte bytes)) (sym (so false h).whole) (comment-goes part c cs
+      last place byte bytes mode opened here s.agrees (so false h) _ (comment-rule part c cs last place byte bytes)))
     where
       so : (inner : Bool) → c.inner ≡ inner → InComment c inner (Around part cs) opened
       so inner h = grind (arith, nat_tests, with_inner_text)
@@ -486,19 +439,16 @@ module _ (text : List ℕ) where
   all-go : (bytes : List ℕ) (w : Where) (fresh : Bool) (last place taken : ℕ) (mode : Mode) (opened : List TokKind)
       → drop place text ≡ bytes → Stands w mode opened
       → AllEnd text mode opened (answers bytes w fresh last place taken)
-  all-go [] w fresh last place taken mode opened here s =
-      subst (AllEnd text mode opened) (append-nil (all_cut w.part w.comments place (place - 1)))
-      (all-cut w.part w.comments place (place - 1) mode opened [] (inl here) s.fit refl)
+  all-go [] w fresh last place taken mode opened here s = subst (AllEnd text mode opened) (append-nil (all_cut w.part
+      w.comments place (place - 1))) (all-cut w.part w.comments place (place - 1) mode opened [] (inl here) s.fit refl)
   all-go (byte ∷ bytes) w fresh last place zero mode opened here s =
       let g = found_apart w fresh last place byte bytes in
       if-both (Goes mode opened) (byte == at_sign && begins_section bytes) (section w place bytes)
-      (in_text_apart w.part w.comments fresh last place byte bytes)
-      (λ h. section-goes w place bytes mode opened
+      (in_text_apart w.part w.comments fresh last place byte bytes) (λ h. section-goes w place bytes mode opened
       (inr (ap (λ l. begins at_sign l && begins_section (drop 1 l)) here ∙ h)) s)
       (λ h. in-text-goes w.part w.comments fresh last place byte bytes mode opened here h s)
-      (answers bytes g.next (still_fresh fresh byte) byte (place + 1) g.more)
-      (λ after next k. all-go bytes g.next (still_fresh fresh byte) byte (place + 1) g.more after next
-      (drop-on text place byte bytes here) k)
+      (answers bytes g.next (still_fresh fresh byte) byte (place + 1) g.more) (λ after next k. all-go bytes g.next
+      (still_fresh fresh byte) byte (place + 1) g.more after next (drop-on text place byte bytes here) k)
   all-go (byte ∷ bytes) w fresh last place (suc taken) mode opened here s =
       all-go bytes w (still_fresh fresh byte) byte (place + 1) taken mode opened (drop-on text place byte bytes here) s
 

@@ -1,40 +1,21 @@
 -- A run over files that are there already keeps them all.
-use Rattle.std.proofs.Common.{◌≡◌, ℕ, Bool, true, false, refl, sym, ap, subst, ◌∙◌, List, [], ◌∷◌, ◌++◌, Option, Some}
-use Rattle.std.proofs.Common.{map, arith}
-use Rattle.std.specs.List.{AllByRecursion, filter, flat_map, list_any}
-use Rattle.std.proofs.lemmas.Cmp.{nat_list_eq_equiv}
-use Rattle.std.proofs.lemmas.List.{append-nil}
-use Rattle.std.proofs.lemmas.List.Elements.{filter-append}
-use Rattle.std.proofs.lemmas.List.Folds.{list_any-append}
-use Rattle.std.proofs.lemmas.Bool.Decides.{nat_tests}
-use Rattle.std.proofs.lemmas.Grind.{common_steps}
-use Rattle.cw_base.specs.Conditions.{list_if}
-use Rattle.cw_base.specs.Web.{WebState, text_of}
-use Rattle.cw_base.specs.declared.event.Event.{Event}
+use Rattle.cw_laws.proofs.Terms.{◌≡◌, ℕ, Bool, true, false, refl, sym, ap, subst, ◌∙◌, List, [], ◌∷◌, ◌++◌, Option}
+use Rattle.cw_laws.proofs.Terms.{Some, map, arith, AllByRecursion, filter, flat_map, list_any, append-nil}
+use Rattle.cw_laws.proofs.Terms.{filter-append, nat_tests, list_if, WebState, text_of, Event, Flags, NamedFiles}
+use Rattle.cw_laws.proofs.Terms.{CommandLine, Book, Run, Broken, OutFile, broken_events, broken_in, file_events}
+use Rattle.cw_laws.proofs.Terms.{is_same, settled_if, SecName, Done, left_by, tex_file, end_of_run, index_events}
+use Rattle.cw_laws.proofs.Terms.{index_files, index_of, index_out, list_out, book_of, name_list, tex_out, weave_book}
+use Rattle.cw_laws.proofs.Terms.{with_banner, woven, AskFor, IsThere, KeepEach, files_of, is_of_file, kept_events}
+use Rattle.cw_laws.proofs.Terms.{rewrites, written_of}
+use Rattle.std.proofs.{lemmas.Cmp.nat_list_eq_equiv, lemmas.List.Folds.list_any-append, lemmas.Grind.common_steps}
+use Rattle.cw_base.specs.{declared.event.Out.Out, declared.notes.Note.Note}
 use Rattle.cw_base.specs.declared.event.Event.TheVariants.{Byte, Drafted, Kept, Made, Replaced}
-use Rattle.cw_base.specs.declared.event.Out.{Out}
 use Rattle.cw_base.specs.declared.event.Out.TheVariants.{Term, Tex, Idx, Scn}
-use Rattle.cw_base.specs.declared.flags.Flags.{Flags}
-use Rattle.cw_base.specs.declared.notes.Note.{Note}
 use Rattle.cw_desk.specs.Journal.{byte_events}
-use Rattle.cw_desk.specs.Meaning.{NamedFiles}
-use Rattle.cw_input.specs.declared.words.CommandLine.{CommandLine}
-use Rattle.cw_phase1.specs.declared.book.Book.{Book}
-use Rattle.cw_run.specs.Closing.{closing_by}
-use Rattle.cw_run.specs.Emits.{Run}
-use Rattle.cw_run.specs.Files.{Broken, OutFile, broken_events, broken_in, file_events, is_same, settled_if}
-use Rattle.cw_run.specs.Notes.{note_events}
-use Rattle.cw_run.specs.Saying.{says, says_if}
-use Rattle.cw_run.specs.Statistics.{statistics_if}
-use Rattle.cw_run.specs.declared.statistics.Totals.{Totals}
-use Rattle.cw_secnames.specs.Kept.{SecName}
+use Rattle.cw_run.specs.{Closing.closing_by, Notes.note_events, Saying.says, Saying.says_if, Statistics.statistics_if}
+use Rattle.cw_run.specs.{declared.statistics.Totals.Totals}
 use Rattle.cw_run.specs.Terminal.{banner_text, index_text, output_text}
-use Rattle.cw_texpart.specs.Done.{Done}
 use Rattle.cw_weave.specs.Statistics.{totals_of}
-use Rattle.cw_weave.specs.TexFile.{left_by, tex_file}
-use Rattle.cw_weave.specs.Woven.{end_of_run, index_events, index_files, index_of, index_out, list_out, book_of}
-use Rattle.cw_weave.specs.Woven.{name_list, tex_out, weave_book, with_banner, woven}
-use Rattle.cw_laws.specs.Files.{AskFor, IsThere, KeepEach, files_of, is_of_file, kept_events, rewrites, written_of}
 
 -- ## Events of the terminal
 
@@ -89,8 +70,7 @@ file-bytes out file (byte ∷ bytes) = grind (arith, nat_tests, file-bytes out f
 
 kept-same : (f : OutFile) (old : Option (List ℕ)) → old ≡ Some (written_of f.bytes)
     → settled_if true (is_same old (written_of f.bytes)) f.out ≡ Kept f.out ∷ []
-kept-same f old is =
-    ap (λ (old : Option (List ℕ)). settled_if true (is_same old (written_of f.bytes)) f.out) is
+kept-same f old is = ap (λ (old : Option (List ℕ)). settled_if true (is_same old (written_of f.bytes)) f.out) is
     ∙ ap (λ (same : Bool). settled_if true same f.out) (nat_list_eq_equiv.refl (written_of f.bytes))
 
 file-kept : (keep : Bool) (f : OutFile) (named : NamedFiles) → keep ≡ true → IsFile f.out → IsThere named f
@@ -135,17 +115,15 @@ keep-each files events is = grind (arith, nat_tests, rewrites-filtered, kept-rew
 
 -- ## Of the run
 
-keeps-index : (t : Bool) (line : CommandLine) (text : List ℕ) (left : Book) (named : NamedFiles)
-    → line.flags.keep ≡ true → AllByRecursion (IsThere named) (index_files t line text left)
-    → filter is_of_file (index_events t line.flags (index_files t line text left) named)
-    ≡ flat_map kept_events (index_files t line text left)
+keeps-index : (t : Bool) (line : CommandLine) (text : List ℕ) (left : Book) (named : NamedFiles) → line.flags.keep
+    ≡ true → AllByRecursion (IsThere named) (index_files t line text left) → filter is_of_file (index_events t
+    line.flags (index_files t line text left) named) ≡ flat_map kept_events (index_files t line text left)
 keeps-index false line text left named asked there = refl
 keeps-index true line text left named asked there =
     let index : OutFile = index_out line.outputs (index_of left) in
     let names : OutFile = list_out line.outputs (name_list text line.flags left).out in
     two-kept (file_events line.flags.keep index named) (file_events line.flags.keep names named)
-    (told-said line.flags.progress index_text)
-    (file-kept line.flags.keep index named asked (λ byte. refl) there.0)
+    (told-said line.flags.progress index_text) (file-kept line.flags.keep index named asked (λ byte. refl) there.0)
     (file-kept line.flags.keep names named asked (λ byte. refl) there.1.0)
 
 told-end : (flags : Flags) (broken : List Broken) (totals : Totals) (notes : List Note)
@@ -166,9 +144,8 @@ keeps line web b named asked there =
     let totals : Totals = totals_of line.flags b.outline.sections done in
     keep-each (files_of line text b) (weave_book line web b named).rest
     (run-kept (file_events line.flags.keep tex named) (index_events line.flags.index line.flags index named)
-    (told-notes web.files b.sec_names notes) (told-said line.flags.progress output_text)
-    (file-kept line.flags.keep tex named asked (λ byte. refl) there.0)
-    (keeps-index line.flags.index line text left named asked there.1)
+    (told-notes web.files b.sec_names notes) (told-said line.flags.progress output_text) (file-kept line.flags.keep tex
+    named asked (λ byte. refl) there.0) (keeps-index line.flags.index line text left named asked there.1)
     (told-end line.flags (map broken_in (tex ∷ index)) totals notes))
 
 -- ## Of the run from its words on
@@ -178,9 +155,8 @@ told-before : {told : List Event} (events : List Event) (files : List OutFile) �
 told-before {told = told} events files told-alone keep =
     grind (arith, nat_tests, common_steps, filter-append is_of_file told events, keep-each, filter-append)
 
-run-is : (words : List (List ℕ)) (named : NamedFiles) (line : CommandLine) (web : WebState)
-    → AskFor words named line web
-    → woven words named ≡ with_banner line.flags (weave_book line web (book_of line.flags web) named)
+run-is : (words : List (List ℕ)) (named : NamedFiles) (line : CommandLine) (web : WebState) → AskFor words named line
+    web → woven words named ≡ with_banner line.flags (weave_book line web (book_of line.flags web) named)
 run-is words named line web asked = grind (arith, nat_tests)
 
 pub keeps-by-run : (words : List (List ℕ)) (named : NamedFiles) (line : CommandLine) (web : WebState)
@@ -190,6 +166,5 @@ pub keeps-by-run : (words : List (List ℕ)) (named : NamedFiles) (line : Comman
 keeps-by-run words named line web asked keep there =
     let b : Book = book_of line.flags web in
     let files : List OutFile = files_of line (text_of web.lines) b in
-    subst (λ (run : Run). KeepEach files run.rest) (sym (run-is words named line web asked))
-    (told-before (weave_book line web b named).rest files (told-said line.flags.banner banner_text)
-    (keeps line web b named keep there))
+    subst (λ (run : Run). KeepEach files run.rest) (sym (run-is words named line web asked)) (told-before (weave_book
+    line web b named).rest files (told-said line.flags.banner banner_text) (keeps line web b named keep there))

@@ -1,26 +1,19 @@
 -- The run of the greeting by computation, over the one file that gives its answers.
-use Rattle.std.specs.Prelude.{◌≡◌, ◌≢◌, ℕ, List, [], ◌∷◌, ◌++◌, Option, Some, drop, length}
+use Rattle.cw_laws.proofs.Terms.{◌≡◌, ◌≢◌, ℕ, List, [], ◌∷◌, ◌++◌, Option, Some, drop, length, refl, sym, ap, subst}
+use Rattle.cw_laws.proofs.Terms.{Event, Files, NamedFiles, Run, woven}
+use Rattle.std.specs.{Fmt.digits, Ordering.nat_cmp}
 use Rattle.std.specs.Cmp.Lexicographic.{slice_cmp, nat_list_cmp_total}
 use Rattle.std.specs.FinMap.{find, from_entries, get, get-from_entries}
-use Rattle.std.specs.Fmt.{digits}
-use Rattle.std.specs.Ordering.{nat_cmp}
-use Rattle.std.proofs.Common.{refl, sym, ap, subst}
-use Rattle.cw_base.specs.declared.event.Event.{Event}
 use Rattle.cw_base.specs.declared.exit.Exit.{Exit}
 use Rattle.cw_base.specs.declared.exit.Exit.TheVariants.{Clean, Errors, Fault, Memory}
 use Rattle.cw_desk.specs.Answer.{Agree, text_of}
-use Rattle.cw_desk.specs.Meaning.{Files, NamedFiles}
 use Rattle.cw_input.specs.Merge.{new_lines, web_lines}
 use Rattle.cw_lines.specs.Cut.{cut_behind, divide}
 use Rattle.cw_program.specs.Program.{Outcome}
-use Rattle.cw_run.specs.Emits.{Run}
 use Rattle.cw_run.specs.Saying.{says}
-use Rattle.cw_table.specs.Normal.{count, log, normal}
-use Rattle.cw_table.specs.NormalWalk.{positions}
-use Rattle.cw_table.specs.Productions.{productions}
-use Rattle.cw_table.specs.WalkCounts.{looks}
+use Rattle.cw_table.specs.{Normal.count, Normal.log, Normal.normal, NormalWalk.positions, Productions.productions}
+use Rattle.cw_table.specs.{WalkCounts.looks}
 use Rattle.cw_translator.specs.Translating.{translated}
-use Rattle.cw_weave.specs.Woven.{woven}
 use Rattle.cw_laws.specs.Greeting.{GreetingIsWoven, greeting, greeting_answers, greeting_events, greeting_name}
 use Rattle.cw_laws.specs.Greeting.{greeting_words}
 
@@ -41,10 +34,8 @@ all-asked : (λ name. get the_files name) ≡ named
 all-asked = λ i name. asked name i
 
 -- What agreement says of a file that was opened and read at once, and then ended.
-agrees-by : (found : Option (List ℕ)) → found ≡ Some greeting
-    → ((Unit {0} × (found ≡ Some (text_of found)))
-    × (text_of found ≡ greeting ++ drop (length greeting) (text_of found)))
-    × (drop (length greeting) (text_of found) ≡ [])
+agrees-by : (found : Option (List ℕ)) → found ≡ Some greeting → ((Unit {0} × (found ≡ Some (text_of found))) × (text_of
+    found ≡ greeting ++ drop (length greeting) (text_of found))) × (drop (length greeting) (text_of found) ≡ [])
 agrees-by found is = subst (λ (f : Option (List ℕ)). ((Unit {0} × (f ≡ Some (text_of f)))
     × (text_of f ≡ greeting ++ drop (length greeting) (text_of f))) × (drop (length greeting) (text_of f) ≡ []))
     (sym is) (((tt, refl), refl), refl)

@@ -1,15 +1,12 @@
 -- How many bytes come before the end of a control text, of a section name, and of a piece of a comment.
-use Rattle.std.proofs.Common.{◌≡◌, ℕ, ◌+◌, ◌-◌, Bool, true, false, ◌&&◌, ◌||◌, not, ◌==◌, List, [], ◌∷◌, ◌++◌, drop}
-use Rattle.std.proofs.Common.{if◌then◌else◌, refl, sym, subst, ap, ◌∙◌, ◌<◌, ◌⊎◌, arith, inl, inr, Option, Some, None}
-use Rattle.std.proofs.Common.{length}
-use Rattle.std.proofs.lemmas.Bool.Decides.{nat_tests}
-use Rattle.cw_base.specs.declared.notes.NoteKind.{NoteKind}
-use Rattle.cw_rules.specs.declared.{bodies.Body.Body, bodies.Inside.Inside, bodies.Noted.Noted, codes.Code.Code}
-use Rattle.cw_rules.specs.declared.{tokens.Mode.Mode, tokens.TokKind.TokKind}
+use Rattle.cw_laws.proofs.Terms.{◌≡◌, ℕ, ◌+◌, ◌-◌, Bool, true, false, ◌&&◌, ◌||◌, not, ◌==◌, List, [], ◌∷◌, ◌++◌, drop}
+use Rattle.cw_laws.proofs.Terms.{if◌then◌else◌, refl, sym, subst, ap, ◌∙◌, ◌<◌, ◌⊎◌, arith, inl, inr, Option, Some}
+use Rattle.cw_laws.proofs.Terms.{None, length, nat_tests, NoteKind, bodies.Body.Body, bodies.Inside.Inside}
+use Rattle.cw_laws.proofs.Terms.{bodies.Noted.Noted, codes.Code.Code, tokens.Mode.Mode, tokens.TokKind.TokKind, stops}
+use Rattle.cw_laws.proofs.Terms.{takes_next, stepped, goes_on, ended, and_last, note_unless, at_start, extent, noted}
+use Rattle.cw_laws.proofs.Terms.{note_here, note_on, is_single, with_note, all_notes, closing_bytes, one_note}
 use Rattle.cw_rules.specs.{Answers.Answer, Answers.note_answers, Bytes.at_sign, Bytes.greater, Bytes.begins}
 use Rattle.cw_rules.specs.{Bytes.begins_with, Codes.begins_section, Tokens.comment_kind, Tokens.section_name}
-use Rattle.cw_rules.specs.Bodies.{stops, takes_next, stepped, goes_on, ended, and_last, note_unless, at_start, extent}
-use Rattle.cw_rules.specs.Bodies.{noted, note_here, note_on, is_single, with_note, all_notes, closing_bytes, one_note}
 use Rattle.cw_laws.specs.Ends.{begins_two, before_end, ends_control, is_double_at, ends_piece, is_pair, ends_name}
 use Rattle.cw_laws.specs.Ends.{is_single_at, before_single, IsNoted, HasControlText, HasName, is_closed, closed_size}
 use Rattle.cw_laws.{specs.Ends.piece_size, specs.Ends.bars_begin, specs.Ends.IsPieceIn, proofs.Strings.step-size}
@@ -23,8 +20,7 @@ record Rules (body : Body) (ends pairs : List ℕ → Bool) : Type 0 where
 module _ (body : Body) (ends pairs : List ℕ → Bool) (r : Rules body ends pairs) where
   goes : (i : Inside) (byte : ℕ) (bytes : List ℕ) → i.body ≡ body → i.along ≡ false
       → goes_on i (byte ∷ bytes) ≡ not (ends (byte ∷ bytes))
-  goes i byte bytes b a =
-      (λ k. a k || not (stops (b k) i.before byte bytes)) ∙ ap not (r.stop i.before byte bytes)
+  goes i byte bytes b a = (λ k. a k || not (stops (b k) i.before byte bytes)) ∙ ap not (r.stop i.before byte bytes)
 
   along : (i : Inside) (byte : ℕ) (bytes : List ℕ) → i.body ≡ body → i.along ≡ false
       → (stepped i byte bytes).along ≡ pairs (byte ∷ bytes)
@@ -49,9 +45,8 @@ module _ (body : Body) (ends pairs : List ℕ → Bool) (r : Rules body ends pai
     where
       by : (e : Bool) → ends (x ∷ []) ≡ e → (ended i (x ∷ [])).place - i.place ≡ (if e then 0 else 1)
       by e k = grind (arith, nat_tests, none, goes, step-size, nothing)
-  before-size i (x ∷ y ∷ ys) b a =
-      by (ends (x ∷ y ∷ ys)) (pairs (x ∷ y ∷ ys)) refl refl (λ e. before-size (stepped i x (y ∷ ys)) (y ∷ ys) b e)
-      (λ e. before-size (stepped (stepped i x (y ∷ ys)) y ys) ys b e)
+  before-size i (x ∷ y ∷ ys) b a = by (ends (x ∷ y ∷ ys)) (pairs (x ∷ y ∷ ys)) refl refl (λ e. before-size
+      (stepped i x (y ∷ ys)) (y ∷ ys) b e) (λ e. before-size (stepped (stepped i x (y ∷ ys)) y ys) ys b e)
     where
       one : Inside
       one = stepped i x (y ∷ ys)
@@ -62,11 +57,10 @@ module _ (body : Body) (ends pairs : List ℕ → Bool) (r : Rules body ends pai
       then-free : one.along ≡ true → (stepped one y ys).along ≡ false
       then-free e = ap (λ t. not t && takes_next i.body y ys) e
 
-      by : (e p : Bool) → ends (x ∷ y ∷ ys) ≡ e → pairs (x ∷ y ∷ ys) ≡ p
-          → (one.along ≡ false → (ended one (y ∷ ys)).place - one.place ≡ before_end ends pairs (y ∷ ys))
-          → ((stepped one y ys).along ≡ false
-          → (ended (stepped one y ys) ys).place - (stepped one y ys).place ≡ before_end ends pairs ys)
-          → (ended i (x ∷ y ∷ ys)).place - i.place
+      by : (e p : Bool) → ends (x ∷ y ∷ ys) ≡ e → pairs
+          (x ∷ y ∷ ys) ≡ p → (one.along ≡ false → (ended one (y ∷ ys)).place - one.place ≡ before_end ends pairs
+          (y ∷ ys)) → ((stepped one y ys).along ≡ false → (ended (stepped one y ys) ys).place -
+          (stepped one y ys).place ≡ before_end ends pairs ys) → (ended i (x ∷ y ∷ ys)).place - i.place
           ≡ (if e then 0 else if p then 2 + before_end ends pairs ys else 1 + before_end ends pairs (y ∷ ys))
       by true p k l rest behind = none i x (y ∷ ys) (goes i x (y ∷ ys) b a ∙ ap not k)
       by false true k l rest behind =
@@ -77,8 +71,7 @@ module _ (body : Body) (ends pairs : List ℕ → Bool) (r : Rules body ends pai
             step-size one y ys (taken al),
             behind (then-free al),
           )
-      by false false k l rest behind =
-          step-size i x (y ∷ ys) (goes i x (y ∷ ys) b a ∙ ap not k)
+      by false false k l rest behind = step-size i x (y ∷ ys) (goes i x (y ∷ ys) b a ∙ ap not k)
           ∙ ap (λ n. 1 + n) (rest (along i x (y ∷ ys) b a ∙ l))
 
 control-rules : Rules bodies.ControlText ends_control is_double_at
@@ -102,11 +95,9 @@ piece_at long deep braces place =
 
 piece-is : (long deep bars : Bool) (braces place : ℕ) (bytes : List ℕ) → bars ≡ not deep
     → (extent (piece_at long deep braces place) bytes).size ≡ piece_size long bars bytes
-piece-is long deep bars braces place bytes h =
-    and-none ((ended (piece_at long deep braces place) bytes).place - place)
+piece-is long deep bars braces place bytes h = and-none ((ended (piece_at long deep braces place) bytes).place - place)
     ∙ before-size (bodies.Piece long deep) (ends_piece long (not deep)) (is_pair long) (piece-rules long deep)
-    (piece_at long deep braces place) bytes refl refl
-    ∙ ap (λ b. piece_size long b bytes) (sym h)
+    (piece_at long deep braces place) bytes refl refl ∙ ap (λ b. piece_size long b bytes) (sym h)
   where
     and-none : (n : ℕ) → n + 0 ≡ n
     and-none n = omega arith
@@ -119,8 +110,7 @@ piece-whole mode false deep braces place bytes rest h = piece-is false deep _ br
 
 -- ## The texts of codes
 
-two-with : (first second : ℕ) (bytes : List ℕ)
-    → begins_with (first ∷ second ∷ []) bytes ≡ begins_two first second bytes
+two-with : (first second : ℕ) (bytes : List ℕ) → begins_with (first ∷ second ∷ []) bytes ≡ begins_two first second bytes
 two-with first second (x ∷ y ∷ ys) = by (x == first) (y == second)
   where
     by : (a b : Bool) → (a && (b && true)) ≡ (a && b)
@@ -154,8 +144,7 @@ noted-step i byte bytes h =
 
 behind-step : (kind : NoteKind) (i : Inside) (byte : ℕ) (bytes : List ℕ) → goes_on i (byte ∷ bytes) ≡ true
     → HasNote kind (noted (stepped i byte bytes) bytes) → HasNote kind (noted i (byte ∷ bytes))
-behind-step kind i byte bytes h k =
-    subst (HasNote kind) (sym (noted-step i byte bytes h))
+behind-step kind i byte bytes h k = subst (HasNote kind) (sym (noted-step i byte bytes h))
     (with-behind kind (note_here i byte bytes) i.place (noted (stepped i byte bytes) bytes) k)
 
 -- a body in which a single `@` is noted so
@@ -167,10 +156,8 @@ module _ (body : Body) (ends pairs : List ℕ → Bool) (r : Rules body ends pai
     (notes : NotesSingle body kind) where
   here-step : (i : Inside) (byte : ℕ) (bytes : List ℕ) → i.body ≡ body → i.along ≡ false
       → goes_on i (byte ∷ bytes) ≡ true → is_single byte bytes ≡ true → HasNote kind (noted i (byte ∷ bytes))
-  here-step i byte bytes b a h s =
-      subst (HasNote kind)
-      (sym (noted-step i byte bytes h ∙ ap (λ o. with_note o i.place (noted (stepped i byte bytes) bytes)) here))
-      (inl refl)
+  here-step i byte bytes b a h s = subst (HasNote kind) (sym (noted-step i byte bytes h
+      ∙ ap (λ o. with_note o i.place (noted (stepped i byte bytes) bytes)) here)) (inl refl)
     where
       here : note_here i byte bytes ≡ Some kind
       here = grind (arith, nat_tests)
@@ -187,22 +174,19 @@ module _ (body : Body) (ends pairs : List ℕ → Bool) (r : Rules body ends pai
       by : (e s : Bool) → ends (x ∷ []) ≡ e → is_single_at (x ∷ []) ≡ s
           → (if e || s then 0 else 1) < (if e then 0 else 1) → HasNote kind (noted i (x ∷ []))
       by e s k l less = grind (arith, nat_tests, here-step, on)
-  single-noted i (x ∷ y ∷ ys) b a less =
-      by (ends (x ∷ y ∷ ys)) (is_single_at (x ∷ y ∷ ys)) (pairs (x ∷ y ∷ ys)) refl refl refl less
-      (λ e. single-noted (stepped i x (y ∷ ys)) (y ∷ ys) b e)
+  single-noted i (x ∷ y ∷ ys) b a less = by (ends (x ∷ y ∷ ys)) (is_single_at (x ∷ y ∷ ys))
+      (pairs (x ∷ y ∷ ys)) refl refl refl less (λ e. single-noted (stepped i x (y ∷ ys)) (y ∷ ys) b e)
       (λ e. single-noted (stepped (stepped i x (y ∷ ys)) y ys) ys b e)
     where
       one : Inside
       one = stepped i x (y ∷ ys)
 
-      by : (e s p : Bool) → ends (x ∷ y ∷ ys) ≡ e → is_single_at (x ∷ y ∷ ys) ≡ s → pairs (x ∷ y ∷ ys) ≡ p
-          → (if e || s then 0
-          else if p then 2 + before_single ends pairs ys else 1 + before_single ends pairs (y ∷ ys))
-          < (if e then 0 else if p then 2 + before_end ends pairs ys else 1 + before_end ends pairs (y ∷ ys))
-          → (one.along ≡ false → before_single ends pairs (y ∷ ys) < before_end ends pairs (y ∷ ys)
-          → HasNote kind (noted one (y ∷ ys)))
-          → ((stepped one y ys).along ≡ false → before_single ends pairs ys < before_end ends pairs ys
-          → HasNote kind (noted (stepped one y ys) ys)) → HasNote kind (noted i (x ∷ y ∷ ys))
+      by : (e s p : Bool) → ends (x ∷ y ∷ ys) ≡ e → is_single_at (x ∷ y ∷ ys) ≡ s → pairs (x ∷ y ∷ ys) ≡ p → (if e || s
+          then 0 else if p then 2 + before_single ends pairs ys else 1 + before_single ends pairs (y ∷ ys)) <
+          (if e then 0 else if p then 2 + before_end ends pairs ys else 1 + before_end ends pairs (y ∷ ys))
+          → (one.along ≡ false → before_single ends pairs (y ∷ ys) < before_end ends pairs (y ∷ ys) → HasNote kind
+          (noted one (y ∷ ys))) → ((stepped one y ys).along ≡ false → before_single ends pairs ys < before_end ends
+          pairs ys → HasNote kind (noted (stepped one y ys) ys)) → HasNote kind (noted i (x ∷ y ∷ ys))
       by e s p k l m less rest behind = grind (arith, nat_tests, here-step, on, along, behind-step, one)
 
 note-in : (kind : NoteKind) (ns : List Noted) (later : List Answer) → HasNote kind ns
@@ -231,13 +215,11 @@ record IsCut (ends pairs : List ℕ → Bool) (i : Inside) (bytes : List ℕ) : 
   closed : (extent i bytes).closed ≡ is_closed ends pairs bytes
   size : (extent i bytes).size ≡ closed_size ends pairs bytes
 
-is-cut : (ends pairs : List ℕ → Bool) (i : Inside) (bytes : List ℕ)
-    → closing_bytes i.body ≡ at_sign ∷ greater ∷ []
+is-cut : (ends pairs : List ℕ → Bool) (i : Inside) (bytes : List ℕ) → closing_bytes i.body ≡ at_sign ∷ greater ∷ []
     → (ended i bytes).place - i.place ≡ before_end ends pairs bytes → IsCut ends pairs i bytes
 is-cut ends pairs i bytes by size = record {
   closed = closed;
-  size =
-      (λ k. if begins_with (by k) (drop (size k) bytes) then size k + length (by k) else size k)
+  size = (λ k. if begins_with (by k) (drop (size k) bytes) then size k + length (by k) else size k)
       ∙ ap (λ t. if t then before_end ends pairs bytes + 2 else before_end ends pairs bytes)
       (two-with at_sign greater (drop (before_end ends pairs bytes) bytes));
 }
@@ -245,22 +227,16 @@ is-cut ends pairs i bytes by size = record {
     closed : (extent i bytes).closed ≡ is_closed ends pairs bytes
     closed = grind (arith, nat_tests, two-with)
 
-control-cut : (place : ℕ) (bytes : List ℕ)
-    → IsCut ends_control is_double_at (at_start bodies.ControlText place) bytes
-control-cut place bytes =
-    is-cut ends_control is_double_at (at_start bodies.ControlText place) bytes refl
-    (before-size bodies.ControlText ends_control is_double_at control-rules (at_start bodies.ControlText place) bytes
-    refl refl)
+control-cut : (place : ℕ) (bytes : List ℕ) → IsCut ends_control is_double_at (at_start bodies.ControlText place) bytes
+control-cut place bytes = is-cut ends_control is_double_at (at_start bodies.ControlText place) bytes refl (before-size
+    bodies.ControlText ends_control is_double_at control-rules (at_start bodies.ControlText place) bytes refl refl)
 
 name-cut : (place : ℕ) (bytes : List ℕ) → IsCut ends_name (begins at_sign) (at_start bodies.SectionName place) bytes
-name-cut place bytes =
-    is-cut ends_name (begins at_sign) (at_start bodies.SectionName place) bytes refl
-    (before-size bodies.SectionName ends_name (begins at_sign) name-rules (at_start bodies.SectionName place) bytes
-    refl refl)
+name-cut place bytes = is-cut ends_name (begins at_sign) (at_start bodies.SectionName place) bytes refl (before-size
+    bodies.SectionName ends_name (begins at_sign) name-rules (at_start bodies.SectionName place) bytes refl refl)
 
 pub control-whole : (place byte next : ℕ) (bytes : List ℕ) (later : List Answer)
-    → HasControlText (byte ∷ next ∷ bytes)
-    (2 + (extent (at_start bodies.ControlText place) bytes).size)
+    → HasControlText (byte ∷ next ∷ bytes) (2 + (extent (at_start bodies.ControlText place) bytes).size)
     (note_answers (all_notes NoteKind.ControlTextUnended (at_start bodies.ControlText place) bytes) ++ later)
 control-whole place byte next bytes later =
     let i = at_start bodies.ControlText place in
@@ -269,9 +245,8 @@ control-whole place byte next bytes later =
       noted = λ h. unended-noted NoteKind.ControlTextUnended _ (extent i bytes).closed (extent i bytes).stop later
           ((control-cut place bytes).closed ∙ h);
       singles = λ less. note-in NoteKind.CodeInControlText (all_notes NoteKind.ControlTextUnended i bytes) later
-          (before-last NoteKind.CodeInControlText (noted i bytes) _
-          (single-noted bodies.ControlText ends_control is_double_at control-rules NoteKind.CodeInControlText
-          (λ braces byte bytes. refl) i bytes refl refl less));
+          (before-last NoteKind.CodeInControlText (noted i bytes) _ (single-noted bodies.ControlText ends_control
+          is_double_at control-rules NoteKind.CodeInControlText (λ braces byte bytes. refl) i bytes refl refl less));
     }
 
 pub name-whole : (code : Code) (place byte next : ℕ) (bytes : List ℕ) (later : List Answer)
@@ -286,11 +261,9 @@ name-whole code place byte next bytes later =
       whole = ap (λ n. 2 + n) cut.size;
       noted = λ h. note-in NoteKind.NameUnended notes later
           (note-before NoteKind.NameUnended first _ (unended (extent i bytes).closed (cut.closed ∙ h)));
-      singles = λ less. note-in NoteKind.CodeInName notes later
-          (note-behind NoteKind.CodeInName first _
-          (note-behind NoteKind.CodeInName (one_note _) (noted i bytes)
-          (single-noted bodies.SectionName ends_name (begins at_sign) name-rules NoteKind.CodeInName
-          (λ braces byte bytes. refl) i bytes refl refl less)));
+      singles = λ less. note-in NoteKind.CodeInName notes later (note-behind NoteKind.CodeInName first _
+          (note-behind NoteKind.CodeInName (one_note _) (noted i bytes) (single-noted bodies.SectionName ends_name
+          (begins at_sign) name-rules NoteKind.CodeInName (λ braces byte bytes. refl) i bytes refl refl less)));
     }
   where
     unended : (closed : Bool) → closed ≡ false

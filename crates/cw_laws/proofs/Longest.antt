@@ -1,22 +1,21 @@
 -- Each token is the longest that begins at its place.
-use Rattle.std.proofs.Common.{◌≡◌, ℕ, zero, suc, ◌+◌, ◌-◌, ◌<◌, Bool, true, false, ◌&&◌, ◌||◌, not, ◌==◌, nat_lt, List}
-use Rattle.std.proofs.Common.{[], ◌∷◌, ◌++◌, Some, None, if◌then◌else◌, length, slice_index, drop, take, refl, sym, ap}
-use Rattle.std.proofs.Common.{subst, ◌∙◌, arith}
-use Rattle.std.proofs.{lemmas.Bool.eqb-true, lemmas.Bool.Decides.nat_tests}
-use Rattle.cw_base.proofs.TestLaws.{both-failed, both-left, both-right, not-both, not-true, other-one}
-use Rattle.cw_rules.specs.declared.{bodies.Noted.Noted, codes.Code.Code, parts.Part.Part, parts.Opened.Opened}
-use Rattle.cw_rules.specs.declared.{signs.Sign.Sign, tokens.TokKind.TokKind}
-use Rattle.cw_rules.specs.Answers.{Answer, Token, Finish, Note, Where, Cut, Found, note_answers, plain}
-use Rattle.cw_base.specs.{Bytes.newline, Bytes.backslash, declared.notes.NoteKind.NoteKind}
-use Rattle.cw_rules.specs.Bytes.{apostrophe, slash, star, at_sign, hash, comma, equals, plus, left_paren, right_paren}
-use Rattle.cw_rules.specs.Bytes.{begins, begins_by, begins_with, is_letter, is_in, run}
-use Rattle.cw_rules.specs.Codes.{is_section, code_at, begins_section, has_control_text}
+use Rattle.cw_laws.proofs.Terms.{◌≡◌, ℕ, zero, suc, ◌+◌, ◌-◌, ◌<◌, Bool, true, false, ◌&&◌, ◌||◌, not, ◌==◌, nat_lt}
+use Rattle.cw_laws.proofs.Terms.{List, [], ◌∷◌, ◌++◌, Some, None, if◌then◌else◌, length, slice_index, drop, take, refl}
+use Rattle.cw_laws.proofs.Terms.{sym, ap, subst, ◌∙◌, arith, lemmas.Bool.eqb-true, lemmas.Bool.Decides.nat_tests}
+use Rattle.cw_laws.proofs.Terms.{both-failed, both-left, both-right, not-both, not-true, other-one, bodies.Noted.Noted}
+use Rattle.cw_laws.proofs.Terms.{codes.Code.Code, parts.Part.Part, parts.Opened.Opened, signs.Sign.Sign}
+use Rattle.cw_laws.proofs.Terms.{tokens.TokKind.TokKind, Answer, Token, Finish, Note, Where, Cut, Found, note_answers}
+use Rattle.cw_laws.proofs.Terms.{plain, Bytes.newline, Bytes.backslash, declared.notes.NoteKind.NoteKind, apostrophe}
+use Rattle.cw_laws.proofs.Terms.{slash, star, at_sign, hash, comma, equals, plus, left_paren, right_paren, begins}
+use Rattle.cw_laws.proofs.Terms.{begins_by, begins_with, is_letter, is_in, run, is_section, code_at, begins_section}
+use Rattle.cw_laws.proofs.Terms.{has_control_text, one_note, note_unless, noted, still_fresh, answers, fresh_after}
+use Rattle.cw_laws.proofs.Terms.{last_after, fresh_at, last_at, beginning, NoneIsLonger, begins_comment, IsSign}
+use Rattle.cw_laws.proofs.Terms.{IsOtherByte, IsIncludeName, IsLongest}
 use Rattle.cw_rules.specs.{Constants.constant, Prefixes.prefix_size, Signs.all_signs, Signs.longest, Signs.spelling}
 use Rattle.cw_rules.specs.{Tokens.head_sign_size, Tokens.is_parameter, Apart.in_text_apart, Apart.found_apart}
 use Rattle.cw_rules.specs.Tokens.{in_hash_line, moved, passed, one, comment_end, inner_cut, all_cut, section, is_quote}
 use Rattle.cw_rules.specs.Tokens.{section_code, section_name, string, control_text, alone_size, control_or_plain}
 use Rattle.cw_rules.specs.Tokens.{line_end, code_token, is_name, include_name, piece_start, identifier, behind_word}
-use Rattle.cw_rules.specs.Bodies.{one_note, note_unless, noted}
 use Rattle.cw_rules.proofs.{Choices.if-both, Taking.AreBare, Taking.bare-all-cut, StringPrefixes.no-prefix}
 use Rattle.cw_rules.proofs.Rules.{IsAlone, IsPassed, IncludeName, Prefixed, Quoted, Constant, Standing, Dropping}
 use Rattle.cw_rules.proofs.Rules.{OfSign, Other, CodeRule, LineEnd, HashLine, Word, Passed, Heading, Beginning}
@@ -24,8 +23,6 @@ use Rattle.cw_rules.proofs.Rules.{CommentRule, Closed, EndedLine, InnerBegin, Pi
 use Rattle.cw_rules.proofs.Rules.{PartRule, OfCode, OfLimbo, TexCode, TexHeading, TexDropped, TexBeginning, TexText}
 use Rattle.cw_rules.proofs.Rules.{HeadSign, HeadWord, Opening, ParameterSign, CommaStands, Closes, Dots, Improper}
 use Rattle.cw_rules.proofs.Rules.{ImproperInLimbo, within, code-rule, comment-rule, part-rule}
-use Rattle.cw_lex.specs.Lexing.{still_fresh, answers, fresh_after, last_after, fresh_at, last_at, beginning}
-use Rattle.cw_laws.specs.Longest.{NoneIsLonger, begins_comment, IsSign, IsOtherByte, IsIncludeName, IsLongest}
 use Rattle.cw_laws.specs.{Longest.AreLongest, Longest.TokensAreLongest, Strings.IsString}
 use Rattle.cw_lex.proofs.{Covering.drop-on, Walk.fresh-more, Walk.last-more}
 use Rattle.cw_laws.proofs.{CParts.c-parts, Strings.prefixed-is, Strings.unprefixed-is}
@@ -78,9 +75,8 @@ equals-first (b ∷ bs) = by (b == equals)
 abbrev size_by : (first second third : Bool) → ℕ
 size_by first second third = if (first && third) || (second && third) then 2 else (if first then 1 else 0)
 
-head-sign : (byte : ℕ) (bytes : List ℕ) → nat_lt 0 (head_sign_size (byte ∷ bytes)) ≡ true
-    → (0 < (if begins equals bytes then 2 else 1))
-    × ((if begins equals bytes then 2 else 1) ≡ head_sign_size (byte ∷ bytes))
+head-sign : (byte : ℕ) (bytes : List ℕ) → nat_lt 0 (head_sign_size (byte ∷ bytes)) ≡ true → (0 <
+    (if begins equals bytes then 2 else 1)) × ((if begins equals bytes then 2 else 1) ≡ head_sign_size (byte ∷ bytes))
 head-sign byte bytes h =
     let some = by (byte == equals) (byte == plus) (begins equals bytes) (sym (ap (nat_lt 0) size) ∙ h) in
     (some.0, some.1 ∙ sym size)
@@ -137,11 +133,9 @@ module _ (text : List ℕ) where
   abbrev missing : Opened → ℕ → List Noted
   missing c place = one_note (note_unless (c.braces == 0) NoteKind.MissingBrace place)
 
-  line-end-longest : (part : Part) (comments : List Opened) (last place : ℕ)
-      → begins newline (drop place text) ≡ true → last_at text place ≡ last
-      → Longest (line_end part comments last place)
-  line-end-longest part [] last place here behind =
-      if-both Longest (in_hash_line part && not (last == backslash)) _ _
+  line-end-longest : (part : Part) (comments : List Opened) (last place : ℕ) → begins newline (drop place text) ≡ true
+      → last_at text place ≡ last → Longest (line_end part comments last place)
+  line-end-longest part [] last place here behind = if-both Longest (in_hash_line part && not (last == backslash)) _ _
       (λ h. one-longest true (record { part = parts.Plain false false; comments = [] }) place (newline ∷ [])
       (plain kinds.HashLineEnd 1) (
         here,
@@ -151,10 +145,9 @@ module _ (text : List ℕ) where
       )) (λ h. tt)
   line-end-longest part (c ∷ comments) last place here behind =
       let hash_line = in_hash_line part in
-      if-both Longest c.long _ _ (λ h. tt)
-      (λ h. append-longest text (inner_cut hash_line place place ++ comment_end hash_line c place 0 [])
-      (line_end (passed part) comments last place).answers (noted-longest text (missing c place))
-      (line-end-longest (passed part) comments last place here behind))
+      if-both Longest c.long _ _ (λ h. tt) (λ h. append-longest text (inner_cut hash_line place place ++ comment_end
+      hash_line c place 0 []) (line_end (passed part) comments last place).answers
+      (noted-longest text (missing c place)) (line-end-longest (passed part) comments last place here behind))
 
   -- ## C text
 
@@ -165,31 +158,26 @@ module _ (text : List ℕ) where
       let P : Cut → Type 0 = λ c. Says hash_line place c.size c.kind in
       if-both P (is_name c) (section_name c place bytes) _ (λ k s. not-both (is_section c) s q)
       (λ k. if-both P (is_quote c) (string (kinds.Code c) 2 apostrophe place bytes) (control_or_plain c place bytes)
-      (λ k s. not-both (is_section c) s q)
-      (λ k. if-both P (has_control_text c) (control_text c place bytes) (plain (kinds.Code c) (alone_size bytes))
-      (λ k s. not-both (is_section c) s q) (λ k s. not-both (is_section c) s q)))
+      (λ k s. not-both (is_section c) s q) (λ k. if-both P (has_control_text c) (control_text c place bytes) (plain
+      (kinds.Code c) (alone_size bytes)) (λ k s. not-both (is_section c) s q) (λ k s. not-both (is_section c) s q)))
 
-  word-longest : (hash_line : Bool) (next : Where) (place byte : ℕ) (bytes : List ℕ)
-      → drop place text ≡ byte ∷ bytes → is_letter byte ≡ true
-      → Longest (one hash_line next place (byte ∷ bytes) (identifier (byte ∷ bytes)))
-  word-longest hash_line next place byte bytes here h =
-      one-longest hash_line next place (byte ∷ bytes) (identifier (byte ∷ bytes))
-      (ap (begins_by is_letter) here ∙ h, ap (run classes.Word) (sym here))
+  word-longest : (hash_line : Bool) (next : Where) (place byte : ℕ) (bytes : List ℕ) → drop place text ≡ byte ∷ bytes
+      → is_letter byte ≡ true → Longest (one hash_line next place (byte ∷ bytes) (identifier (byte ∷ bytes)))
+  word-longest hash_line next place byte bytes here h = one-longest hash_line next place (byte ∷ bytes)
+      (identifier (byte ∷ bytes)) (ap (begins_by is_letter) here ∙ h, ap (run classes.Word) (sym here))
 
   sign-here-is : (sign : Sign) (place byte wanted : ℕ) (bytes : List ℕ) → drop place text ≡ byte ∷ bytes
       → (byte == wanted) ≡ true → longest all_signs (wanted ∷ bytes) ≡ Some sign → constant (wanted ∷ bytes) ≡ 0
       → begins_comment (wanted ∷ bytes) ≡ false → IsSign sign (drop place text) (length (spelling sign))
-  sign-here-is sign place byte wanted bytes here h e c d =
-      subst (λ l. IsSign sign l (length (spelling sign))) (sym (here ∙ ap (λ b. b ∷ bytes) (eqb-true byte wanted h)))
-      (sign-is (wanted ∷ bytes) sign e c d)
+  sign-here-is sign place byte wanted bytes here h e c d = subst (λ l. IsSign sign l (length (spelling sign)))
+      (sym (here ∙ ap (λ b. b ∷ bytes) (eqb-true byte wanted h))) (sign-is (wanted ∷ bytes) sign e c d)
 
   -- a code at a place, which is no section code
   code-here : (hash_line : Bool) (next : Where) (fresh : Bool) (last place byte : ℕ) (bytes : List ℕ)
       → At fresh last place byte bytes → (byte == at_sign) ≡ true
       → Longest (one hash_line next place (byte ∷ bytes) (code_token (code_at bytes) place (byte ∷ bytes)))
-  code-here hash_line next fresh last place byte bytes here at =
-      one-longest hash_line next place (byte ∷ bytes) (code_token (code_at bytes) place (byte ∷ bytes))
-      (token-here hash_line (code_at bytes) place (byte ∷ bytes)
+  code-here hash_line next fresh last place byte bytes here at = one-longest hash_line next place (byte ∷ bytes)
+      (code_token (code_at bytes) place (byte ∷ bytes)) (token-here hash_line (code_at bytes) place (byte ∷ bytes)
       (both-failed (byte == at_sign) (begins_section bytes) here.plain at))
 
   begins-here : (fresh : Bool) (last place byte : ℕ) (bytes : List ℕ) → At fresh last place byte bytes
@@ -202,24 +190,20 @@ module _ (text : List ℕ) where
 
   passed-longest : (w : Where) (fresh : Bool) (last place byte : ℕ) (bytes : List ℕ) → At fresh last place byte bytes
       → (cut : Cut) → IsPassed w fresh place byte bytes cut → Says (in_hash_line w.part) place cut.size cut.kind
-  passed-longest w fresh last place byte bytes here _ (IncludeName h behind closes) =
-      subst (λ l. IsIncludeName l (include_name place (byte ∷ bytes)).size) (sym here.here)
-      (record { opened = h; closed = closes; whole = refl })
-  passed-longest w fresh last place byte bytes here _ (Prefixed h) =
-      subst (λ l. IsString l (string kinds.Quoted (prefix_size (byte ∷ bytes) + 1)
-      (slice_index (byte ∷ bytes) (prefix_size (byte ∷ bytes))) place (byte ∷ bytes)).size) (sym here.here)
-      (prefixed-is place byte bytes h)
+  passed-longest w fresh last place byte bytes here _ (IncludeName h behind closes) = subst (λ l. IsIncludeName l
+      (include_name place (byte ∷ bytes)).size) (sym here.here) (record { opened = h; closed = closes; whole = refl })
+  passed-longest w fresh last place byte bytes here _ (Prefixed h) = subst
+      (λ l. IsString l (string kinds.Quoted (prefix_size (byte ∷ bytes) + 1) (slice_index (byte ∷ bytes)
+      (prefix_size (byte ∷ bytes))) place (byte ∷ bytes)).size) (sym here.here) (prefixed-is place byte bytes h)
   passed-longest w fresh last place byte bytes here _ (Quoted letter h) =
       subst (λ l. IsString l (string kinds.Quoted (prefix_size (byte ∷ bytes) + 1) byte place (byte ∷ bytes)).size)
       (sym here.here) (unprefixed-is place byte bytes (no-prefix byte bytes letter) h)
   passed-longest w fresh last place byte bytes here _ (Constant h) = ap constant (sym here.here)
-  passed-longest w fresh last place byte bytes here _ (Standing at e) =
-      token-here (in_hash_line w.part) (code_at bytes) place (byte ∷ bytes)
-      (both-failed (byte == at_sign) (begins_section bytes) here.plain at)
+  passed-longest w fresh last place byte bytes here _ (Standing at e) = token-here (in_hash_line w.part)
+      (code_at bytes) place (byte ∷ bytes) (both-failed (byte == at_sign) (begins_section bytes) here.plain at)
   passed-longest w fresh last place byte bytes here _ (Dropping note at e) = tt
-  passed-longest w fresh last place byte bytes here _ (OfSign sign e b) =
-      subst (λ l. IsSign sign l (length (spelling sign))) (sym here.here)
-      (sign-is (byte ∷ bytes) sign e (none-below (constant (byte ∷ bytes)) b.constant)
+  passed-longest w fresh last place byte bytes here _ (OfSign sign e b) = subst (λ l. IsSign sign l (length
+      (spelling sign))) (sym here.here) (sign-is (byte ∷ bytes) sign e (none-below (constant (byte ∷ bytes)) b.constant)
       (no-comment (byte == slash) (begins star bytes) (begins slash bytes) b.long b.short))
   passed-longest w fresh last place byte bytes here _ (Other e b) =
       subst (λ l. IsOtherByte (in_hash_line w.part) l 1) (sym here.here) (other-is w fresh byte bytes b e)
@@ -233,9 +217,8 @@ module _ (text : List ℕ) where
       (ap (begins hash) here.here ∙ h, refl, here.freshly ∙ first)
   code-longest w fresh last place byte bytes here _ (Word bare h) =
       word-longest (in_hash_line w.part) (moved w (behind_word w.part (byte ∷ bytes))) place byte bytes here.here h
-  code-longest w fresh last place byte bytes here _ (Passed cut p) =
-      one-longest (in_hash_line w.part) (moved w (passed w.part)) place (byte ∷ bytes) cut
-      (passed-longest w fresh last place byte bytes here cut p)
+  code-longest w fresh last place byte bytes here _ (Passed cut p) = one-longest (in_hash_line w.part)
+      (moved w (passed w.part)) place (byte ∷ bytes) cut (passed-longest w fresh last place byte bytes here cut p)
   code-longest w fresh last place byte bytes here _ (Heading at e name may headed) =
       code-here (in_hash_line w.part) (moved w parts.Head) fresh last place byte bytes here at
   code-longest w fresh last place byte bytes here _ (Beginning effect part at e begun) =
@@ -249,10 +232,9 @@ module _ (text : List ℕ) where
       → CommentRule part c comments last place byte bytes f → Longest f
   comment-longest part c comments fresh last place byte bytes here _ (Closed long h) =
       noted-longest text (missing c place)
-  comment-longest part c comments fresh last place byte bytes here _ (EndedLine short h) =
-      append-longest text (comment_end (in_hash_line part) c place 0 []) (line_end part comments last place).answers
-      (noted-longest text (missing c place))
-      (line-end-longest part comments last place (ap (begins newline) here.here ∙ h) here.behind)
+  comment-longest part c comments fresh last place byte bytes here _ (EndedLine short h) = append-longest text
+      (comment_end (in_hash_line part) c place 0 []) (line_end part comments last place).answers (noted-longest text
+      (missing c place)) (line-end-longest part comments last place (ap (begins newline) here.here ∙ h) here.behind)
   comment-longest part c comments fresh last place byte bytes here _ (InnerBegin h deep) = tt
   comment-longest part c comments fresh last place byte bytes here _ (Piece closes line opens) =
       (tt, noted-longest text (noted (piece_start part comments c place) (byte ∷ bytes)))
@@ -268,14 +250,12 @@ module _ (text : List ℕ) where
   dots-here : (place byte : ℕ) (bytes : List ℕ) → drop place text ≡ byte ∷ bytes → is_letter byte ≡ false
       → (byte == comma) ≡ false → (byte == right_paren) ≡ false → is_parameter (byte ∷ bytes) ≡ true
       → IsSign signs.Ellipsis (drop place text) 3
-  dots-here place byte bytes here letter none more h =
-      subst (λ l. IsSign signs.Ellipsis l 3) (sym here)
+  dots-here place byte bytes here letter none more h = subst (λ l. IsSign signs.Ellipsis l 3) (sym here)
       (dots-are (byte ∷ bytes) (other-one (byte == right_paren) _
       (other-one (byte == comma) _ (other-one (is_letter byte) _ h letter) none) more))
 
-  part-longest : (fresh : Bool) (last place byte : ℕ) (bytes : List ℕ) → At fresh last place byte bytes
-      → (part : Part) → Wants part (byte ∷ bytes) → (f : Found) → PartRule fresh last place byte bytes part f
-      → Longest f
+  part-longest : (fresh : Bool) (last place byte : ℕ) (bytes : List ℕ) → At fresh last place byte bytes → (part : Part)
+      → Wants part (byte ∷ bytes) → (f : Found) → PartRule fresh last place byte bytes part f → Longest f
   part-longest fresh last place byte bytes here _ p _ (OfCode part f is r) =
       code-longest (within part) fresh last place byte bytes here f r
   part-longest fresh last place byte bytes here _ p _ (OfLimbo f r) = limbo-longest fresh last place byte bytes here f r
@@ -290,9 +270,8 @@ module _ (text : List ℕ) where
   part-longest fresh last place byte bytes here _ p _ (TexText at h) = (tt, tt)
   part-longest fresh last place byte bytes here _ p _ (HeadSign h) =
       let size = if begins equals bytes then 2 else 1 in
-      one-longest false (within (parts.Plain false false)) place (byte ∷ bytes) (plain kinds.HeadSign size)
-      (subst (λ l. (0 < size) × (size ≡ head_sign_size l)) (sym here.here)
-      (head-sign byte bytes (sign-here byte bytes h p)))
+      one-longest false (within (parts.Plain false false)) place (byte ∷ bytes) (plain kinds.HeadSign size) (subst
+      (λ l. (0 < size) × (size ≡ head_sign_size l)) (sym here.here) (head-sign byte bytes (sign-here byte bytes h p)))
   part-longest fresh last place byte bytes here _ p _ (HeadWord part next h k) =
       word-longest false (within next) place byte bytes here.here h
   part-longest fresh last place byte bytes here _ p _ (Opening code) =
@@ -320,22 +299,18 @@ module _ (text : List ℕ) where
       part-longest fresh last place byte bytes here part p _ (part-rule fresh last place byte bytes part)
   in-text-longest part (c ∷ comments) fresh last place byte bytes here p =
       let w : Where = record { part = part; comments = c ∷ comments } in
-      if-both Longest c.inner _ _
-      (λ h. code-longest w fresh last place byte bytes here _ (code-rule w fresh last place byte bytes))
-      (λ h. comment-longest part c comments fresh last place byte bytes here _
-      (comment-rule part c comments last place byte bytes))
+      if-both Longest c.inner _ _ (λ h. code-longest w fresh last place byte bytes here _
+      (code-rule w fresh last place byte bytes)) (λ h. comment-longest part c comments fresh last place byte bytes here
+      _ (comment-rule part c comments last place byte bytes))
 
   section-longest : (w : Where) (place byte : ℕ) (bytes : List ℕ) → drop place text ≡ byte ∷ bytes
       → (byte == at_sign && begins_section bytes) ≡ true → Longest (section w place bytes)
   section-longest w place byte bytes here h =
       let code = section_code (at_sign ∷ bytes) in
-      let P : Cut → Type 0 =
-      λ c. c.size ≡ (section_code (drop place text)).size → Says false place c.size c.kind in
-      append-longest text (all_cut w.part w.comments place place) _
-      (bare-longest text place (all_cut w.part w.comments place place)
-      (bare-all-cut w.part w.comments place place))
-      (one-longest false w place (at_sign ∷ bytes) code
-      (if-both P (begins star bytes) _ _ (λ k. says at.StarredSection (starred-is bytes k) _)
+      let P : Cut → Type 0 = λ c. c.size ≡ (section_code (drop place text)).size → Says false place c.size c.kind in
+      append-longest text (all_cut w.part w.comments place place) _ (bare-longest text place
+      (all_cut w.part w.comments place place) (bare-all-cut w.part w.comments place place)) (one-longest false w place
+      (at_sign ∷ bytes) code (if-both P (begins star bytes) _ _ (λ k. says at.StarredSection (starred-is bytes k) _)
       (λ k. says at.Section (section-is bytes (both-right (byte == at_sign) (begins_section bytes) h) k) _) size))
     where
       shown : drop place text ≡ at_sign ∷ bytes
@@ -363,21 +338,18 @@ module _ (text : List ℕ) where
   all-longest : (bytes : List ℕ) (w : Where) (fresh : Bool) (last place taken : ℕ) → drop place text ≡ bytes
       → Known fresh last place → WantsIn w.part w.comments (drop taken bytes)
       → AreLongest text (answers bytes w fresh last place taken)
-  all-longest [] w fresh last place taken here k p =
-      bare-longest text place (all_cut w.part w.comments place (place - 1))
-      (bare-all-cut w.part w.comments place (place - 1))
+  all-longest [] w fresh last place taken here k p = bare-longest text place
+      (all_cut w.part w.comments place (place - 1)) (bare-all-cut w.part w.comments place (place - 1))
   all-longest (byte ∷ bytes) w fresh last place zero here k p =
       let f = found_apart w fresh last place byte bytes in
       append-longest text f.answers (answers bytes f.next (still_fresh fresh byte) byte (place + 1) f.more)
       (if-both Longest (byte == at_sign && begins_section bytes) _ _ (λ h. section-longest w place byte bytes here h)
       (λ h. in-text-longest w.part w.comments fresh last place byte bytes
       (record { here = here; freshly = k.0; behind = k.1; plain = h }) p))
-      (all-longest bytes f.next (still_fresh fresh byte) byte (place + 1) f.more
-      (drop-on text place byte bytes here) (known-on fresh last place byte bytes here k)
-      (found-goes w fresh last place byte bytes p))
-  all-longest (byte ∷ bytes) w fresh last place (suc taken) here k p =
-      all-longest bytes w (still_fresh fresh byte) byte (place + 1) taken (drop-on text place byte bytes here)
-      (known-on fresh last place byte bytes here k) p
+      (all-longest bytes f.next (still_fresh fresh byte) byte (place + 1) f.more (drop-on text place byte bytes here)
+      (known-on fresh last place byte bytes here k) (found-goes w fresh last place byte bytes p))
+  all-longest (byte ∷ bytes) w fresh last place (suc taken) here k p = all-longest bytes w (still_fresh fresh byte) byte
+      (place + 1) taken (drop-on text place byte bytes here) (known-on fresh last place byte bytes here k) p
 
 pub tokens-are-longest : TokensAreLongest
 tokens-are-longest = record {

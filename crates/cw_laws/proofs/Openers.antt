@@ -1,25 +1,13 @@
 -- Each code with which definitions or a C part begin is the one that stands at its place.
-use Rattle.std.proofs.Common.{◌≡◌, ℕ, zero, suc, ◌+◌, Bool, true, false, ◌&&◌, ◌||◌, ◌==◌, List, [], ◌∷◌, ◌++◌}
-use Rattle.std.proofs.Common.{drop, Some, if◌then◌else◌, sym, ap, subst, ◌∙◌, arith}
-use Rattle.std.proofs.lemmas.Bool.Decides.{nat_tests}
-use Rattle.cw_base.proofs.TestLaws.{not-both}
-use Rattle.cw_rules.specs.declared.bodies.Noted.{Noted}
-use Rattle.cw_rules.specs.declared.codes.Code.{Code}
-use Rattle.cw_rules.specs.declared.tokens.Mode.TheVariants as modes
-use Rattle.cw_rules.specs.declared.tokens.TokKind.{TokKind}
-use Rattle.cw_rules.specs.Answers.{Answer, Token, Begin, Finish, Note, Seen, Where, Found, note_answers}
-use Rattle.cw_rules.specs.Bytes.{at_sign, begins}
-use Rattle.cw_rules.specs.Codes.{code_at, begins_section}
-use Rattle.cw_rules.specs.Tokens.{section, section_code}
-use Rattle.cw_rules.specs.Apart.{in_text_apart, found_apart}
-use Rattle.cw_rules.proofs.Choices.{if-both}
-use Rattle.cw_rules.proofs.CodeStarts.{kind_code, code_in, is_opener, in-text-tells}
-use Rattle.cw_rules.proofs.Taking.{AreBare, AreNotes, TakesAll, Takes, bare-all-cut, found-takes}
-use Rattle.cw_lex.specs.Lexing.{answers, still_fresh}
-use Rattle.cw_lex.specs.Openings.{opened_by}
+use Rattle.cw_laws.proofs.Terms.{◌≡◌, ℕ, zero, suc, ◌+◌, Bool, true, false, ◌&&◌, ◌||◌, ◌==◌, List, [], ◌∷◌, ◌++◌, drop}
+use Rattle.cw_laws.proofs.Terms.{Some, if◌then◌else◌, sym, ap, subst, ◌∙◌, arith, nat_tests, not-both, Code, TokKind}
+use Rattle.cw_laws.proofs.Terms.{Answer, Token, Begin, Finish, Note, Seen, Where, Found, note_answers, at_sign, begins}
+use Rattle.cw_laws.proofs.Terms.{code_at, begins_section, in_text_apart, found_apart, if-both, kind_code, code_in}
+use Rattle.cw_laws.proofs.Terms.{is_opener, in-text-tells, AreBare, AreNotes, TakesAll, Takes, bare-all-cut}
+use Rattle.cw_laws.proofs.Terms.{found-takes, answers, still_fresh, opened_by, opens_definitions, opens_c_part, drop-on}
+use Rattle.cw_rules.specs.{declared.bodies.Noted.Noted, Tokens.section, Tokens.section_code}
 use Rattle.cw_lex.proofs.FirstTokens.{bare-code}
-use Rattle.cw_laws.specs.Pieces.{opens_definitions, opens_c_part}
-use Rattle.cw_lex.proofs.Covering.{drop-on}
+use Rattle.cw_rules.specs.declared.tokens.Mode.TheVariants as modes
 
 -- The code of a token stands at its place.
 pub record CodeStands (text : List ℕ) (t : Seen) : Type 0 where
@@ -75,15 +63,13 @@ part-opens : (c : Code) → opens_part c ≡ true → is_opener c ≡ true
 part-opens c h = grind (arith, nat_tests)
 
 taking-openers : (text : List ℕ) (place byte : ℕ) (bytes : List ℕ) (more : ℕ) (xs : List Answer)
-    → drop place text ≡ byte ∷ bytes
-    → (is_opener (code_in xs) ≡ true → (byte ≡ 64) × (code_at bytes ≡ code_in xs))
+    → drop place text ≡ byte ∷ bytes → (is_opener (code_in xs) ≡ true → (byte ≡ 64) × (code_at bytes ≡ code_in xs))
     → TakesAll place (byte ∷ bytes) more xs → AreOpeners text xs
 taking-openers text place byte bytes more [] here told t = tt
 taking-openers text place byte bytes more (Token x ∷ xs) here told t = (
   λ k. let is = told (part-opens (kind_code x.kind) k) in
       record {
-        sign = ap (λ p. begins at_sign (drop p text)) t.0.from ∙ ap (begins at_sign) here
-            ∙ ap (λ b. b == at_sign) is.0;
+        sign = ap (λ p. begins at_sign (drop p text)) t.0.from ∙ ap (begins at_sign) here ∙ ap (λ b. b == at_sign) is.0;
         code = ap (λ p. code_at (drop (p + 1) text)) t.0.from ∙ ap code_at (drop-on text place byte bytes here) ∙ is.1;
       },
   notes-openers text xs t.1,
@@ -101,11 +87,9 @@ plain-openers text w fresh last place byte bytes here h =
     let t : Takes place (byte ∷ bytes) g = subst (Takes place (byte ∷ bytes)) plain
     (found-takes w fresh last place byte bytes) in
     let code : code_in g.answers ≡ code_in t.rest = ap code_in t.split ∙ bare-code place t.first t.rest t.bare in
-    subst (AreOpeners text) (sym t.split)
-    (append-openers text t.first t.rest (bare-openers text place t.first t.bare)
-    (taking-openers text place byte bytes g.more t.rest here
-    (subst (λ c. is_opener c ≡ true → (byte ≡ 64) × (code_at bytes ≡ c)) code
-    (in-text-tells w.part w.comments fresh last place byte bytes).code) t.whole))
+    subst (AreOpeners text) (sym t.split) (append-openers text t.first t.rest (bare-openers text place t.first t.bare)
+    (taking-openers text place byte bytes g.more t.rest here (subst (λ c. is_opener c ≡ true → (byte ≡ 64)
+    × (code_at bytes ≡ c)) code (in-text-tells w.part w.comments fresh last place byte bytes).code) t.whole))
 
 pub openers : (text bytes : List ℕ) (w : Where) (fresh : Bool) (last place taken : ℕ) → drop place text ≡ bytes
     → AreOpeners text (answers bytes w fresh last place taken)

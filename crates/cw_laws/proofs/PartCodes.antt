@@ -1,24 +1,15 @@
 -- The definitions and the C part of a section begin with codes of theirs, where they aren't empty.
-use Rattle.std.proofs.Common.{◌≡◌, ℕ, Bool, true, false, ◌||◌, not, List, [], ◌∷◌, Some, None, refl, sym, ap, subst}
-use Rattle.std.proofs.Common.{◌∙◌, inl, if◌then◌else◌, arith}
-use Rattle.std.proofs.lemmas.Bool.Decides.{nat_tests}
-use Rattle.cw_base.proofs.TestLaws.{both}
-use Rattle.cw_rules.specs.declared.codes.Code.{Code}
-use Rattle.cw_rules.specs.declared.tokens.Mode.TheVariants as modes
-use Rattle.cw_rules.specs.Answers.{Answer, Token, Begin, Finish, Note, Seen, has_sign}
-use Rattle.cw_rules.proofs.CodeStarts.{kind_code}
-use Rattle.cw_secnames.specs.Kept.{SecName}
-use Rattle.cw_phase1.specs.declared.roles.Part.{Part}
-use Rattle.cw_phase1.specs.declared.roles.Part.TheVariants as parts
-use Rattle.cw_phase1.specs.declared.roles.Standing.{Standing}
-use Rattle.cw_phase1.specs.Entering.{kept_behind}
-use Rattle.cw_phase1.specs.Roles.{defining, token_step, behind_begin, placed_from}
-use Rattle.cw_phase1.specs.Sections.{span, is_section_code, is_tex, is_program, ends_section, ends_definitions}
-use Rattle.cw_phase1.specs.Sections.{ends_tex, first_start}
-use Rattle.cw_phase1.proofs.PartEnds.{Ending, EndsBy, AtSection, AtDefinitions, AtCPart, Nowhere, ends-so, section-role}
-use Rattle.cw_phase1.proofs.PartEnds.{plain-role, plain-part}
-use Rattle.cw_laws.specs.Pieces.{BeginsBy, opens_definitions, opens_c_part}
+use Rattle.cw_laws.proofs.Terms.{◌≡◌, ℕ, Bool, true, false, ◌||◌, not, List, [], ◌∷◌, Some, None, refl, sym, ap, subst}
+use Rattle.cw_laws.proofs.Terms.{◌∙◌, inl, if◌then◌else◌, arith, nat_tests, both, Code, Answer, Token, Begin, Finish}
+use Rattle.cw_laws.proofs.Terms.{Note, Seen, has_sign, kind_code, SecName, kept_behind, defining, token_step}
+use Rattle.cw_laws.proofs.Terms.{behind_begin, placed_from, span, is_section_code, is_tex, is_program, ends_section}
+use Rattle.cw_laws.proofs.Terms.{ends_definitions, ends_tex, first_start, Ending, EndsBy, AtSection, AtDefinitions}
+use Rattle.cw_laws.proofs.Terms.{AtCPart, Nowhere, ends-so, section-role, plain-role, plain-part, BeginsBy}
+use Rattle.cw_laws.proofs.Terms.{opens_definitions, opens_c_part}
+use Rattle.cw_phase1.specs.{declared.roles.Part.Part, declared.roles.Standing.Standing}
 use Rattle.cw_laws.proofs.Openers.{CodeStands, AreOpeners, definition-code, program-code}
+use Rattle.cw_rules.specs.declared.tokens.Mode.TheVariants as modes
+use Rattle.cw_phase1.specs.declared.roles.Part.TheVariants as parts
 
 -- the code of a token of that kind stands where a part begins
 stands : (text : List ℕ) (opens : Code → Bool) (t : Seen) (end : ℕ) → CodeStands text t
@@ -44,14 +35,12 @@ module _ (text : List ℕ) (size : ℕ) where
   -- ## Definitions
 
   abbrev DefinitionsAt : Bool → Part → ℕ → ℕ → ℕ → Type 0
-  DefinitionsAt code part here tex definitions =
-      BeginsBy text opens_definitions (span (at_test (code || not (is_tex part)) here tex)
-      (at_test (code || is_program part) here definitions))
+  DefinitionsAt code part here tex definitions = BeginsBy text opens_definitions
+      (span (at_test (code || not (is_tex part)) here tex) (at_test (code || is_program part) here definitions))
 
   pub definitions-begin : (s : Standing) (kept : List SecName) (answers : List Answer) → s.part ≡ parts.Tex
-      → AreOpeners text answers
-      → BeginsBy text opens_definitions (span (first_start ends_tex size (placed_from s kept answers))
-      (first_start ends_definitions size (placed_from s kept answers)))
+      → AreOpeners text answers → BeginsBy text opens_definitions (span (first_start ends_tex size
+      (placed_from s kept answers)) (first_start ends_definitions size (placed_from s kept answers)))
   definitions-begin s kept [] e o = inl refl
   definitions-begin s kept (Token t ∷ answers) e o =
       let so = ends-so t.kind (has_sign answers) in
@@ -70,26 +59,21 @@ module _ (text : List ℕ) (size : ℕ) where
       definitions : ℕ
       definitions = first_start ends_definitions size (placed_from next (kept_behind t kept) answers)
 
-      as-part : (part : Part) → code ≡ false → next.part ≡ part
-          → DefinitionsAt false part t.span.start tex definitions
+      as-part : (part : Part) → code ≡ false → next.part ≡ part → DefinitionsAt false part t.span.start tex definitions
           → DefinitionsAt code next.part t.span.start tex definitions
-      as-part part c p h =
-          subst (λ c. DefinitionsAt c next.part t.span.start tex definitions) (sym c)
+      as-part part c p h = subst (λ c. DefinitionsAt c next.part t.span.start tex definitions) (sym c)
           (subst (λ part. DefinitionsAt false part t.span.start tex definitions) (sym p) h)
 
-      by : (how : Ending) → EndsBy t.kind (has_sign answers) how
-          → (next.part ≡ parts.Tex → BeginsBy text opens_definitions (span tex definitions))
-          → DefinitionsAt code next.part t.span.start tex definitions
-      by AtSection h rec =
-          subst (λ c. DefinitionsAt c next.part t.span.start tex definitions) (sym (section-role s t answers h))
-          (inl refl)
+      by : (how : Ending) → EndsBy t.kind (has_sign answers) how → (next.part ≡ parts.Tex → BeginsBy text
+          opens_definitions (span tex definitions)) → DefinitionsAt code next.part t.span.start tex definitions
+      by AtSection h rec = subst (λ c. DefinitionsAt c next.part t.span.start tex definitions)
+          (sym (section-role s t answers h)) (inl refl)
       by AtDefinitions h rec =
           let is = definition-code t.kind (has_sign answers) h.1 in
           as-part parts.Definitions (plain-role s t answers h.0)
           (plain-part s t answers (Some modes.Definition) h.0 h.1 ∙ ap defining e)
           (stands text opens_definitions t definitions (o.0 is.0) is.1)
-      by AtCPart h rec =
-          as-part parts.Program (plain-role s t answers h.0)
+      by AtCPart h rec = as-part parts.Program (plain-role s t answers h.0)
           (plain-part s t answers (Some modes.CPart) h.0 h.1) (inl refl)
       by Nowhere h rec =
           let same = plain-part s t answers None h.0 h.1 ∙ e in
@@ -105,9 +89,8 @@ module _ (text : List ℕ) (size : ℕ) where
       BeginsBy text opens_c_part (span (at_test (code || program) here definitions) (at_test code here end))
 
   pub c-part-begins : (s : Standing) (kept : List SecName) (answers : List Answer) → IsBefore s.part
-      → AreOpeners text answers
-      → BeginsBy text opens_c_part (span (first_start ends_definitions size (placed_from s kept answers))
-      (first_start ends_section size (placed_from s kept answers)))
+      → AreOpeners text answers → BeginsBy text opens_c_part (span (first_start ends_definitions size
+      (placed_from s kept answers)) (first_start ends_section size (placed_from s kept answers)))
   c-part-begins s kept [] e o = inl refl
   c-part-begins s kept (Token t ∷ answers) e o =
       let so = ends-so t.kind (has_sign answers) in
@@ -126,18 +109,14 @@ module _ (text : List ℕ) (size : ℕ) where
       end : ℕ
       end = first_start ends_section size (placed_from next (kept_behind t kept) answers)
 
-      as-part : (program : Bool) → code ≡ false → is_program next.part ≡ program
-          → ProgramAt false program t.span.start definitions end
-          → ProgramAt code (is_program next.part) t.span.start definitions end
-      as-part program c p h =
-          subst (λ c. ProgramAt c (is_program next.part) t.span.start definitions end) (sym c)
+      as-part : (program : Bool) → code ≡ false → is_program next.part ≡ program → ProgramAt false program t.span.start
+          definitions end → ProgramAt code (is_program next.part) t.span.start definitions end
+      as-part program c p h = subst (λ c. ProgramAt c (is_program next.part) t.span.start definitions end) (sym c)
           (subst (λ program. ProgramAt false program t.span.start definitions end) (sym p) h)
 
-      by : (how : Ending) → EndsBy t.kind (has_sign answers) how
-          → (IsBefore next.part → BeginsBy text opens_c_part (span definitions end))
-          → ProgramAt code (is_program next.part) t.span.start definitions end
-      by AtSection h rec =
-          subst (λ c. ProgramAt c (is_program next.part) t.span.start definitions end)
+      by : (how : Ending) → EndsBy t.kind (has_sign answers) how → (IsBefore next.part → BeginsBy text opens_c_part
+          (span definitions end)) → ProgramAt code (is_program next.part) t.span.start definitions end
+      by AtSection h rec = subst (λ c. ProgramAt c (is_program next.part) t.span.start definitions end)
           (sym (section-role s t answers h)) (inl refl)
       by AtDefinitions h rec =
           let is : next.part ≡ parts.Definitions =

@@ -1,27 +1,18 @@
 -- A C part without a scrap leaves nothing.
-use Rattle.std.proofs.Common.{◌≡◌, ℕ, Bool, false, ◌||◌, List, [], ◌∷◌, Option, None, refl, ap, ◌∙◌, if◌then◌else◌}
-use Rattle.std.proofs.Common.{arith}
-use Rattle.std.specs.Prelude.{is_some}
-use Rattle.std.proofs.lemmas.Bool.Decides.{nat_tests}
-use Rattle.cw_base.specs.declared.flags.Flags.{Flags}
+use Rattle.cw_laws.proofs.Terms.{◌≡◌, ℕ, Bool, false, ◌||◌, List, [], ◌∷◌, Option, None, refl, ap, ◌∙◌, if◌then◌else◌}
+use Rattle.cw_laws.proofs.Terms.{arith, is_some, nat_tests, Flags, Entry, Answer, Token, Begin, Finish, Note, Seen}
+use Rattle.cw_laws.proofs.Terms.{Code, TokKind, SecName, NameUse, group_makes, has_scrap, is_kept, token_makes}
 use Rattle.cw_lex.specs.Heads.{Headed, Named, headed, headed_by, headless, named_headed}
 use Rattle.cw_lex.specs.Nest.{Nest, End, Leaf, Group, IsGroupOf, IsWell, first_nest, group, is_text_kind, leaf, nest}
 use Rattle.cw_lex.specs.Nest.{nests}
-use Rattle.cw_names.specs.Names.{Entry}
-use Rattle.cw_rules.specs.Answers.{Answer, Token, Begin, Finish, Note, Seen}
-use Rattle.cw_rules.specs.declared.codes.Code.{Code}
-use Rattle.cw_rules.specs.declared.tokens.TokKind.{TokKind}
-use Rattle.cw_rules.specs.declared.tokens.TokKind.TheVariants as kind
 use Rattle.cw_scraps.specs.Applying.{categories}
 use Rattle.cw_table.specs.Normal.{normal}
-use Rattle.cw_secnames.specs.Kept.{SecName}
-use Rattle.cw_secnames.specs.Uses.{NameUse}
-use Rattle.cw_texts.specs.Printed.{group_makes, has_scrap, is_kept, token_makes}
 use Rattle.cw_translator.specs.NameParts.{name_texts, texts_kept}
 use Rattle.cw_translator.specs.Translating.{Ended, Known, Made, made_before, begin, beside, end_of, headed_made}
 use Rattle.cw_translator.specs.Translating.{leaf_of_name, made, nothing, state_in, token_made, translated}
 use Rattle.cw_translator.specs.Translating.{with_categories}
 use Rattle.cw_trees.specs.Joining.{whole}
+use Rattle.cw_rules.specs.declared.tokens.TokKind.TheVariants as kind
 
 neither : (a b : Bool) → (a || b) ≡ false → (a ≡ false) × (b ≡ false)
 neither a b h = grind (arith, nat_tests)
@@ -77,9 +68,8 @@ module _ (flags : Flags) (kept : List SecName) (uses : List NameUse) where
       → token_made (leaf_of_name flags (name_texts kept uses)) (kind.Code c) token known ≡ nothing known
   code-quiet c token known m = grind (arith, nat_tests, unnamed)
 
-  token-quiet : (k : TokKind) (token : Seen) (known : Known) → is_text_kind k ≡ false
-      → token_makes uses k token.span.start ≡ false
-      → token_made (leaf_of_name flags (name_texts kept uses)) k token known ≡ nothing known
+  token-quiet : (k : TokKind) (token : Seen) (known : Known) → is_text_kind k ≡ false → token_makes uses k
+      token.span.start ≡ false → token_made (leaf_of_name flags (name_texts kept uses)) k token known ≡ nothing known
   token-quiet k token known t m = grind (arith, nat_tests, code-quiet)
 
   made-quiet : (n : Nest) → IsWell false n → Quiet uses n → (known : Known)
@@ -97,10 +87,9 @@ module _ (flags : Flags) (kept : List SecName) (uses : List NameUse) where
   Rests h known = headed_made flags (name_texts kept uses) h known ≡ nothing known
 
   -- a name, which heads the part where its sign stands behind it
-  by-sign : (b : Bool) (name token : Seen) (rest : Nest) → IsWell false (Leaf name (Leaf token rest))
-      → Quiet uses (Leaf name (Leaf token rest)) → is_kept uses name.span.start ≡ false → (known : Known)
-      → Rests (if b then record { head = Named name.span.start token.span.start; rest = rest }
-      else headless (Leaf name (Leaf token rest))) known
+  by-sign : (b : Bool) (name token : Seen) (rest : Nest) → IsWell false (Leaf name (Leaf token rest)) → Quiet uses
+      (Leaf name (Leaf token rest)) → is_kept uses name.span.start ≡ false → (known : Known) → Rests (if b then record
+      { head = Named name.span.start token.span.start; rest = rest } else headless (Leaf name (Leaf token rest))) known
   by-sign b name token rest w q m known = grind (arith, nat_tests, no-text, headless-quiet)
 
   name-headed : (name : Seen) (rest : Nest) → IsWell false (Leaf name rest) → Quiet uses (Leaf name rest)
@@ -112,9 +101,8 @@ module _ (flags : Flags) (kept : List SecName) (uses : List NameUse) where
       → Rests (headed_by (kind.Code c) token rest) known
   code-headed c token rest w q m known = grind (arith, nat_tests, name-headed, headless-quiet)
 
-  kind-headed : (k : TokKind) (token : Seen) (rest : Nest) → IsWell false (Leaf token rest)
-      → Quiet uses (Leaf token rest) → token_makes uses k token.span.start ≡ false → (known : Known)
-      → Rests (headed_by k token rest) known
+  kind-headed : (k : TokKind) (token : Seen) (rest : Nest) → IsWell false (Leaf token rest) → Quiet uses (Leaf token
+      rest) → token_makes uses k token.span.start ≡ false → (known : Known) → Rests (headed_by k token rest) known
   kind-headed k token rest w q m known = grind (arith, nat_tests, code-headed, headless-quiet)
 
   headed-quiet : (n : Nest) → IsWell false n → Quiet uses n → (known : Known) → Rests (headed n) known
@@ -144,7 +132,5 @@ pub quiet-text : (flags : Flags) (kept : List SecName) (uses : List NameUse) (an
     (names : List Entry) → IsWell false (nest answers) → has_scrap uses answers ≡ false
     → translated flags (name_texts kept uses) answers names [] ≡ empty_text names
 unfolding translated
-quiet-text flags kept uses answers names w h =
-    ap (end_of flags) (headed-quiet flags kept uses (nest answers) w
-    (first-quiet uses (nests answers) (nests-quiet uses answers h)) (begin names []))
-    ∙ end-quiet flags names
+quiet-text flags kept uses answers names w h = ap (end_of flags) (headed-quiet flags kept uses (nest answers) w
+    (first-quiet uses (nests answers) (nests-quiet uses answers h)) (begin names [])) ∙ end-quiet flags names

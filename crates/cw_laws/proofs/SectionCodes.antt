@@ -1,15 +1,13 @@
 -- Each section code among the answers is the one that the bytes at its place make.
-use Rattle.std.proofs.Common.{◌≡◌, ℕ, zero, suc, ◌+◌, Bool, true, false, ◌&&◌, ◌==◌, List, [], ◌∷◌, ◌++◌, drop, refl}
-use Rattle.std.proofs.Common.{sym, ap, subst, ◌∙◌, arith}
-use Rattle.std.specs.Prelude.{if◌then◌else◌}
-use Rattle.std.proofs.{lemmas.Bool.eqb-true, lemmas.Bool.Decides.nat_tests}
-use Rattle.cw_base.proofs.TestLaws.{both-left, both, not-both}
+use Rattle.cw_laws.proofs.Terms.{◌≡◌, ℕ, zero, suc, ◌+◌, Bool, true, false, ◌&&◌, ◌==◌, List, [], ◌∷◌, ◌++◌, drop, refl}
+use Rattle.cw_laws.proofs.Terms.{sym, ap, subst, ◌∙◌, arith, if◌then◌else◌, lemmas.Bool.eqb-true}
+use Rattle.cw_laws.proofs.Terms.{lemmas.Bool.Decides.nat_tests, both-left, both, not-both, Answer, Token, Begin, Finish}
+use Rattle.cw_laws.proofs.Terms.{Note, Seen, Where, Found, note_answers, token_of, AreBare, AreNotes, TakesAll, Takes}
+use Rattle.cw_laws.proofs.Terms.{bare-all-cut, found-takes}
 use Rattle.cw_rules.specs.{declared.bodies.Noted.Noted, Bytes.at_sign, Bytes.begins, Codes.is_section}
 use Rattle.cw_rules.specs.{Codes.begins_section, Apart.in_text_apart, Apart.found_apart}
-use Rattle.cw_rules.specs.Answers.{Answer, Token, Begin, Finish, Note, Seen, Where, Found, note_answers, token_of}
 use Rattle.cw_rules.specs.Tokens.{all_cut, section, section_code}
 use Rattle.cw_rules.proofs.{Choices.if-both, CodeStarts.code_in, CodeStarts.in-text-tells}
-use Rattle.cw_rules.proofs.Taking.{AreBare, AreNotes, TakesAll, Takes, bare-all-cut, found-takes}
 use Rattle.cw_lex.specs.{Lexing.answers, Lexing.still_fresh, Nested.is_section_kind, Parts.is_section_at}
 use Rattle.cw_lex.proofs.{FirstTokens.bare-code, Openings.section-opens, Openings.section-kind-is, Covering.drop-on}
 
@@ -73,9 +71,8 @@ taking-coded : (text : List ℕ) (place : ℕ) (bytes : List ℕ) (more : ℕ) (
     → is_section (code_in xs) ≡ false → TakesAll place bytes more xs → AreCoded text xs
 taking-coded text place bytes more xs h t = grind (arith, nat_tests, not-both, section-kind-is, notes-coded)
 
-pub no-section : (w : Where) (fresh : Bool) (last place byte : ℕ) (bytes : List ℕ)
-    → (byte == at_sign && begins_section bytes) ≡ false
-    → is_section (code_in (in_text_apart w.part w.comments fresh last place byte bytes).answers) ≡ false
+pub no-section : (w : Where) (fresh : Bool) (last place byte : ℕ) (bytes : List ℕ) → (byte == at_sign && begins_section
+    bytes) ≡ false → is_section (code_in (in_text_apart w.part w.comments fresh last place byte bytes).answers) ≡ false
 no-section w fresh last place byte bytes h =
     by (is_section (code_in (in_text_apart w.part w.comments fresh last place byte bytes).answers)) refl
   where
@@ -89,18 +86,16 @@ no-section w fresh last place byte bytes h =
         not-both (byte == at_sign && begins_section bytes)
         (both (byte == at_sign) (begins_section bytes) (ap (λ b. b == at_sign) told.0) (ap is_section told.1 ∙ e)) h
 
-plain-coded : (text : List ℕ) (w : Where) (fresh : Bool) (last place byte : ℕ) (bytes : List ℕ)
-    → (byte == at_sign && begins_section bytes) ≡ false
-    → AreCoded text (in_text_apart w.part w.comments fresh last place byte bytes).answers
+plain-coded : (text : List ℕ) (w : Where) (fresh : Bool) (last place byte : ℕ) (bytes : List ℕ) → (byte == at_sign &&
+    begins_section bytes) ≡ false → AreCoded text (in_text_apart w.part w.comments fresh last place byte bytes).answers
 plain-coded text w fresh last place byte bytes h =
     let g = in_text_apart w.part w.comments fresh last place byte bytes in
     let plain : found_apart w fresh last place byte bytes ≡ g = ap (λ t. if t then section w place bytes else g) h in
     let t : Takes place (byte ∷ bytes) g = grind (arith, nat_tests, found-takes) in
     let code : code_in g.answers ≡ code_in t.rest = ap code_in t.split ∙ bare-code place t.first t.rest t.bare in
     subst (AreCoded text) (sym t.split)
-    (append-coded text t.first t.rest (bare-coded text place t.first t.bare)
-    (taking-coded text place (byte ∷ bytes) g.more t.rest
-    (ap is_section (sym code) ∙ no-section w fresh last place byte bytes h) t.whole))
+    (append-coded text t.first t.rest (bare-coded text place t.first t.bare) (taking-coded text place
+    (byte ∷ bytes) g.more t.rest (ap is_section (sym code) ∙ no-section w fresh last place byte bytes h) t.whole))
 
 -- ## All answers
 

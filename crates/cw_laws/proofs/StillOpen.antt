@@ -1,14 +1,10 @@
 -- What is open among the answers, where the scanner stands so.
-use Rattle.std.proofs.Common.{◌≡◌, ℕ, ◌+◌, Bool, true, false, not, ◌&&◌, List, [], ◌∷◌, refl, sym, ap, ◌∙◌, arith}
-use Rattle.std.proofs.Common.{length, nat_lt, if◌then◌else◌}
-use Rattle.std.proofs.{lemmas.List.Sums.sum_by-cons, lemmas.Bool.Decides.nat_tests}
-use Rattle.std.specs.List.{count_by}
-use Rattle.std.specs.Prelude.{cond}
-use Rattle.cw_base.proofs.TestLaws.{both-left}
-use Rattle.cw_rules.specs.declared.{parts.Part.Part, parts.Opened.Opened, tokens.Mode.Mode, tokens.TokKind.TokKind}
+use Rattle.cw_laws.proofs.Terms.{◌≡◌, ℕ, ◌+◌, Bool, true, false, not, ◌&&◌, List, [], ◌∷◌, refl, sym, ap, ◌∙◌, arith}
+use Rattle.cw_laws.proofs.Terms.{length, nat_lt, if◌then◌else◌, lemmas.List.Sums.sum_by-cons}
+use Rattle.cw_laws.proofs.Terms.{lemmas.Bool.Decides.nat_tests, count_by, cond, both-left, parts.Part.Part}
+use Rattle.cw_laws.proofs.Terms.{parts.Opened.Opened, tokens.Mode.Mode, tokens.TokKind.TokKind, if-both}
 use Rattle.cw_rules.specs.{Answers.Where, Tokens.moved}
 use Rattle.cw_rules.specs.Tokens.{in_hash_line, is_deep, passed, first_depth, behind_word, is_include, comment_kind}
-use Rattle.cw_rules.proofs.Choices.{if-both}
 use Rattle.cw_lex.specs.{Lexing.beginning, Openings.is_limbo_mode}
 use Rattle.cw_laws.specs.Ends.{is_inner_text, inner_depth, bars_begin}
 use Rattle.cw_rules.specs.declared.parts.Part.TheVariants as parts
@@ -54,8 +50,7 @@ pub like-hash : (part : Part) (hash_line include : Bool) → in_hash_line part �
 like-hash part hash_line include h = grind (arith, nat_tests)
 
 pub like-word : (part : Part) (bytes : List ℕ) → Like part (behind_word part bytes)
-like-word part bytes =
-    if-both (Like part) (in_hash_line part && is_include bytes) (parts.Plain true true) (passed part)
+like-word part bytes = if-both (Like part) (in_hash_line part && is_include bytes) (parts.Plain true true) (passed part)
     (λ h. like-hash part true true (both-left (in_hash_line part) (is_include bytes) h)) (λ h. like-passed part)
 
 -- a part of a section outside inner C text
@@ -144,8 +139,7 @@ depth-is : (mode : Mode) (opened : List TokKind)
     → inner_depth mode opened ≡ (if inner_mode mode then 1 else 0) + count_by is_inner_text opened
 depth-is mode opened = grind (arith, nat_tests, none-and)
 
-base-counts : (part : Part)
-    → (if inner_part part then 1 else 0) + count_by is_inner_text (base part) ≡ first_depth part
+base-counts : (part : Part) → (if inner_part part then 1 else 0) + count_by is_inner_text (base part) ≡ first_depth part
 base-counts parts.Inner = refl
 base-counts parts.TexInner = refl
 base-counts _ = refl
@@ -167,12 +161,10 @@ around-counts part (c ∷ cs) opened f =
       more,
     )
 
-pub deep-in : (part : Part) (c : Opened) (cs : List Opened) (mode : Mode) (rest : List TokKind)
-    → Agrees part mode → Around part cs rest
-    → bars_begin mode (comment_kind c.long ∷ rest) ≡ not (is_deep part (c ∷ cs))
-deep-in part c cs mode rest a f =
-    less (inner_depth mode (comment_kind c.long ∷ rest)) (first_depth part + length (c ∷ cs))
-    (omega (
+pub deep-in : (part : Part) (c : Opened) (cs : List Opened) (mode : Mode) (rest : List TokKind) → Agrees part mode
+    → Around part cs rest → bars_begin mode (comment_kind c.long ∷ rest) ≡ not (is_deep part (c ∷ cs))
+deep-in part c cs mode rest a f = less (inner_depth mode (comment_kind c.long ∷ rest))
+    (first_depth part + length (c ∷ cs)) (omega (
       arith,
       depth-is mode (comment_kind c.long ∷ rest),
       ap {B = ℕ} (λ b. if b then 1 else 0) a.inner,

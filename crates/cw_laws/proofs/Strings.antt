@@ -1,26 +1,21 @@
 -- A string ends with its quote, before a line's end or with the text.
-use Rattle.std.proofs.Common.{◌≡◌, ℕ, ◌+◌, ◌-◌, Bool, true, false, ◌&&◌, ◌||◌, not, ◌==◌, List, [], ◌∷◌, ◌++◌, nat_lt}
-use Rattle.std.proofs.Common.{codes, true≢false, slice_index, if◌then◌else◌, length, drop, refl, sym, ap, subst, ◌∙◌}
-use Rattle.std.proofs.Common.{arith, ◌⊎◌}
-use Rattle.std.proofs.{lemmas.Bool.eqb-true, lemmas.Bool.Decides.nat_tests}
-use Rattle.std.specs.List.{AllByRecursion, concat}
+use Rattle.cw_laws.proofs.Terms.{◌≡◌, ℕ, ◌+◌, ◌-◌, Bool, true, false, ◌&&◌, ◌||◌, not, ◌==◌, List, [], ◌∷◌, ◌++◌}
+use Rattle.cw_laws.proofs.Terms.{nat_lt, codes, true≢false, slice_index, if◌then◌else◌, length, drop, refl, sym, ap}
+use Rattle.cw_laws.proofs.Terms.{subst, ◌∙◌, arith, ◌⊎◌, lemmas.Bool.eqb-true, lemmas.Bool.Decides.nat_tests}
+use Rattle.cw_laws.proofs.Terms.{AllByRecursion, concat, drop-append_seam, drop-append-add, at_sign, quote, apostrophe}
+use Rattle.cw_laws.proofs.Terms.{begins, begins_by, begins_with, is_mark, stops, takes_next, stepped, goes_on, ended}
+use Rattle.cw_laws.proofs.Terms.{at_start, extent, last_after}
 use Rattle.cw_base.{proofs.TestLaws.both-left, proofs.TestLaws.both-right, specs.Bytes.newline, specs.Bytes.backslash}
-use Rattle.std.proofs.Math.Seq.{drop-append_seam, drop-append-add}
 use Rattle.cw_rules.specs.{declared.bodies.Inside.Inside, Prefixes.is_prefix_letter, Prefixes.prefix_size}
-use Rattle.cw_rules.specs.Bytes.{at_sign, quote, apostrophe, begins, begins_by, begins_with, is_mark}
-use Rattle.cw_rules.specs.Bodies.{stops, takes_next, stepped, goes_on, ended, at_start, extent}
 use Rattle.cw_rules.proofs.Inside.{ended-le}
-use Rattle.cw_lex.specs.Lexing.{last_after}
 use Rattle.cw_laws.specs.Strings.{LinesGoOn, is_piece, is_prefix, StringEnds, IsString}
 use Rattle.cw_rules.specs.declared.bodies.Body.TheVariants as bodies
 
 -- where the inside stops, before these bytes
 abbrev Stops : ℕ → ℕ → ℕ → ℕ → List ℕ → Type 0
 Stops mark last inside size [] = size ≡ inside
-Stops mark last inside size (byte ∷ bytes) =
-    ((byte ≡ mark) × (size ≡ inside))
-    ⊎ (((byte ≡ newline) × ((last == backslash) ≡ false) × (size ≡ inside))
-    ⊎ ((byte ≡ backslash) × (bytes ≡ []) × (size ≡ inside + 1)))
+Stops mark last inside size (byte ∷ bytes) = ((byte ≡ mark) × (size ≡ inside)) ⊎ (((byte ≡ newline)
+    × ((last == backslash) ≡ false) × (size ≡ inside)) ⊎ ((byte ≡ backslash) × (bytes ≡ []) × (size ≡ inside + 1)))
 
 record Split (mark : ℕ) (i : Inside) (bytes : List ℕ) : Type 0 where
   pieces : List (List ℕ)
@@ -39,9 +34,8 @@ step-ended : (i : Inside) (byte : ℕ) (bytes : List ℕ) → goes_on i (byte �
     → ended i (byte ∷ bytes) ≡ ended (stepped i byte bytes) bytes
 step-ended i byte bytes h = grind (arith, nat_tests)
 
-pub step-size : (i : Inside) (byte : ℕ) (bytes : List ℕ) → goes_on i (byte ∷ bytes) ≡ true
-    → (ended i (byte ∷ bytes)).place - i.place
-    ≡ 1 + ((ended (stepped i byte bytes) bytes).place - (stepped i byte bytes).place)
+pub step-size : (i : Inside) (byte : ℕ) (bytes : List ℕ) → goes_on i (byte ∷ bytes) ≡ true → (ended i
+    (byte ∷ bytes)).place - i.place ≡ 1 + ((ended (stepped i byte bytes) bytes).place - (stepped i byte bytes).place)
 step-size i byte bytes h = grind (arith, nat_tests, step-ended, ended-le)
 
 -- one byte, behind which no byte is taken along
@@ -54,12 +48,9 @@ one-on mark i byte bytes h p line s = record {
   rest = s.rest;
   lines = (line, s.lines);
   whole = ap (λ l. byte ∷ l) s.whole;
-  stops-so =
-      subst (λ n. Stops mark (last_after byte (concat s.pieces)) n ((ended i (byte ∷ bytes)).place - i.place) s.rest)
-      (omega arith)
-      (more-stops mark (last_after byte (concat s.pieces)) 1 (length (concat s.pieces)) _
-      ((ended i (byte ∷ bytes)).place - i.place) s.rest
-      (step-size i byte bytes h) s.stops-so);
+  stops-so = subst (λ n. Stops mark (last_after byte (concat s.pieces)) n ((ended i (byte ∷ bytes)).place - i.place)
+      s.rest) (omega arith) (more-stops mark (last_after byte (concat s.pieces)) 1 (length (concat s.pieces)) _
+      ((ended i (byte ∷ bytes)).place - i.place) s.rest (step-size i byte bytes h) s.stops-so);
 }
 
 -- a backslash and the byte behind it
@@ -73,13 +64,9 @@ two-on mark i byte next bytes h g p line s = record {
   rest = s.rest;
   lines = (line, ((λ e. eqb-true byte backslash p), s.lines));
   whole = ap (λ l. byte ∷ next ∷ l) s.whole;
-  stops-so =
-      subst (λ n. Stops mark (last_after next (concat s.pieces)) n ((ended i (byte ∷ next ∷ bytes)).place - i.place)
-      s.rest)
-      (omega arith)
-      (more-stops mark (last_after next (concat s.pieces)) 2 (length (concat s.pieces)) _
-      ((ended i (byte ∷ next ∷ bytes)).place - i.place) s.rest
-      (omega (
+  stops-so = subst (λ n. Stops mark (last_after next (concat s.pieces)) n ((ended i (byte ∷ next ∷ bytes)).place -
+      i.place) s.rest) (omega arith) (more-stops mark (last_after next (concat s.pieces)) 2 (length (concat s.pieces)) _
+      ((ended i (byte ∷ next ∷ bytes)).place - i.place) s.rest (omega (
         arith,
         step-size i byte (next ∷ bytes) h,
         step-size (stepped i byte (next ∷ bytes)) next bytes g,
@@ -105,8 +92,7 @@ going : (mark : ℕ) (i : Inside) (byte : ℕ) (bytes : List ℕ) → i.body ≡
     → goes_on i (byte ∷ bytes) ≡ true → GoesOn mark i byte bytes
 going mark i byte bytes b a h = grind (arith, nat_tests, eqb-true)
 
-piece-one : (mark byte : ℕ) → (byte == backslash) ≡ false → (byte == mark) ≡ false
-    → is_piece mark (byte ∷ []) ≡ true
+piece-one : (mark byte : ℕ) → (byte == backslash) ≡ false → (byte == mark) ≡ false → is_piece mark (byte ∷ []) ≡ true
 piece-one mark byte h g = λ k. not (h k || g k)
 
 split-none : (mark : ℕ) (i : Inside) → Split mark i []
@@ -123,9 +109,8 @@ split mark k i (x ∷ []) b a = by (goes_on i (x ∷ [])) refl
     by : (t : Bool) → goes_on i (x ∷ []) ≡ t → Split mark i (x ∷ [])
     by true h = kind (x == backslash) refl h
     by false h = stop-here mark i x [] b a h
-split mark k i (x ∷ y ∷ ys) b a =
-    by (goes_on i (x ∷ y ∷ ys)) refl (λ e. split mark k (stepped i x (y ∷ ys)) (y ∷ ys) b e)
-    (λ e. split mark k (stepped (stepped i x (y ∷ ys)) y ys) ys b e)
+split mark k i (x ∷ y ∷ ys) b a = by (goes_on i (x ∷ y ∷ ys)) refl (λ e. split mark k (stepped i x (y ∷ ys))
+    (y ∷ ys) b e) (λ e. split mark k (stepped (stepped i x (y ∷ ys)) y ys) ys b e)
   where
     taken : (stepped i x (y ∷ ys)).along ≡ true → goes_on (stepped i x (y ∷ ys)) (y ∷ ys) ≡ true
     taken e = ap (λ t. t || not (stops i.body x y ys)) e
@@ -136,11 +121,9 @@ split mark k i (x ∷ y ∷ ys) b a =
     no-newline : at_sign ≡ newline → ⊥
     no-newline e = let wrong : false ≡ true = ap (λ b. b == newline) e in cc
 
-    kind : (t u : Bool) → (x == backslash) ≡ t → (x == at_sign && y == at_sign) ≡ u
-        → goes_on i (x ∷ y ∷ ys) ≡ true
-        → ((stepped i x (y ∷ ys)).along ≡ false → Split mark (stepped i x (y ∷ ys)) (y ∷ ys))
-        → ((stepped (stepped i x (y ∷ ys)) y ys).along ≡ false
-        → Split mark (stepped (stepped i x (y ∷ ys)) y ys) ys) → Split mark i (x ∷ y ∷ ys)
+    kind : (t u : Bool) → (x == backslash) ≡ t → (x == at_sign && y == at_sign) ≡ u → goes_on i (x ∷ y ∷ ys) ≡ true
+        → ((stepped i x (y ∷ ys)).along ≡ false → Split mark (stepped i x (y ∷ ys)) (y ∷ ys)) → ((stepped (stepped i x
+        (y ∷ ys)) y ys).along ≡ false → Split mark (stepped (stepped i x (y ∷ ys)) y ys) ys) → Split mark i (x ∷ y ∷ ys)
     kind true u e f h one two =
         let g = going mark i x (y ∷ ys) b a h in
         let along : (stepped i x (y ∷ ys)).along ≡ true = grind (arith, nat_tests) in
@@ -157,10 +140,9 @@ split mark k i (x ∷ y ∷ ys) b a =
         let g = going mark i x (y ∷ ys) b a h in
         one-on mark i x (y ∷ ys) h (piece-one mark x e g.not-mark) g.line (one (g.along ∙ (λ j. e j || f j)))
 
-    by : (t : Bool) → goes_on i (x ∷ y ∷ ys) ≡ t
-        → ((stepped i x (y ∷ ys)).along ≡ false → Split mark (stepped i x (y ∷ ys)) (y ∷ ys))
-        → ((stepped (stepped i x (y ∷ ys)) y ys).along ≡ false
-        → Split mark (stepped (stepped i x (y ∷ ys)) y ys) ys) → Split mark i (x ∷ y ∷ ys)
+    by : (t : Bool) → goes_on i (x ∷ y ∷ ys) ≡ t → ((stepped i x (y ∷ ys)).along ≡ false → Split mark
+        (stepped i x (y ∷ ys)) (y ∷ ys)) → ((stepped (stepped i x (y ∷ ys)) y ys).along ≡ false → Split mark
+        (stepped (stepped i x (y ∷ ys)) y ys) ys) → Split mark i (x ∷ y ∷ ys)
     by true h one two = kind (x == backslash) (x == at_sign && y == at_sign) refl refl h one two
     by false h one two = stop-here mark i x (y ∷ ys) b a h
 
@@ -199,8 +181,7 @@ string-is prefix prefixed mark place bytes h =
     closed-or-not rest t e f = grind (arith, nat_tests, inside)
 
     rest-is : (front rest : List ℕ) → bytes ≡ front ++ rest → inside ≡ length front → drop inside bytes ≡ rest
-    rest-is front rest w e =
-        ap (λ n. drop n bytes) e ∙ ap (drop (length front)) w ∙ drop-append_seam front rest
+    rest-is front rest w e = ap (λ n. drop n bytes) e ∙ ap (drop (length front)) w ∙ drop-append_seam front rest
 
     newline-other : (newline == mark) ≡ false
     newline-other = mark-is (λ m. (newline == m) ≡ false) mark h refl refl
@@ -257,9 +238,8 @@ prefixed-is place byte bytes =
     by false false f g h = absurd cc
 
 pub unprefixed-is : (place mark : ℕ) (bytes : List ℕ) → prefix_size (mark ∷ bytes) ≡ 0 → is_mark mark ≡ true
-    → IsString (mark ∷ bytes) ((prefix_size (mark ∷ bytes) + 1)
-    + (extent (at_start (bodies.Quoted mark) (place + (prefix_size (mark ∷ bytes) + 1)))
-    (drop (prefix_size (mark ∷ bytes) + 1) (mark ∷ bytes))).size)
+    → IsString (mark ∷ bytes) ((prefix_size (mark ∷ bytes) + 1) + (extent (at_start (bodies.Quoted mark)
+    (place + (prefix_size (mark ∷ bytes) + 1))) (drop (prefix_size (mark ∷ bytes) + 1) (mark ∷ bytes))).size)
 unprefixed-is place mark bytes none h =
     subst (λ n. IsString (mark ∷ bytes) ((n + 1) + (extent (at_start (bodies.Quoted mark) (place + (n + 1)))
     (drop (n + 1) (mark ∷ bytes))).size)) (sym none) (string-is [] refl mark (place + 1) bytes h)

@@ -1,38 +1,20 @@
 -- Where limbo and plain TeX parts stand in the TeX file of a book, and in what is written of it.
-use Rattle.std.proofs.Common.{◌≡◌, ℕ, zero, suc, ◌+◌, ◌==◌, Bool, true, false, ◌||◌, not, List, [], ◌∷◌, ◌++◌, Some}
-use Rattle.std.proofs.Common.{codes, slice_get, take, inl, inr, refl, sym, ap, subst, ◌∙◌, arith, append_assoc}
-use Rattle.std.proofs.Common.{eqb-true}
+use Rattle.cw_laws.proofs.Terms.{◌≡◌, ℕ, zero, suc, ◌+◌, ◌==◌, Bool, true, false, ◌||◌, not, List, [], ◌∷◌, ◌++◌, Some}
+use Rattle.cw_laws.proofs.Terms.{codes, slice_get, take, inl, inr, refl, sym, ap, subst, ◌∙◌, arith, append_assoc}
+use Rattle.cw_laws.proofs.Terms.{eqb-true, nat_tests, newline, Flags, Span, closing_lines, last_after, Entry, footnotes}
+use Rattle.cw_laws.proofs.Terms.{definitions_done, first_opening, part_by, at_section, ending, rest_done, section_done}
+use Rattle.cw_laws.proofs.Terms.{sections_done, Book, Section, at_sign, Done, head, Ink, Print, bytes_of, end_if, inks}
+use Rattle.cw_laws.proofs.Terms.{laid, limbo_bytes, printed_limbo, beside_in, tex_done, Setting, setting}
+use Rattle.cw_laws.proofs.Terms.{printed_definitions, scanned, all_sections, tex_file, EndInLine, HasLineEnd}
+use Rattle.cw_laws.proofs.Terms.{HaveShortLines, written_of, BeginsWith, HasNo, IsPlain, PlainTextIsKept}
+use Rattle.cw_laws.proofs.Terms.{before_section, first_line, kept_bytes, last_line_ended, plain_limbo, plain_tex}
 use Rattle.std.proofs.lemmas.Option.{none-some}
-use Rattle.std.proofs.lemmas.Bool.Decides.{nat_tests}
-use Rattle.cw_base.specs.Bytes.{newline}
-use Rattle.cw_base.specs.declared.flags.Flags.{Flags}
-use Rattle.cw_base.specs.declared.span.Span.{Span}
-use Rattle.cw_index.specs.Closing.{closing_lines}
-use Rattle.cw_lex.specs.Lexing.{last_after}
 use Rattle.cw_lines.specs.Cut.{cut_behind}
-use Rattle.cw_names.specs.Names.{Entry}
-use Rattle.cw_part.specs.Footnotes.{footnotes}
-use Rattle.cw_part.specs.Parts.{definitions_done, first_opening, part_by}
-use Rattle.cw_part.specs.Sections.{at_section, ending, rest_done, section_done, sections_done}
-use Rattle.cw_phase1.specs.declared.book.Book.{Book}
-use Rattle.cw_phase1.specs.declared.sections.Section.{Section}
-use Rattle.cw_rules.specs.Bytes.{at_sign}
-use Rattle.cw_rules.specs.declared.tokens.Mode.TheVariants as modes
-use Rattle.cw_texpart.specs.Done.{Done}
-use Rattle.cw_texpart.specs.Heads.{head}
-use Rattle.cw_texpart.specs.Inks.{Ink, Print, LineEnd, bytes_of, end_if, inks, laid}
-use Rattle.cw_texpart.specs.Limbo.{limbo_bytes, printed_limbo}
-use Rattle.cw_texpart.specs.TexParts.{beside_in, tex_done}
-use Rattle.cw_texpart.specs.Texts.{Setting, setting}
-use Rattle.cw_texts.specs.Definitions.{printed_definitions}
-use Rattle.cw_texts.specs.Scans.{scanned}
-use Rattle.cw_weave.specs.TexFile.{all_sections, tex_file}
-use Rattle.cw_laws.specs.Files.{EndInLine, HasLineEnd, HaveShortLines, written_of}
-use Rattle.cw_laws.specs.TexText.{BeginsWith, HasNo, IsPlain, PlainTextIsKept, before_section, first_line, kept_bytes}
-use Rattle.cw_laws.specs.TexText.{last_line_ended, plain_limbo, plain_tex}
+use Rattle.cw_texpart.specs.Inks.{LineEnd}
 use Rattle.cw_laws.proofs.CutLines.{written-append, written-short}
 use Rattle.cw_laws.proofs.Endings.{behind-any, both-end, ends-then}
 use Rattle.cw_laws.proofs.PlainText.{limbo-kept, limbo-of-web, no-c-text, tex-kept}
+use Rattle.cw_rules.specs.declared.tokens.Mode.TheVariants as modes
 
 -- ## Limbo and sections end in lines
 
@@ -63,8 +45,7 @@ laid-ends (Print byte ∷ is) holds = grind (arith, nat_tests, laid-ends is (not
 laid-ends (LineEnd empty ∷ is) holds = line-end-ends holds empty (laid false is) (laid-ends is false)
 
 limbo-ends : (text : List ℕ) (part : Span) → HasLineEnd (limbo_bytes text part)
-limbo-ends text part =
-    ends-then first_line (printed_limbo text part) (codes "\\input cwebmac", refl)
+limbo-ends text part = ends-then first_line (printed_limbo text part) (codes "\\input cwebmac", refl)
     (laid-ends (inks text (scanned modes.Limbo text part)) false)
 
 section-ends : (s : Setting) (section : Section) (names : List Entry) → HasLineEnd (section_done s section names).out
@@ -74,8 +55,7 @@ section-ends s section names =
     (printed_definitions s.text section.definitions) tex.names in
     let part : Done ℕ = part_by (beside_in s section) s section definitions.names in
     behind-any tex.out (definitions.out ++ (part.out ++ ending s section))
-    (behind-any definitions.out (part.out ++ ending s section)
-    (behind-any part.out (ending s section)
+    (behind-any definitions.out (part.out ++ ending s section) (behind-any part.out (ending s section)
     (behind-any (footnotes s section) (codes "\\fi\n\n") (codes "\\fi\n", refl))))
 
 sections-end : (s : Setting) (n : ℕ) (sections : List Section) (names : List Entry)
@@ -119,8 +99,7 @@ section-at s first zero number (one ∷ sections) section names bytes is found p
     let number_is : first ≡ number = omega arith in
     let same : one ≡ section = cc in record {
       rest = rest.out ++ later;
-      is = append_assoc tex.out rest.out later
-          ∙ ap (λ (l : List ℕ). l ++ (rest.out ++ later))
+      is = append_assoc tex.out rest.out later ∙ ap (λ (l : List ℕ). l ++ (rest.out ++ later))
           (ap (λ (n : ℕ). (tex_done (at_section s n) one names).out) number_is
           ∙ ap (λ (x : Section). (tex_done (at_section s number) x names).out) same ∙ prints names);
     }
@@ -146,20 +125,18 @@ limbo-in-file text flags b none =
           ∙ ap (λ (l : List ℕ). first_line ++ (l ++ rest)) (limbo-kept text b.outline.limbo none);
     }
 
-tex-in-file : (text : List ℕ) (flags : Flags) (b : Book) (n : ℕ) (section : Section)
-    → slice_get b.outline.sections n ≡ Some section → IsPlain (setting text flags (n + 1) b) section
-    → BeginsWith (before_section text flags b n) (plain_tex (setting text flags (n + 1) b) section)
-    (tex_file text flags b).out
+tex-in-file : (text : List ℕ) (flags : Flags) (b : Book) (n : ℕ) (section : Section) → slice_get b.outline.sections n
+    ≡ Some section → IsPlain (setting text flags (n + 1) b) section → BeginsWith (before_section text flags b n)
+    (plain_tex (setting text flags (n + 1) b) section) (tex_file text flags b).out
 tex-in-file text flags b n section found plain =
     let s : Setting = setting text flags 0 b in
     let closing : List ℕ = closing_lines flags b.outline.sections in
     let limbo : List ℕ = limbo_bytes text b.outline.limbo in
     let bytes : List ℕ = plain_tex (setting text flags (n + 1) b) section in
     let before : List ℕ = (sections_done s 1 (take n b.outline.sections) b.names).out in
-    let all : BeginsWith before bytes (all_sections text flags b).out =
-    section-at s 1 n (n + 1) b.outline.sections section b.names bytes (omega arith) found
-    (λ (names : List Entry). ap (λ (d : Done ℕ). d.out)
-    (tex-kept (setting text flags (n + 1) b) section names plain)) in record {
+    let all : BeginsWith before bytes (all_sections text flags b).out = section-at s 1 n
+    (n + 1) b.outline.sections section b.names bytes (omega arith) found (λ (names : List Entry). ap
+    (λ (d : Done ℕ). d.out) (tex-kept (setting text flags (n + 1) b) section names plain)) in record {
       rest = all.rest ++ closing;
       is = ap (λ (l : List ℕ). limbo ++ (l ++ closing)) all.is ∙ within limbo before bytes all.rest closing;
     }
@@ -170,10 +147,8 @@ written-begins : (before bytes file : List ℕ) → EndInLine before → EndInLi
     → BeginsWith before bytes file → BeginsWith (written_of before) bytes (written_of file)
 written-begins before bytes file front ended short begins = record {
   rest = written_of begins.rest;
-  is = ap written_of begins.is
-      ∙ written-append before (bytes ++ begins.rest) front
-      ∙ ap (λ (l : List ℕ). written_of before ++ l)
-      (written-append bytes begins.rest ended
+  is = ap written_of begins.is ∙ written-append before (bytes ++ begins.rest) front
+      ∙ ap (λ (l : List ℕ). written_of before ++ l) (written-append bytes begins.rest ended
       ∙ ap (λ (l : List ℕ). l ++ written_of begins.rest) (written-short bytes ended short));
 }
 
@@ -184,20 +159,17 @@ first-written = refl
 limbo-written : (text : List ℕ) (flags : Flags) (b : Book) → HasNo at_sign (bytes_of text b.outline.limbo)
     → HaveShortLines (plain_limbo text b)
     → BeginsWith first_line (plain_limbo text b) (written_of (tex_file text flags b).out)
-limbo-written text flags b none short =
-    subst (λ (front : List ℕ). BeginsWith front (plain_limbo text b) (written_of (tex_file text flags b).out))
-    first-written
+limbo-written text flags b none short = subst
+    (λ (front : List ℕ). BeginsWith front (plain_limbo text b) (written_of (tex_file text flags b).out)) first-written
     (written-begins first_line (plain_limbo text b) (tex_file text flags b).out (inr (codes "\\input cwebmac", refl))
     (last-ends (kept_bytes text b.outline.limbo)) short (limbo-in-file text flags b none))
 
 tex-written : (text : List ℕ) (flags : Flags) (b : Book) (n : ℕ) (section : Section)
     → slice_get b.outline.sections n ≡ Some section → IsPlain (setting text flags (n + 1) b) section
-    → HaveShortLines (plain_tex (setting text flags (n + 1) b) section)
-    → BeginsWith (written_of (before_section text flags b n)) (plain_tex (setting text flags (n + 1) b) section)
-    (written_of (tex_file text flags b).out)
-tex-written text flags b n section found plain short =
-    written-begins (before_section text flags b n) (plain_tex (setting text flags (n + 1) b) section)
-    (tex_file text flags b).out (before-ends text flags b n)
+    → HaveShortLines (plain_tex (setting text flags (n + 1) b) section) → BeginsWith (written_of (before_section text
+    flags b n)) (plain_tex (setting text flags (n + 1) b) section) (written_of (tex_file text flags b).out)
+tex-written text flags b n section found plain short = written-begins (before_section text flags b n)
+    (plain_tex (setting text flags (n + 1) b) section) (tex_file text flags b).out (before-ends text flags b n)
     (last-ends (head flags.ranged text (n + 1) section ++ bytes_of text section.tex)) short
     (tex-in-file text flags b n section found plain)
 

@@ -1,14 +1,13 @@
 -- Where a head is read, what it wants stands there: a `(` directly behind a macro's name, and a sign behind the name
 -- that begins a C part.
-use Rattle.std.proofs.Common.{◌≡◌, ℕ, suc, ◌+◌, ◌-◌, Bool, true, false, ◌&&◌, not, ◌==◌, nat_lt, List, [], ◌∷◌}
-use Rattle.std.proofs.Common.{if◌then◌else◌, drop, sym, ap, ◌∙◌, arith}
-use Rattle.std.proofs.{lemmas.List.drop-drop, lemmas.Bool.Decides.nat_tests}
+use Rattle.cw_laws.proofs.Terms.{◌≡◌, ℕ, suc, ◌+◌, ◌-◌, Bool, true, false, ◌&&◌, not, ◌==◌, nat_lt, List, [], ◌∷◌}
+use Rattle.cw_laws.proofs.Terms.{if◌then◌else◌, drop, sym, ap, ◌∙◌, arith, lemmas.List.drop-drop}
+use Rattle.cw_laws.proofs.Terms.{lemmas.Bool.Decides.nat_tests, codes.Code.Code, codes.Effect.Effect, parts.Part.Part}
+use Rattle.cw_laws.proofs.Terms.{tokens.Mode.Mode, in_text_apart, found_apart, at_sign, apostrophe, left_paren, begins}
+use Rattle.cw_laws.proofs.Terms.{begins_by, is_in, is_letter, run, beginning}
 use Rattle.cw_base.{proofs.TestLaws.both-right, specs.Bytes.backslash}
-use Rattle.cw_rules.specs.declared.{codes.Code.Code, codes.Effect.Effect, parts.Part.Part, tokens.Mode.Mode}
 use Rattle.cw_rules.specs.{declared.parts.Opened.Opened, Answers.Where, Answers.Found, Bodies.at_start, Bodies.extent}
 use Rattle.cw_rules.specs.{Codes.begins_section, Codes.code_at, Tokens.is_code_part}
-use Rattle.cw_rules.specs.Apart.{in_text_apart, found_apart}
-use Rattle.cw_rules.specs.Bytes.{at_sign, apostrophe, left_paren, begins, begins_by, is_in, is_letter, run}
 use Rattle.cw_rules.specs.Tokens.{behind_inner, code_token, control_or_plain, head_sign_size, in_hash_line, is_head}
 use Rattle.cw_rules.specs.Tokens.{is_include, is_name, is_quote, is_signed, line_end, may_head, name_follows}
 use Rattle.cw_rules.specs.Tokens.{parameter_follows, passed, section_name, string, is_parameter, behind_word, inner_end}
@@ -17,7 +16,6 @@ use Rattle.cw_rules.proofs.Rules.{BeginsPart, Macro, CodeRule, LineEnd, Space, H
 use Rattle.cw_rules.proofs.Rules.{Beginning, Comment, InnerEnd, CommentRule, Closed, EndedLine, LimboRule, LimboText}
 use Rattle.cw_rules.proofs.Rules.{PartRule, OfCode, OfLimbo, TexHeading, TexBeginning, Blank, White, MacroWanted}
 use Rattle.cw_rules.proofs.Rules.{HeadWord, BeforeParameters, ParameterSign, CommaStands, Improper, ImproperInLimbo}
-use Rattle.cw_lex.specs.Lexing.{beginning}
 use Rattle.cw_rules.specs.declared.bodies.Body.TheVariants as bodies
 use Rattle.cw_rules.specs.declared.classes.Class.TheVariants as classes
 use Rattle.cw_rules.specs.declared.parts.Part.TheVariants as parts
@@ -65,8 +63,7 @@ passed-free _ h = h
 
 line-end-free : (part : Part) (comments : List Opened) (last place : ℕ) → IsFree part
     → Frees (line_end part comments last place)
-line-end-free part [] last place p =
-    if-both Frees (in_hash_line part && not (last == backslash)) _ _ (λ h. tt) (λ h. p)
+line-end-free part [] last place p = if-both Frees (in_hash_line part && not (last == backslash)) _ _ (λ h. tt) (λ h. p)
 line-end-free part (c ∷ comments) last place p =
     if-both Frees c.long _ _ (λ h. p) (λ h. line-end-free (passed part) comments last place (passed-free part p))
 
@@ -74,19 +71,16 @@ line-end-free part (c ∷ comments) last place p =
 
 name-size : (code : Code) (place : ℕ) (bytes : List ℕ) → is_name code ≡ true
     → (code_token code place bytes).size ≡ 2 + (extent (at_start bodies.SectionName (place + 2)) (drop 2 bytes)).size
-name-size code place bytes h =
-    ap (λ t. (if t then section_name code place bytes else (if is_quote code
-    then string (kinds.Code code) 2 apostrophe place bytes else control_or_plain code place bytes)).size) h
+name-size code place bytes h = ap (λ t. (if t then section_name code place bytes else (if is_quote code then string
+    (kinds.Code code) 2 apostrophe place bytes else control_or_plain code place bytes)).size) h
 
 -- behind the name that begins a C part stands its sign
-sign-behind : (code : Code) (place byte : ℕ) (bytes : List ℕ) → is_name code ≡ true
-    → is_head place (byte ∷ bytes) ≡ true
-    → is_signed (drop ((code_token code place (byte ∷ bytes)).size - 1) bytes) ≡ true
+sign-behind : (code : Code) (place byte : ℕ) (bytes : List ℕ) → is_name code ≡ true → is_head place (byte ∷ bytes)
+    ≡ true → is_signed (drop ((code_token code place (byte ∷ bytes)).size - 1) bytes) ≡ true
 sign-behind code place byte bytes named h =
     let e = extent (at_start bodies.SectionName (place + 2)) (drop 1 bytes) in
     let more : (code_token code place (byte ∷ bytes)).size - 1 ≡ 1 + e.size = grind (arith, nat_tests, name-size) in
-    ap (λ n. is_signed (drop n bytes)) more
-    ∙ ap is_signed (sym (drop-drop e.size 1 bytes))
+    ap (λ n. is_signed (drop n bytes)) more ∙ ap is_signed (sym (drop-drop e.size 1 bytes))
     ∙ both-right e.closed (is_signed (drop e.size (drop 1 bytes))) h
 
 head-wants : (part : Part) (comments : List Opened) (bytes : List ℕ) → may_head part comments ≡ true
@@ -104,10 +98,9 @@ code-goes w fresh last place byte bytes p _ (LineEnd h) =
 code-goes w fresh last place byte bytes p _ (Space line h) = free-wants-in w.part w.comments bytes p
 code-goes w fresh last place byte bytes p _ (HashLine h takes first) =
     free-wants-in (parts.Plain true false) w.comments bytes tt
-code-goes w fresh last place byte bytes p _ (Word bare h) =
-    free-wants-in (behind_word w.part (byte ∷ bytes)) w.comments (drop (run classes.Word (byte ∷ bytes) - 1) bytes)
-    (if-both IsFree (in_hash_line w.part && is_include (byte ∷ bytes)) (parts.Plain true true) (passed w.part)
-    (λ h. tt) (λ h. passed-free w.part p))
+code-goes w fresh last place byte bytes p _ (Word bare h) = free-wants-in (behind_word w.part (byte ∷ bytes)) w.comments
+    (drop (run classes.Word (byte ∷ bytes) - 1) bytes) (if-both IsFree (in_hash_line w.part && is_include
+    (byte ∷ bytes)) (parts.Plain true true) (passed w.part) (λ h. tt) (λ h. passed-free w.part p))
 code-goes w fresh last place byte bytes p _ (Passed cut k) =
     free-wants-in (passed w.part) w.comments (drop (cut.size - 1) bytes) (passed-free w.part p)
 code-goes w fresh last place byte bytes p _ (Heading at e name may headed) =
@@ -123,8 +116,7 @@ code-goes w fresh last place byte bytes p _ (InnerEnd h ends) =
 
 comment-goes : (part : Part) (c : Opened) (comments : List Opened) (last place byte : ℕ) (bytes : List ℕ)
     → IsFree part → (f : Found) → CommentRule part c comments last place byte bytes f → Goes bytes f
-comment-goes part c comments last place byte bytes p _ (Closed long h) =
-    free-wants-in part comments (drop 1 bytes) p
+comment-goes part c comments last place byte bytes p _ (Closed long h) = free-wants-in part comments (drop 1 bytes) p
 comment-goes part c comments last place byte bytes p _ (EndedLine short h) =
     free-goes bytes (line_end part comments last place) (line-end-free part comments last place p)
 comment-goes part c comments last place byte bytes p _ _ = p
@@ -139,8 +131,7 @@ blank-before : (byte : ℕ) (bytes : List ℕ) → is_in classes.Blank byte ≡ 
 blank-before byte bytes h signed =
     let more : 1 + run classes.Blank bytes ≡ suc (run classes.Blank bytes) = omega arith in
     sym (ap (λ t. nat_lt 0 (head_sign_size (drop (if t then 1 + run classes.Blank bytes else 0) (byte ∷ bytes)))) h
-    ∙ ap (λ n. nat_lt 0 (head_sign_size (drop n (byte ∷ bytes)))) more)
-    ∙ signed
+    ∙ ap (λ n. nat_lt 0 (head_sign_size (drop n (byte ∷ bytes)))) more) ∙ signed
 
 -- no blank before it
 pub sign-here : (byte : ℕ) (bytes : List ℕ) → is_in classes.Blank byte ≡ false → is_signed (byte ∷ bytes) ≡ true
@@ -150,9 +141,8 @@ sign-here byte bytes h signed = grind (arith, nat_tests)
 -- a letter where a head wants one
 pub letter-here : (byte : ℕ) (bytes : List ℕ) → is_in classes.White byte ≡ false → name_follows (byte ∷ bytes) ≡ true
     → is_letter byte ≡ true
-letter-here byte bytes h follows =
-    sym (ap (λ t. begins_by is_letter (drop (if t then 1 + run classes.White bytes else 0) (byte ∷ bytes))) h)
-    ∙ follows
+letter-here byte bytes h follows = sym
+    (ap (λ t. begins_by is_letter (drop (if t then 1 + run classes.White bytes else 0) (byte ∷ bytes))) h) ∙ follows
 
 -- what may stand among the parameters of a macro, where it is wanted
 pub parameter-here : (byte : ℕ) (bytes : List ℕ) → is_in classes.White byte ≡ false
@@ -195,8 +185,7 @@ part-goes fresh last place byte bytes _ p _ (ImproperInLimbo code second f r) = 
 part-goes fresh last place byte bytes _ p _ _ = tt
 
 in-text-goes : (part : Part) (comments : List Opened) (fresh : Bool) (last place byte : ℕ) (bytes : List ℕ)
-    → WantsIn part comments (byte ∷ bytes)
-    → Goes bytes (in_text_apart part comments fresh last place byte bytes)
+    → WantsIn part comments (byte ∷ bytes) → Goes bytes (in_text_apart part comments fresh last place byte bytes)
 in-text-goes part [] fresh last place byte bytes p =
     part-goes fresh last place byte bytes part p _ (part-rule fresh last place byte bytes part)
 in-text-goes part (c ∷ comments) fresh last place byte bytes p =
@@ -207,12 +196,10 @@ in-text-goes part (c ∷ comments) fresh last place byte bytes p =
 
 pub found-goes : (w : Where) (fresh : Bool) (last place byte : ℕ) (bytes : List ℕ)
     → WantsIn w.part w.comments (byte ∷ bytes) → Goes bytes (found_apart w fresh last place byte bytes)
-found-goes w fresh last place byte bytes p =
-    if-both (Goes bytes) (byte == at_sign && begins_section bytes) _ _ (λ h. tt)
-    (λ h. in-text-goes w.part w.comments fresh last place byte bytes p)
+found-goes w fresh last place byte bytes p = if-both (Goes bytes) (byte == at_sign && begins_section bytes) _ _
+    (λ h. tt) (λ h. in-text-goes w.part w.comments fresh last place byte bytes p)
 
-pub beginning-wants : (mode : Mode) (bytes : List ℕ)
-    → WantsIn (beginning mode).part (beginning mode).comments bytes
+pub beginning-wants : (mode : Mode) (bytes : List ℕ) → WantsIn (beginning mode).part (beginning mode).comments bytes
 beginning-wants modes.Limbo bytes = tt
 beginning-wants modes.TexText bytes = tt
 beginning-wants modes.CPart bytes = tt

@@ -1,21 +1,16 @@
 -- Between the bytes of answers stands only white space, and a backslash only in a `#` line.
-use Rattle.std.proofs.Common.{◌≡◌, ℕ, zero, suc, ◌+◌, ◌-◌, ◌≤◌, Bool, true, false, ◌&&◌, ◌||◌, ◌==◌, List, [], ◌∷◌}
-use Rattle.std.proofs.Common.{◌++◌, Option, Some, None, length, take, drop, refl, sym, ap, subst, ◌∙◌, arith}
-use Rattle.std.proofs.Common.{append_assoc, length-drop, append-nil}
-use Rattle.std.proofs.lemmas.Bool.{cases_lt, eqb-true}
-use Rattle.std.proofs.{lemmas.List.length-take, lemmas.Bool.Decides.nat_tests}
-use Rattle.cw_base.proofs.TestLaws.{both, not-both}
-use Rattle.cw_rules.specs.declared.{tokens.Mode.Mode, tokens.TokKind.TokKind}
-use Rattle.cw_rules.specs.Answers.{Answer, Token, Begin, Finish, Note, Where, Found}
+use Rattle.cw_laws.proofs.Terms.{◌≡◌, ℕ, zero, suc, ◌+◌, ◌-◌, ◌≤◌, Bool, true, false, ◌&&◌, ◌||◌, ◌==◌, List, [], ◌∷◌}
+use Rattle.cw_laws.proofs.Terms.{◌++◌, Option, Some, None, length, take, drop, refl, sym, ap, subst, ◌∙◌, arith}
+use Rattle.cw_laws.proofs.Terms.{append_assoc, length-drop, append-nil, cases_lt, eqb-true, lemmas.List.length-take}
+use Rattle.cw_laws.proofs.Terms.{lemmas.Bool.Decides.nat_tests, both, not-both, tokens.Mode.Mode}
+use Rattle.cw_laws.proofs.Terms.{tokens.TokKind.TokKind, Answer, Token, Begin, Finish, Note, Where, Found, AreBare}
+use Rattle.cw_laws.proofs.Terms.{AreNotes, TakesAll, Takes, bare-all-cut, found-takes, still_fresh, answers, fresh_at}
+use Rattle.cw_laws.proofs.Terms.{last_at, beginning, tokens_of, is_section_kind, drop-part, begins-take, drop-on}
+use Rattle.cw_laws.proofs.Terms.{hash_line_by, hash_line_behind, begins_space_in, IsSpaceIn, LeavesSpace}
 use Rattle.cw_rules.specs.{Bytes.at_sign, Codes.is_section, Codes.begins_section, Order.begins_space, Order.AreWithin}
 use Rattle.cw_rules.specs.{Tokens.all_cut, Tokens.in_hash_line, Tokens.section, Apart.in_text_apart, Apart.found_apart}
 use Rattle.cw_rules.proofs.{Choices.if-both, CodeStarts.code_in, Within.found-fits}
-use Rattle.cw_rules.proofs.Taking.{AreBare, AreNotes, TakesAll, Takes, bare-all-cut, found-takes}
-use Rattle.cw_lex.specs.Lexing.{still_fresh, answers, fresh_at, last_at, beginning, tokens_of}
-use Rattle.cw_lex.specs.Nested.{is_section_kind}
-use Rattle.cw_lex.proofs.Covering.{drop-part, begins-take, drop-on}
 use Rattle.cw_lex.proofs.{TokensWithin.tokens-within, Openings.section-kind-is}
-use Rattle.cw_laws.specs.WhiteSpace.{hash_line_by, hash_line_behind, begins_space_in, IsSpaceIn, LeavesSpace}
 use Rattle.cw_laws.{specs.WhiteSpace.BackslashesContinueHashLines, proofs.SectionCodes.no-section}
 use Rattle.cw_laws.proofs.HashLines.{kind_in, line_with, in-text-lined, has_start, found-starts}
 
@@ -45,16 +40,14 @@ after-grows : (a line : Bool) (o : Option TokKind) → (a ≡ true → line ≡ 
 after-grows a line o h s e = grind (arith, nat_tests, line-grows)
 
 found-line : (w : Where) (fresh : Bool) (last place byte : ℕ) (bytes : List ℕ) (line : Bool)
-    → (in_hash_line w.part ≡ true → line ≡ true)
-    → in_hash_line (found_apart w fresh last place byte bytes).next.part ≡ true
-    → line_after line (kind_in (found_apart w fresh last place byte bytes).answers) ≡ true
+    → (in_hash_line w.part ≡ true → line ≡ true) → in_hash_line (found_apart w fresh last place byte bytes).next.part
+    ≡ true → line_after line (kind_in (found_apart w fresh last place byte bytes).answers) ≡ true
 found-line w fresh last place byte bytes line h =
     let g = in_text_apart w.part w.comments fresh last place byte bytes in
     if-both (λ (f : Found). in_hash_line f.next.part ≡ true → line_after line (kind_in f.answers) ≡ true)
     (byte == at_sign && begins_section bytes) (section w place bytes) g (λ k e. absurd cc)
-    (λ k e. after-grows (in_hash_line w.part) line (kind_in g.answers) h
-    (no-section-in g.answers (no-section w fresh last place byte bytes k))
-    (in-text-lined w.part w.comments fresh last place byte bytes e))
+    (λ k e. after-grows (in_hash_line w.part) line (kind_in g.answers) h (no-section-in g.answers
+    (no-section w fresh last place byte bytes k)) (in-text-lined w.part w.comments fresh last place byte bytes e))
 
 space-by : (white slash next line : Bool) → (white || (slash && next)) ≡ true → (slash ≡ true → line ≡ true)
     → (white || (line && (slash && next))) ≡ true
@@ -96,10 +89,9 @@ space-on : (text : List ℕ) (line : Bool) (from place : ℕ) → IsSpaceIn text
     → begins_space_in line (drop place text) ≡ true → IsSpaceIn text line from (place + 1)
 space-on text line from place s h p low high = grind (arith, nat_tests, cases_lt)
 
-bare-leaves : (text : List ℕ) (line : Bool) (from place end : ℕ) (xs ys : List Answer) → AreBare place xs
-    → from ≤ place → IsSpaceIn text line from place
-    → ((low : ℕ) → low ≤ place → IsSpaceIn text line low place → LeavesSpace text line low end ys)
-    → LeavesSpace text line from end (xs ++ ys)
+bare-leaves : (text : List ℕ) (line : Bool) (from place end : ℕ) (xs ys : List Answer) → AreBare place xs → from ≤ place
+    → IsSpaceIn text line from place → ((low : ℕ) → low ≤ place → IsSpaceIn text line low place → LeavesSpace text line
+    low end ys) → LeavesSpace text line from end (xs ++ ys)
 bare-leaves text line from place end [] ys h low space rest = rest from low space
 bare-leaves text line from place end (Finish t ∷ xs) ys h low space rest = (
   more-space text line from place t.span.start (sym h.0) space,
@@ -117,11 +109,9 @@ notes-leave text line from end (Note kind about ∷ xs) ys h c = notes-leave tex
 notes-leave _ _ _ _ _ _ h _ = absurd h
 
 whole-leaves : (text : List ℕ) (line : Bool) (from place more end : ℕ) (bytes : List ℕ) (xs ys : List Answer)
-    → TakesAll place bytes more xs
-    → (has_start xs ≡ false → begins_space bytes ≡ true → begins_space_in line (drop place text) ≡ true)
-    → from ≤ place → IsSpaceIn text line from place
-    → ((low : ℕ) → low ≤ (place + 1) + more
-    → IsSpaceIn text (line_after line (kind_in xs)) low ((place + 1) + more)
+    → TakesAll place bytes more xs → (has_start xs ≡ false → begins_space bytes ≡ true → begins_space_in line
+    (drop place text) ≡ true) → from ≤ place → IsSpaceIn text line from place
+    → ((low : ℕ) → low ≤ (place + 1) + more → IsSpaceIn text (line_after line (kind_in xs)) low ((place + 1) + more)
     → LeavesSpace text (line_after line (kind_in xs)) low end ys) → LeavesSpace text line from end (xs ++ ys)
 whole-leaves text line from place more end bytes [] ys h s low space rest =
     let e : place + 1 ≡ (place + 1) + more = omega (arith, h.0) in
@@ -135,36 +125,30 @@ whole-leaves text line from place more end bytes (Token t ∷ xs) ys h s low spa
 whole-leaves text line from place more end bytes (Begin t ∷ xs) ys h s low space rest = (
   more-space text line from place t.span.start (sym h.0.from) space,
   notes-leave text line t.span.end end xs ys h.1
-      (subst (λ o. LeavesSpace text (line_after line o) t.span.end end ys) (notes-kind xs h.1)
-      (rest t.span.end (omega (arith, h.0.to))
-      (no-space text (line_after line (kind_in xs)) t.span.end ((place + 1) + more) h.0.to))),
+      (subst (λ o. LeavesSpace text (line_after line o) t.span.end end ys) (notes-kind xs h.1) (rest t.span.end
+      (omega (arith, h.0.to)) (no-space text (line_after line (kind_in xs)) t.span.end ((place + 1) + more) h.0.to))),
 )
 whole-leaves text line from place more end bytes (Finish t ∷ xs) ys h s low space rest = (
   more-space text line from place t.span.start (sym h.0.from) space,
   notes-leave text line t.span.end end xs ys h.1
-      (subst (λ o. LeavesSpace text (line_after line o) t.span.end end ys) (notes-kind xs h.1)
-      (rest t.span.end (omega (arith, h.0.to))
-      (no-space text (line_after line (kind_in xs)) t.span.end ((place + 1) + more) h.0.to))),
+      (subst (λ o. LeavesSpace text (line_after line o) t.span.end end ys) (notes-kind xs h.1) (rest t.span.end
+      (omega (arith, h.0.to)) (no-space text (line_after line (kind_in xs)) t.span.end ((place + 1) + more) h.0.to))),
 )
 whole-leaves text line from place more end bytes (Note kind about ∷ xs) ys h s low space rest = absurd h
 
 found-leaves : (text : List ℕ) (line : Bool) (from place end : ℕ) (bytes : List ℕ) (f : Found) (ys : List Answer)
-    → Takes place bytes f
-    → (has_start f.answers ≡ false → begins_space bytes ≡ true → begins_space_in line (drop place text) ≡ true)
-    → from ≤ place → IsSpaceIn text line from place
-    → ((low : ℕ) → low ≤ (place + 1) + f.more
-    → IsSpaceIn text (line_after line (kind_in f.answers)) low ((place + 1) + f.more)
-    → LeavesSpace text (line_after line (kind_in f.answers)) low end ys)
-    → LeavesSpace text line from end (f.answers ++ ys)
+    → Takes place bytes f → (has_start f.answers ≡ false → begins_space bytes ≡ true → begins_space_in line
+    (drop place text) ≡ true) → from ≤ place → IsSpaceIn text line from place → ((low : ℕ) → low ≤ (place + 1) + f.more
+    → IsSpaceIn text (line_after line (kind_in f.answers)) low ((place + 1) + f.more) → LeavesSpace text
+    (line_after line (kind_in f.answers)) low end ys) → LeavesSpace text line from end (f.answers ++ ys)
 found-leaves text line from place end bytes f ys t s low space rest =
     let kind : kind_in f.answers ≡ kind_in t.rest = ap kind_in t.split ∙ bare-kind place t.first t.rest t.bare in
     let start : has_start f.answers ≡ has_start t.rest = grind (arith, nat_tests, has_start, bare-start) in
     let onward : (low : ℕ) → low ≤ (place + 1) + f.more → IsSpaceIn text (line_after line (kind_in t.rest)) low ((place
     + 1) + f.more) → LeavesSpace text (line_after line (kind_in t.rest)) low end ys = grind (arith, nat_tests) in
     subst (LeavesSpace text line from end) (sym (ap (λ l. l ++ ys) t.split ∙ append_assoc t.first t.rest ys))
-    (bare-leaves text line from place end t.first (t.rest ++ ys) t.bare low space
-    (λ low least space. whole-leaves text line low place f.more end bytes t.rest ys t.whole (λ k. s (start ∙ k)) least
-    space onward))
+    (bare-leaves text line from place end t.first (t.rest ++ ys) t.bare low space (λ low least space. whole-leaves text
+    line low place f.more end bytes t.rest ys t.whole (λ k. s (start ∙ k)) least space onward))
 
 -- ## All answers
 
@@ -183,9 +167,8 @@ answers-leave text (byte ∷ bytes) w fresh last place zero from line here size 
     let f = found_apart w fresh last place byte bytes in
     let fits = found-fits w fresh last place byte bytes in
     let e : place + 0 ≡ place = omega arith in
-    found-leaves text line from place (length text) (byte ∷ bytes) f _ (found-takes w fresh last place byte bytes)
-    (λ n s. subst (λ l. begins_space_in line l ≡ true) (sym here)
-    (found-space w fresh last place byte bytes line h n s))
+    found-leaves text line from place (length text) (byte ∷ bytes) f _ (found-takes w fresh last place byte bytes) (λ n
+    s. subst (λ l. begins_space_in line l ≡ true) (sym here) (found-space w fresh last place byte bytes line h n s))
     (omega (arith, low)) (more-space text line from (place + 0) place e space)
     (λ low least space. answers-leave text bytes f.next (still_fresh fresh byte) byte (place + 1) f.more low
     (line_after line (kind_in f.answers)) (drop-on text place byte bytes here) (omega (arith, size))
@@ -233,9 +216,8 @@ backslashes-continue text start end mode order within =
     let cut = take end text in
     let size : length cut ≡ end = omega (arith, within, length-take end text) in
     let e : start + 0 ≡ start = omega arith in
-    part-leaves text false start end start (tokens_of text start end mode) (tokens-within text start end mode order
-    within)
-    (subst (λ n. LeavesSpace cut false start n (tokens_of text start end mode)) size
-    (answers-leave cut (drop start cut) (beginning mode) (fresh_at cut start) (last_at cut start) start 0 start false
-    refl (omega (arith, order, size, length-drop start cut)) (omega arith) (omega arith)
-    (no-space cut false start (start + 0) (sym e)) (begins-outside mode)))
+    part-leaves text false start end start (tokens_of text start end mode)
+    (tokens-within text start end mode order within) (subst (λ n. LeavesSpace cut false start n
+    (tokens_of text start end mode)) size (answers-leave cut (drop start cut) (beginning mode) (fresh_at cut start)
+    (last_at cut start) start 0 start false refl (omega (arith, order, size, length-drop start cut)) (omega arith)
+    (omega arith) (no-space cut false start (start + 0) (sym e)) (begins-outside mode)))

@@ -1,61 +1,41 @@
 -- The pieces of a book lie end to end, and are all of its web.
-use Rattle.std.proofs.Common.{◌≡◌, ℕ, ◌+◌, ◌-◌, ◌<◌, ◌≤◌, Bool, true, false, List, [], ◌∷◌, ◌++◌, All, length, drop}
-use Rattle.std.proofs.Common.{take, refl, sym, ap, subst, ◌∙◌, arith, ◌⊎◌, inl, inr, if◌then◌else◌}
-use Rattle.std.specs.Prelude.{cond, slice_range}
-use Rattle.std.proofs.lemmas.Bool.{cases_lt}
+use Rattle.cw_laws.proofs.Terms.{◌≡◌, ℕ, ◌+◌, ◌-◌, ◌<◌, ◌≤◌, Bool, true, false, List, [], ◌∷◌, ◌++◌, All, length, drop}
+use Rattle.cw_laws.proofs.Terms.{take, refl, sym, ap, subst, ◌∙◌, arith, ◌⊎◌, inl, inr, if◌then◌else◌, cond}
+use Rattle.cw_laws.proofs.Terms.{slice_range, cases_lt, take_all, take-append-drop, drop-drop, drop-take, take-take}
+use Rattle.cw_laws.proofs.Terms.{nat_tests, Span, MergedLine, text_of, not-both, Answer, Token, Begin, Finish, Note}
+use Rattle.cw_laws.proofs.Terms.{Seen, has_sign, answers_at, beginning, fresh_at, last_at, is_section_kind}
+use Rattle.cw_laws.proofs.Terms.{tokens-cover, SecName, Section, answers_of, kept_behind, Placed, at_limbo, token_step}
+use Rattle.cw_laws.proofs.Terms.{behind_begin, placed, placed_from, span, is_section_code, ends_section, first_start}
+use Rattle.cw_laws.proofs.Terms.{section_at, sections_of, plain-role, section-part, pieces_from, book_pieces, EndToEnd}
+use Rattle.cw_laws.proofs.Terms.{AreBegun, piece_bytes, has_byte, pieces_with, IsAllOf, BooksAreWhole}
 use Rattle.std.proofs.lemmas.List.Sums.{sum_by-cons}
-use Rattle.std.proofs.lemmas.List.{take_all, take-append-drop, drop-drop, drop-take, take-take}
-use Rattle.std.proofs.lemmas.Bool.Decides.{nat_tests}
-use Rattle.cw_base.specs.declared.span.Span.{Span}
-use Rattle.cw_base.specs.Web.{MergedLine, text_of}
-use Rattle.cw_base.proofs.TestLaws.{not-both}
-use Rattle.cw_rules.specs.declared.tokens.Mode.TheVariants as modes
-use Rattle.cw_rules.specs.Answers.{Answer, Token, Begin, Finish, Note, Seen, has_sign}
-use Rattle.cw_lex.specs.Lexing.{answers_at, beginning, fresh_at, last_at}
-use Rattle.cw_lex.specs.Nested.{is_section_kind}
-use Rattle.cw_lex.proofs.Covering.{tokens-cover}
-use Rattle.cw_secnames.specs.Kept.{SecName}
-use Rattle.cw_phase1.specs.declared.roles.Standing.{Standing}
-use Rattle.cw_phase1.specs.declared.sections.Section.{Section}
-use Rattle.cw_phase1.specs.Book.{answers_of}
-use Rattle.cw_phase1.specs.Entering.{kept_behind}
-use Rattle.cw_phase1.specs.Roles.{Placed, at_limbo, token_step, behind_begin, placed, placed_from}
-use Rattle.cw_phase1.specs.Sections.{span, is_section_code, ends_section, first_start, section_at, sections_of}
-use Rattle.cw_phase1.specs.Sound.{LiesIn}
-use Rattle.cw_phase1.specs.declared.roles.Part.TheVariants as parts
-use Rattle.cw_phase1.proofs.PartEnds.{plain-role, section-part}
+use Rattle.cw_phase1.specs.{declared.roles.Standing.Standing, Sound.LiesIn}
 use Rattle.cw_phase1.proofs.SpanLaws.{Follow, follows, all-lie}
-use Rattle.cw_laws.specs.Pieces.{pieces_from, book_pieces, EndToEnd, BeginsAt, AreBegun, piece_bytes, has_byte}
-use Rattle.cw_laws.specs.Pieces.{pieces_with, IsAllOf, BooksAreWhole}
-use Rattle.cw_laws.proofs.Openers.{AreOpeners, openers}
-use Rattle.cw_laws.proofs.PartCodes.{definitions-begin, c-part-begins}
+use Rattle.cw_laws.specs.Pieces.{BeginsAt}
+use Rattle.cw_laws.proofs.{Openers.AreOpeners, Openers.openers, PartCodes.definitions-begin, PartCodes.c-part-begins}
 use Rattle.cw_laws.proofs.SectionCodes.{IsCodeAt, AreCoded, coded}
+use Rattle.cw_rules.specs.declared.tokens.Mode.TheVariants as modes
+use Rattle.cw_phase1.specs.declared.roles.Part.TheVariants as parts
 
 -- ## Pieces lie end to end
 
-lie-by : (b : Bool) (start later size : ℕ) (s : Section) (rest : List Section) → start ≤ s.tex.start
-    → s.c_part.end ≡ later → All (LiesIn size) (if b then s ∷ rest else rest)
-    → EndToEnd later size (pieces_from later rest)
-    → EndToEnd (if b then start else later) size
-    (pieces_from (if b then start else later)
-    (if b then s ∷ rest else rest))
+lie-by : (b : Bool) (start later size : ℕ) (s : Section) (rest : List Section) → start ≤ s.tex.start → s.c_part.end
+    ≡ later → All (LiesIn size) (if b then s ∷ rest else rest) → EndToEnd later size (pieces_from later rest) → EndToEnd
+    (if b then start else later) size (pieces_from (if b then start else later) (if b then s ∷ rest else rest))
 lie-by b start later size s rest h e a k = grind (arith, nat_tests)
 
-lie : (lines : List MergedLine) (from size : ℕ) (ps : List Placed) → Follow from size ps
-    → EndToEnd (first_start ends_section size ps) size
-    (pieces_from (first_start ends_section size ps) (sections_of lines size ps))
+lie : (lines : List MergedLine) (from size : ℕ) (ps : List Placed) → Follow from size ps → EndToEnd (first_start
+    ends_section size ps) size (pieces_from (first_start ends_section size ps) (sections_of lines size ps))
 lie lines from size [] f = refl
-lie lines from size (p ∷ ps) f =
-    lie-by (is_section_code p.role) p.token.span.start (first_start ends_section size ps) size
-    (section_at lines size p.token ps) (sections_of lines size ps) (omega (arith, f.1)) refl
-    (all-lie lines from size (p ∷ ps) f) (lie lines p.token.span.end size ps f.2)
+lie lines from size (p ∷ ps) f = lie-by (is_section_code p.role) p.token.span.start
+    (first_start ends_section size ps) size (section_at lines size p.token ps) (sections_of lines size ps)
+    (omega (arith, f.1)) refl (all-lie lines from size (p ∷ ps) f) (lie lines p.token.span.end size ps f.2)
 
 -- ## Each section begins with its code
 
 begun-by : (text : List ℕ) (b : Bool) (start later : ℕ) (s : Section) (rest : List Section)
     → (b ≡ true → BeginsAt text start s) → s.c_part.end ≡ later → AreBegun text later rest
-    → AreBegun text (if b then start else later)
-    (if b then s ∷ rest else rest)
+    → AreBegun text (if b then start else later) (if b then s ∷ rest else rest)
 begun-by text b start later s rest h e k = grind (arith, nat_tests)
 
 -- only a section code has its role
@@ -70,16 +50,14 @@ section-begins : (text : List ℕ) (lines : List MergedLine) (size : ℕ) (t : S
 section-begins text lines size t next kept answers e c o = grind (arith, nat_tests, definitions-begin, c-part-begins)
 
 begun : (text : List ℕ) (lines : List MergedLine) (size : ℕ) (s : Standing) (kept : List SecName)
-    (answers : List Answer) → AreCoded text answers → AreOpeners text answers
-    → AreBegun text (first_start ends_section size (placed_from s kept answers))
-    (sections_of lines size (placed_from s kept answers))
+    (answers : List Answer) → AreCoded text answers → AreOpeners text answers → AreBegun text
+    (first_start ends_section size (placed_from s kept answers)) (sections_of lines size (placed_from s kept answers))
 begun text lines size s kept [] c o = tt
 begun text lines size s kept (Token t ∷ answers) c o =
     let step = token_step t.kind (has_sign answers) s t.span in
     let ps = placed_from step.next (kept_behind t kept) answers in
     begun-by text (is_section_code step.role) t.span.start (first_start ends_section size ps)
-    (section_at lines size t ps) (sections_of lines size ps)
-    (λ h. let k = kind-of-role s t answers h in
+    (section_at lines size t ps) (sections_of lines size ps) (λ h. let k = kind-of-role s t answers h in
     section-begins text lines size t step.next (kept_behind t kept) answers (section-part s t answers k) (c.0 k) o.1)
     refl (begun text lines size step.next (kept_behind t kept) answers c.1 o.1)
 begun text lines size s kept (Begin t ∷ answers) c o = begun text lines size (behind_begin s) kept answers c o
@@ -94,10 +72,9 @@ slices-join text from middle end h g =
     let rest = take (end - from) (drop from text) in
     let first : take (middle - from) (drop from text) ≡ take (middle - from) rest =
     sym (take-take (middle - from) (end - from) (drop from text) (omega (arith, h, g))) in
-    let last : take (end - middle) (drop middle text) ≡ drop (middle - from) rest =
-    ap (take (end - middle)) (ap (λ n. drop n text) (omega (arith, h, g)) ∙ sym (drop-drop (middle - from) from text))
-    ∙ sym (drop-take (middle - from) (end - middle) (drop from text))
-    ∙ ap (λ n. drop (middle - from) (take n (drop from text))) (omega (arith, h, g)) in
+    let last : take (end - middle) (drop middle text) ≡ drop (middle - from) rest = ap (take (end - middle)) (ap (λ n.
+    drop n text) (omega (arith, h, g)) ∙ sym (drop-drop (middle - from) from text)) ∙ sym (drop-take (middle - from)
+    (end - middle) (drop from text)) ∙ ap (λ n. drop (middle - from) (take n (drop from text))) (omega (arith, h, g)) in
     (λ i. first i ++ last i) ∙ take-append-drop (middle - from) rest
 
 ends-behind : (from end : ℕ) (pieces : List Span) → EndToEnd from end pieces → from ≤ end
@@ -130,8 +107,7 @@ by_one place piece = cond (has_byte place piece) 1 0
 none-before : (place from end : ℕ) (pieces : List Span) → EndToEnd from end pieces → place < from
     → pieces_with place pieces ≡ 0
 none-before place from end [] e h = refl
-none-before place from end (piece ∷ pieces) e h =
-    sum_by-cons (by_one place) piece pieces
+none-before place from end (piece ∷ pieces) e h = sum_by-cons (by_one place) piece pieces
     ∙ (λ i. more_by (has-not-before place piece (omega (arith, e.0, h)) i)
     (none-before place piece.end end pieces e.2 (omega (arith, e.0, e.1, h)) i))
 
@@ -143,17 +119,15 @@ just-one place from end (piece ∷ pieces) e h g =
   where
     by : (place < piece.end) ⊎ (piece.end ≤ place) → (piece.end ≤ place → pieces_with place pieces ≡ 1)
         → pieces_with place (piece ∷ pieces) ≡ 1
-    by (inl here) rec = sum_by-cons (by_one place) piece pieces
-        ∙ (λ i. more_by (has place piece (omega (arith, e.0, h)) here i)
-        (none-before place piece.end end pieces e.2 here i))
+    by (inl here) rec = sum_by-cons (by_one place) piece pieces ∙ (λ i. more_by
+        (has place piece (omega (arith, e.0, h)) here i) (none-before place piece.end end pieces e.2 here i))
     by (inr behind) rec = sum_by-cons (by_one place) piece pieces
         ∙ (λ i. more_by (has-not-behind place piece behind i) (rec behind i))
 
 -- ## The law
 
-whole : (text : List ℕ) (limbo : Span) (sections : List Section)
-    → EndToEnd 0 (length text) (book_pieces limbo sections) → AreBegun text limbo.end sections
-    → IsAllOf text limbo sections
+whole : (text : List ℕ) (limbo : Span) (sections : List Section) → EndToEnd 0 (length text) (book_pieces limbo sections)
+    → AreBegun text limbo.end sections → IsAllOf text limbo sections
 whole text limbo sections e b = record {
   end_to_end = e;
   begun = b;

@@ -1,13 +1,11 @@
 -- Names are told apart by their entries.
-use Rattle.std.proofs.Common.{◌≡◌, ℕ, zero, suc, true, false, nat_eq, eqb, slice_get, List, [], ◌∷◌, refl, sym, ◌∙◌}
-use Rattle.std.proofs.Common.{arith}
-use Rattle.std.specs.List.{AllByRecursion}
+use Rattle.cw_leaves.proofs.Terms.{◌≡◌, ℕ, zero, suc, true, false, nat_eq, eqb, slice_get, List, [], ◌∷◌, refl, sym}
+use Rattle.cw_leaves.proofs.Terms.{◌∙◌, arith, AllByRecursion, Entry, is_entry, AreDistinct, Entered, called_by, called}
+use Rattle.cw_leaves.proofs.Terms.{same_called}
 use Rattle.std.proofs.lemmas.Map.Keys.{IsDistinct-head, IsDistinct-tail}
-use Rattle.std.specs.Cmp.Lexicographic.{pointwise}
 use Rattle.std.proofs.Math.Dec.{eqb-suc-suc, eqb-suc-zero, eqb-zero-suc}
 use Rattle.std.proofs.lemmas.Cmp.{nat_list_eq_equiv}
-use Rattle.cw_names.specs.Names.{Entry, is_entry, AreDistinct}
-use Rattle.cw_leaves.specs.LeafLines.{Entered, called_by, called, same_called}
+use Rattle.std.specs.Cmp.Lexicographic.{pointwise}
 
 text-self : (t : List ℕ) → pointwise nat_eq t t ≡ true
 text-self t = nat_list_eq_equiv.refl t

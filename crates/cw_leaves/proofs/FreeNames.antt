@@ -1,14 +1,8 @@
 -- Other names leave the log as it is, where no two become one.
-use Rattle.std.proofs.Common.{◌≡◌, ℕ, zero, suc, ◌+◌, Bool, Option, List, [], ◌∷◌, ◌++◌, refl, sym, ◌∙◌, ap, map, take}
-use Rattle.std.proofs.Common.{drop, get_or, if◌then◌else◌, arith}
-use Rattle.std.proofs.lemmas.List.{map-append, map-set}
-use Rattle.std.specs.List.{take-map, drop-map}
-use Rattle.std.proofs.Math.ListN.{get_or-map}
+use Rattle.cw_leaves.proofs.Terms.{◌≡◌, ℕ, zero, suc, ◌+◌, Bool, Option, List, [], ◌∷◌, ◌++◌, refl, sym, ◌∙◌, ap, map}
+use Rattle.cw_leaves.proofs.Terms.{take, drop, get_or, if◌then◌else◌, arith, map-append, map-set, take-map, drop-map}
+use Rattle.cw_leaves.proofs.Terms.{get_or-map, Flags, Piece, Row, Place, Nowhere, At, least_place, Production}
 use Rattle.cw_base.specs.declared.category.Cat.TheVariants.{RawInt}
-use Rattle.cw_base.specs.declared.flags.Flags.{Flags}
-use Rattle.cw_table.specs.declared.types.Piece.{Piece}
-use Rattle.cw_table.specs.declared.types.Row.{Row}
-use Rattle.cw_table.specs.Normal.{Place, Nowhere, At, least_place, Production}
 use Rattle.cw_leaves.specs.Sights.{Sight, no_sight, seen_cats, heard_all, seen_as, seen_new, seen_reserved}
 use Rattle.cw_leaves.specs.Sights.{seen_reserved_at, seen_named, seen_named_by, names_at, seen_rewritten_from}
 use Rattle.cw_leaves.specs.Sights.{seen_rewritten, seen_weight, seen_log_of, seen_log, renamed_heard, renamed}
@@ -31,9 +25,8 @@ without-renamed : {M N : Type 0} (f : M → N) (names : List M)
     → map f (without_first names) ≡ without_first (map f names)
 without-renamed f names = grind arith
 
-turned-renamed : {M N : Type 0} (f : M → N) (b : Bool) (s : Sight M)
-    → renamed f (if b then seen_as RawInt (seen_reserved s) else s)
-    ≡ (if b then seen_as RawInt (seen_reserved (renamed f s)) else renamed f s)
+turned-renamed : {M N : Type 0} (f : M → N) (b : Bool) (s : Sight M) → renamed f (if b then seen_as RawInt
+    (seen_reserved s) else s) ≡ (if b then seen_as RawInt (seen_reserved (renamed f s)) else renamed f s)
 turned-renamed f b s = grind (arith, without-renamed)
 
 all-named-renamed : {M N : Type 0} (same : M → M → Bool) (other : N → N → Bool) (f : M → N)
@@ -67,12 +60,10 @@ rewritten-from-renamed {M} {N} same other f free flags r ss =
 rewritten-renamed : {M N : Type 0} (same : M → M → Bool) (other : N → N → Bool) (f : M → N)
     → ((a b : M) → other (f a) (f b) ≡ same a b) → (flags : Flags) (r : Row) (place : ℕ) (ss : List (Sight M))
     → map (renamed f) (seen_rewritten same flags r place ss) ≡ seen_rewritten other flags r place (map (renamed f) ss)
-rewritten-renamed same other f free flags r place ss =
-    map-append (renamed f) (take place ss) (seen_rewritten_from same flags r (drop place ss))
-    ∙ (ap (λ xs. xs ++ map (renamed f) (seen_rewritten_from same flags r (drop place ss)))
-    (sym (take-map (renamed f) place ss))
-    ∙ ap (λ xs. take place (map (renamed f) ss) ++ xs)
-    (rewritten-from-renamed same other f free flags r (drop place ss)
+rewritten-renamed same other f free flags r place ss = map-append (renamed f) (take place ss)
+    (seen_rewritten_from same flags r (drop place ss)) ∙ (ap (λ xs. xs ++ map (renamed f)
+    (seen_rewritten_from same flags r (drop place ss))) (sym (take-map (renamed f) place ss))
+    ∙ ap (λ xs. take place (map (renamed f) ss) ++ xs) (rewritten-from-renamed same other f free flags r (drop place ss)
     ∙ ap (seen_rewritten_from other flags r) (sym (drop-map (renamed f) place ss))))
 
 weight-renamed : {M N : Type 0} (f : M → N) (ss : List (Sight M)) → seen_weight (map (renamed f) ss) ≡ seen_weight ss
@@ -83,14 +74,12 @@ log-renamed-of : {M N : Type 0} (same : M → M → Bool) (other : N → N → B
     → ((a b : M) → other (f a) (f b) ≡ same a b) → (rows : List Row) (flags : Flags) (n : ℕ) (ss : List (Sight M))
     → seen_log_of other rows flags n (map (renamed f) ss) ≡ seen_log_of same rows flags n ss
 log-renamed-of same other f free rows flags zero ss = refl
-log-renamed-of {M} {N} same other f free rows flags (suc n) ss =
-    ap (λ cs. elim (least_place rows 0 cs) [
-      | Nowhere ↦ []
-      | At place row ↦ record { number = row.number.number; place = place }
-          ∷ seen_log_of other rows flags n (seen_rewritten other flags row place (map (renamed f) ss))
-    ]) (cats-renamed f ss)
-    ∙ go (λ p r. log-renamed-of same other f free rows flags n (seen_rewritten same flags r p ss))
-    (least_place rows 0 (seen_cats ss))
+log-renamed-of {M} {N} same other f free rows flags (suc n) ss = ap (λ cs. elim (least_place rows 0 cs) [
+  | Nowhere ↦ []
+  | At place row ↦ record { number = row.number.number; place = place }
+      ∷ seen_log_of other rows flags n (seen_rewritten other flags row place (map (renamed f) ss))
+]) (cats-renamed f ss) ∙ go (λ p r. log-renamed-of same other f free rows flags n
+    (seen_rewritten same flags r p ss)) (least_place rows 0 (seen_cats ss))
   where
     go : ((p : ℕ) (r : Row) → seen_log_of other rows flags n (map (renamed f) (seen_rewritten same flags r p ss))
         ≡ seen_log_of same rows flags n (seen_rewritten same flags r p ss))
@@ -104,9 +93,8 @@ log-renamed-of {M} {N} same other f free rows flags (suc n) ss =
               ∷ seen_log_of same rows flags n (seen_rewritten same flags row place ss)
         ])
     go rec Nowhere = refl
-    go rec (At place row) = ap (λ l. record { number = row.number.number; place = place } ∷ l)
-        (ap (seen_log_of other rows flags n) (sym (rewritten-renamed same other f free flags row place ss))
-        ∙ rec place row)
+    go rec (At place row) = ap (λ l. record { number = row.number.number; place = place } ∷ l) (ap
+        (seen_log_of other rows flags n) (sym (rewritten-renamed same other f free flags row place ss)) ∙ rec place row)
 
 pub log-renamed : {M N : Type 0} (same : M → M → Bool) (other : N → N → Bool) (f : M → N)
     → ((a b : M) → other (f a) (f b) ≡ same a b) → (rows : List Row) (flags : Flags) (ss : List (Sight M))

@@ -1,16 +1,10 @@
 -- A leaf line tells all that is seen of its scrap.
-use Rattle.std.proofs.Common.{◌≡◌, ℕ, suc, slice_get, Option, List, [], ◌∷◌, refl, sym, ◌∙◌, ap, map, All, arith}
-use Rattle.cw_names.specs.declared.entry.EntryKind.TheVariants.{Ident as ident_kind}
-use Rattle.cw_names.specs.Names.{Entry}
-use Rattle.cw_trees.specs.Tree.{Tree, Empty, Then, Sub, Inner}
-use Rattle.cw_trees.specs.Joining.{Scrap}
-use Rattle.cw_leaves.specs.Sights.{heard, sight, renamed}
-use Rattle.cw_leaves.specs.LeafLines.{said, text_by, text_at, leaf_line, Entered, called_by, called, line_sight}
-use Rattle.cw_leaves.specs.LeafLines.{HasNoMark, IsIdentEntry, IsTold, log_of_lines}
-use Rattle.cw_leaves.specs.LogLaws.{LinesHaveLog, SameLinesSameLog}
-use Rattle.cw_leaves.proofs.SightSteps.{log-seen}
-use Rattle.cw_leaves.proofs.FreeNames.{log-renamed}
-use Rattle.cw_leaves.proofs.Calling.{called-apart}
+use Rattle.cw_leaves.proofs.Terms.{◌≡◌, ℕ, suc, slice_get, Option, List, [], ◌∷◌, refl, sym, ◌∙◌, ap, map, All, arith}
+use Rattle.cw_leaves.proofs.Terms.{Ident as ident_kind, Entry, Tree, Empty, Then, Sub, Inner, Scrap, said, text_by}
+use Rattle.cw_leaves.proofs.Terms.{text_at, leaf_line, Entered, called_by, called, line_sight, HasNoMark, IsIdentEntry}
+use Rattle.cw_leaves.proofs.Terms.{IsTold, log_of_lines}
+use Rattle.cw_leaves.specs.{Sights.heard, Sights.sight, Sights.renamed, LogLaws.LinesHaveLog, LogLaws.SameLinesSameLog}
+use Rattle.cw_leaves.proofs.{SightSteps.log-seen, FreeNames.log-renamed, Calling.called-apart}
 
 heard-said : (t : Tree) → HasNoMark t → heard t ≡ said t
 heard-said Empty h = refl
@@ -44,6 +38,5 @@ pub lines-have-log : LinesHaveLog
 lines-have-log rows flags names state distinct all = grind (arith, log-seen, log-renamed, called-apart, sights-lines)
 
 pub same-lines-same-log : SameLinesSameLog
-same-lines-same-log rows flags names others state other distinct apart told heard is =
-    lines-have-log rows flags names state distinct told
-    ∙ (ap (log_of_lines rows flags) is ∙ sym (lines-have-log rows flags others other apart heard))
+same-lines-same-log rows flags names others state other distinct apart told heard is = lines-have-log rows flags names
+    state distinct told ∙ (ap (log_of_lines rows flags) is ∙ sym (lines-have-log rows flags others other apart heard))

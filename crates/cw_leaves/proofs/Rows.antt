@@ -1,18 +1,12 @@
 -- Worked leaf lines, and the logs that they tell.
-use Rattle.std.proofs.Common.{◌≡◌, ℕ, List, [], ◌∷◌, codes, refl}
-use Rattle.cw_base.specs.declared.category.Cat.{Cat}
-use Rattle.cw_base.specs.declared.category.Cat.TheVariants as cats
-use Rattle.cw_base.specs.declared.mode.MathMode.TheVariants.{Maybe}
-use Rattle.cw_base.specs.Flags.{start_flags}
-use Rattle.cw_names.specs.declared.entry.EntryKind.TheVariants.{Ident as ident_kind}
-use Rattle.cw_names.specs.Names.{Entry}
-use Rattle.cw_trees.specs.Tree.{Ident, Reserved, Tree, Empty, Then, Inner}
-use Rattle.cw_trees.specs.Joining.{Scrap}
-use Rattle.cw_table.specs.Normal.{Production}
+use Rattle.cw_leaves.proofs.Terms.{◌≡◌, ℕ, List, [], ◌∷◌, codes, refl, Ident as ident_kind, Entry, Reserved, Tree}
+use Rattle.cw_leaves.proofs.Terms.{Empty, Then, Inner, Scrap, Production, Line, leaf_line, log_of_lines}
+use Rattle.cw_base.specs.{declared.category.Cat.Cat, declared.mode.MathMode.TheVariants.Maybe, Flags.start_flags}
+use Rattle.cw_trees.specs.Tree.{Ident}
 use Rattle.cw_table.specs.Productions.{productions}
-use Rattle.cw_leaves.specs.declared.kinds.LeafKind.TheVariants as leaf
-use Rattle.cw_leaves.specs.LeafLines.{Line, leaf_line, log_of_lines}
 use Rattle.cw_leaves.specs.Sights.{seen_log}
+use Rattle.cw_base.specs.declared.category.Cat.TheVariants as cats
+use Rattle.cw_leaves.specs.declared.kinds.LeafKind.TheVariants as leaf
 
 abbrev item : ℕ → ℕ → Production
 item number place = record { number = number; place = place }
@@ -26,10 +20,9 @@ bare name = record { kind = leaf.B; cat = cats.Exp; names = name ∷ [] }
 -- ## Lines
 
 abbrev names : List Entry
-names =
-    record { kind = ident_kind; text = codes "a"; category = cats.Exp }
-    ∷ record { kind = ident_kind; text = codes "case"; category = cats.CaseLike }
-    ∷ record { kind = ident_kind; text = codes "b"; category = cats.Exp } ∷ []
+names = record { kind = ident_kind; text = codes "a"; category = cats.Exp } ∷ record
+    { kind = ident_kind; text = codes "case"; category = cats.CaseLike } ∷ record
+    { kind = ident_kind; text = codes "b"; category = cats.Exp } ∷ []
 
 abbrev scrap : Cat → Tree → Scrap
 scrap cat tree = record { cat = cat; tree = tree; left = Maybe; right = Maybe }
@@ -55,8 +48,7 @@ an-inner-text = refl
 
 -- `i=i+1;`
 a-sum : log_of_lines productions start_flags (bare (codes "i") ∷ sign cats.Binop ∷ bare (codes "i") ∷ sign cats.Ubinop
-    ∷ sign cats.Exp ∷ sign cats.Semi ∷ [])
-    ≡ item 6 0 ∷ item 6 0 ∷ item 8 0 ∷ []
+    ∷ sign cats.Exp ∷ sign cats.Semi ∷ []) ≡ item 6 0 ∷ item 6 0 ∷ item 8 0 ∷ []
 unfolding productions seen_log
 a-sum = refl
 

@@ -1,9 +1,7 @@
 -- Laws of what is seen of trees and scraps.
-use Rattle.std.proofs.Common.{◌≡◌, ℕ, Bool, true, false, List, [], ◌∷◌, refl, arith}
-use Rattle.cw_base.specs.declared.mode.MathMode.{MathMode}
-use Rattle.cw_trees.specs.Tree.{Leaf, Tree, Empty, Then, Sub, Inner, Search, Found, Stopped, Nothing, search_leaf}
-use Rattle.cw_trees.specs.Tree.{first_ident, reserve_first}
-use Rattle.cw_trees.specs.Joining.{toggled}
+use Rattle.cw_leaves.proofs.Terms.{◌≡◌, ℕ, Bool, true, false, List, [], ◌∷◌, refl, arith, MathMode, Leaf, Tree, Empty}
+use Rattle.cw_leaves.proofs.Terms.{Then, Sub, Inner, Search, Found, Stopped, Nothing, search_leaf, first_ident}
+use Rattle.cw_leaves.proofs.Terms.{reserve_first, toggled}
 use Rattle.cw_leaves.specs.Sights.{heard, reserved}
 
 -- what a search finds among what is heard
@@ -19,9 +17,8 @@ first-heard (Then leaf rest) = grind (arith, first-heard rest)
 first-heard (Sub tree rest) = grind (arith, first-heard rest, first-heard tree)
 first-heard (Inner tree rest) = first-heard rest
 
-then-reserved : (s : Search) (leaf : Leaf) (rest : Tree) → search_leaf leaf ≡ s
-    → heard (reserve_first rest) ≡ reserved (heard rest)
-    → heard (reserve_first (Then leaf rest)) ≡ reserved (heard (Then leaf rest))
+then-reserved : (s : Search) (leaf : Leaf) (rest : Tree) → search_leaf leaf ≡ s → heard (reserve_first rest)
+    ≡ reserved (heard rest) → heard (reserve_first (Then leaf rest)) ≡ reserved (heard (Then leaf rest))
 then-reserved s leaf rest e h = grind (arith)
 
 pub heard-reserved : (t : Tree) → heard (reserve_first t) ≡ reserved (heard t)

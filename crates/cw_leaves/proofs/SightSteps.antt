@@ -1,19 +1,13 @@
 -- A production changes what is seen of scraps as it changes the scraps, and so the two have the same log.
-use Rattle.std.proofs.Common.{◌≡◌, ℕ, zero, suc, ◌+◌, eqb, None, List, [], ◌∷◌, ◌++◌, refl, sym, ◌∙◌, ap, map, take}
-use Rattle.std.proofs.Common.{drop, get_or, arith}
-use Rattle.std.proofs.lemmas.List.{map-append, map-set}
-use Rattle.std.specs.List.{take-map, drop-map}
-use Rattle.std.proofs.Math.ListN.{get_or-map}
-use Rattle.cw_base.specs.declared.flags.Flags.{Flags}
-use Rattle.cw_base.specs.declared.mode.MathMode.{MathMode}
-use Rattle.cw_trees.specs.Tree.{Tree, Empty, Then, Sub, Inner, Source, Ident, Reserved, Sign, search_sign}
-use Rattle.cw_trees.specs.Tree.{reserve_first, bare_name}
-use Rattle.cw_trees.specs.Joining.{Scrap, no_scrap, Joined, Whole, Mark, joined_tree, needs, after}
-use Rattle.cw_table.specs.declared.types.Piece.{Piece}
-use Rattle.cw_table.specs.declared.types.Row.{Row}
+use Rattle.cw_leaves.proofs.Terms.{◌≡◌, ℕ, zero, suc, ◌+◌, eqb, None, List, [], ◌∷◌, ◌++◌, refl, sym, ◌∙◌, ap, map}
+use Rattle.cw_leaves.proofs.Terms.{take, drop, get_or, arith, map-append, map-set, take-map, drop-map, get_or-map}
+use Rattle.cw_leaves.proofs.Terms.{Flags, MathMode, Tree, Empty, Then, Sub, Inner, Source, Reserved, Sign, search_sign}
+use Rattle.cw_leaves.proofs.Terms.{reserve_first, bare_name, Scrap, no_scrap, Joined, Whole, Mark, joined_tree, needs}
+use Rattle.cw_leaves.proofs.Terms.{after, Piece, Row, Place, Nowhere, At, least_place, weight, Production, log_of}
+use Rattle.cw_trees.specs.Tree.{Ident}
 use Rattle.cw_table.specs.Rewriting.{cats_of, joined_of, new_scrap, search_in, reserved_in, reserved_at, named_scrap}
 use Rattle.cw_table.specs.Rewriting.{named_right, rewrite_from, State, rewrite}
-use Rattle.cw_table.specs.Normal.{Place, Nowhere, At, least_place, weight, Production, log_of, log}
+use Rattle.cw_table.specs.Normal.{log}
 use Rattle.cw_leaves.specs.Sights.{Heard, silence, followed, told_by, heard, Sight, sight, no_sight, seen_cats}
 use Rattle.cw_leaves.specs.Sights.{heard_all, seen_new, seen_reserved, seen_reserved_at, seen_named, seen_named_by}
 use Rattle.cw_leaves.specs.Sights.{names_at, seen_rewritten_from, seen_rewritten, seen_weight, seen_log_of, seen_log}
@@ -79,20 +73,23 @@ from-seen f r ss =
     let later : List Scrap = drop (r.offset + r.replaced) named in
     map-append sight (take r.offset named) (new_scrap f r named ∷ named_right (search_in r.action.reserve ss) later)
     ∙ (ap (λ xs. xs ++ sight (new_scrap f r named) ∷ map sight (named_right (search_in r.action.reserve ss) later))
-    (sym (take-map sight r.offset named) ∙ ap (take r.offset) same)
-    ∙ (ap (λ x. take r.offset seen ++ x ∷ map sight (named_right (search_in r.action.reserve ss) later))
-    ((grind (arith, get-sight, joined-bare, joined-heard, pieces-heard, seen-cats)) ∙ ap (seen_new f r) same)
-    ∙ ap (λ xs. take r.offset seen ++ seen_new f r seen ∷ xs) ((grind (arith, first-heard, all-named, get-sight))
-    ∙ ap (seen_named_by eqb (names_at r.action.reserve (map sight ss)))
-    (sym (drop-map sight (r.offset + r.replaced) named) ∙ ap (drop (r.offset + r.replaced)) same))))
+    (sym (take-map sight r.offset named) ∙ ap (take r.offset) same) ∙ (ap (λ x. take r.offset seen ++ x ∷ map sight
+    (named_right (search_in r.action.reserve ss) later)) ((grind (
+      arith,
+      get-sight,
+      joined-bare,
+      joined-heard,
+      pieces-heard,
+      seen-cats,
+    )) ∙ ap (seen_new f r) same) ∙ ap (λ xs. take r.offset seen ++ seen_new f r seen ∷ xs)
+    ((grind (arith, first-heard, all-named, get-sight)) ∙ ap (seen_named_by eqb (names_at r.action.reserve
+    (map sight ss))) (sym (drop-map sight (r.offset + r.replaced) named) ∙ ap (drop (r.offset + r.replaced)) same))))
 
 pub rewrite-seen : (f : Flags) (r : Row) (place : ℕ) (state : State)
     → map sight (rewrite f r place state).scraps ≡ seen_rewritten eqb f r place (map sight state.scraps)
-rewrite-seen f r place state =
-    map-append sight (take place state.scraps) (rewrite_from f r (drop place state.scraps))
+rewrite-seen f r place state = map-append sight (take place state.scraps) (rewrite_from f r (drop place state.scraps))
     ∙ (ap (λ xs. xs ++ map sight (rewrite_from f r (drop place state.scraps))) (sym (take-map sight place state.scraps))
-    ∙ ap (λ xs. take place (map sight state.scraps) ++ xs)
-    (from-seen f r (drop place state.scraps)
+    ∙ ap (λ xs. take place (map sight state.scraps) ++ xs) (from-seen f r (drop place state.scraps)
     ∙ ap (seen_rewritten_from eqb f r) (sym (drop-map sight place state.scraps))))
 
 pub weight-seen : (ss : List Scrap) → weight ss ≡ seen_weight (map sight ss)
@@ -103,17 +100,15 @@ weight-seen (s ∷ ss) = grind (arith, weight-seen ss)
 pub log-seen-of : (rows : List Row) (f : Flags) (n : ℕ) (state : State)
     → log_of rows f n state ≡ seen_log_of eqb rows f n (map sight state.scraps)
 log-seen-of rows f zero state = refl
-log-seen-of rows f (suc n) state =
-    go (λ p r. log-seen-of rows f n (rewrite f r p state)) (least_place rows 0 (cats_of state.scraps))
-    ∙ ap (λ cs. elim (least_place rows 0 cs) [
+log-seen-of rows f (suc n) state = go (λ p r. log-seen-of rows f n (rewrite f r p state))
+    (least_place rows 0 (cats_of state.scraps)) ∙ ap (λ cs. elim (least_place rows 0 cs) [
       | Nowhere ↦ []
       | At place row ↦ record { number = row.number.number; place = place }
           ∷ seen_log_of eqb rows f n (seen_rewritten eqb f row place (map sight state.scraps))
     ]) (sym (seen-cats state.scraps))
   where
-    go : ((p : ℕ) (r : Row)
-        → log_of rows f n (rewrite f r p state) ≡ seen_log_of eqb rows f n (map sight (rewrite f r p state).scraps))
-        → (p : Place) → ◌≡◌ {A = List Production} (elim p [
+    go : ((p : ℕ) (r : Row) → log_of rows f n (rewrite f r p state) ≡ seen_log_of eqb rows f n
+        (map sight (rewrite f r p state).scraps)) → (p : Place) → ◌≡◌ {A = List Production} (elim p [
           | Nowhere ↦ []
           | At place row ↦ record { number = row.number.number; place = place }
               ∷ log_of rows f n (rewrite f row place state)
@@ -123,8 +118,7 @@ log-seen-of rows f (suc n) state =
               ∷ seen_log_of eqb rows f n (seen_rewritten eqb f row place (map sight state.scraps))
         ])
     go rec Nowhere = refl
-    go rec (At place row) = ap (λ l. record { number = row.number.number; place = place } ∷ l)
-        (rec place row
+    go rec (At place row) = ap (λ l. record { number = row.number.number; place = place } ∷ l) (rec place row
         ∙ ap (seen_log_of eqb rows f n) (rewrite-seen f row place state))
 
 pub log-seen : (rows : List Row) (f : Flags) (state : State)

@@ -1,14 +1,12 @@
 -- What holds of calm C text, and of its white space.
-use Rattle.std.proofs.Common.{◌≡◌, ℕ, ◌+◌, Bool, true, false, ◌&&◌, List, [], ◌∷◌, ◌++◌, slice_index, drop, ap, length}
-use Rattle.std.proofs.Common.{arith}
-use Rattle.std.proofs.{lemmas.List.drop_all, lemmas.Bool.Decides.nat_tests}
-use Rattle.cw_rules.specs.declared.classes.Class.TheVariants as classes
-use Rattle.cw_rules.specs.declared.{parts.Part.Part, parts.Opened.Opened}
+use Rattle.cw_lex.proofs.Terms.{◌≡◌, ℕ, ◌+◌, Bool, true, false, ◌&&◌, List, [], ◌∷◌, ◌++◌, slice_index, drop, ap}
+use Rattle.cw_lex.proofs.Terms.{length, arith, lemmas.List.drop_all, lemmas.Bool.Decides.nat_tests, parts.Part.Part}
+use Rattle.cw_lex.proofs.Terms.{parts.Opened.Opened, declared.state.State.State, Lexing.answers_at, Lexing.last_at}
+use Rattle.cw_lex.proofs.Terms.{Calm.is_calm_part, Calm.is_calm, where_of, coming, ends_line, is_white_here}
 use Rattle.cw_rules.specs.{Answers.note_answers, Bytes.is_in, Bytes.run, Pending.pending_notes, Tokens.all_cut}
 use Rattle.cw_rules.specs.Tokens.{is_code, is_code_part, in_hash_line, behind_include, passed, ends_at_bar, part_cut}
-use Rattle.cw_lex.specs.{declared.state.State.State, Lexing.answers_at, Lexing.last_at, Calm.is_calm_part, Calm.is_calm}
-use Rattle.cw_lex.specs.Coming.{where_of, coming, ends_line, is_white_here}
 use Rattle.cw_lex.proofs.{White.white-found, HeadSpaces.skip-run, HeadSpaces.run-byte}
+use Rattle.cw_rules.specs.declared.classes.Class.TheVariants as classes
 
 and-both : (a b : Bool) → (a && b) ≡ true → (a ≡ true) × (b ≡ true)
 and-both a b h = grind arith
@@ -34,16 +32,13 @@ calm-line : (part : Part) (comments : List Opened) (last : ℕ) → is_calm part
 calm-line part comments last h = grind (arith, settled, nat_tests, and-both)
 
 calm-space : (part : Part) (comments : List Opened) (last b : ℕ) (bs : List ℕ) → is_calm part comments ≡ true
-    → is_in classes.White b ≡ true
-    → is_white_here part comments last b bs ≡ true
+    → is_in classes.White b ≡ true → is_white_here part comments last b bs ≡ true
 calm-space part comments last b bs calm h = grind (arith, nat_tests, calm-line)
 
 -- behind the white space the same answers come
 pub calm-coming : (text : List ℕ) (s : State) (size : ℕ) → is_calm s.part s.comments ≡ true
-    → size ≡ run classes.White (drop s.at text)
-    → coming text (record s { at = s.at + size }) ≡ coming text s
-calm-coming text s size calm e =
-    ap (λ l. note_answers (pending_notes text s.pending) ++ l)
+    → size ≡ run classes.White (drop s.at text) → coming text (record s { at = s.at + size }) ≡ coming text s
+calm-coming text s size calm e = ap (λ l. note_answers (pending_notes text s.pending) ++ l)
     (skip-run text (where_of s) s.at size (λ p low high.
     let here = run-byte classes.White text s.at size p e low high in (
       here.0,
@@ -60,8 +55,7 @@ part-uncut : (part : Part) (place about : ℕ) → is_calm_part part ≡ true �
 part-uncut part place about h e = grind arith
 
 calm-uncut : (part : Part) (comments : List Opened) (place about : ℕ) → is_calm part comments ≡ true
-    → ends_at_bar part comments ≡ false
-    → all_cut part comments place about ≡ []
+    → ends_at_bar part comments ≡ false → all_cut part comments place about ≡ []
 calm-uncut part comments place about h e = grind (arith, part-uncut, bar-around)
 
 pub calm-end : (text : List ℕ) (part : Part) (comments : List Opened) (place : ℕ) → is_calm part comments ≡ true

@@ -1,15 +1,13 @@
 -- The answers cover the bytes that are scanned, whatever the text.
-use Rattle.std.proofs.Common.{◌≡◌, ℕ, zero, suc, ◌+◌, ◌-◌, ◌≤◌, Bool, true, List, [], ◌∷◌, ◌++◌, length, take, drop}
-use Rattle.std.proofs.Common.{refl, sym, ap, subst, ◌∙◌, arith, append_assoc, length-drop, append-nil}
-use Rattle.std.specs.Prelude.{slice_range}
-use Rattle.std.proofs.{lemmas.Bool.cases_lt, lemmas.Bool.Decides.nat_tests, lemmas.Grind.common_steps}
-use Rattle.std.proofs.lemmas.List.{drop-drop, length-take, drop-take, take-take}
+use Rattle.cw_lex.proofs.Terms.{◌≡◌, ℕ, zero, suc, ◌+◌, ◌-◌, ◌≤◌, Bool, true, List, [], ◌∷◌, ◌++◌, length, take, drop}
+use Rattle.cw_lex.proofs.Terms.{refl, sym, ap, subst, ◌∙◌, arith, append_assoc, length-drop, append-nil, slice_range}
+use Rattle.cw_lex.proofs.Terms.{lemmas.Bool.cases_lt, lemmas.Bool.Decides.nat_tests, lemmas.Grind.common_steps}
+use Rattle.cw_lex.proofs.Terms.{drop-drop, length-take, drop-take, take-take, Answer, Token, Begin, Finish, Note, Seen}
+use Rattle.cw_lex.proofs.Terms.{Where, Found, still_fresh, answers, fresh_at, last_at, beginning, tokens_of, AreBare}
+use Rattle.cw_lex.proofs.Terms.{AreNotes, TakesAll, Takes, bare-all-cut, found-takes, found-fits}
 use Rattle.cw_rules.specs.{declared.tokens.Mode.Mode, Bytes.begins, Tokens.all_cut, Apart.found_apart}
-use Rattle.cw_rules.specs.Answers.{Answer, Token, Begin, Finish, Note, Seen, Where, Found}
-use Rattle.cw_lex.specs.Lexing.{still_fresh, answers, fresh_at, last_at, beginning, tokens_of}
 use Rattle.cw_rules.specs.Order.{begins_space, IsSpace, Stands, Covers}
-use Rattle.cw_rules.proofs.Taking.{AreBare, AreNotes, IsWhole, TakesAll, Takes, bare-all-cut, found-takes}
-use Rattle.cw_rules.proofs.Within.{found-fits}
+use Rattle.cw_rules.proofs.Taking.{IsWhole}
 
 -- white space up to a place that a token without bytes has
 no-space : (text : List ℕ) (place from : ℕ) → from ≡ place → IsSpace text from place
@@ -56,17 +54,15 @@ whole-stands text from place more bytes t here low space w =
       space = more-space text from place t.span.start (sym w.from) space;
     }
 
-whole-covers : (text : List ℕ) (from place more end : ℕ) (bytes : List ℕ) (xs ys : List Answer)
-    → TakesAll place bytes more xs → drop place text ≡ bytes → from ≤ place → IsSpace text from place
-    → ((low : ℕ) → low ≤ (place + 1) + more → IsSpace text low ((place + 1) + more) → Covers text low end ys)
-    → Covers text from end (xs ++ ys)
+whole-covers : (text : List ℕ) (from place more end : ℕ) (bytes : List ℕ) (xs ys : List Answer) → TakesAll place bytes
+    more xs → drop place text ≡ bytes → from ≤ place → IsSpace text from place → ((low : ℕ) → low ≤ (place + 1) + more
+    → IsSpace text low ((place + 1) + more) → Covers text low end ys) → Covers text from end (xs ++ ys)
 whole-covers text from place more end bytes xs ys h here low space rest =
     grind (arith, nat_tests, more-space, space-on, whole-stands, notes-cover, no-space)
 
-found-covers : (text : List ℕ) (from place end : ℕ) (bytes : List ℕ) (f : Found) (ys : List Answer)
-    → Takes place bytes f → drop place text ≡ bytes → from ≤ place → IsSpace text from place
-    → ((low : ℕ) → low ≤ (place + 1) + f.more → IsSpace text low ((place + 1) + f.more) → Covers text low end ys)
-    → Covers text from end (f.answers ++ ys)
+found-covers : (text : List ℕ) (from place end : ℕ) (bytes : List ℕ) (f : Found) (ys : List Answer) → Takes place bytes
+    f → drop place text ≡ bytes → from ≤ place → IsSpace text from place → ((low : ℕ) → low ≤ (place + 1) + f.more
+    → IsSpace text low ((place + 1) + f.more) → Covers text low end ys) → Covers text from end (f.answers ++ ys)
 found-covers text from place end bytes f ys t here low space rest =
     grind (arith, nat_tests, append_assoc, bare-covers, whole-covers)
 
@@ -82,9 +78,8 @@ answers-cover : (text bytes : List ℕ) (w : Where) (fresh : Bool) (last place t
 answers-cover text [] w fresh last place taken from here size t low space =
     let e : place + taken ≡ place = omega arith in
     let P : List Answer → Type 0 = Covers text from (length text) in
-    subst P (append-nil (all_cut w.part w.comments place (place - 1)))
-    (bare-covers text from place (length text) (all_cut w.part w.comments place (place - 1)) []
-    (bare-all-cut w.part w.comments place (place - 1)) (omega arith)
+    subst P (append-nil (all_cut w.part w.comments place (place - 1))) (bare-covers text from place (length text)
+    (all_cut w.part w.comments place (place - 1)) [] (bare-all-cut w.part w.comments place (place - 1)) (omega arith)
     (more-space text from (place + taken) place e space)
     (λ low least space. (omega arith, more-space text low place (length text) (omega arith) space)))
 answers-cover text (byte ∷ bytes) w fresh last place zero from here size t low space =
@@ -141,19 +136,16 @@ part-covers : (text : List ℕ) (end from : ℕ) (xs : List Answer) → Covers (
     → Covers text from end xs
 part-covers text end from [] c = (c.0, part-space text end from end (omega arith) c.1)
 part-covers text end from (Token t ∷ xs) c = (
-  part-stands text end from t
-      (covers-le (take end text) t.span.end end xs c.2) c.0,
+  part-stands text end from t (covers-le (take end text) t.span.end end xs c.2) c.0,
   c.1,
   part-covers text end t.span.end xs c.2,
 )
 part-covers text end from (Begin t ∷ xs) c = (
-  part-stands text end from t
-      (covers-le (take end text) t.span.end end xs c.1) c.0,
+  part-stands text end from t (covers-le (take end text) t.span.end end xs c.1) c.0,
   part-covers text end t.span.end xs c.1,
 )
 part-covers text end from (Finish t ∷ xs) c = (
-  part-stands text end from t
-      (covers-le (take end text) t.span.end end xs c.1) c.0,
+  part-stands text end from t (covers-le (take end text) t.span.end end xs c.1) c.0,
   part-covers text end t.span.end xs c.1,
 )
 part-covers text end from (Note kind about ∷ xs) c = part-covers text end from xs c
@@ -164,8 +156,6 @@ tokens-cover text from end mode order within =
     let cut = take end text in
     let size : length cut ≡ end = omega (arith, length-take end text) in
     let e : from + 0 ≡ from = omega arith in
-    part-covers text end from (tokens_of text from end mode)
-    (subst (λ n. Covers cut from n (tokens_of text from end mode)) size
-    (answers-cover cut (drop from cut) (beginning mode) (fresh_at cut from) (last_at cut from) from 0 from refl
-    (omega (arith, length-drop from cut)) (omega arith) (omega arith)
-    (no-space cut (from + 0) from (sym e))))
+    part-covers text end from (tokens_of text from end mode) (subst (λ n. Covers cut from n (tokens_of text from end
+    mode)) size (answers-cover cut (drop from cut) (beginning mode) (fresh_at cut from) (last_at cut from) from 0 from
+    refl (omega (arith, length-drop from cut)) (omega arith) (omega arith) (no-space cut (from + 0) from (sym e))))

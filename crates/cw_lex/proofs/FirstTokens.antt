@@ -1,8 +1,6 @@
 -- The token with which answers begin: behind answers without bytes, and before notes.
-use Rattle.std.proofs.Common.{◌≡◌, ℕ, List, [], ◌∷◌, ◌++◌, refl, subst, ◌⊎◌, inl, arith}
-use Rattle.std.proofs.lemmas.Bool.Decides.{nat_tests}
-use Rattle.cw_rules.specs.Answers.{Answer, Token, Begin, Finish, Note, Seen, has_sign}
-use Rattle.cw_lex.specs.Openings.{tokens_in}
+use Rattle.cw_lex.proofs.Terms.{◌≡◌, ℕ, List, [], ◌∷◌, ◌++◌, refl, subst, ◌⊎◌, inl, arith, nat_tests, Answer, Token}
+use Rattle.cw_lex.proofs.Terms.{Begin, Finish, Note, Seen, has_sign, tokens_in}
 use Rattle.cw_rules.proofs.{CodeStarts.code_in, Taking.AreBare, Taking.AreNotes, Taking.IsWhole, Taking.TakesAll}
 
 pub bare-tokens : (place : ℕ) (xs : List Answer) → AreBare place xs → tokens_in xs ≡ []
@@ -33,9 +31,8 @@ token-is s t e = cc
 
 -- a token stands in the first of two lists, or behind it
 abbrev pub Split : List Answer → List Answer → List Answer → Seen → List Answer → Type 0
-Split ls bs xs t ys =
-    ((zs : List Answer) × (xs ≡ ls ++ zs) × (bs ≡ zs ++ Token t ∷ ys)) ⊎ ((zs : List Answer) × (ls ≡ xs ++ Token t ∷ zs)
-    × (ys ≡ zs ++ bs))
+Split ls bs xs t ys = ((zs : List Answer) × (xs ≡ ls ++ zs) × (bs ≡ zs ++ Token t ∷ ys))
+    ⊎ ((zs : List Answer) × (ls ≡ xs ++ Token t ∷ zs) × (ys ≡ zs ++ bs))
 
 split-further : (a x : Answer) (ls bs xs : List Answer) (t : Seen) (ys : List Answer) → a ≡ x → Split ls bs xs t ys
     → Split (a ∷ ls) bs (x ∷ xs) t ys

@@ -1,23 +1,20 @@
 -- Inner C text of TeX text that no bar closes has the answers of its bytes, up to the end of the text.
-use Rattle.std.proofs.Common.{◌≡◌, ℕ, zero, suc, ◌+◌, ◌-◌, Bool, true, false, ◌&&◌, ◌||◌, not, ◌==◌, nat_lt, List, []}
-use Rattle.std.proofs.Common.{◌∷◌, ◌++◌, Option, Some, None, length, refl, sym, ap, ◌∙◌, arith, append_assoc}
-use Rattle.std.specs.Prelude.{if◌then◌else◌}
-use Rattle.std.proofs.lemmas.Bool.Decides.{nat_tests}
-use Rattle.cw_rules.specs.declared.classes.Class.TheVariants as classes
-use Rattle.cw_rules.specs.declared.{codes.Code.Code, parts.Opened.Opened, parts.Start.Start, signs.Sign.Sign}
-use Rattle.cw_rules.specs.declared.parts.Part.TheVariants as parts
-use Rattle.cw_rules.specs.declared.parts.Start.TheVariants as start
+use Rattle.cw_lex.proofs.Terms.{◌≡◌, ℕ, zero, suc, ◌+◌, ◌-◌, Bool, true, false, ◌&&◌, ◌||◌, not, ◌==◌, nat_lt, List, []}
+use Rattle.cw_lex.proofs.Terms.{◌∷◌, ◌++◌, Option, Some, None, length, refl, sym, ap, ◌∙◌, arith, append_assoc}
+use Rattle.cw_lex.proofs.Terms.{if◌then◌else◌, nat_tests, codes.Code.Code, parts.Opened.Opened, parts.Start.Start}
+use Rattle.cw_lex.proofs.Terms.{signs.Sign.Sign, hash, star, slash, less, at_sign, begins, is_letter, is_mark, is_in}
+use Rattle.cw_lex.proofs.Terms.{Lexing.still_fresh, Lexing.joined, Lexing.answers, Nested.begins_section_in}
+use Rattle.cw_lex.proofs.Terms.{Parts.closing_bar, tex_inner, alone, in_tex, in_text-twin, if-both, and-none, not-both}
+use Rattle.cw_lex.proofs.Terms.{both-left}
 use Rattle.cw_rules.specs.{Answers.Answer, Answers.Where, Answers.Found, Codes.begins_section, Codes.effect_in_c}
 use Rattle.cw_rules.specs.{Constants.constant, Prefixes.prefix_size, Tokens.section, Signs.all_signs, Signs.longest}
-use Rattle.cw_base.specs.{Bytes.newline, Text.bar}
-use Rattle.cw_rules.specs.Bytes.{hash, star, slash, less, at_sign, begins, is_letter, is_mark, is_in}
-use Rattle.cw_lex.specs.{Lexing.still_fresh, Lexing.joined, Lexing.answers, Nested.begins_section_in, Parts.closing_bar}
 use Rattle.cw_rules.specs.Tokens.{is_tex_inner, sign_or_other, inner_cut, all_cut, line_end, code_by, in_code, start_of}
 use Rattle.cw_rules.specs.Apart.{code_text_apart, comment_text_apart, in_text_apart, found_apart}
-use Rattle.cw_rules.proofs.InnerTwins.{tex_inner, alone, in_tex, in_text-twin}
-use Rattle.cw_rules.proofs.Choices.{if-both, and-none}
+use Rattle.cw_base.specs.{Bytes.newline, Text.bar}
 use Rattle.cw_lex.proofs.Openings.{section-cuts, uncut-right}
-use Rattle.cw_base.proofs.TestLaws.{not-both, both-left}
+use Rattle.cw_rules.specs.declared.classes.Class.TheVariants as classes
+use Rattle.cw_rules.specs.declared.parts.Part.TheVariants as parts
+use Rattle.cw_rules.specs.declared.parts.Start.TheVariants as start
 
 -- ## What leaves inner C text
 
@@ -48,36 +45,31 @@ sign-bar : (byte : ℕ) (o : Option Sign) → Bar byte (sign_or_other o)
 sign-bar byte o = grind arith
 
 bar-start : (ends : Bool) (byte : ℕ) (bytes : List ℕ) → Bar byte (start_of ends byte bytes)
-bar-start ends byte bytes =
-    if-both (Bar byte) (nat_lt 0 (prefix_size (byte ∷ bytes))) _ _ (λ e. record { is = λ h. absurd cc })
-    (λ e. if-both (Bar byte) (is_letter byte) _ _ (λ e. record { is = λ h. absurd cc })
+bar-start ends byte bytes = if-both (Bar byte) (nat_lt 0 (prefix_size (byte ∷ bytes))) _ _ (λ e. record
+    { is = λ h. absurd cc }) (λ e. if-both (Bar byte) (is_letter byte) _ _ (λ e. record { is = λ h. absurd cc })
     (λ e. if-both (Bar byte) (nat_lt 0 (constant (byte ∷ bytes))) _ _ (λ e. record { is = λ h. absurd cc })
-    (λ e. if-both (Bar byte) (is_mark byte) _ _ (λ e. record { is = λ h. absurd cc })
-    (λ e. if-both (Bar byte) (byte == slash && begins star bytes) _ _ (λ e. record { is = λ h. absurd cc })
-    (λ e. if-both (Bar byte) (byte == slash && begins slash bytes) _ _ (λ e. record { is = λ h. absurd cc })
-    (λ e. if-both (Bar byte) (byte == at_sign) _ _ (λ e. record { is = λ h. absurd cc })
-    (λ e. if-both (Bar byte) (byte == bar && (ends && not (begins bar bytes))) start.EndOfInner
-    (sign_or_other (longest all_signs (byte ∷ bytes))) (λ e. record { is = λ h. both-left (byte == bar) _ e })
-    (λ e. sign-bar byte (longest all_signs (byte ∷ bytes))))))))))
+    (λ e. if-both (Bar byte) (is_mark byte) _ _ (λ e. record { is = λ h. absurd cc }) (λ e. if-both (Bar byte)
+    (byte == slash && begins star bytes) _ _ (λ e. record { is = λ h. absurd cc }) (λ e. if-both (Bar byte)
+    (byte == slash && begins slash bytes) _ _ (λ e. record { is = λ h. absurd cc }) (λ e. if-both (Bar byte)
+    (byte == at_sign) _ _ (λ e. record { is = λ h. absurd cc }) (λ e. if-both (Bar byte) (byte == bar &&
+    (ends && not (begins bar bytes))) start.EndOfInner (sign_or_other (longest all_signs (byte ∷ bytes))) (λ e. record
+    { is = λ h. both-left (byte == bar) _ e }) (λ e. sign-bar byte (longest all_signs (byte ∷ bytes))))))))))
 
 no-bar : (ends : Bool) (byte : ℕ) (bytes : List ℕ) → (byte == bar) ≡ false → start_of ends byte bytes ≡ start.EndOfInner
     → ⊥
 no-bar ends byte bytes n e = not-both (byte == bar) ((bar-start ends byte bytes).is (ap ends_inner e)) n
 
-text-inside : (cs : List Opened) (fresh : Bool) (last place byte : ℕ) (bytes : List ℕ) (ends : Bool) → (byte == bar)
-    ≡ false
-    → Inside (in_code (start_of ends byte bytes) (tex_inner cs) place (byte ∷ bytes))
+text-inside : (cs : List Opened) (fresh : Bool) (last place byte : ℕ) (bytes : List ℕ) (ends : Bool)
+    → (byte == bar) ≡ false → Inside (in_code (start_of ends byte bytes) (tex_inner cs) place (byte ∷ bytes))
 text-inside cs fresh last place byte bytes ends n = start-inside (start_of ends byte bytes) cs place (byte ∷ bytes)
     (no-bar ends byte bytes n)
 
 code-text-inside : (cs : List Opened) (fresh : Bool) (last place byte : ℕ) (bytes : List ℕ) → (byte == bar) ≡ false
     → Inside (code_text_apart (tex_inner cs) fresh last place byte bytes)
-code-text-inside cs fresh last place byte bytes n =
-    if-both Inside (byte == newline) _ _ (λ h. line-inside cs last place)
-    (λ h. if-both Inside (is_in classes.Blank byte || false) _ _ (λ h. record { is = refl })
-    (λ h. if-both Inside (byte == hash && false) _ _ (λ h. not-both _ h (and-none (byte == hash)))
-    (λ h. if-both Inside (byte == less && false) _ _ (λ h. not-both _ h (and-none (byte == less)))
-    (λ h. text-inside cs fresh last place byte bytes true n))))
+code-text-inside cs fresh last place byte bytes n = if-both Inside (byte == newline) _ _ (λ h. line-inside cs last
+    place) (λ h. if-both Inside (is_in classes.Blank byte || false) _ _ (λ h. record { is = refl }) (λ h. if-both Inside
+    (byte == hash && false) _ _ (λ h. not-both _ h (and-none (byte == hash))) (λ h. if-both Inside (byte == less &&
+    false) _ _ (λ h. not-both _ h (and-none (byte == less))) (λ h. text-inside cs fresh last place byte bytes true n))))
 
 comment-inside : (c : Opened) (cs : List Opened) (last place byte : ℕ) (bytes : List ℕ)
     → Inside (comment_text_apart parts.TexInner c cs last place byte bytes)
@@ -98,9 +90,8 @@ cut-inner (c ∷ cs) place about = grind (arith, nat_tests, cut-inner cs place a
 
 pub to-end : (end : ℕ) (bytes : List ℕ) (cs : List Opened) (fresh : Bool) (last place taken : ℕ)
     → end ≡ place + length bytes → closing_bar bytes (tex_inner cs) fresh last place taken ≡ None
-    → begins_section_in (answers bytes (tex_inner cs) fresh last place taken) ≡ false
-    → answers bytes (tex_inner cs) fresh last place taken ≡ answers bytes (alone cs) fresh last place taken
-    ++ inner_cut false end (end - 1)
+    → begins_section_in (answers bytes (tex_inner cs) fresh last place taken) ≡ false → answers bytes (tex_inner cs)
+    fresh last place taken ≡ answers bytes (alone cs) fresh last place taken ++ inner_cut false end (end - 1)
 to-end end [] cs fresh last place taken e n u = grind (arith, cut-inner)
 to-end end (byte ∷ bytes) cs fresh last place zero e n u =
     by (is_tex_inner (found_apart (tex_inner cs) fresh last place byte bytes).next.part) refl
@@ -127,12 +118,11 @@ to-end end (byte ∷ bytes) cs fresh last place zero e n u =
 
     by : (b : Bool) → is_tex_inner (found_apart (tex_inner cs) fresh last place byte bytes).next.part ≡ b
         → ((ds : List Opened) (more : ℕ) → closing_bar bytes (tex_inner ds) (still_fresh fresh byte) byte (place + 1)
-        more ≡ None → begins_section_in (answers bytes (tex_inner ds) (still_fresh fresh byte) byte (place + 1)
-        more) ≡ false
-        → answers bytes (tex_inner ds) (still_fresh fresh byte) byte (place + 1) more
-        ≡ answers bytes (alone ds) (still_fresh fresh byte) byte (place + 1) more ++ inner_cut false end (end - 1))
-        → answers (byte ∷ bytes) (tex_inner cs) fresh last place 0
-        ≡ answers (byte ∷ bytes) (alone cs) fresh last place 0 ++ inner_cut false end (end - 1)
+        more ≡ None → begins_section_in (answers bytes (tex_inner ds) (still_fresh fresh byte) byte (place + 1) more)
+        ≡ false → answers bytes (tex_inner ds) (still_fresh fresh byte) byte (place + 1) more ≡ answers bytes (alone ds)
+        (still_fresh fresh byte) byte (place + 1) more ++ inner_cut false end (end - 1)) → answers (byte ∷ bytes)
+        (tex_inner cs) fresh last place 0 ≡ answers (byte ∷ bytes) (alone cs) fresh last place 0 ++ inner_cut false end
+        (end - 1)
     by true h rec =
         let f = found_apart (tex_inner cs) fresh last place byte bytes in
         let g = found_apart (alone cs) fresh last place byte bytes in

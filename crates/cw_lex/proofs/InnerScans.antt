@@ -1,17 +1,14 @@
 -- Inner C text of TeX text that a bar closes has the answers of its bytes scanned by themselves.
-use Rattle.std.proofs.Common.{◌≡◌, ℕ, zero, suc, ◌+◌, ◌-◌, ◌≤◌, Bool, true, false, ◌==◌, List, [], ◌∷◌, ◌++◌, Option}
-use Rattle.std.proofs.Common.{Some, None, length, take, drop, refl, sym, ap, ◌∙◌, arith, append_assoc, ◌⊎◌, inl, inr}
-use Rattle.std.specs.Prelude.{if◌then◌else◌}
-use Rattle.std.proofs.{lemmas.Bool.eqb-true, lemmas.Bool.Decides.nat_tests, lemmas.Grind.common_steps}
-use Rattle.std.proofs.lemmas.List.{drop-drop, drop_all, take-take, take_all}
+use Rattle.cw_lex.proofs.Terms.{◌≡◌, ℕ, zero, suc, ◌+◌, ◌-◌, ◌≤◌, Bool, true, false, ◌==◌, List, [], ◌∷◌, ◌++◌, Option}
+use Rattle.cw_lex.proofs.Terms.{Some, None, length, take, drop, refl, sym, ap, ◌∙◌, arith, append_assoc, ◌⊎◌, inl, inr}
+use Rattle.cw_lex.proofs.Terms.{if◌then◌else◌, lemmas.Bool.eqb-true, lemmas.Bool.Decides.nat_tests}
+use Rattle.cw_lex.proofs.Terms.{lemmas.Grind.common_steps, drop-drop, drop_all, take-take, take_all, bar, Answer, Begin}
+use Rattle.cw_lex.proofs.Terms.{Finish, Where, Found, token_of, still_fresh, joined, answers, fresh_after, last_after}
+use Rattle.cw_lex.proofs.Terms.{fresh_at, last_at, answers_at, Lexing.beginning, Lexing.tokens_of, Parts.closing_bar}
+use Rattle.cw_lex.proofs.Terms.{Parts.closing_bar_from, tex_inner, alone, found-twin}
 use Rattle.cw_rules.specs.{declared.parts.Opened.Opened, Bytes.begins, Tokens.is_tex_inner, Apart.found_apart}
-use Rattle.cw_base.specs.Text.{bar}
-use Rattle.cw_rules.specs.Answers.{Answer, Begin, Finish, Where, Found, token_of}
-use Rattle.cw_lex.specs.Lexing.{still_fresh, joined, answers, fresh_after, last_after, fresh_at, last_at, answers_at}
-use Rattle.cw_lex.specs.{Lexing.beginning, Lexing.tokens_of, Parts.closing_bar, Parts.closing_bar_from}
 use Rattle.cw_rules.proofs.{Choices.if-both, Choices.and-none, Ahead.drop-same, Ahead.take-same}
 use Rattle.cw_lex.proofs.{Walk.fresh-more, Walk.last-more, Covering.drop-part, PartScans.begins-byte}
-use Rattle.cw_rules.proofs.InnerTwins.{tex_inner, alone, found-twin}
 use Rattle.cw_rules.specs.declared.parts.Part.TheVariants as parts
 use Rattle.cw_rules.specs.declared.tokens.Mode.TheVariants as modes
 use Rattle.cw_rules.specs.declared.tokens.TokKind.TheVariants as kinds
@@ -48,12 +45,9 @@ closed (byte ∷ bytes) w fresh last place zero end h =
     some-is a b e = cc
 
     by : (inner is_bar : Bool) → is_tex_inner (found_apart w fresh last place byte bytes).next.part ≡ inner
-        → (byte == bar)
-        ≡ is_bar
-        → (closing_bar bytes (found_apart w fresh last place byte bytes).next (still_fresh fresh byte) byte (place + 1)
-        (found_apart w fresh last place byte bytes).more ≡ Some end
-        → Closed bytes (place + 1) (found_apart w fresh last place byte bytes).more end)
-        → Closed (byte ∷ bytes) place zero end
+        → (byte == bar) ≡ is_bar → (closing_bar bytes (found_apart w fresh last place byte bytes).next
+        (still_fresh fresh byte) byte (place + 1) (found_apart w fresh last place byte bytes).more ≡ Some end → Closed
+        bytes (place + 1) (found_apart w fresh last place byte bytes).more end) → Closed (byte ∷ bytes) place zero end
     by true is_bar e b rec =
         let f = found_apart w fresh last place byte bytes in
         let on = sym (ap (λ t. if t then closing_bar bytes f.next (still_fresh fresh byte) byte (place + 1) f.more else
@@ -108,16 +102,14 @@ bar-stays c cs fresh last place more = grind (arith, nat_tests, if-both, and-non
 
 -- the answers from a closing bar on
 abbrev from_bar : List ℕ → Bool → ℕ → List Answer
-from_bar more fresh place =
-    Finish (token_of false kinds.InnerText place 1 (124 ∷ more))
-    ∷ answers more (record { part = parts.Tex; comments = [] }) (still_fresh fresh 124) 124 (place + 1) 0
+from_bar more fresh place = Finish (token_of false kinds.InnerText place 1 (124 ∷ more)) ∷ answers more
+    (record { part = parts.Tex; comments = [] }) (still_fresh fresh 124) 124 (place + 1) 0
 
 -- the scan goes on in inner C text of TeX text, or its bar stands here
 goes-on : (byte : ℕ) (bytes : List ℕ) (cs : List Opened) (fresh : Bool) (last place end : ℕ) (f : Found)
-    → found_apart (tex_inner cs) fresh last place byte bytes ≡ f
-    → closing_bar (byte ∷ bytes) (tex_inner cs) fresh last place 0 ≡ Some end
-    → ((is_tex_inner f.next.part ≡ true) × (closing_bar bytes f.next (still_fresh fresh byte) byte (place + 1) f.more
-    ≡ Some end)) ⊎ ((is_tex_inner f.next.part ≡ false) × (place ≡ end))
+    → found_apart (tex_inner cs) fresh last place byte bytes ≡ f → closing_bar (byte ∷ bytes) (tex_inner cs) fresh last
+    place 0 ≡ Some end → ((is_tex_inner f.next.part ≡ true) × (closing_bar bytes f.next (still_fresh fresh byte) byte
+    (place + 1) f.more ≡ Some end)) ⊎ ((is_tex_inner f.next.part ≡ false) × (place ≡ end))
 goes-on byte bytes cs fresh last place end f is h = grind arith
 
 -- no bar closes before the place from which the scan goes on
@@ -134,17 +126,14 @@ scans more [] [] fresh last place zero h =
     let f = found_apart (tex_inner []) fresh last place 124 more in
     by (goes-on 124 more [] fresh last place (place + 0) f refl h)
   where
-    by : ((is_tex_inner (found_apart (tex_inner []) fresh last place 124 more).next.part ≡ true)
-        × (closing_bar more (found_apart (tex_inner []) fresh last place 124 more).next (still_fresh fresh 124) 124
-        (place + 1) (found_apart (tex_inner []) fresh last place 124 more).more ≡ Some (place + 0)))
-        ⊎ ((is_tex_inner (found_apart (tex_inner []) fresh last place 124 more).next.part ≡ false)
-        × (place ≡ place + 0))
-        → answers (124 ∷ more) (tex_inner []) fresh last place 0 ≡ from_bar more fresh (place + 0)
+    by : ((is_tex_inner (found_apart (tex_inner []) fresh last place 124 more).next.part ≡ true) × (closing_bar more
+        (found_apart (tex_inner []) fresh last place 124 more).next (still_fresh fresh 124) 124 (place + 1)
+        (found_apart (tex_inner []) fresh last place 124 more).more ≡ Some (place + 0))) ⊎ ((is_tex_inner
+        (found_apart (tex_inner []) fresh last place 124 more).next.part ≡ false) × (place ≡ place + 0)) → answers
+        (124 ∷ more) (tex_inner []) fresh last place 0 ≡ from_bar more fresh (place + 0)
     by (inl on) = absurd (not-before more _ _ _ place _ (place + 0) on.1 (omega arith))
-    by (inr e) =
-        ap (λ (f : Found). joined f (λ next size. answers more next (still_fresh fresh 124) 124 (place + 1) size))
-        ((bar-closes fresh last place more).is e.0)
-        ∙ ap (from_bar more fresh) e.1
+    by (inr e) = ap (λ (f : Found). joined f (λ next size. answers more next (still_fresh fresh 124) 124
+        (place + 1) size)) ((bar-closes fresh last place more).is e.0) ∙ ap (from_bar more fresh) e.1
 scans more [] (c ∷ cs) fresh last place zero h =
     let f = found_apart (tex_inner (c ∷ cs)) fresh last place 124 more in
     absurd (not-before more f.next (still_fresh fresh 124) 124 place f.more (place + 0)
@@ -158,17 +147,14 @@ scans more (byte ∷ bs) cs fresh last place zero h =
   where
     by : (f : Found) → found_apart (tex_inner cs) fresh last place byte (bs ++ 124 ∷ more) ≡ f
         → ((is_tex_inner f.next.part ≡ true) × (closing_bar (bs ++ 124 ∷ more) f.next (still_fresh fresh byte) byte
-        (place + 1) f.more ≡ Some (place + suc (length bs))))
-        ⊎ ((is_tex_inner f.next.part ≡ false) × (place ≡ place + suc (length bs)))
-        → ((cs : List Opened) (taken : ℕ) → closing_bar (bs ++ 124 ∷ more) (tex_inner cs) (still_fresh fresh byte) byte
-        (place + 1) taken ≡ Some ((place + 1) + length bs)
-        → answers (bs ++ 124 ∷ more) (tex_inner cs) (still_fresh fresh byte) byte (place + 1) taken
-        ≡ answers bs (alone cs) (still_fresh fresh byte) byte (place + 1) taken
-        ++ from_bar more (fresh_after (still_fresh fresh byte) bs) ((place + 1) + length bs))
-        → joined (found_apart (tex_inner cs) fresh last place byte (bs ++ 124 ∷ more))
-        (λ next size. answers (bs ++ 124 ∷ more) next (still_fresh fresh byte) byte (place + 1) size)
-        ≡ joined (found_apart (alone cs) fresh last place byte bs)
-        (λ next size. answers bs next (still_fresh fresh byte) byte
+        (place + 1) f.more ≡ Some (place + suc (length bs)))) ⊎ ((is_tex_inner f.next.part ≡ false)
+        × (place ≡ place + suc (length bs))) → ((cs : List Opened) (taken : ℕ) → closing_bar (bs ++ 124 ∷ more)
+        (tex_inner cs) (still_fresh fresh byte) byte (place + 1) taken ≡ Some ((place + 1) + length bs) → answers
+        (bs ++ 124 ∷ more) (tex_inner cs) (still_fresh fresh byte) byte (place + 1) taken ≡ answers bs (alone cs)
+        (still_fresh fresh byte) byte (place + 1) taken ++ from_bar more (fresh_after (still_fresh fresh byte) bs)
+        ((place + 1) + length bs)) → joined (found_apart (tex_inner cs) fresh last place byte (bs ++ 124 ∷ more))
+        (λ next size. answers (bs ++ 124 ∷ more) next (still_fresh fresh byte) byte (place + 1) size) ≡ joined
+        (found_apart (alone cs) fresh last place byte bs) (λ next size. answers bs next (still_fresh fresh byte) byte
         (place + 1) size) ++ from_bar more (fresh_after (still_fresh fresh byte) bs) (place + suc (length bs))
     by f is (inr e) rec = absurd (omega (arith, e.1))
     by f is (inl on) rec =
@@ -230,18 +216,15 @@ behind-bar text start end h =
     ) in
     let rest : drop (end + 1) text ≡ c.behind = sym (drop-drop 1 end text) ∙ ap (drop 1) at-end in
     (λ i. answers (c.split i) (tex_inner []) (fresh_at text start) (last_at text start) start 0)
-    ∙ scans c.behind bs [] (fresh_at text start) (last_at text start) start 0
-    (ap (λ l. closing_bar l (tex_inner []) (fresh_at text start) (last_at text start) start 0) (sym c.split) ∙ h
-    ∙ ap (λ n. Some n) c.place-is)
+    ∙ scans c.behind bs [] (fresh_at text start) (last_at text start) start 0 (ap (λ l. closing_bar l (tex_inner [])
+    (fresh_at text start) (last_at text start) start 0) (sym c.split) ∙ h ∙ ap (λ n. Some n) c.place-is)
     ∙ (λ i. answers (sym part i) (alone []) (fresh_after true (sym begun i)) (last_after 0 (sym begun i)) start 0
-    ++ from_bar c.behind (fresh-end i) (sym c.place-is i))
-    ∙ (λ i. tokens_of text start end modes.Inner ++
-    Finish (token_of false kinds.InnerText end 1 (sym at-end i)) ∷ answers (sym rest i) (beginning modes.TexText)
+    ++ from_bar c.behind (fresh-end i) (sym c.place-is i)) ∙ (λ i. tokens_of text start end modes.Inner ++ Finish
+    (token_of false kinds.InnerText end 1 (sym at-end i)) ∷ answers (sym rest i) (beginning modes.TexText)
     (fresh-behind text c.behind end 124 at-end i) (last-behind text c.behind end 124 at-end i) (end + 1) 0)
 
 pub inner-ends-at-bar : (text : List ℕ) (start end : ℕ) → begins bar (drop start text) ≡ true
-    → closing_bar_from text (start + 1) ≡ Some end
-    → answers_at text (beginning modes.TexText) start ≡
-    Begin (token_of false kinds.InnerText start 1 (drop start text)) ∷ (tokens_of text (start + 1) end modes.Inner ++
-    Finish (token_of false kinds.InnerText end 1 (drop end text)) ∷ answers_at text (beginning modes.TexText) (end + 1))
+    → closing_bar_from text (start + 1) ≡ Some end → answers_at text (beginning modes.TexText) start ≡ Begin
+    (token_of false kinds.InnerText start 1 (drop start text)) ∷ (tokens_of text (start + 1) end modes.Inner ++ Finish
+    (token_of false kinds.InnerText end 1 (drop end text)) ∷ answers_at text (beginning modes.TexText) (end + 1))
 inner-ends-at-bar text start end b h = grind (arith, begins-byte, tex_inner, fresh-behind, last-behind, behind-bar)

@@ -1,15 +1,11 @@
 -- No section name stands in limbo.
-use Rattle.std.proofs.Common.{◌≡◌, ℕ, zero, suc, ◌+◌, Bool, true, false, List, [], ◌∷◌, ◌++◌, drop, refl, if◌then◌else◌}
-use Rattle.std.proofs.Common.{arith}
-use Rattle.std.proofs.lemmas.Bool.Decides.{nat_tests}
-use Rattle.cw_base.proofs.TestLaws.{not-both}
-use Rattle.cw_rules.specs.declared.{bodies.Noted.Noted, codes.Code.Code, parts.Part.Part}
-use Rattle.cw_rules.specs.declared.parts.Part.TheVariants as parts
-use Rattle.cw_rules.specs.Answers.{Answer, Where, Cut, Found, note_answers}
+use Rattle.cw_lex.proofs.Terms.{◌≡◌, ℕ, zero, suc, ◌+◌, Bool, true, false, List, [], ◌∷◌, ◌++◌, drop, refl}
+use Rattle.cw_lex.proofs.Terms.{if◌then◌else◌, arith, nat_tests, not-both, bodies.Noted.Noted, codes.Code.Code}
+use Rattle.cw_lex.proofs.Terms.{parts.Part.Part, Answer, Where, Cut, Found, note_answers, answers, joined, still_fresh}
+use Rattle.cw_lex.proofs.Terms.{Limbo.HasNoNames, Limbo.LimboHasNoNames, Nested.is_section_kind}
 use Rattle.cw_rules.specs.{Bytes.star, Bytes.begins, Codes.effect_in_limbo, Apart.found_apart, Apart.part_text_apart}
-use Rattle.cw_lex.specs.Lexing.{answers, joined, still_fresh}
-use Rattle.cw_lex.specs.{Limbo.HasNoNames, Limbo.LimboHasNoNames, Nested.is_section_kind}
 use Rattle.cw_rules.specs.Tokens.{section, section_code, limbo_by, limbo_text, format_name, name_follows}
+use Rattle.cw_rules.specs.declared.parts.Part.TheVariants as parts
 
 -- limbo, and a format definition in it
 abbrev is_limbo : Part → Bool
@@ -57,9 +53,8 @@ free-word code second place byte bytes = grind (arith, nat_tests, free-if)
 free-part : (part : Part) → is_limbo part ≡ true → (fresh : Bool) (last place byte : ℕ) (bytes : List ℕ)
     → IsFree (part_text_apart part (within part) fresh last place byte bytes)
 free-part parts.Limbo h fresh last place byte bytes = free-limbo place byte bytes
-free-part (parts.FormatName code second true) h fresh last place byte bytes =
-    free-if (name_follows (byte ∷ bytes)) _ _ (free-word code second place byte bytes)
-    (λ rest k. free-limbo place byte bytes rest k)
+free-part (parts.FormatName code second true) h fresh last place byte bytes = free-if (name_follows (byte ∷ bytes)) _ _
+    (free-word code second place byte bytes) (λ rest k. free-limbo place byte bytes rest k)
 free-part (parts.FormatName code second false) h fresh last place byte bytes = grind (arith, nat_tests)
 free-part part h fresh last place byte bytes = absurd (let wrong : false ≡ true = h in cc)
 
@@ -72,9 +67,8 @@ no-names : (part : Part) → is_limbo part ≡ true → (bytes : List ℕ) (fres
 no-names parts.Limbo h [] fresh last place taken = tt
 no-names (parts.FormatName code second limbo) h [] fresh last place taken = tt
 no-names part h [] fresh last place taken = absurd (let wrong : false ≡ true = h in cc)
-no-names part h (byte ∷ bytes) fresh last place zero =
-    free-found part h fresh last place byte bytes (λ next more. answers bytes next (still_fresh fresh byte) byte
-    (place + 1) more)
+no-names part h (byte ∷ bytes) fresh last place zero = free-found part h fresh last place byte bytes
+    (λ next more. answers bytes next (still_fresh fresh byte) byte (place + 1) more)
     (λ next e more. no-names next e bytes (still_fresh fresh byte) byte (place + 1) more)
 no-names part h (byte ∷ bytes) fresh last place (suc taken) =
     no-names part h bytes (still_fresh fresh byte) byte (place + 1) taken

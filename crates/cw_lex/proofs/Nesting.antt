@@ -1,33 +1,30 @@
 -- The scanner's answers over C text are nested.
-use Rattle.std.proofs.Common.{◌≡◌, ℕ, zero, suc, ◌+◌, Bool, true, false, not, ◌&&◌, Option, Some, List, [], ◌∷◌, ◌++◌}
-use Rattle.std.proofs.Common.{refl, sym, ◌∙◌, ap, subst, append-nil, append_assoc, arith}
-use Rattle.std.specs.Prelude.{if◌then◌else◌, ◌==◌}
-use Rattle.std.proofs.lemmas.Bool.Decides.{nat_tests}
+use Rattle.cw_lex.proofs.Terms.{◌≡◌, ℕ, zero, suc, ◌+◌, Bool, true, false, not, ◌&&◌, Option, Some, List, [], ◌∷◌, ◌++◌}
+use Rattle.cw_lex.proofs.Terms.{refl, sym, ◌∙◌, ap, subst, append-nil, append_assoc, arith, if◌then◌else◌, ◌==◌}
+use Rattle.cw_lex.proofs.Terms.{nat_tests, codes.Code.Code, codes.Effect.Effect, bodies.Noted.Noted, parts.Part.Part}
+use Rattle.cw_lex.proofs.Terms.{parts.Opened.Opened, tokens.Mode.Mode, tokens.TokKind.TokKind, is_section}
+use Rattle.cw_lex.proofs.Terms.{begins_section, effect_in_c, code_at, Answer, Note, Where, Cut, Found, before}
+use Rattle.cw_lex.proofs.Terms.{note_answers, plain, answers, joined, tokens_of, still_fresh, if-both, or-false}
+use Rattle.cw_lex.proofs.Terms.{or-first, or-second}
 use Rattle.cw_base.{proofs.TestLaws.both-left, proofs.TestLaws.both-right, specs.declared.notes.NoteKind.NoteKind}
-use Rattle.cw_rules.specs.declared.{codes.Code.Code, codes.Effect.Effect, bodies.Noted.Noted, parts.Part.Part}
-use Rattle.cw_rules.specs.declared.{parts.Opened.Opened, tokens.Mode.Mode, tokens.TokKind.TokKind}
 use Rattle.cw_rules.specs.{Bodies.one_note, Bodies.note_unless, Bodies.noted, Apart.found_apart, Bytes.at_sign}
-use Rattle.cw_rules.specs.Codes.{is_section, begins_section, effect_in_c, code_at}
 use Rattle.cw_rules.specs.Tokens.{parameter_follows, parameter, format_name, one, skipped_byte, identifier, piece_start}
 use Rattle.cw_rules.specs.Tokens.{passed, moved, in_hash_line, ends_at_bar, line_end, comment_begin, comment_end}
 use Rattle.cw_rules.specs.Tokens.{inner_cut, comment_cut, part_cut, inner_or_none, all_cut, inner_end, effect_in}
 use Rattle.cw_rules.specs.Tokens.{code_token, control_or_plain, head_text, section, section_code, behind_word}
 use Rattle.cw_rules.specs.Tokens.{is_include, may_head, takes_hash_line, name_follows, macro_name}
 use Rattle.cw_rules.specs.Apart.{behind_head_apart, code_text_apart, comment_text_apart, part_text_apart, in_text_apart}
-use Rattle.cw_rules.specs.Answers.{Answer, Note, Where, Cut, Found, before, note_answers, plain}
-use Rattle.cw_lex.specs.Lexing.{answers, joined, tokens_of, still_fresh}
 use Rattle.cw_lex.specs.Nested.{Level, InCode, InComment, after_token, levels_after, all_levels_after, IsNested}
 use Rattle.cw_lex.specs.Nested.{is_section_kind, is_section_answer, begins_section_in, until_section, is_c_mode}
-use Rattle.cw_rules.proofs.Choices.{if-both, or-false, or-first, or-second}
+use Rattle.cw_rules.proofs.Rules.{BeginsPart, Macro, IsPassed, Standing, CodeRule, LineEnd, Space, HashLine, Word}
+use Rattle.cw_rules.proofs.Rules.{Passed, Heading, Beginning, Comment, InnerEnd, CommentRule, Closed, EndedLine}
+use Rattle.cw_rules.proofs.Rules.{InnerBegin, Piece, code-rule, comment-rule}
 use Rattle.cw_rules.specs.declared.codes.Code.TheVariants as code
 use Rattle.cw_rules.specs.declared.codes.Effect.TheVariants as effects
 use Rattle.cw_rules.specs.declared.parts.Part.TheVariants as parts
 use Rattle.cw_rules.specs.declared.tokens.Mode.TheVariants as modes
 use Rattle.cw_rules.specs.declared.tokens.TokKind.TheVariants as kind
 use Rattle.cw_base.specs.declared.notes.NoteKind.TheVariants as notes
-use Rattle.cw_rules.proofs.Rules.{BeginsPart, Macro, IsPassed, Standing, CodeRule, LineEnd, Space, HashLine, Word}
-use Rattle.cw_rules.proofs.Rules.{Passed, Heading, Beginning, Comment, InnerEnd, CommentRule, Closed, EndedLine}
-use Rattle.cw_rules.proofs.Rules.{InnerBegin, Piece, code-rule, comment-rule}
 
 levels-append : (xs bs : List Answer) (ls ms : List Level) → all_levels_after xs ls ≡ Some ms
     → all_levels_after (xs ++ bs) ls ≡ all_levels_after bs ms
@@ -86,8 +83,7 @@ pub code-first : (cs : List Opened) → all_inner cs ≡ true → (ls : List Lev
 code-first [] h = ([], refl)
 code-first (c ∷ cs) h = (
   InComment ∷ levels_in cs,
-  ap (λ b. with_code b (InComment ∷ levels_in cs))
-      (both-left c.inner (all_inner cs) h),
+  ap (λ b. with_code b (InComment ∷ levels_in cs)) (both-left c.inner (all_inner cs) h),
 )
 
 passed-c : (p : Part) → is_c p ≡ true → is_c (passed p) ≡ true
@@ -169,14 +165,12 @@ line-goes part [] last place p inner = grind (arith, nat_tests, if-both, one-goe
 line-goes part (c ∷ cs) last place p inner =
     let cut = inner_cut (in_hash_line part) place place ++ comment_end (in_hash_line part) c place 0 [] in
     if-both (Goes (in_tex part) (levels_in (c ∷ cs))) c.long _ _
-    (λ e. skip-goes (record { part = part; comments = c ∷ cs }) p inner)
-    (λ e. before-goes (in_tex part) cut (levels_in (c ∷ cs)) (levels_in cs) (line_end (passed part) cs last place)
-    (ap (λ b. all_levels_after cut (with_code b (InComment ∷ levels_in cs))) (both-left c.inner (all_inner cs) inner)
-    ∙ end-levels (in_hash_line part) c place 0 [] cs (both-right c.inner (all_inner cs) inner))
-    (end-uncut (in_hash_line part) c place 0 [])
-    (same-goes (in_tex (passed part)) (in_tex part) (levels_in cs) (line_end (passed part) cs last place)
-    (passed-tex part) (line-goes (passed part) cs last place (passed-c part p)
-    (both-right c.inner (all_inner cs) inner))))
+    (λ e. skip-goes (record { part = part; comments = c ∷ cs }) p inner) (λ e. before-goes (in_tex part) cut
+    (levels_in (c ∷ cs)) (levels_in cs) (line_end (passed part) cs last place) (ap (λ b. all_levels_after cut
+    (with_code b (InComment ∷ levels_in cs))) (both-left c.inner (all_inner cs) inner) ∙ end-levels (in_hash_line part)
+    c place 0 [] cs (both-right c.inner (all_inner cs) inner)) (end-uncut (in_hash_line part) c place 0 []) (same-goes
+    (in_tex (passed part)) (in_tex part) (levels_in cs) (line_end (passed part) cs last place) (passed-tex part)
+    (line-goes (passed part) cs last place (passed-c part p) (both-right c.inner (all_inner cs) inner))))
 
 -- a comment begins, and inner C text begins and ends
 comment-goes : (long : Bool) (w : Where) (place : ℕ) (bytes : List ℕ) → is_c w.part ≡ true → all_inner w.comments ≡ true
@@ -230,18 +224,16 @@ word-c p bytes h = if-both (λ (q : Part). is_c q ≡ true) (in_hash_line p && i
     (passed p) (λ e. refl) (λ e. passed-c p h)
 
 word-tex : (p : Part) (bytes : List ℕ) → in_tex (behind_word p bytes) ≡ in_tex p
-word-tex p bytes = if-both (λ (q : Part). in_tex q ≡ in_tex p) (in_hash_line p && is_include bytes)
-    (parts.Plain true true) (passed p) (λ e. hash-tex p (both-left (in_hash_line p) (is_include bytes) e))
-    (λ e. passed-tex p)
+word-tex p bytes = if-both (λ (q : Part). in_tex q ≡ in_tex p) (in_hash_line p && is_include bytes) (parts.Plain true
+    true) (passed p) (λ e. hash-tex p (both-left (in_hash_line p) (is_include bytes) e)) (λ e. passed-tex p)
 
 -- no section code
 plain-code : (byte : ℕ) (bytes : List ℕ) → (byte == at_sign && begins_section bytes) ≡ false → (byte == at_sign) ≡ true
     → is_section (code_at bytes) ≡ false
 plain-code byte bytes section at = ap (λ t. t && begins_section bytes) (sym at) ∙ section
 
-passed-in-c : (w : Where) (fresh : Bool) (place byte : ℕ) (bytes : List ℕ)
-    → (byte == at_sign && begins_section bytes) ≡ false → (cut : Cut) → IsPassed w fresh place byte bytes cut
-    → in_c cut.kind ≡ true
+passed-in-c : (w : Where) (fresh : Bool) (place byte : ℕ) (bytes : List ℕ) → (byte == at_sign && begins_section bytes)
+    ≡ false → (cut : Cut) → IsPassed w fresh place byte bytes cut → in_c cut.kind ≡ true
 passed-in-c w fresh place byte bytes section _ (Standing at e) =
     (code-kind (code_at bytes) place (byte ∷ bytes) (plain-code byte bytes section at)).is
 passed-in-c w fresh place byte bytes section _ _ = refl
@@ -249,9 +241,8 @@ passed-in-c w fresh place byte bytes section _ _ = refl
 -- What begins at a byte of C text, but for a bar that ends it.
 pub rule-goes : (P : Found → Type 0) (w : Where) (fresh : Bool) (last place byte : ℕ) (bytes : List ℕ)
     → (byte == at_sign && begins_section bytes) ≡ false → is_c w.part ≡ true → all_inner w.comments ≡ true
-    → ((f : Found) → Goes (in_tex w.part) (levels_in w.comments) f → P f)
-    → (ends_at_bar w.part w.comments ≡ true → P (inner_end w place (byte ∷ bytes))) → (f : Found)
-    → CodeRule w fresh last place byte bytes f → P f
+    → ((f : Found) → Goes (in_tex w.part) (levels_in w.comments) f → P f) → (ends_at_bar w.part w.comments ≡ true → P
+    (inner_end w place (byte ∷ bytes))) → (f : Found) → CodeRule w fresh last place byte bytes f → P f
 rule-goes P w fresh last place byte bytes section p inner goes ends _ (LineEnd h) =
     goes (line_end w.part w.comments last place) (line-goes w.part w.comments last place p inner)
 rule-goes P w fresh last place byte bytes section p inner goes ends _ (Space line h) =
@@ -259,10 +250,9 @@ rule-goes P w fresh last place byte bytes section p inner goes ends _ (Space lin
 rule-goes P w fresh last place byte bytes section p inner goes ends _ (HashLine h takes first) =
     goes _ (one-goes (in_tex w.part) true (moved w (parts.Plain true false)) place (byte ∷ bytes)
     (plain kind.HashLine 1) (takes-tex w.part w.comments takes) refl refl inner)
-rule-goes P w fresh last place byte bytes section p inner goes ends _ (Word bare h) =
-    goes _ (one-goes (in_tex w.part) (in_hash_line w.part) (moved w (behind_word w.part (byte ∷ bytes))) place
-    (byte ∷ bytes) (identifier (byte ∷ bytes)) (word-tex w.part (byte ∷ bytes)) refl (word-c w.part (byte ∷ bytes) p)
-    inner)
+rule-goes P w fresh last place byte bytes section p inner goes ends _ (Word bare h) = goes _
+    (one-goes (in_tex w.part) (in_hash_line w.part) (moved w (behind_word w.part (byte ∷ bytes))) place (byte ∷ bytes)
+    (identifier (byte ∷ bytes)) (word-tex w.part (byte ∷ bytes)) refl (word-c w.part (byte ∷ bytes) p) inner)
 rule-goes P w fresh last place byte bytes section p inner goes ends _ (Passed cut k) =
     goes _ (one-goes (in_tex w.part) (in_hash_line w.part) (moved w (passed w.part)) place (byte ∷ bytes) cut
     (passed-tex w.part) (passed-in-c w fresh place byte bytes section cut k) (passed-c w.part p) inner)
@@ -282,9 +272,8 @@ rule-goes P w fresh last place byte bytes section p inner goes ends _ (InnerEnd 
 
 text-goes : (part : Part) (cs : List Opened) (fresh : Bool) (last place byte : ℕ) (bytes : List ℕ)
     → (byte == at_sign && begins_section bytes) ≡ false → is_c part ≡ true → all_inner cs ≡ true
-    → (ends_at_bar part cs ≡ true → is_open cs ≡ true)
-    → Goes (in_tex part) (levels_in cs) (code_text_apart (record { part = part; comments = cs }) fresh last place byte
-    bytes)
+    → (ends_at_bar part cs ≡ true → is_open cs ≡ true) → Goes (in_tex part) (levels_in cs)
+    (code_text_apart (record { part = part; comments = cs }) fresh last place byte bytes)
 text-goes part cs fresh last place byte bytes section p inner opens =
     let w : Where = record { part = part; comments = cs } in
     rule-goes (Goes (in_tex part) (levels_in cs)) w fresh last place byte bytes section p inner (λ f g. g)
@@ -321,22 +310,18 @@ head-goes : (place byte : ℕ) (bytes : List ℕ) → Goes false (InCode ∷ [])
     (head_text (record { part = parts.Head; comments = [] }) place byte bytes)
 head-goes place byte bytes = grind (arith, nat_tests, if-both, skip-goes, one-goes)
 
-definition-goes : (fresh : Bool) (last place byte : ℕ) (bytes : List ℕ) → (byte == at_sign && begins_section bytes)
-    ≡ false → Goes false (InCode ∷ []) (code_text_apart (record { part = parts.Definition; comments = [] }) fresh last
-    place
-    byte bytes)
+definition-goes : (fresh : Bool) (last place byte : ℕ) (bytes : List ℕ)
+    → (byte == at_sign && begins_section bytes) ≡ false → Goes false (InCode ∷ [])
+    (code_text_apart (record { part = parts.Definition; comments = [] }) fresh last place byte bytes)
 definition-goes fresh last place byte bytes section = text-goes parts.Definition [] fresh last place byte bytes section
     refl refl (λ e. absurd cc)
 
 improper-goes : (note : NoteKind) (at : ℕ) (part : Part) (fresh : Bool) (last place byte : ℕ) (bytes : List ℕ)
-    → (byte == at_sign && begins_section bytes) ≡ false
-    → Goes false (InCode ∷ []) (before (Note note at ∷ [])
-    (behind_head_apart false (record { part = part; comments = [] })
-    fresh last place byte bytes))
-improper-goes note at part fresh last place byte bytes section =
-    before-goes false (Note note at ∷ []) (InCode ∷ []) (InCode ∷ [])
-    (code_text_apart (record { part = parts.Definition; comments = [] }) fresh last place byte bytes) refl refl
-    (definition-goes fresh last place byte bytes section)
+    → (byte == at_sign && begins_section bytes) ≡ false → Goes false (InCode ∷ []) (before (Note note at ∷ [])
+    (behind_head_apart false (record { part = part; comments = [] }) fresh last place byte bytes))
+improper-goes note at part fresh last place byte bytes section = before-goes false (Note note at ∷ []) (InCode ∷ [])
+    (InCode ∷ []) (code_text_apart (record { part = parts.Definition; comments = [] }) fresh last place byte bytes) refl
+    refl (definition-goes fresh last place byte bytes section)
 
 macro-goes : (at place byte : ℕ) (bytes : List ℕ) → Goes false (InCode ∷ [])
     (macro_name at (record { part = parts.MacroName at; comments = [] }) place byte bytes)
@@ -346,15 +331,13 @@ parameter-goes : (at place byte : ℕ) (bytes : List ℕ)
     → Goes false (InCode ∷ []) (parameter (record { part = parts.Parameters at; comments = [] }) place byte bytes)
 parameter-goes at place byte bytes = grind (arith, if-both, skip-goes, one-goes)
 
-format-goes : (at : ℕ) (second : Bool) (place byte : ℕ) (bytes : List ℕ)
-    → Goes false (InCode ∷ []) (format_name at second false
-    (record { part = parts.FormatName at second false; comments = [] }) place byte bytes)
+format-goes : (at : ℕ) (second : Bool) (place byte : ℕ) (bytes : List ℕ) → Goes false (InCode ∷ [])
+    (format_name at second false (record { part = parts.FormatName at second false; comments = [] }) place byte bytes)
 format-goes at second place byte bytes = grind (arith, if-both, skip-goes, one-goes)
 
 part-goes : (part : Part) (fresh : Bool) (last place byte : ℕ) (bytes : List ℕ)
-    → (byte == at_sign && begins_section bytes) ≡ false → is_c part ≡ true → in_tex part ≡ false
-    → Goes false (InCode ∷ []) (part_text_apart part (record { part = part; comments = [] }) fresh last place byte
-    bytes)
+    → (byte == at_sign && begins_section bytes) ≡ false → is_c part ≡ true → in_tex part ≡ false → Goes false
+    (InCode ∷ []) (part_text_apart part (record { part = part; comments = [] }) fresh last place byte bytes)
 part-goes parts.Begin fresh last place byte bytes section p t =
     text-goes parts.Begin [] fresh last place byte bytes section refl refl (λ e. absurd cc)
 part-goes (parts.Plain a b) fresh last place byte bytes section p t =
@@ -370,21 +353,19 @@ part-goes (parts.MacroParen at) fresh last place byte bytes section p t = grind 
 part-goes (parts.Parameters at) fresh last place byte bytes section p t =
     if-both (Goes false (InCode ∷ [])) (parameter_follows (byte ∷ bytes)) _ _ (λ e. parameter-goes at place byte bytes)
     (λ e. improper-goes notes.ImproperMacro at (parts.Parameters at) fresh last place byte bytes section)
-part-goes (parts.FormatName at second false) fresh last place byte bytes section p t =
-    if-both (Goes false (InCode ∷ [])) (name_follows (byte ∷ bytes)) _ _ (λ e. format-goes at second place byte bytes)
-    (λ e. improper-goes notes.ImproperFormat at (parts.FormatName at second false) fresh last place byte bytes
-    section)
+part-goes (parts.FormatName at second false) fresh last place byte bytes section p t = if-both
+    (Goes false (InCode ∷ [])) (name_follows (byte ∷ bytes)) _ _ (λ e. format-goes at second place byte bytes)
+    (λ e. improper-goes notes.ImproperFormat at (parts.FormatName at second false) fresh last place byte bytes section)
 part-goes _ fresh last place byte bytes section p t = absurd cc
 
 pub open-goes : (part : Part) (c : Opened) (cs : List Opened) (fresh : Bool) (last place byte : ℕ) (bytes : List ℕ)
     → (byte == at_sign && begins_section bytes) ≡ false → is_c part ≡ true → all_inner cs ≡ true
     → Goes (in_tex part) (levels_in (c ∷ cs)) (in_text_apart part (c ∷ cs) fresh last place byte bytes)
-open-goes part c cs fresh last place byte bytes section p n =
-    if-both (Goes (in_tex part) (levels_in (c ∷ cs))) c.inner _ _
-    (λ e. text-goes part (c ∷ cs) fresh last place byte bytes section p (ap (λ b. b && all_inner cs) e ∙ n) (λ e. refl))
-    (λ e. subst (λ b. Goes (in_tex part) (with_code b (InComment ∷ levels_in cs))
-    (comment_text_apart part c cs last place byte bytes)) (sym e) (comment-text-goes part c cs last place byte bytes p n
-    e _ (comment-rule part c cs last place byte bytes)))
+open-goes part c cs fresh last place byte bytes section p n = if-both (Goes (in_tex part) (levels_in (c ∷ cs))) c.inner
+    _ _ (λ e. text-goes part (c ∷ cs) fresh last place byte bytes section p (ap (λ b. b && all_inner cs) e ∙ n)
+    (λ e. refl)) (λ e. subst (λ b. Goes (in_tex part) (with_code b (InComment ∷ levels_in cs))
+    (comment_text_apart part c cs last place byte bytes)) (sym e)
+    (comment-text-goes part c cs last place byte bytes p n e _ (comment-rule part c cs last place byte bytes)))
 
 in-text-goes : (part : Part) (cs : List Opened) (fresh : Bool) (last place byte : ℕ) (bytes : List ℕ)
     → (byte == at_sign && begins_section bytes) ≡ false → is_c part ≡ true → in_tex part ≡ false → nested_in cs ≡ true
@@ -411,13 +392,11 @@ part-levels part place about t = grind arith
 cut-levels : (part : Part) (cs : List Opened) (place about : ℕ) → in_tex part ≡ false → nested_in cs ≡ true
     → all_levels_after (all_cut part cs place about) (levels_in cs) ≡ Some (InCode ∷ [])
 cut-levels part [] place about t n = part-levels part place about t
-cut-levels part (c ∷ cs) place about t n =
-    levels-append (inner_or_none c.inner (in_hash_line part) place about) (comment_cut (in_hash_line part) c place about
-    ++ all_cut part cs place about) (levels_in (c ∷ cs)) (InComment ∷ levels_in cs)
-    (open-levels c.inner (in_hash_line part) place about (levels_in cs))
-    ∙ levels-append (comment_cut (in_hash_line part) c place about) (all_cut part cs place about)
-    (InComment ∷ levels_in cs) (levels_in cs) (cut-one (in_hash_line part) c place about cs n)
-    ∙ cut-levels part cs place about t (inner-nested cs n)
+cut-levels part (c ∷ cs) place about t n = levels-append (inner_or_none c.inner (in_hash_line part) place about)
+    (comment_cut (in_hash_line part) c place about ++ all_cut part cs place about) (levels_in (c ∷ cs))
+    (InComment ∷ levels_in cs) (open-levels c.inner (in_hash_line part) place about (levels_in cs)) ∙ levels-append
+    (comment_cut (in_hash_line part) c place about) (all_cut part cs place about) (InComment ∷ levels_in cs) (levels_in
+    cs) (cut-one (in_hash_line part) c place about cs n) ∙ cut-levels part cs place about t (inner-nested cs n)
 
 part-uncut : (part : Part) (place about : ℕ) → begins_section_in (part_cut part place about) ≡ false
 part-uncut part place about = grind arith
@@ -453,31 +432,22 @@ until-cut : (w : Where) (place : ℕ) (bytes : List ℕ) (ys : List Answer)
 until-cut w place bytes ys = grind (arith, nat_tests, append_assoc, until-append, cut-uncut, section-kind, append-nil)
 
 answers-nest : (bytes : List ℕ) (w : Where) (fresh : Bool) (last place taken : ℕ) → is_c w.part ≡ true → in_tex w.part
-    ≡ false → nested_in w.comments ≡ true
-    → all_levels_after (until_section (answers bytes w fresh last place taken)) (levels_in w.comments)
-    ≡ Some (InCode ∷ [])
+    ≡ false → nested_in w.comments ≡ true → all_levels_after (until_section (answers bytes w fresh last place taken))
+    (levels_in w.comments) ≡ Some (InCode ∷ [])
 answers-nest [] w fresh last place taken p t n = grind (arith, until-none, cut-uncut, cut-levels)
-answers-nest (byte ∷ bytes) w fresh last place zero p t n =
-    by (byte == at_sign && begins_section bytes) refl
+answers-nest (byte ∷ bytes) w fresh last place zero p t n = by (byte == at_sign && begins_section bytes) refl
     (λ f g. answers-nest bytes f.next (still_fresh fresh byte) byte (place + 1) f.more g.part g.same g.nested)
   where
-    by : (s : Bool) → (byte == at_sign && begins_section bytes) ≡ s
-        → ((f : Found) → Goes false (levels_in w.comments) f
+    by : (s : Bool) → (byte == at_sign && begins_section bytes) ≡ s → ((f : Found) → Goes false (levels_in w.comments) f
         → all_levels_after (until_section (answers bytes f.next (still_fresh fresh byte) byte (place + 1) f.more))
-        (levels_in f.next.comments) ≡ Some (InCode ∷ []))
-        → all_levels_after (until_section (joined (found_apart w fresh last place byte bytes)
-        (λ next more. answers bytes next (still_fresh fresh byte) byte (place + 1) more))) (levels_in w.comments)
-        ≡ Some (InCode ∷ [])
-    by true e rec =
-        ap (λ s. all_levels_after
-        (until_section (joined (if s then section w place bytes else in_text_apart w.part w.comments fresh last place
-        byte
-        bytes) (λ next more. answers bytes next (still_fresh fresh byte) byte (place + 1) more)))
-        (levels_in w.comments)) e
-        ∙ ap (λ l. all_levels_after l (levels_in w.comments))
-        (until-cut w place bytes (answers bytes (section w place bytes).next (still_fresh fresh byte) byte
-        (place + 1) (section w place bytes).more))
-        ∙ cut-levels w.part w.comments place place t n
+        (levels_in f.next.comments) ≡ Some (InCode ∷ [])) → all_levels_after
+        (until_section (joined (found_apart w fresh last place byte bytes) (λ next more. answers bytes next
+        (still_fresh fresh byte) byte (place + 1) more))) (levels_in w.comments) ≡ Some (InCode ∷ [])
+    by true e rec = ap (λ s. all_levels_after (until_section (joined (if s then section w place bytes else in_text_apart
+        w.part w.comments fresh last place byte bytes) (λ next more. answers bytes next (still_fresh fresh byte) byte
+        (place + 1) more))) (levels_in w.comments)) e ∙ ap (λ l. all_levels_after l (levels_in w.comments))
+        (until-cut w place bytes (answers bytes (section w place bytes).next (still_fresh fresh byte) byte (place + 1)
+        (section w place bytes).more)) ∙ cut-levels w.part w.comments place place t n
     by false e rec =
         let f = in_text_apart w.part w.comments fresh last place byte bytes in
         let g = in-text-goes w.part w.comments fresh last place byte bytes e p t n in

@@ -1,19 +1,16 @@
 -- A text ends before the code with which a section or another part begins, and goes on from there as that part.
-use Rattle.std.proofs.Common.{◌≡◌, ℕ, zero, suc, ◌+◌, ◌-◌, ◌<◌, ◌≤◌, Bool, true, false, ◌&&◌, ◌==◌, List, [], ◌∷◌, ◌++◌}
-use Rattle.std.proofs.Common.{Option, Some, length, slice_index, take, drop, refl, sym, ap, subst, ◌∙◌, arith}
-use Rattle.std.proofs.Common.{append_assoc, length-drop, inl, inr}
-use Rattle.std.specs.Prelude.{if◌then◌else◌}
-use Rattle.std.proofs.{lemmas.Bool.eqb-true, lemmas.Bool.Decides.nat_tests}
-use Rattle.std.proofs.lemmas.List.{drop-drop, take-take, take_all, drop_all}
-use Rattle.cw_base.proofs.TestLaws.{both-left, both-right, not-both}
-use Rattle.cw_rules.specs.declared.{codes.Code.Code, tokens.Mode.Mode, tokens.TokKind.TokKind}
-use Rattle.cw_rules.specs.Answers.{Answer, Token, Finish, Note, Seen, Where, Cut, Found, note_answers, token_of}
+use Rattle.cw_lex.proofs.Terms.{◌≡◌, ℕ, zero, suc, ◌+◌, ◌-◌, ◌<◌, ◌≤◌, Bool, true, false, ◌&&◌, ◌==◌, List, [], ◌∷◌}
+use Rattle.cw_lex.proofs.Terms.{◌++◌, Option, Some, length, slice_index, take, drop, refl, sym, ap, subst, ◌∙◌, arith}
+use Rattle.cw_lex.proofs.Terms.{append_assoc, length-drop, inl, inr, if◌then◌else◌, lemmas.Bool.eqb-true}
+use Rattle.cw_lex.proofs.Terms.{lemmas.Bool.Decides.nat_tests, drop-drop, take-take, take_all, drop_all, both-left}
+use Rattle.cw_lex.proofs.Terms.{both-right, not-both, codes.Code.Code, tokens.Mode.Mode, tokens.TokKind.TokKind, Answer}
+use Rattle.cw_lex.proofs.Terms.{Token, Finish, Note, Seen, Where, Cut, Found, note_answers, token_of, Coming.found_at}
+use Rattle.cw_lex.proofs.Terms.{Lexing.answers_at, Nested.is_section_kind, Nested.begins_section_in, beginning}
+use Rattle.cw_lex.proofs.Terms.{still_fresh, joined, answers, fresh_after, last_after, fresh_at, last_at, tokens_in}
+use Rattle.cw_lex.proofs.Terms.{named, opened_by, is_limbo_mode, EndsBefore}
 use Rattle.cw_rules.specs.{Answers.has_sign, Answers.is_head_sign, Bytes.at_sign, Bytes.greater, Bytes.begins}
 use Rattle.cw_rules.specs.{Codes.code_at, Codes.is_section, Codes.begins_section, Tokens.all_cut, Tokens.section}
 use Rattle.cw_rules.specs.{Tokens.section_code, Apart.in_text_apart, Apart.found_apart}
-use Rattle.cw_lex.specs.{Coming.found_at, Lexing.answers_at, Nested.is_section_kind, Nested.begins_section_in}
-use Rattle.cw_lex.specs.Lexing.{beginning, still_fresh, joined, answers, fresh_after, last_after, fresh_at, last_at}
-use Rattle.cw_lex.specs.Openings.{tokens_in, named, opened_by, is_limbo_mode, EndsBefore}
 use Rattle.cw_rules.proofs.{Ahead.drop-same, Ahead.take-same, Choices.if-both, RulesAhead.found-local, Taking.AreBare}
 use Rattle.cw_rules.proofs.{Taking.AreNotes, Taking.bare-all-cut, Taking.found-takes, Runs.drop-here, Within.found-fits}
 use Rattle.cw_rules.proofs.CodeStarts.{kind_code, code_in, is_opener, is_limbo, is_head_where, in-text-tells}
@@ -52,9 +49,8 @@ section-code-is bytes = grind (arith, nat_tests, if-both)
 section-found : (w : Where) (place : ℕ) (bytes : List ℕ) → is_section (code_in (section w place bytes).answers) ≡ true
 section-found w place bytes = grind (arith, nat_tests, bare-code, bare-all-cut, section-code-is)
 
-opening : (w : Where) (fresh : Bool) (last place byte : ℕ) (bytes : List ℕ)
-    → is_opener (code_in (found_apart w fresh last place byte bytes).answers) ≡ true
-    → Opening w place byte bytes (found_apart w fresh last place byte bytes)
+opening : (w : Where) (fresh : Bool) (last place byte : ℕ) (bytes : List ℕ) → is_opener (code_in (found_apart w fresh
+    last place byte bytes).answers) ≡ true → Opening w place byte bytes (found_apart w fresh last place byte bytes)
 opening w fresh last place byte bytes o = by (byte == at_sign && begins_section bytes) refl
   where
     f : Found
@@ -86,10 +82,9 @@ opening w fresh last place byte bytes o = by (byte == at_sign && begins_section 
 
 limbo-stays : (w : Where) (fresh : Bool) (last place byte : ℕ) (bytes : List ℕ) → is_limbo w.part ≡ false
     → is_limbo (found_apart w fresh last place byte bytes).next.part ≡ false
-limbo-stays w fresh last place byte bytes h =
-    if-both (λ (f : Found). is_limbo f.next.part ≡ false) (byte == at_sign && begins_section bytes)
-    (section w place bytes) (in_text_apart w.part w.comments fresh last place byte bytes) (λ e. refl)
-    (λ e. (in-text-tells w.part w.comments fresh last place byte bytes).limbo h)
+limbo-stays w fresh last place byte bytes h = if-both (λ (f : Found). is_limbo f.next.part ≡ false) (byte == at_sign &&
+    begins_section bytes) (section w place bytes) (in_text_apart w.part w.comments fresh last place byte bytes)
+    (λ e. refl) (λ e. (in-text-tells w.part w.comments fresh last place byte bytes).limbo h)
 
 opener-code : (more : List ℕ) → is_opener (code_at more) ≡ true → begins greater more ≡ false
 opener-code more h = grind (arith, nat_tests, is_opener, eqb-true)
@@ -122,13 +117,11 @@ signless (byte ∷ bytes) w fresh last place zero h =
     by (byte == at_sign && begins_section bytes) refl (λ k. signless bytes f.next (still_fresh fresh byte) byte
     (place + 1) f.more k)
   where
-    by : (t : Bool) → (byte == at_sign && begins_section bytes) ≡ t
-        → (is_head_where (found_apart w fresh last place byte bytes).next ≡ false
-        → has_sign (answers bytes (found_apart w fresh last place byte bytes).next (still_fresh fresh byte) byte
-        (place + 1) (found_apart w fresh last place byte bytes).more) ≡ false)
-        → has_sign ((found_apart w fresh last place byte bytes).answers
-        ++ answers bytes (found_apart w fresh last place byte bytes).next (still_fresh fresh byte) byte (place + 1)
-        (found_apart w fresh last place byte bytes).more) ≡ false
+    by : (t : Bool) → (byte == at_sign && begins_section bytes) ≡ t → (is_head_where (found_apart w fresh last place
+        byte bytes).next ≡ false → has_sign (answers bytes (found_apart w fresh last place byte bytes).next
+        (still_fresh fresh byte) byte (place + 1) (found_apart w fresh last place byte bytes).more) ≡ false) → has_sign
+        ((found_apart w fresh last place byte bytes).answers ++ answers bytes (found_apart w fresh last place byte
+        bytes).next (still_fresh fresh byte) byte (place + 1) (found_apart w fresh last place byte bytes).more) ≡ false
     by true e rec =
         let f = found_apart w fresh last place byte bytes in
         let rest = answers bytes f.next (still_fresh fresh byte) byte (place + 1) f.more in
@@ -265,11 +258,8 @@ past bytes w fresh last place byte xs zs t ys e s =
       starts = s.starts;
       body = f.answers ++ s.body;
       cut = s.cut;
-      alone =
-          ap (λ (h : Found). h.answers ++ answers s.inside h.next (still_fresh fresh byte) byte (place + 1) h.more)
-          (sym same)
-          ∙ ap (λ l. f.answers ++ l) s.alone
-          ∙ sym (append_assoc f.answers s.body s.cut);
+      alone = ap (λ (h : Found). h.answers ++ answers s.inside h.next (still_fresh fresh byte) byte (place + 1) h.more)
+          (sym same) ∙ ap (λ l. f.answers ++ l) s.alone ∙ sym (append_assoc f.answers s.body s.cut);
       whole = e ∙ ap (λ l. f.answers ++ l) s.whole ∙ sym (append_assoc f.answers s.body s.front);
       cut-tokens = s.cut-tokens;
       bare = s.bare;
@@ -282,13 +272,10 @@ past bytes w fresh last place byte xs zs t ys e s =
     }
 
 -- the token begins here
-here : (bytes : List ℕ) (w : Where) (fresh : Bool) (last place byte : ℕ) (xs : List Answer) (t : Seen)
-    (ys zs : List Answer) → is_opener (kind_code t.kind) ≡ true
-    → (found_apart w fresh last place byte bytes).answers ≡ xs ++ Token t ∷ zs
-    → ys ≡ zs ++ answers bytes (found_apart w fresh last place byte bytes).next (still_fresh fresh byte) byte
-    (place + 1)
-    (found_apart w fresh last place byte bytes).more
-    → Stop (byte ∷ bytes) w fresh last place 0 xs t ys
+here : (bytes : List ℕ) (w : Where) (fresh : Bool) (last place byte : ℕ) (xs : List Answer) (t : Seen) (ys zs : List
+    Answer) → is_opener (kind_code t.kind) ≡ true → (found_apart w fresh last place byte bytes).answers ≡ xs
+    ++ Token t ∷ zs → ys ≡ zs ++ answers bytes (found_apart w fresh last place byte bytes).next (still_fresh fresh byte)
+    byte (place + 1) (found_apart w fresh last place byte bytes).more → Stop (byte ∷ bytes) w fresh last place 0 xs t ys
 here bytes w fresh last place byte xs t ys zs o e r =
     let f = found_apart w fresh last place byte bytes in
     let takes = found-takes w fresh last place byte bytes in
@@ -323,24 +310,20 @@ here bytes w fresh last place byte xs t ys zs o e r =
     }
 
 walk : (bytes : List ℕ) (w : Where) (fresh : Bool) (last place taken : ℕ) (xs : List Answer) (t : Seen)
-    (ys : List Answer) → is_opener (kind_code t.kind) ≡ true → answers bytes w fresh last place taken
-    ≡ xs ++ Token t ∷ ys
-    → Stop bytes w fresh last place taken xs t ys
+    (ys : List Answer) → is_opener (kind_code t.kind) ≡ true
+    → answers bytes w fresh last place taken ≡ xs ++ Token t ∷ ys → Stop bytes w fresh last place taken xs t ys
 walk [] w fresh last place taken xs t ys o e = grind (arith, no-token-bare, bare-all-cut)
 walk (byte ∷ bytes) w fresh last place zero xs t ys o e =
     let f = found_apart w fresh last place byte bytes in
     by (split f.answers (answers bytes f.next (still_fresh fresh byte) byte (place + 1) f.more) xs t ys e)
     (λ zs g. walk bytes f.next (still_fresh fresh byte) byte (place + 1) f.more zs t ys o g)
   where
-    by : Split (found_apart w fresh last place byte bytes).answers
-        (answers bytes (found_apart w fresh last place byte bytes).next
-        (still_fresh fresh byte) byte (place + 1) (found_apart w fresh last place byte bytes).more) xs t ys
+    by : Split (found_apart w fresh last place byte bytes).answers (answers bytes (found_apart w fresh last place byte
+        bytes).next (still_fresh fresh byte) byte (place + 1) (found_apart w fresh last place byte bytes).more) xs t ys
         → ((zs : List Answer) → answers bytes (found_apart w fresh last place byte bytes).next (still_fresh fresh byte)
-        byte
-        (place + 1) (found_apart w fresh last place byte bytes).more ≡ zs ++ Token t ∷ ys
-        → Stop bytes (found_apart w fresh last place byte bytes).next (still_fresh fresh byte) byte (place + 1)
-        (found_apart w fresh last place byte bytes).more zs t ys)
-        → Stop (byte ∷ bytes) w fresh last place 0 xs t ys
+        byte (place + 1) (found_apart w fresh last place byte bytes).more ≡ zs ++ Token t ∷ ys → Stop bytes
+        (found_apart w fresh last place byte bytes).next (still_fresh fresh byte) byte (place + 1)
+        (found_apart w fresh last place byte bytes).more zs t ys) → Stop (byte ∷ bytes) w fresh last place 0 xs t ys
     by (inl s) rec = past bytes w fresh last place byte xs s.0 t ys s.1 (rec s.0 s.2)
     by (inr s) rec = here bytes w fresh last place byte xs t ys s.0 o s.1 s.2
 walk (byte ∷ bytes) w fresh last place (suc taken) xs t ys o e = further bytes w fresh last place taken byte xs t ys
@@ -366,8 +349,7 @@ record SameToken (s t : Seen) (ms ns : List Answer) : Type 0 where
 same-token : (p q : ℕ) (xs ys : List Answer) (s t : Seen) (ms ns : List Answer) → AreBare p xs → AreBare q ys
     → xs ++ Token s ∷ ms ≡ ys ++ Token t ∷ ns → SameToken s t ms ns
 same-token p q [] [] s t ms ns h g e = grind (arith, nat_tests, token-is, head-is, tail-is)
-same-token p q (x ∷ xs) (y ∷ ys) s t ms ns h g e =
-    same-token p q xs ys s t ms ns (rest p x xs h) (rest q y ys g)
+same-token p q (x ∷ xs) (y ∷ ys) s t ms ns h g e = same-token p q xs ys s t ms ns (rest p x xs h) (rest q y ys g)
     (tail-is x y (xs ++ Token s ∷ ms) (ys ++ Token t ∷ ns) e)
   where
     rest : (p : ℕ) (x : Answer) (xs : List Answer) → AreBare p (x ∷ xs) → AreBare p xs
@@ -397,9 +379,8 @@ module _ (text : List ℕ) (start : ℕ) (mode : Mode) (xs : List Answer) (t : S
   at-end : drop s.end text ≡ s.byte ∷ s.behind
   at-end =
       let n = length s.inside in
-      ap (λ k. drop k text) s.end-is ∙ sym (drop-drop n start text) ∙ ap (drop n) s.split
-      ∙ drop-same n s.inside (s.byte ∷ s.behind) (omega arith)
-      ∙ ap (λ l. l ++ s.byte ∷ s.behind) (drop_all n s.inside (omega arith))
+      ap (λ k. drop k text) s.end-is ∙ sym (drop-drop n start text) ∙ ap (drop n) s.split ∙ drop-same n s.inside
+      (s.byte ∷ s.behind) (omega arith) ∙ ap (λ l. l ++ s.byte ∷ s.behind) (drop_all n s.inside (omega arith))
 
   begun-same : take start (take s.end text) ≡ take start text
   begun-same = take-take start s.end text order
@@ -415,17 +396,13 @@ module _ (text : List ℕ) (start : ℕ) (mode : Mode) (xs : List Answer) (t : S
 
   -- what begins at the end, where the scan of the whole stands there
   abbrev stopped : Found
-  stopped = found_apart s.next (fresh_after (fresh_at text start) s.inside) (last_after (last_at text start) s.inside)
-      s.end
-      s.byte s.behind
+  stopped = found_apart s.next (fresh_after (fresh_at text start) s.inside)
+      (last_after (last_at text start) s.inside) s.end s.byte s.behind
 
   -- the answers at the end, where the scan stands otherwise
-  answers-end : (w : Where) → answers_at text w s.end
-      ≡ joined (found_apart w (fresh_after (fresh_at text start) s.inside) (last_after (last_at text start) s.inside)
-      s.end
-      s.byte s.behind)
-      (λ next size. answers s.behind next (still_fresh (fresh_after (fresh_at text start) s.inside) s.byte) s.byte
-      (s.end + 1) size)
+  answers-end : (w : Where) → answers_at text w s.end ≡ joined (found_apart w (fresh_after (fresh_at text start)
+      s.inside) (last_after (last_at text start) s.inside) s.end s.byte s.behind) (λ next size. answers s.behind next
+      (still_fresh (fresh_after (fresh_at text start) s.inside) s.byte) s.byte (s.end + 1) size)
   answers-end w = λ i. answers (at-end i) w (sym fresh-end i) (sym last-end i) s.end 0
 
   within : s.end < length text
@@ -479,10 +456,9 @@ ends-at-sections text start mode xs t ys e k =
     (ap (λ (f : Found). f.answers) (sym is) ∙ s.found-is) in
     let none : s.notes ≡ [] = sym same.behind ∙ alone in (
       ends-before text start mode xs t ys s,
-      s.rest ∙ ap (λ l. l ++ answers s.behind f.next (still_fresh (fresh_after (fresh_at text start) s.inside) s.byte)
-          s.byte (s.end + 1) f.more) none
-          ∙ rest-end text start mode xs t ys s
-          ∙ ap (λ (f : Found). answers_at text f.next t.span.end) is,
+      s.rest ∙ ap (λ l. l ++ answers s.behind f.next
+          (still_fresh (fresh_after (fresh_at text start) s.inside) s.byte) s.byte (s.end + 1) f.more) none
+          ∙ rest-end text start mode xs t ys s ∙ ap (λ (f : Found). answers_at text f.next t.span.end) is,
     )
 
 -- ## At the beginnings of other parts
@@ -542,13 +518,11 @@ ends-at-openings text start mode opened xs t ys l e k =
     let there : code_at s.behind ≡ code_in f.answers = s.opening.same (ap is_section code ∙ so.plain) in
     let head = λ (h : has_sign ys ≡ true). wanted-sign s.behind f.next (still_fresh fresh s.byte) s.byte (s.end + 1)
     f.more s.notes s.only (ap has_sign (sym s.rest) ∙ h) in
-    let twin : Twin f (found_apart (beginning_of so.by) fresh last s.end s.byte s.behind) =
-    subst (λ b. OpensBy so.by (found_apart s.next fresh last s.end b s.behind)
-    → Twin (found_apart s.next fresh last s.end b s.behind) (found_apart (beginning_of so.by) fresh last s.end b
-    s.behind))
-    (sym s.opening.byte-is)
-    (found-twin so.by s.next fresh last s.end s.behind (s.limbo (limbo-mode mode l)) (ap is_section (there ∙ code)
-    ∙ so.plain) (subst (OpensAt so.by) (sym (there ∙ code)) so.code))
+    let twin : Twin f (found_apart (beginning_of so.by) fresh last s.end s.byte s.behind) = subst
+    (λ b. OpensBy so.by (found_apart s.next fresh last s.end b s.behind) → Twin
+    (found_apart s.next fresh last s.end b s.behind) (found_apart (beginning_of so.by) fresh last s.end b s.behind))
+    (sym s.opening.byte-is) (found-twin so.by s.next fresh last s.end s.behind (s.limbo (limbo-mode mode l))
+    (ap is_section (there ∙ code) ∙ so.plain) (subst (OpensAt so.by) (sym (there ∙ code)) so.code))
     (opens-by so.by f (has_sign ys) (subst (OpensAt so.by) (sym code) so.code) so.sign head) in
     let g = found_apart (beginning_of so.by) fresh last s.end s.byte s.behind in
     let same = same-token s.end s.end twin.notes s.front twin.token t twin.behind s.notes
@@ -559,7 +533,6 @@ ends-at-openings text start mode opened xs t ys l e k =
       ends-before text start mode xs t ys s,
       ap (λ l. Token t ∷ l) (s.rest ∙ ap (λ (f : Found). s.notes ++ rest f.next f.more) twin.same)
           ∙ (λ i. (Token (sym same.token i) ∷ sym same.behind i) ++ rest g.next g.more)
-          ∙ ap (λ l. l ++ rest g.next g.more) (sym twin.first)
-          ∙ sym (answers-end text start mode xs t ys s (beginning_of so.by))
-          ∙ (λ i. answers_at text (sym so.begins i) (sym s.starts i)),
+          ∙ ap (λ l. l ++ rest g.next g.more) (sym twin.first) ∙ sym (answers-end text start mode xs t ys s
+          (beginning_of so.by)) ∙ (λ i. answers_at text (sym so.begins i) (sym s.starts i)),
     )

@@ -1,22 +1,20 @@
 -- Short tokens of C text, by its rules.
-use Rattle.std.proofs.Common.{not, subst, ◌⊎◌, inl, inr, ◌≡◌, ℕ, ◌+◌, ◌<◌, ◌≤◌, arith, length-drop, Bool, true, false}
-use Rattle.std.proofs.Common.{◌&&◌, ◌||◌, ◌==◌, nat_lt, List, ◌∷◌, Some, None, length, slice_index, drop, refl, sym, ap}
-use Rattle.std.proofs.Common.{◌∙◌, if◌then◌else◌}
-use Rattle.cw_rules.specs.declared.classes.Class.TheVariants as classes
-use Rattle.cw_rules.specs.declared.{parts.Part.Part, parts.Opened.Opened, parts.Start.Start, signs.Sign.Sign}
-use Rattle.cw_rules.specs.declared.parts.Part.TheVariants as parts
-use Rattle.cw_rules.specs.declared.parts.Start.TheVariants as start
-use Rattle.cw_rules.specs.declared.tokens.TokKind.TheVariants as kinds
+use Rattle.cw_lex.proofs.Terms.{not, subst, ◌⊎◌, inl, inr, ◌≡◌, ℕ, ◌+◌, ◌<◌, ◌≤◌, arith, length-drop, Bool, true, false}
+use Rattle.cw_lex.proofs.Terms.{◌&&◌, ◌||◌, ◌==◌, nat_lt, List, ◌∷◌, Some, None, length, slice_index, drop, refl, sym}
+use Rattle.cw_lex.proofs.Terms.{ap, ◌∙◌, if◌then◌else◌, parts.Part.Part, parts.Opened.Opened, parts.Start.Start}
+use Rattle.cw_lex.proofs.Terms.{signs.Sign.Sign, is_in, is_letter, is_mark, begins, begins_by, run, Coming.found_at}
+use Rattle.cw_lex.proofs.Terms.{Calm.is_calm, lemmas.Bool.lt-ltb, lemmas.Bool.eqb-true, lemmas.Bool.Decides.nat_tests}
+use Rattle.cw_lex.proofs.Terms.{and-false}
 use Rattle.cw_rules.specs.{Answers.Where, Answers.plain, Constants.constant, Prefixes.prefix_size, Signs.all_signs}
 use Rattle.cw_rules.specs.{Signs.longest, Signs.spelling, Tokens.passed, Tokens.one, Tokens.moved, Cuttings.bytes_at}
-use Rattle.cw_rules.specs.Bytes.{is_in, is_letter, is_mark, begins, begins_by, run}
 use Rattle.cw_rules.specs.Tokens.{in_code, start_of, sign_or_other, is_include, behind_word, ends_at_bar, in_hash_line}
-use Rattle.cw_lex.specs.{Coming.found_at, Calm.is_calm}
 use Rattle.cw_lex.specs.Short.{is_alone, is_lone, IsShort, BeginsString, EndsInner}
 use Rattle.cw_lex.proofs.{White.other-byte, Calm.calm-code, Calm.calm-part, Steps.bytes-here}
 use Rattle.cw_rules.proofs.{Sizes.run-le, StringPrefixes.no-prefix}
-use Rattle.std.proofs.{lemmas.Bool.lt-ltb, lemmas.Bool.eqb-true, lemmas.Bool.Decides.nat_tests}
-use Rattle.cw_base.proofs.TestLaws.{and-false}
+use Rattle.cw_rules.specs.declared.classes.Class.TheVariants as classes
+use Rattle.cw_rules.specs.declared.parts.Part.TheVariants as parts
+use Rattle.cw_rules.specs.declared.parts.Start.TheVariants as start
+use Rattle.cw_rules.specs.declared.tokens.TokKind.TheVariants as kinds
 
 -- a byte that begins no line's end, white space, code or `#` line
 pub record IsStart (b : ℕ) : Type 0 where
@@ -28,10 +26,8 @@ pub record IsStart (b : ℕ) : Type 0 where
 
 -- what begins there is found by the rule of its start
 start-found : (text : List ℕ) (part : Part) (comments : List Opened) (place : ℕ) (kind : Start) → is_calm part comments
-    ≡ true
-    → IsStart (slice_index text place) → start_of (ends_at_bar part comments) (slice_index text place)
-    (drop (place + 1) text) ≡ kind
-    → found_at text (record { part = part; comments = comments }) place
+    ≡ true → IsStart (slice_index text place) → start_of (ends_at_bar part comments) (slice_index text place)
+    (drop (place + 1) text) ≡ kind → found_at text (record { part = part; comments = comments }) place
     ≡ in_code kind (record { part = part; comments = comments }) place (bytes_at text place)
 start-found text part comments place kind calm s e =
     grind (arith, calm-code part comments calm, calm-part part comments calm)
@@ -58,8 +54,7 @@ no-constant : (b : ℕ) (bs : List ℕ) → is_in classes.Digit b ≡ false → 
 no-constant b bs d z p = grind (arith, nat_tests)
 
 sign-is : (bars : Bool) (b : ℕ) (bs : List ℕ) (sign : Sign) → is_letter b ≡ false → is_in classes.Digit b ≡ false
-    → is_lone b ≡ true
-    → longest all_signs (b ∷ bs) ≡ Some sign → start_of bars b bs ≡ start.Sign sign
+    → is_lone b ≡ true → longest all_signs (b ∷ bs) ≡ Some sign → start_of bars b bs ≡ start.Sign sign
 sign-is bars b bs sign letter digit lone e = grind (
   arith,
   nat_tests,
@@ -80,8 +75,7 @@ number-is bars b bs h n = rw (no-prefix b bs h, h, n) refl
 quote-starts : (b : ℕ) → is_mark b ≡ true → IsStart b
 quote-starts b h = grind (arith, nat_tests, other-byte, no-blank)
 
-string-is : (bars : Bool) (b : ℕ) (bs : List ℕ) → is_letter b ≡ false → is_in classes.Digit b ≡ false → is_mark b
-    ≡ true
+string-is : (bars : Bool) (b : ℕ) (bs : List ℕ) → is_letter b ≡ false → is_in classes.Digit b ≡ false → is_mark b ≡ true
     → start_of bars b bs ≡ start.Quoted b
 string-is bars b bs letter digit quoted =
     let none = no-constant b bs digit (other-byte is_mark b 48 quoted refl) (other-byte is_mark b 46 quoted refl) in
@@ -95,8 +89,7 @@ word-passed part bytes h = ap (λ t. if t then parts.Plain true true else passed
 -- ## Tokens
 
 pub word-short : (text : List ℕ) (part : Part) (comments : List Opened) (place size : ℕ) → is_calm part comments ≡ true
-    → place < length text
-    → is_letter (slice_index text place) ≡ true → prefix_size (drop place text) ≡ 0
+    → place < length text → is_letter (slice_index text place) ≡ true → prefix_size (drop place text) ≡ 0
     → size ≡ run classes.Word (drop place text)
     → IsShort text (record { part = part; comments = comments }) place (record { kind = kinds.Identifier; size = size })
 word-short text part comments place size calm within letter none e = grind (
@@ -113,9 +106,8 @@ word-short text part comments place size calm within letter none e = grind (
 )
 
 pub number-short : (text : List ℕ) (part : Part) (comments : List Opened) (place size : ℕ) → is_calm part comments
-    ≡ true → place < length text
-    → is_letter (slice_index text place) ≡ false → is_in classes.Digit (slice_index text place) ≡ true → 0 < size
-    → place + size ≤ length text → size ≡ constant (drop place text)
+    ≡ true → place < length text → is_letter (slice_index text place) ≡ false → is_in classes.Digit
+    (slice_index text place) ≡ true → 0 < size → place + size ≤ length text → size ≡ constant (drop place text)
     → IsShort text (record { part = part; comments = comments }) place (record { kind = kinds.Constant; size = size })
 number-short text part comments place size calm within letter digit some most e =
     let w : Where = record { part = part; comments = comments } in
@@ -125,18 +117,15 @@ number-short text part comments place size calm within letter digit some most e 
     record {
       some = some;
       within = most;
-      found =
-          start-found text part comments place start.Constant calm (digit-starts b digit)
+      found = start-found text part comments place start.Constant calm (digit-starts b digit)
           (number-is (ends_at_bar part comments) b bs letter (lt-ltb 0 (constant (b ∷ bs)) (omega arith)))
           ∙ (λ i. one (in_hash_line part) (moved w (passed part)) place (b ∷ bs) (plain kinds.Constant (sym same i)));
     }
 
 lone-short : (text : List ℕ) (part : Part) (comments : List Opened) (place size : ℕ) (sign : Sign)
-    → is_calm part comments ≡ true → place < length text
-    → is_letter (slice_index text place) ≡ false → is_in classes.Digit (slice_index text place) ≡ false
-    → is_lone (slice_index text place) ≡ true
-    → longest all_signs (bytes_at text place) ≡ Some sign → 0 < size → size ≡ length (spelling sign)
-    → place + size ≤ length text
+    → is_calm part comments ≡ true → place < length text → is_letter (slice_index text place) ≡ false
+    → is_in classes.Digit (slice_index text place) ≡ false → is_lone (slice_index text place) ≡ true → longest all_signs
+    (bytes_at text place) ≡ Some sign → 0 < size → size ≡ length (spelling sign) → place + size ≤ length text
     → IsShort text (record { part = part; comments = comments }) place (record { kind = kinds.Sign sign; size = size })
 lone-short text part comments place size sign calm within letter digit lone e some same most =
     let w : Where = record { part = part; comments = comments } in
@@ -145,11 +134,9 @@ lone-short text part comments place size sign calm within letter digit lone e so
     record {
       some = some;
       within = most;
-      found =
-          start-found text part comments place (start.Sign sign) calm (sign-starts b bs sign lone e)
-          (sign-is (ends_at_bar part comments) b bs sign letter digit lone e)
-          ∙ (λ i. one (in_hash_line part) (moved w (passed part)) place (b ∷ bs)
-          (plain (kinds.Sign sign) (sym same i)));
+      found = start-found text part comments place (start.Sign sign) calm (sign-starts b bs sign lone e)
+          (sign-is (ends_at_bar part comments) b bs sign letter digit lone e) ∙ (λ i. one (in_hash_line part)
+          (moved w (passed part)) place (b ∷ bs) (plain (kinds.Sign sign) (sym same i)));
     }
 
 -- a dot before no digit
@@ -160,15 +147,13 @@ dot-starts : IsStart 46
 dot-starts = record { newline = refl; blank = refl; backslash = refl; at_sign = refl; hash = refl }
 
 dot-is : (bars : Bool) (bs : List ℕ) (sign : Sign) → begins_by (is_in classes.Digit) bs ≡ false
-    → longest all_signs (46 ∷ bs) ≡ Some sign
-    → start_of bars 46 bs ≡ start.Sign sign
+    → longest all_signs (46 ∷ bs) ≡ Some sign → start_of bars 46 bs ≡ start.Sign sign
 dot-is bars bs sign h e = grind (arith, nat_tests, no-decimal)
 
 dot-short : (text : List ℕ) (part : Part) (comments : List Opened) (place size : ℕ) (sign : Sign)
-    → is_calm part comments ≡ true
-    → slice_index text place ≡ 46 → begins_by (is_in classes.Digit) (drop (place + 1) text) ≡ false
-    → longest all_signs (bytes_at text place) ≡ Some sign → 0 < size → size ≡ length (spelling sign)
-    → place + size ≤ length text
+    → is_calm part comments ≡ true → slice_index text place ≡ 46
+    → begins_by (is_in classes.Digit) (drop (place + 1) text) ≡ false → longest all_signs (bytes_at text place)
+    ≡ Some sign → 0 < size → size ≡ length (spelling sign) → place + size ≤ length text
     → IsShort text (record { part = part; comments = comments }) place (record { kind = kinds.Sign sign; size = size })
 dot-short text part comments place size sign calm here digit e some same most =
     let w : Where = record { part = part; comments = comments } in
@@ -180,10 +165,8 @@ dot-short text part comments place size sign calm here digit e some same most =
     record {
       some = some;
       within = most;
-      found =
-          start-found text part comments place (start.Sign sign) calm starts kind
-          ∙ (λ i. one (in_hash_line part) (moved w (passed part)) place (bytes_at text place)
-          (plain (kinds.Sign sign) (sym same i)));
+      found = start-found text part comments place (start.Sign sign) calm starts kind ∙ (λ i. one (in_hash_line part)
+          (moved w (passed part)) place (bytes_at text place) (plain (kinds.Sign sign) (sym same i)));
     }
 
 alone-by : (lone dotted digit : Bool) → (lone || (dotted && not digit)) ≡ true
@@ -191,10 +174,9 @@ alone-by : (lone dotted digit : Bool) → (lone || (dotted && not digit)) ≡ tr
 alone-by lone dotted digit h = grind arith
 
 pub sign-short : (text : List ℕ) (part : Part) (comments : List Opened) (place size : ℕ) (sign : Sign)
-    → is_calm part comments ≡ true → place < length text
-    → is_letter (slice_index text place) ≡ false → is_in classes.Digit (slice_index text place) ≡ false
-    → is_alone (slice_index text place) (drop (place + 1) text) ≡ true
-    → longest all_signs (bytes_at text place) ≡ Some sign → 0 < size → size ≡ length (spelling sign)
+    → is_calm part comments ≡ true → place < length text → is_letter (slice_index text place) ≡ false
+    → is_in classes.Digit (slice_index text place) ≡ false → is_alone (slice_index text place) (drop (place + 1) text)
+    ≡ true → longest all_signs (bytes_at text place) ≡ Some sign → 0 < size → size ≡ length (spelling sign)
     → place + size ≤ length text
     → IsShort text (record { part = part; comments = comments }) place (record { kind = kinds.Sign sign; size = size })
 sign-short text part comments place size sign calm within letter digit alone e some same most =
@@ -206,9 +188,8 @@ sign-short text part comments place size sign calm within letter digit alone e s
     ]
 
 pub string-begins : (text : List ℕ) (part : Part) (comments : List Opened) (place : ℕ) → is_calm part comments ≡ true
-    → place < length text
-    → is_letter (slice_index text place) ≡ false → is_in classes.Digit (slice_index text place) ≡ false
-    → is_mark (slice_index text place) ≡ true
+    → place < length text → is_letter (slice_index text place) ≡ false
+    → is_in classes.Digit (slice_index text place) ≡ false → is_mark (slice_index text place) ≡ true
     → BeginsString text (record { part = part; comments = comments }) place (slice_index text place)
 string-begins text part comments place calm within letter digit quoted =
     grind (arith, start-found, quote-starts, string-is)
@@ -218,21 +199,18 @@ string-begins text part comments place calm within letter digit quoted =
 bar-starts : IsStart 124
 bar-starts = record { newline = refl; blank = refl; backslash = refl; at_sign = refl; hash = refl }
 
-bar-kind : (bars : Bool) (bs : List ℕ)
-    → start_of bars 124 bs ≡ (if bars && not (begins 124 bs) then start.EndOfInner else sign_or_other
-    (longest all_signs (124 ∷ bs)))
+bar-kind : (bars : Bool) (bs : List ℕ) → start_of bars 124 bs
+    ≡ (if bars && not (begins 124 bs) then start.EndOfInner else sign_or_other (longest all_signs (124 ∷ bs)))
 bar-kind bars bs = grind (arith, nat_tests, no-constant)
 
 bar-is : (text : List ℕ) (place : ℕ) (bars ends : Bool) → slice_index text place ≡ 124
-    → (bars && not (begins 124 (drop (place + 1) text))) ≡ ends
-    → start_of bars (slice_index text place) (drop (place + 1) text)
-    ≡ (if ends then start.EndOfInner else sign_or_other (longest all_signs (bytes_at text place)))
+    → (bars && not (begins 124 (drop (place + 1) text))) ≡ ends → start_of bars (slice_index text place) (drop
+    (place + 1) text) ≡ (if ends then start.EndOfInner else sign_or_other (longest all_signs (bytes_at text place)))
 bar-is text place bars ends here e = grind (arith, nat_tests, bar-kind)
 
 pub inner-ends : (text : List ℕ) (part : Part) (comments : List Opened) (place : ℕ) → is_calm part comments ≡ true
-    → place < length text
-    → slice_index text place ≡ 124 → (ends_at_bar part comments && not (begins 124 (drop (place + 1) text))) ≡ true
-    → EndsInner text (record { part = part; comments = comments }) place
+    → place < length text → slice_index text place ≡ 124 → (ends_at_bar part comments && not
+    (begins 124 (drop (place + 1) text))) ≡ true → EndsInner text (record { part = part; comments = comments }) place
 inner-ends text part comments place calm within here ends = (
   within,
   start-found text part comments place start.EndOfInner calm (subst IsStart (sym here) bar-starts)
@@ -240,10 +218,9 @@ inner-ends text part comments place calm within here ends = (
 )
 
 pub bar-short : (text : List ℕ) (part : Part) (comments : List Opened) (place size : ℕ) (sign : Sign)
-    → is_calm part comments ≡ true
-    → slice_index text place ≡ 124 → (ends_at_bar part comments && not (begins 124 (drop (place + 1) text))) ≡ false
-    → longest all_signs (bytes_at text place) ≡ Some sign → 0 < size → size ≡ length (spelling sign)
-    → place + size ≤ length text
+    → is_calm part comments ≡ true → slice_index text place ≡ 124
+    → (ends_at_bar part comments && not (begins 124 (drop (place + 1) text))) ≡ false → longest all_signs
+    (bytes_at text place) ≡ Some sign → 0 < size → size ≡ length (spelling sign) → place + size ≤ length text
     → IsShort text (record { part = part; comments = comments }) place (record { kind = kinds.Sign sign; size = size })
 bar-short text part comments place size sign calm here ends e some same most =
     grind (arith, bar-is text place (ends_at_bar part comments) false here ends)

@@ -1,9 +1,7 @@
 -- What stays true of a scanner's parts and comments.
-use Rattle.std.proofs.Common.{◌≡◌, ℕ, ◌+◌, ◌≤◌, Bool, true, false, List, [], ◌∷◌, length, drop, sym, ap, subst, ◌∙◌}
-use Rattle.std.proofs.Common.{arith}
-use Rattle.std.proofs.lemmas.Bool.Decides.{nat_tests}
-use Rattle.cw_rules.specs.declared.{parts.Part.Part, parts.Opened.Opened, pending.Pending.Pending}
-use Rattle.cw_lex.specs.{declared.state.State.State, Coming.IsNested, Coming.AllWithin, Coming.IsReady}
+use Rattle.cw_lex.proofs.Terms.{◌≡◌, ℕ, ◌+◌, ◌≤◌, Bool, true, false, List, [], ◌∷◌, length, drop, sym, ap, subst, ◌∙◌}
+use Rattle.cw_lex.proofs.Terms.{arith, nat_tests, parts.Part.Part, parts.Opened.Opened, pending.Pending.Pending}
+use Rattle.cw_lex.proofs.Terms.{declared.state.State.State, Coming.IsNested, Coming.AllWithin, Coming.IsReady}
 use Rattle.cw_rules.specs.{Pending.IsInside, Tokens.is_code, Tokens.is_code_part}
 use Rattle.cw_base.specs.Conditions.{one_if}
 use Rattle.cw_lex.proofs.Steps.{AllWithin-more}
@@ -27,18 +25,16 @@ nested-part p q (c ∷ comments) e n = (is_code-part p q comments e ∙ n.0, nes
 
 -- one comment more
 pub ready-push : (text : List ℕ) (s : State) (q : Part) (c : Opened) (comments : List Opened) (next : ℕ)
-    → IsReady text s → is_code s.part s.comments ≡ true
-    → is_code_part q ≡ is_code_part s.part → c.braces ≡ 0 → c.inner ≡ false → comments ≡ c ∷ s.comments → s.at ≤ next
-    → next ≤ length text
+    → IsReady text s → is_code s.part s.comments ≡ true → is_code_part q ≡ is_code_part s.part → c.braces ≡ 0
+    → c.inner ≡ false → comments ≡ c ∷ s.comments → s.at ≤ next → next ≤ length text
     → IsReady text (record { at = next; part = q; comments = comments; pending = s.pending; clear = s.clear })
 ready-push text s q c comments next ready code part braces inner e from within =
     grind (arith, nat_tests, is_code-part, nested-part)
 
 -- the innermost comment changed
 pub ready-top : (text : List ℕ) (s : State) (q : Part) (c d : Opened) (comments : List Opened) (p : Pending) (next : ℕ)
-    → IsReady text s → s.comments ≡ c ∷ drop 1 s.comments
-    → is_code_part q ≡ is_code_part s.part → d.braces ≤ next → (length s.comments + one_if d.inner) ≤ 21 → comments
-    ≡ d ∷ drop 1 s.comments → s.at ≤ next → next ≤ length text
+    → IsReady text s → s.comments ≡ c ∷ drop 1 s.comments → is_code_part q ≡ is_code_part s.part → d.braces ≤ next
+    → (length s.comments + one_if d.inner) ≤ 21 → comments ≡ d ∷ drop 1 s.comments → s.at ≤ next → next ≤ length text
     → IsInside (length text) p.body
     → IsReady text (record { at = next; part = q; comments = comments; pending = p; clear = s.clear })
 ready-top text s q c d comments p next ready top part braces depth e from within notes =
@@ -58,8 +54,7 @@ ready-top text s q c d comments p next ready top part braces depth e from within
 
 -- the innermost comment ended
 pub ready-pop : (text : List ℕ) (s : State) (c : Opened) (comments : List Opened) (p : Pending) (next : ℕ)
-    → IsReady text s → s.comments ≡ c ∷ comments
-    → s.at ≤ next → next ≤ length text → IsInside (length text) p.body
+    → IsReady text s → s.comments ≡ c ∷ comments → s.at ≤ next → next ≤ length text → IsInside (length text) p.body
     → IsReady text (record { at = next; part = s.part; comments = comments; pending = p; clear = s.clear })
 ready-pop text s c comments p next ready top from within notes = grind (arith, nat_tests, one_if-le)
 

@@ -1,21 +1,18 @@
 -- The scanner's answers over TeX text are nested.
-use Rattle.std.proofs.Common.{◌≡◌, ℕ, zero, suc, ◌+◌, ◌-◌, Bool, true, false, ◌&&◌, Option, Some, None, List, [], ◌∷◌}
-use Rattle.std.proofs.Common.{◌++◌, refl, ◌∙◌, ap, arith}
-use Rattle.std.specs.Prelude.{◌==◌}
-use Rattle.cw_rules.specs.declared.{bodies.Noted.Noted, codes.Code.Code, codes.Effect.Effect, parts.Part.Part}
-use Rattle.cw_rules.specs.declared.{parts.Opened.Opened, tokens.TokKind.TokKind}
+use Rattle.cw_lex.proofs.Terms.{◌≡◌, ℕ, zero, suc, ◌+◌, ◌-◌, Bool, true, false, ◌&&◌, Option, Some, None, List, [], ◌∷◌}
+use Rattle.cw_lex.proofs.Terms.{◌++◌, refl, ◌∙◌, ap, arith, ◌==◌, bodies.Noted.Noted, codes.Code.Code}
+use Rattle.cw_lex.proofs.Terms.{codes.Effect.Effect, parts.Part.Part, parts.Opened.Opened, tokens.TokKind.TokKind}
+use Rattle.cw_lex.proofs.Terms.{code_at, begins_section, effect_in_tex, Answer, Where, Cut, Found, note_answers}
+use Rattle.cw_lex.proofs.Terms.{nat_tests}
 use Rattle.cw_rules.specs.{Bytes.at_sign, Apart.in_text_apart, Apart.found_apart}
-use Rattle.cw_rules.specs.Codes.{code_at, begins_section, effect_in_tex}
-use Rattle.cw_rules.specs.Answers.{Answer, Where, Cut, Found, note_answers}
-use Rattle.cw_lex.{specs.Lexing.answers, specs.Lexing.tokens_of, specs.Lexing.still_fresh, specs.Nested.begins_part_in}
-use Rattle.cw_lex.{specs.Nested.is_part_answer, proofs.Nesting.cut-one, proofs.Nesting.section-kind}
 use Rattle.cw_rules.specs.Tokens.{one, dropped_code, moved, is_name, is_head, code_token, comment_cut, inner_or_none}
 use Rattle.cw_rules.specs.Tokens.{all_cut, tex_by, tex_text, head_text, section}
+use Rattle.cw_lex.{specs.Lexing.answers, specs.Lexing.tokens_of, specs.Lexing.still_fresh, specs.Nested.begins_part_in}
+use Rattle.cw_lex.{specs.Nested.is_part_answer, proofs.Nesting.cut-one, proofs.Nesting.section-kind}
 use Rattle.cw_lex.specs.Nested.{Level, InCode, InComment, after_token, after_begin, levels_after, all_levels_after}
 use Rattle.cw_lex.specs.Nested.{tex_levels_after, all_tex_levels_after, IsTexNested, is_section_kind, is_part_kind}
 use Rattle.cw_rules.proofs.{Choices.if-both, Choices.or-first, Choices.or-second, Rules.code-rule}
 use Rattle.cw_lex.proofs.Nesting.{Goes, levels_in, nested_in, in_tex, rule-goes, open-goes, inner-nested, open-levels}
-use Rattle.std.proofs.lemmas.Bool.Decides.{nat_tests}
 use Rattle.cw_rules.specs.declared.codes.Effect.TheVariants as effects
 use Rattle.cw_rules.specs.declared.parts.Part.TheVariants as parts
 use Rattle.cw_rules.specs.declared.tokens.Mode.TheVariants as modes
@@ -108,15 +105,13 @@ is_kept _ = false
 code-begins : (c : Code) → is_kept (effect_in_tex c) ≡ false → is_part_kind (kind.Code c) ≡ true
 code-begins c h = grind arith
 
-code-goes : (effect : Effect) (c : Code) (place : ℕ) (bytes : List ℕ)
-    → (is_kept effect ≡ false → is_part_kind (kind.Code c) ≡ true)
-    → Unless [] (tex_by effect c (record { part = parts.Tex; comments = [] }) place bytes)
+code-goes : (effect : Effect) (c : Code) (place : ℕ) (bytes : List ℕ) → (is_kept effect ≡ false → is_part_kind
+    (kind.Code c) ≡ true) → Unless [] (tex_by effect c (record { part = parts.Tex; comments = [] }) place bytes)
 code-goes effects.Stands c place bytes k =
     let w : Where = record { part = parts.Tex; comments = [] } in
     if-both (λ (next : Where). Unless [] (one false next place bytes (code_token c place bytes)))
-    (is_name c && is_head place bytes) (moved w parts.Head) w
-    (λ e. token-goes false (moved w parts.Head) place bytes (code_token c place bytes) refl refl)
-    (λ e. token-goes false w place bytes (code_token c place bytes) refl refl)
+    (is_name c && is_head place bytes) (moved w parts.Head) w (λ e. token-goes false (moved w parts.Head) place bytes
+    (code_token c place bytes) refl refl) (λ e. token-goes false w place bytes (code_token c place bytes) refl refl)
 code-goes (effects.Drops note) c place bytes k = token-goes false (record { part = parts.Tex; comments = [] }) place
     bytes (dropped_code note c place bytes) refl refl
 code-goes effects.Defines c place bytes k = grind (arith, part-begins)
@@ -139,9 +134,8 @@ text-goes : (part : Part) (cs : List Opened) (fresh : Bool) (last place byte : �
     → Unless (tex_levels part cs) (in_text_apart part cs fresh last place byte bytes)
 text-goes parts.TexInner [] fresh last place byte bytes section s =
     let w : Where = record { part = parts.TexInner; comments = [] } in
-    rule-goes (Unless (InCode ∷ [])) w fresh last place byte bytes section refl refl
-    (λ f g. inner-goes (InCode ∷ []) f g) (λ e. record { goes = λ h. record { stays = refl; levels = refl } }) _
-    (code-rule w fresh last place byte bytes)
+    rule-goes (Unless (InCode ∷ [])) w fresh last place byte bytes section refl refl (λ f g. inner-goes (InCode ∷ []) f
+    g) (λ e. record { goes = λ h. record { stays = refl; levels = refl } }) _ (code-rule w fresh last place byte bytes)
 text-goes parts.TexInner (c ∷ cs) fresh last place byte bytes section s =
     inner-goes (levels_in (c ∷ cs)) (in_text_apart parts.TexInner (c ∷ cs) fresh last place byte bytes)
     (open-goes parts.TexInner c cs fresh last place byte bytes section refl s)
@@ -165,24 +159,19 @@ section-begins w place bytes ls = grind (arith, any-split, or-first, section-par
 
 found-goes : (w : Where) (fresh : Bool) (last place byte : ℕ) (bytes : List ℕ) → stands w.part w.comments ≡ true
     → Unless (tex_levels w.part w.comments) (found_apart w fresh last place byte bytes)
-found-goes w fresh last place byte bytes s =
-    if-both (Unless (tex_levels w.part w.comments)) (byte == at_sign && begins_section bytes) _ _
-    (λ e. section-begins w place bytes (tex_levels w.part w.comments))
+found-goes w fresh last place byte bytes s = if-both (Unless (tex_levels w.part w.comments))
+    (byte == at_sign && begins_section bytes) _ _ (λ e. section-begins w place bytes (tex_levels w.part w.comments))
     (λ e. text-goes w.part w.comments fresh last place byte bytes e s)
 
 cut-levels : (cs : List Opened) (place about : ℕ) → nested_in cs ≡ true
     → all_tex_levels_after (all_cut parts.TexInner cs place about) (levels_in cs) ≡ Some []
 cut-levels [] place about n = refl
-cut-levels (c ∷ cs) place about n =
-    tex-append (inner_or_none c.inner false place about) (comment_cut false c place about ++ all_cut parts.TexInner cs
-    place about) (levels_in (c ∷ cs)) (InComment ∷ levels_in cs)
-    (all-same (inner_or_none c.inner false place about) (levels_in (c ∷ cs)) (InComment ∷ levels_in cs)
-    (open-levels c.inner false place about (levels_in cs)))
-    ∙ tex-append (comment_cut false c place about) (all_cut parts.TexInner cs place about) (InComment ∷ levels_in cs)
-    (levels_in cs)
-    (all-same (comment_cut false c place about) (InComment ∷ levels_in cs) (levels_in cs)
-    (cut-one false c place about cs n))
-    ∙ cut-levels cs place about (inner-nested cs n)
+cut-levels (c ∷ cs) place about n = tex-append (inner_or_none c.inner false place about) (comment_cut false c place
+    about ++ all_cut parts.TexInner cs place about) (levels_in (c ∷ cs)) (InComment ∷ levels_in cs) (all-same
+    (inner_or_none c.inner false place about) (levels_in (c ∷ cs)) (InComment ∷ levels_in cs) (open-levels c.inner false
+    place about (levels_in cs))) ∙ tex-append (comment_cut false c place about) (all_cut parts.TexInner cs place about)
+    (InComment ∷ levels_in cs) (levels_in cs) (all-same (comment_cut false c place about) (InComment ∷ levels_in cs)
+    (levels_in cs) (cut-one false c place about cs n)) ∙ cut-levels cs place about (inner-nested cs n)
 
 all-cut : (part : Part) (cs : List Opened) (place about : ℕ) → stands part cs ≡ true
     → all_tex_levels_after (all_cut part cs place about) (tex_levels part cs) ≡ Some []

@@ -1,15 +1,12 @@
 -- TeX text goes on up to the first `@` or bar.
-use Rattle.std.proofs.Common.{◌≡◌, ℕ, zero, suc, ◌+◌, ◌<◌, ◌≤◌, Bool, true, false, not, List, [], ◌∷◌, length}
-use Rattle.std.proofs.Common.{slice_index, refl, ap, arith, if◌then◌else◌}
-use Rattle.std.proofs.lemmas.Bool.Decides.{nat_tests}
+use Rattle.cw_lex.proofs.Terms.{◌≡◌, ℕ, zero, suc, ◌+◌, ◌<◌, ◌≤◌, Bool, true, false, not, List, [], ◌∷◌, length}
+use Rattle.cw_lex.proofs.Terms.{slice_index, refl, ap, arith, if◌then◌else◌, nat_tests, classes.Class.Class}
+use Rattle.cw_lex.proofs.Terms.{classes.Class.TheVariants.TexText, is_in, run}
 use Rattle.memchr.specs.Find.{Nowhere, NoneBefore, Passes, is_byte2}
-use Rattle.cw_rules.specs.declared.{classes.Class.Class, classes.Class.TheVariants.TexText}
-use Rattle.cw_rules.specs.Bytes.{is_in, run}
 
 -- a run ends at the first byte of another class, or with the bytes
-run-first : (class : Class) (bytes : List ℕ) (n : ℕ) → n ≤ length bytes
-    → ((k : ℕ) → k < n → is_in class (slice_index bytes k) ≡ true)
-    → (n < length bytes → is_in class (slice_index bytes n) ≡ false) → run class bytes ≡ n
+run-first : (class : Class) (bytes : List ℕ) (n : ℕ) → n ≤ length bytes → ((k : ℕ) → k < n → is_in class
+    (slice_index bytes k) ≡ true) → (n < length bytes → is_in class (slice_index bytes n) ≡ false) → run class bytes ≡ n
 run-first class [] zero h inside stop = refl
 run-first class [] (suc n) h inside stop = absurd (omega arith)
 run-first class (b ∷ bs) zero h inside stop = grind (arith, nat_tests)
@@ -24,10 +21,8 @@ untrue : (t : Bool) → ¬ (t ≡ true) → not t ≡ true
 untrue t h = grind arith
 
 pub tex-first : (bytes : List ℕ) (n : ℕ) → NoneBefore (Passes (is_byte2 64 124) bytes) 0 (length bytes) n
-    → is_byte2 64 124 (slice_index bytes n) ≡ true
-    → run TexText bytes ≡ n
-tex-first bytes n first here =
-    run-first TexText bytes n (omega (arith, first.high))
+    → is_byte2 64 124 (slice_index bytes n) ≡ true → run TexText bytes ≡ n
+tex-first bytes n first here = run-first TexText bytes n (omega (arith, first.high))
     (λ k low. untrue (is_byte2 64 124 (slice_index bytes k)) (first.before k (omega arith) low)) (λ within. ap not here)
 
 pub tex-all : (bytes : List ℕ) → Nowhere (Passes (is_byte2 64 124) bytes) 0 (length bytes) → run TexText bytes

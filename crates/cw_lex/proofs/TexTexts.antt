@@ -1,30 +1,26 @@
 -- TeX text in which no other part begins goes on token by token, and its inner C texts are whole by themselves.
-use Rattle.std.proofs.Common.{◌≡◌, ℕ, suc, ◌+◌, ◌-◌, ◌<◌, ◌≤◌, Bool, true, false, ◌&&◌, ◌||◌, ◌==◌, List, [], ◌∷◌, ◌++◌}
-use Rattle.std.proofs.Common.{Option, Some, None, length, slice_index, take, drop, refl, sym, ap, subst, ◌∙◌, arith}
-use Rattle.std.proofs.Common.{append-nil, length-drop, ◌⊎◌, inl, inr}
-use Rattle.std.specs.Prelude.{if◌then◌else◌, is_some}
-use Rattle.std.proofs.{lemmas.Bool.eqb-true, lemmas.Bool.Decides.nat_tests}
-use Rattle.std.proofs.lemmas.List.{drop-drop, length-take}
-use Rattle.cw_base.proofs.TestLaws.{both-right, one-failed-left, one-failed-right, not-both}
-use Rattle.cw_rules.specs.declared.{bodies.Noted.Noted, codes.Code.Code, codes.Effect.Effect, tokens.TokKind.TokKind}
-use Rattle.cw_rules.specs.Answers.{Answer, Token, Begin, Finish, Note, Seen, Where, Cut, Found, note_answers, token_of}
+use Rattle.cw_lex.proofs.Terms.{◌≡◌, ℕ, suc, ◌+◌, ◌-◌, ◌<◌, ◌≤◌, Bool, true, false, ◌&&◌, ◌||◌, ◌==◌, List, [], ◌∷◌}
+use Rattle.cw_lex.proofs.Terms.{◌++◌, Option, Some, None, length, slice_index, take, drop, refl, sym, ap, subst, ◌∙◌}
+use Rattle.cw_lex.proofs.Terms.{arith, append-nil, length-drop, ◌⊎◌, inl, inr, if◌then◌else◌, is_some}
+use Rattle.cw_lex.proofs.Terms.{lemmas.Bool.eqb-true, lemmas.Bool.Decides.nat_tests, drop-drop, length-take, both-right}
+use Rattle.cw_lex.proofs.Terms.{one-failed-left, one-failed-right, not-both, bodies.Noted.Noted, codes.Code.Code}
+use Rattle.cw_lex.proofs.Terms.{codes.Effect.Effect, tokens.TokKind.TokKind, Answer, Token, Begin, Finish, Note, Seen}
+use Rattle.cw_lex.proofs.Terms.{Where, Cut, Found, note_answers, token_of, bar, code_of, code_at, is_section}
+use Rattle.cw_lex.proofs.Terms.{begins_section, effect_in_tex, Coming.found_at, Limbo.is_name_kind}
+use Rattle.cw_lex.proofs.Terms.{Parts.closing_bar_from, still_fresh, joined, answers, fresh_at, last_at, answers_at}
+use Rattle.cw_lex.proofs.Terms.{beginning, tokens_of, opened_by, opens_part_before, opens_part_in, AreNotes}
+use Rattle.cw_lex.proofs.Terms.{found-takes, bare-all-cut}
 use Rattle.cw_rules.specs.{Answers.plain, Answers.has_sign, Bodies.at_start, Bodies.extent, Bytes.at_sign, Bytes.equals}
 use Rattle.cw_rules.specs.{Bytes.run, Bytes.begins, Bytes.is_in, Order.Covers, Apart.found_apart}
-use Rattle.cw_base.specs.Text.{bar}
-use Rattle.cw_rules.specs.Codes.{code_of, code_at, is_section, begins_section, effect_in_tex}
-use Rattle.cw_lex.specs.{Coming.found_at, Limbo.is_name_kind, Parts.closing_bar_from}
-use Rattle.cw_lex.specs.Lexing.{still_fresh, joined, answers, fresh_at, last_at, answers_at, beginning, tokens_of}
-use Rattle.cw_lex.specs.Nested.{is_section_kind, begins_section_in}
-use Rattle.cw_lex.specs.Openings.{opened_by, opens_part_before, opens_part_in}
-use Rattle.cw_lex.specs.TexTexts.{tex_at, are_notes, GoesOn, HoldsInner}
 use Rattle.cw_rules.specs.Tokens.{one, moved, dropped_code, effect_in, section_name, is_name, is_head, is_signed}
 use Rattle.cw_rules.specs.Tokens.{tex_by, tex_text, section, code_by, inner_begin, inner_cut}
+use Rattle.cw_lex.specs.Nested.{is_section_kind, begins_section_in}
+use Rattle.cw_lex.specs.TexTexts.{tex_at, are_notes, GoesOn, HoldsInner}
 use Rattle.cw_rules.proofs.{CodeStarts.code-kind, CodeTwins.at-code, NameEnds.name-take, InnerTwins.tex_inner}
 use Rattle.cw_rules.proofs.{Sizes.extent-le, Runs.drop-here, Within.found-fits}
 use Rattle.cw_lex.proofs.Covering.{drop-part, covers-le, tokens-cover}
 use Rattle.cw_lex.proofs.{InnerEnds.to-end, InnerScans.inner-ends-at-bar, Openings.section-cuts, Openings.bare-uncut}
 use Rattle.cw_lex.proofs.{FirstTokens.notes-sign, FirstTokens.begun, PartScans.ends-with-text, Walk.answers-at}
-use Rattle.cw_rules.proofs.Taking.{AreNotes, found-takes, bare-all-cut}
 use Rattle.cw_base.specs.declared.notes.NoteKind.TheVariants as notes
 use Rattle.cw_rules.specs.declared.bodies.Body.TheVariants as bodies
 use Rattle.cw_rules.specs.declared.classes.Class.TheVariants as classes
@@ -71,9 +67,8 @@ signed : (bytes : List ℕ) (fresh : Bool) (last place : ℕ) → is_signed byte
 signed [] fresh last place h = absurd cc
 signed (b ∷ bs) fresh last place h = by (is_in classes.Blank b) refl (signed bs (still_fresh fresh b) b (place + 1))
   where
-    by : (t : Bool) → is_in classes.Blank b ≡ t → (is_signed bs ≡ true
-        → has_sign (answers bs head (still_fresh fresh b) b (place + 1) 0) ≡ true)
-        → has_sign (answers (b ∷ bs) head fresh last place 0) ≡ true
+    by : (t : Bool) → is_in classes.Blank b ≡ t → (is_signed bs ≡ true → has_sign (answers bs head
+        (still_fresh fresh b) b (place + 1) 0) ≡ true) → has_sign (answers (b ∷ bs) head fresh last place 0) ≡ true
     by true e rec = code (b == at_sign) refl
       where
         code : (t : Bool) → (b == at_sign) ≡ t → has_sign (answers (b ∷ bs) head fresh last place 0) ≡ true
@@ -122,9 +117,8 @@ name-kind at.SectionName h = refl
 name-kind at.FileName h = refl
 name-kind _ h = absurd cc
 
-name-found : (c : Code) (place : ℕ) (shown : List ℕ) → is_name c ≡ true
-    → code_by (effect_in parts.Inner [] c) c inner place shown
-    ≡ one false inner place shown (section_name c place shown)
+name-found : (c : Code) (place : ℕ) (shown : List ℕ) → is_name c ≡ true → code_by (effect_in parts.Inner [] c) c inner
+    place shown ≡ one false inner place shown (section_name c place shown)
 name-found c place shown h = grind arith
 
 -- a name, where the text ends behind it
@@ -154,23 +148,20 @@ name-uncut c d bs fresh last place n h =
       nat_tests,
       all-taken,
     ) in
-    ap (λ (f : Found). begins_section_in (joined f rest)) is
-    ∙ ap (λ b. b || begins_section_in (note_answers cut.notes ++ rest inner ((2 + (extent i ls).size) - 1)))
-    (name-kind c n)
+    ap (λ (f : Found). begins_section_in (joined f rest)) is ∙ ap
+    (λ b. b || begins_section_in (note_answers cut.notes ++ rest inner ((2 + (extent i ls).size) - 1))) (name-kind c n)
     ∙ or-notes cut.notes (rest inner ((2 + (extent i ls).size) - 1)) behind
 
 -- a name in its text
-name-whole : (text : List ℕ) (start end d : ℕ) (bs : List ℕ) (c : Code) → drop start text ≡ 64 ∷ d ∷ bs → is_name c
-    ≡ true → code_of d ≡ c
-    → end ≡ start + (2 + (extent (at_start bodies.SectionName (start + 2)) bs).size)
+name-whole : (text : List ℕ) (start end d : ℕ) (bs : List ℕ) (c : Code) → drop start text ≡ 64 ∷ d ∷ bs
+    → is_name c ≡ true → code_of d ≡ c → end ≡ start + (2 + (extent (at_start bodies.SectionName (start + 2)) bs).size)
     → begins_section_in (tokens_of text start end modes.Inner) ≡ false
 name-whole text start end d bs c here n h e =
     let k = (extent (at_start bodies.SectionName (start + 2)) bs).size in
     let size : end - start ≡ suc (suc k) = omega (arith, e) in
     let part : drop start (take end text) ≡ 64 ∷ d ∷ take k bs = grind (arith, nat_tests, drop-part) in
     ap (λ l. begins_section_in (answers l inner (fresh_at (take end text) start) (last_at (take end text) start) start
-    0)) part
-    ∙ name-uncut c d bs (fresh_at (take end text) start) (last_at (take end text) start) start n h
+    0)) part ∙ name-uncut c d bs (fresh_at (take end text) start) (last_at (take end text) start) start n h
 
 -- ## What begins in TeX text
 
@@ -263,9 +254,8 @@ module _ (text : List ℕ) (place : ℕ) (within : place < length text) (quiet :
   here-is = ap (λ t. if t then section tex place behind else tex_text tex place byte behind) no-section
 
   -- a token that stands
-  token-goes : (cut : Cut) → here ≡ one false tex place (byte ∷ behind) cut
-      → (is_name_kind cut.kind ≡ true → begins_section_in (tokens_of text place (place + cut.size) modes.Inner) ≡ false)
-      → GoesOn text place
+  token-goes : (cut : Cut) → here ≡ one false tex place (byte ∷ behind) cut → (is_name_kind cut.kind ≡ true
+      → begins_section_in (tokens_of text place (place + cut.size) modes.Inner) ≡ false) → GoesOn text place
   token-goes cut e name =
       let t = token_of false cut.kind place cut.size (byte ∷ behind) in
       let takes = found-takes tex (fresh_at text place) (last_at text place) place byte behind in
@@ -317,9 +307,8 @@ module _ (text : List ℕ) (place : ℕ) (within : place < length text) (quiet :
       is : here ≡ tex_by (effect_in_tex (code_at behind)) (code_at behind) tex place (byte ∷ behind)
       is = grind (arith, nat_tests, here-is)
 
-      name-goes : (c : Code) (ls : List ℕ) → behind ≡ ls → code_at behind ≡ c → is_name c ≡ true
-          → begins_section_in (tokens_of text place (place + (section_name c place (byte ∷ behind)).size) modes.Inner)
-          ≡ false
+      name-goes : (c : Code) (ls : List ℕ) → behind ≡ ls → code_at behind ≡ c → is_name c ≡ true → begins_section_in
+          (tokens_of text place (place + (section_name c place (byte ∷ behind)).size) modes.Inner) ≡ false
       name-goes c [] l k n = absurd (no-name (sym (ap code_at l) ∙ k))
         where
           no-name : at.Unknown ≡ c → ⊥
@@ -332,9 +321,7 @@ module _ (text : List ℕ) (place : ℕ) (within : place < length text) (quiet :
 
       by : Begins (code_at behind) place (byte ∷ behind) (tex_by (effect_in_tex (code_at behind)) (code_at behind) tex
           place (byte ∷ behind)) → GoesOn text place
-      by (inl s) =
-          token-goes s.cut (is ∙ s.is)
-          (λ k. let n = s.name k in
+      by (inl s) = token-goes s.cut (is ∙ s.is) (λ k. let n = s.name k in
           ap (λ (x : Cut). begins_section_in (tokens_of text place (place + x.size) modes.Inner)) n.1
           ∙ name-goes (code_at behind) behind refl refl n.0)
       by (inr (inl h)) = absurd (no-head (code_at behind) h.name h.headed (is ∙ h.is))
@@ -430,11 +417,9 @@ module _ (text : List ℕ) (place : ℕ) (within : place < length text) (quiet :
           → GoesOn text place ⊎ HoldsInner text place
       by true e c k = inl (code-goes e)
       by false e true k = inr (bar-holds k)
-      by false e false k =
-          inl (token-goes (plain kinds.Text (run classes.TexText (byte ∷ behind)))
-          (here-is ∙ (λ i. if e i then tex_by (effect_in_tex (code_at behind)) (code_at behind) tex place
-          (byte ∷ behind)
-          else if k i then inner_begin false (moved tex parts.TexInner) place (byte ∷ behind) else one false tex place
+      by false e false k = inl (token-goes (plain kinds.Text (run classes.TexText (byte ∷ behind))) (here-is
+          ∙ (λ i. if e i then tex_by (effect_in_tex (code_at behind)) (code_at behind) tex place (byte ∷ behind) else if
+          k i then inner_begin false (moved tex parts.TexInner) place (byte ∷ behind) else one false tex place
           (byte ∷ behind) (plain kinds.Text (run classes.TexText (byte ∷ behind))))) (λ h. absurd cc))
 
 pub tex-texts-go-on : (text : List ℕ) (place : ℕ) → place < length text → opens_part_in (tex_at text place) ≡ false

@@ -1,16 +1,13 @@
 -- How the answers from one place of a text follow from what begins there.
-use Rattle.std.proofs.Common.{◌≡◌, ℕ, zero, suc, ◌+◌, ◌<◌, ◌≤◌, Bool, true, List, [], ◌∷◌, ◌++◌, length, slice_index}
-use Rattle.std.proofs.Common.{take, drop, sym, ap, ◌∙◌, arith, add-zero, zero-add, length-drop}
-use Rattle.std.proofs.{lemmas.List.drop-drop, Math.Seq.take-nil, lemmas.Grind.common_steps}
-use Rattle.std.proofs.lemmas.Bool.Decides.{nat_tests}
+use Rattle.cw_lex.proofs.Terms.{◌≡◌, ℕ, zero, suc, ◌+◌, ◌<◌, ◌≤◌, Bool, true, List, [], ◌∷◌, ◌++◌, length, slice_index}
+use Rattle.cw_lex.proofs.Terms.{take, drop, sym, ap, ◌∙◌, arith, add-zero, zero-add, length-drop, lemmas.List.drop-drop}
+use Rattle.cw_lex.proofs.Terms.{Math.Seq.take-nil, lemmas.Grind.common_steps, nat_tests, found_at, still_fresh, joined}
+use Rattle.cw_lex.proofs.Terms.{answers, fresh_after, last_after, fresh_at, last_at, answers_at}
 use Rattle.cw_rules.{proofs.Runs.drop-here, specs.Answers.Answer, specs.Answers.Where, specs.Answers.Found}
-use Rattle.cw_lex.specs.Coming.{found_at}
-use Rattle.cw_lex.specs.Lexing.{still_fresh, joined, answers, fresh_after, last_after, fresh_at, last_at, answers_at}
 
 -- bytes that belong to the last token
-taken : (bs : List ℕ) (w : Where) (fresh : Bool) (last place n : ℕ) → n ≤ length bs
-    → answers bs w fresh last place n ≡ answers (drop n bs) w (fresh_after fresh (take n bs))
-    (last_after last (take n bs)) (place + n) 0
+taken : (bs : List ℕ) (w : Where) (fresh : Bool) (last place n : ℕ) → n ≤ length bs → answers bs w fresh last place n
+    ≡ answers (drop n bs) w (fresh_after fresh (take n bs)) (last_after last (take n bs)) (place + n) 0
 taken [] w fresh last place zero h = ap (λ p. answers [] w fresh last p 0) (sym (add-zero place))
 taken [] w fresh last place (suc n) h = absurd (omega arith)
 taken (b ∷ bs) w fresh last place zero h = ap (λ p. answers (b ∷ bs) w fresh last p 0) (omega arith)
@@ -44,9 +41,8 @@ last-here text place h = grind (arith, nat_tests, drop-here text place h, last-m
 
 -- what follows what begins at a place
 abbrev pub rest_at : List ℕ → ℕ → Where → ℕ → List Answer
-rest_at text place next more =
-    answers (drop (place + 1) text) next (still_fresh (fresh_at text place) (slice_index text place))
-    (slice_index text place) (place + 1) more
+rest_at text place next more = answers (drop (place + 1) text) next
+    (still_fresh (fresh_at text place) (slice_index text place)) (slice_index text place) (place + 1) more
 
 pub answers-here : (text : List ℕ) (w : Where) (place : ℕ) → place < length text
     → answers_at text w place ≡ joined (found_at text w place) (λ next more. rest_at text place next more)
@@ -54,8 +50,7 @@ answers-here text w place h = grind (arith, nat_tests, drop-here)
 
 -- the answers from a place on are those that begin there and those from where they end
 pub answers-at : (text : List ℕ) (w : Where) (place : ℕ) (f : Found) (next : ℕ) → place < length text
-    → found_at text w place ≡ f
-    → next ≡ (place + 1) + f.more → next ≤ length text → answers_at text w place
-    ≡ f.answers ++ answers_at text f.next next
+    → found_at text w place ≡ f → next ≡ (place + 1) + f.more → next ≤ length text
+    → answers_at text w place ≡ f.answers ++ answers_at text f.next next
 answers-at text w place f next h e n within =
     grind (arith, nat_tests, length-drop, drop-here, fresh-here, last-here, taken, drop-drop, fresh-more, last-more)

@@ -1,11 +1,10 @@
 -- White space of C text, and what the bytes before a place say of it.
-use Rattle.std.proofs.Common.{◌≡◌, ℕ, ◌+◌, ◌-◌, ◌<◌, ◌≤◌, Bool, true, false, ◌&&◌, ◌==◌, List, length, slice_index}
-use Rattle.std.proofs.Common.{drop, refl, ap, ◌∙◌, arith, if◌then◌else◌}
-use Rattle.std.proofs.{lemmas.Bool.eqb-true, lemmas.Bool.Decides.nat_tests}
-use Rattle.cw_base.proofs.TestLaws.{and-false, not-true}
-use Rattle.cw_rules.specs.declared.{parts.Part.Part, parts.Opened.Opened}
+use Rattle.cw_lex.proofs.Terms.{◌≡◌, ℕ, ◌+◌, ◌-◌, ◌<◌, ◌≤◌, Bool, true, false, ◌&&◌, ◌==◌, List, length, slice_index}
+use Rattle.cw_lex.proofs.Terms.{drop, refl, ap, ◌∙◌, arith, if◌then◌else◌, lemmas.Bool.eqb-true}
+use Rattle.cw_lex.proofs.Terms.{lemmas.Bool.Decides.nat_tests, and-false, not-true, parts.Part.Part}
+use Rattle.cw_lex.proofs.Terms.{parts.Opened.Opened, Lexing.fresh_at, Lexing.last_at, Coming.ends_line}
+use Rattle.cw_lex.proofs.Terms.{Coming.is_white_here, Coming.found_at}
 use Rattle.cw_rules.specs.{Answers.Where, Bytes.is_in, Codes.begins_section, Apart.in_text_apart, Apart.code_text_apart}
-use Rattle.cw_lex.specs.{Lexing.fresh_at, Lexing.last_at, Coming.ends_line, Coming.is_white_here, Coming.found_at}
 use Rattle.cw_rules.specs.Tokens.{section, line_end, is_space, in_hash_line, skipped_byte, is_code}
 use Rattle.cw_lex.proofs.{Lines.in_text-code, Lines.found-newline, Walk.fresh-here, Walk.last-here}
 use Rattle.cw_rules.specs.declared.classes.Class.TheVariants as classes
@@ -21,9 +20,8 @@ line_end-white : (part : Part) (comments : List Opened) (last place : ℕ) → e
     → line_end part comments last place ≡ skipped_byte (record { part = part; comments = comments })
 line_end-white part comments last place h = grind (arith, nat_tests)
 
-code_text-space : (w : Where) (fresh : Bool) (last place b : ℕ) (bs : List ℕ) → (b == 10) ≡ false → is_space w.part b bs
-    ≡ true
-    → code_text_apart w fresh last place b bs ≡ skipped_byte w
+code_text-space : (w : Where) (fresh : Bool) (last place b : ℕ) (bs : List ℕ) → (b == 10) ≡ false
+    → is_space w.part b bs ≡ true → code_text_apart w fresh last place b bs ≡ skipped_byte w
 code_text-space w fresh last place b bs e h = rw (e, h) refl
 
 -- white space gives no answer
@@ -33,9 +31,8 @@ pub white-found : (text : List ℕ) (part : Part) (comments : List Opened) (plac
     ≡ skipped_byte (record { part = part; comments = comments })
 white-found text part comments place code h = by (slice_index text place == 10) refl
   where
-    by : (t : Bool) → (slice_index text place == 10) ≡ t
-        → found_at text (record { part = part; comments = comments }) place
-        ≡ skipped_byte (record { part = part; comments = comments })
+    by : (t : Bool) → (slice_index text place == 10) ≡ t → found_at text
+        (record { part = part; comments = comments }) place ≡ skipped_byte (record { part = part; comments = comments })
     by true e =
         let ends : ends_line part comments (last_at text place) ≡ false = grind (arith, nat_tests, not-true) in
         found-newline text part comments place (eqb-true (slice_index text place) 10 e) code

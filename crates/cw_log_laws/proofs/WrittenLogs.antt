@@ -48,7 +48,15 @@ book-right : (lines : List MergedLine) → length (text_of lines) ≤ 2 ^ 24
     → All (IsRightBlock start_flags) (log_blocks lines)
 book-right lines short = grind (
   arith,
-  each-right (record { text = text_of lines; flags = start_flags; sec_names = (book lines).sec_names; name_uses = (book lines).name_uses }) (book-short lines short) (texts_of (text_of lines) (book lines).name_uses (book lines).outline.sections) (book lines).names (book-inside lines short) (book-names lines),
+  each-right (record {
+    text = text_of lines;
+    flags = start_flags;
+    sec_names = (book lines).sec_names;
+    name_uses
+        = (book lines).name_uses;
+  }) (book-short lines short)
+      (texts_of (text_of lines) (book lines).name_uses (book lines).outline.sections) (book lines).names
+      (book-inside lines short) (book-names lines),
 )
 
 pub written-accepted : WrittenLogsAreAccepted

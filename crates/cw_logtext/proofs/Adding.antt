@@ -1,19 +1,11 @@
 -- Identifiers that are added to a list of names: those that are there keep their places, and each has one.
-use Rattle.std.proofs.Common.{◌≡◌, ℕ, zero, suc, ◌<◌, ◌≤◌, Bool, true, false, not, if◌then◌else◌, nat_lt, List, [], ◌∷◌}
-use Rattle.std.proofs.Common.{◌++◌, length, map, slice_get, slice_index_or, All, Option, Some, None, refl, sym, ◌∙◌, ap}
-use Rattle.std.proofs.Common.{subst, arith}
-use Rattle.std.specs.Cmp.Lexicographic.{bytes_decides}
-use Rattle.std.proofs.lemmas.Bool.{ltb-true, ltb-false}
-use Rattle.std.proofs.lemmas.List.Sums.{prefix_len-le-length}
-use Rattle.cw_base.proofs.TestLaws.{both-right}
-use Rattle.cw_base.specs.declared.category.Cat.TheVariants.{Exp}
+use Rattle.cw_logtext.proofs.Terms.{◌≡◌, ℕ, zero, suc, ◌<◌, ◌≤◌, Bool, true, false, not, if◌then◌else◌, nat_lt, List}
+use Rattle.cw_logtext.proofs.Terms.{[], ◌∷◌, ◌++◌, length, map, slice_get, slice_index_or, All, Option, Some, None}
+use Rattle.cw_logtext.proofs.Terms.{refl, sym, ◌∙◌, ap, subst, arith, bytes_decides, both-right, Exp, NameId, Entry}
+use Rattle.cw_logtext.proofs.Terms.{is_entry, place_of, with_entry, LeafLine, IsIdentEntry, text_at, text_by, IsKnown}
+use Rattle.cw_logtext.proofs.Terms.{spelled, with_idents, IsExtended, AreIdents}
+use Rattle.std.proofs.{lemmas.Bool.ltb-true, lemmas.Bool.ltb-false, lemmas.List.Sums.prefix_len-le-length}
 use Rattle.cw_names.specs.declared.entry.EntryKind.TheVariants as kinds
-use Rattle.cw_names.specs.declared.entry.NameId.{NameId}
-use Rattle.cw_names.specs.Names.{Entry, is_entry, place_of, with_entry}
-use Rattle.cw_leaves.specs.declared.lines.LeafLine.{LeafLine}
-use Rattle.cw_leaves.specs.LeafLines.{IsIdentEntry, text_at, text_by}
-use Rattle.cw_leaves.specs.Spelling.{IsKnown, spelled}
-use Rattle.cw_logtext.specs.Blocks.{with_idents, IsExtended, AreIdents}
 
 -- ## What is there stays
 
@@ -115,16 +107,13 @@ entry-there text es = by (nat_lt (place_of kinds.Ident text es) (length es)) ref
     most : place_of kinds.Ident text es ≤ length es
     most = prefix_len-le-length (λ entry. not (is_entry kinds.Ident text entry)) es
 
-    by : (b : Bool) → nat_lt (place_of kinds.Ident text es) (length es) ≡ b
-        → IsNamed text (slice_get (if b then es else es
-        ++ record { kind = kinds.Ident; text = text; category = Exp } ∷ [])
-        (place_of kinds.Ident text es))
+    by : (b : Bool) → nat_lt (place_of kinds.Ident text es) (length es) ≡ b → IsNamed text (slice_get (if b then es else
+        es ++ record { kind = kinds.Ident; text = text; category = Exp } ∷ []) (place_of kinds.Ident text es))
     by true h = place-there text es (ltb-true _ _ h)
     by false h =
         let last : place_of kinds.Ident text es ≡ length es = omega (arith, most, ltb-false _ _ h) in
         grind (arith, slice_get, slot-last)
 
 pub new-ident : (text : List ℕ) (es new : List Entry) (id : NameId) → new ≡ with_entry kinds.Ident text es
-    → id.index ≡ place_of kinds.Ident text es
-    → IsIdentEntry (slice_get new id.index) × (text_at new id.index ≡ text)
+    → id.index ≡ place_of kinds.Ident text es → IsIdentEntry (slice_get new id.index) × (text_at new id.index ≡ text)
 new-ident text es new id is place = grind (arith, slice_get, entry-there)

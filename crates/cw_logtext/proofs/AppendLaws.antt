@@ -1,13 +1,8 @@
 -- What is appended one thing after another.
-use Rattle.std.proofs.Common.{◌≡◌, ℕ, zero, suc, ◌<◌, List, [], ◌∷◌, ◌++◌, length, map, take, drop, get_or, refl, sym}
-use Rattle.std.proofs.Common.{◌∙◌, ap, append_assoc, arith, subst, Result, IsErr}
-use Rattle.std.specs.List.{flat_map}
-use Rattle.std.proofs.lemmas.Bool.Decides.{nat_tests}
-use Rattle.std.proofs.lemmas.Grind.{common_steps}
-use Rattle.cw_leaves.specs.LeafLines.{Line}
-use Rattle.cw_logtext.specs.Appending.{Appends, HasGrown}
-use Rattle.cw_logtext.specs.LogText.{Block, letter, cat_text, blank_and, line_text, head_text, item_text, end_text}
-use Rattle.cw_logtext.specs.LogText.{block_lines, ended}
+use Rattle.cw_logtext.proofs.Terms.{◌≡◌, ℕ, zero, suc, ◌<◌, List, [], ◌∷◌, ◌++◌, length, map, take, drop, get_or, refl}
+use Rattle.cw_logtext.proofs.Terms.{sym, ◌∙◌, ap, append_assoc, arith, subst, Result, IsErr, flat_map, nat_tests}
+use Rattle.cw_logtext.proofs.Terms.{common_steps, Line, Appends, HasGrown, Block, letter, cat_text, blank_and}
+use Rattle.cw_logtext.proofs.Terms.{line_text, head_text, item_text, end_text, block_lines, ended}
 
 append-none : (xs : List ℕ) → xs ++ [] ≡ xs
 append-none [] = refl
@@ -25,30 +20,26 @@ refused first next rest added old mid new result h m g is = grind (arith, append
 
 -- ## Many of one kind
 
-pub parted-next : {A B : Type 0} (f : A → B) (g : B → List ℕ) (xs : List A) (i : ℕ) (d : A) → i < length xs
-    → flat_map g (map f xs)
-    ≡ flat_map g (map f (take i xs)) ++ (g (f (get_or xs i d)) ++ flat_map g (map f (drop (suc i) xs)))
+pub parted-next : {A B : Type 0} (f : A → B) (g : B → List ℕ) (xs : List A) (i : ℕ) (d : A) → i < length xs → flat_map g
+    (map f xs) ≡ flat_map g (map f (take i xs)) ++ (g (f (get_or xs i d)) ++ flat_map g (map f (drop (suc i) xs)))
 parted-next f g [] i d lt = absurd (omega (arith, lt))
 parted-next f g (x ∷ xs) zero d lt = refl
 parted-next f g (x ∷ xs) (suc i) d lt = grind (arith, parted-next f g xs i d (omega (arith, lt)), append_assoc)
 
-pub next-refused : {A B C E : Type 0} (f : A → B) (g : B → List ℕ) (xs : List A) (i : ℕ) (d : A)
-    (old mid new : List ℕ) (result : Result C E) → i < length xs → IsErr result
-    → mid ≡ old ++ flat_map g (map f (take i xs)) → HasGrown (g (f (get_or xs i d))) mid new
-    → Appends (flat_map g (map f xs)) old new result
+pub next-refused : {A B C E : Type 0} (f : A → B) (g : B → List ℕ) (xs : List A) (i : ℕ) (d : A) (old mid new : List ℕ)
+    (result : Result C E) → i < length xs → IsErr result → mid ≡ old ++ flat_map g (map f (take i xs))
+    → HasGrown (g (f (get_or xs i d))) mid new → Appends (flat_map g (map f xs)) old new result
 next-refused f g xs i d old mid new result lt err m h = refused _ (g (f (get_or xs i d))) (flat_map
     g (map f (drop (suc i) xs))) (flat_map g (map f xs)) old mid new result err m h (parted-next f g xs i d lt)
 
 -- the same of lines
-flat-lines : {B : Type 0} (t : B → List ℕ) (ys : List B)
-    → flat_map ended (map t ys) ≡ flat_map (λ y. ended (t y)) ys
+flat-lines : {B : Type 0} (t : B → List ℕ) (ys : List B) → flat_map ended (map t ys) ≡ flat_map (λ y. ended (t y)) ys
 flat-lines t [] = refl
 flat-lines t (y ∷ ys) = ap (λ r. ended (t y) ++ r) (flat-lines t ys)
 
-pub line-refused : {A B C E : Type 0} (f : A → B) (t : B → List ℕ) (xs : List A) (i : ℕ) (d : A)
-    (old mid new : List ℕ) (result : Result C E) → i < length xs → IsErr result
-    → mid ≡ old ++ flat_map ended (map t (map f (take i xs))) → HasGrown (ended (t (f (get_or xs i d)))) mid new
-    → Appends (flat_map ended (map t (map f xs))) old new result
+pub line-refused : {A B C E : Type 0} (f : A → B) (t : B → List ℕ) (xs : List A) (i : ℕ) (d : A) (old mid new : List ℕ)
+    (result : Result C E) → i < length xs → IsErr result → mid ≡ old ++ flat_map ended (map t (map f (take i xs)))
+    → HasGrown (ended (t (f (get_or xs i d)))) mid new → Appends (flat_map ended (map t (map f xs))) old new result
 line-refused f t xs i d old mid new result lt err m h = subst (λ added. Appends added old new result) (sym (flat-lines
     t (map f xs))) (next-refused f (λ y. ended (t y)) xs i d old mid new result lt err (grind (arith, flat-lines)) h)
 

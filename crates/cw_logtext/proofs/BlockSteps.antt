@@ -1,27 +1,14 @@
 -- The lines of a block are read one after another.
-use Rattle.std.proofs.Common.{◌≡◌, ◌≢◌, ℕ, suc, ◌≤◌, List, [], ◌∷◌, ◌++◌, length, map, All, refl, sym, ◌∙◌, ap, subst}
-use Rattle.std.proofs.Common.{arith}
-use Rattle.std.proofs.lemmas.List.{append_assoc, length-map, map-append}
-use Rattle.std.proofs.lemmas.Grind.{flat_map-append}
-use Rattle.cw_base.specs.Text.{pieces_of}
-use Rattle.cw_names.specs.Names.{Entry}
-use Rattle.cw_table.specs.Normal.{Production}
-use Rattle.cw_leaves.specs.declared.lines.LeafLine.{LeafLine}
-use Rattle.cw_leaves.specs.Spelling.{spelled}
-use Rattle.cw_logtext.specs.declared.blocks.ReadItems.{ReadItems}
-use Rattle.cw_logtext.specs.declared.blocks.ReadLeaves.{ReadLeaves}
-use Rattle.cw_logtext.specs.declared.reading.Spot.{Spot}
-use Rattle.cw_logtext.specs.declared.reading.Spot.TheVariants.{Outside, Inside}
-use Rattle.cw_logtext.specs.Blocks.{with_idents, names_in, AreIdents, HasBlock, HasItems, HasLeafLine, HasLeaves}
-use Rattle.cw_logtext.specs.Blocks.{IsExtended, IsLeafLine}
-use Rattle.cw_logtext.specs.LinePieces.{IsFirstLine}
-use Rattle.cw_logtext.specs.Lines.{NoItem}
-use Rattle.cw_logtext.specs.LogReading.{IsLog, Reads, more, Step, opens, leaf, item, closes}
-use Rattle.cw_logtext.specs.LogText.{end_text, greatest, head_text, item_text, line_text, IsFineItem, IsFineLine}
+use Rattle.cw_logtext.proofs.Terms.{◌≡◌, ◌≢◌, ℕ, suc, ◌≤◌, List, [], ◌∷◌, ◌++◌, length, map, All, refl, sym, ◌∙◌, ap}
+use Rattle.cw_logtext.proofs.Terms.{subst, arith, append_assoc, length-map, map-append, flat_map-append, pieces_of}
+use Rattle.cw_logtext.proofs.Terms.{Entry, Production, LeafLine, spelled, Spot, Outside, Inside, with_idents, names_in}
+use Rattle.cw_logtext.proofs.Terms.{AreIdents, HasBlock, HasItems, HasLeafLine, HasLeaves, IsExtended, IsLeafLine}
+use Rattle.cw_logtext.proofs.Terms.{IsFirstLine, NoItem, IsLog, Reads, more, Step, opens, leaf, item, closes, end_text}
+use Rattle.cw_logtext.proofs.Terms.{greatest, head_text, item_text, line_text, IsFineItem, IsFineLine}
+use Rattle.cw_logtext.specs.{declared.blocks.ReadItems.ReadItems, declared.blocks.ReadLeaves.ReadLeaves}
+use Rattle.cw_logtext.proofs.{Cutting.all-append, Cutting.all-cons, Decimals.head-injective, Decimals.item-not-end}
+use Rattle.cw_logtext.proofs.{StepLaws.log-is-read, StepLaws.read-is-log}
 use Rattle.cw_logtext.proofs.Adding.{all-kept, all-known, idents-append, lines-kept}
-use Rattle.cw_logtext.proofs.Cutting.{all-append, all-cons}
-use Rattle.cw_logtext.proofs.Decimals.{head-injective, item-not-end}
-use Rattle.cw_logtext.proofs.StepLaws.{log-is-read, read-is-log}
 
 -- ## The first line
 
@@ -177,9 +164,6 @@ head-read log line rest is cut = read-cut Outside Outside log line rest cut (log
 pub whole-block : (old new : List Entry) (log line rest : List ℕ) (count : ℕ) (leaves : ReadLeaves) (items : ReadItems)
     → IsFirstLine log line rest → count ≤ greatest → line ≡ head_text count → HasLeaves old new count rest leaves
     → HasItems leaves.rest.now items
-    → HasBlock old new log (record {
-      log = record { leaves = leaves.leaves; items = items.items };
-      rest = items.rest;
-    })
+    → HasBlock old new log (record { log = record { leaves = leaves.leaves; items = items.items }; rest = items.rest })
 whole-block old new log line rest count leaves items cut few is h k =
     grind (arith, length-map, all-known, read-is-log, append_assoc)

@@ -1,10 +1,6 @@
 -- Each category stands in the list of all.
-use Rattle.std.proofs.Common.{◌≡◌, ◌≢◌, ℕ, ◌+◌, ◌<◌, ◌≤◌, List, get_or, sym, ◌∙◌, ap, arith, Bool, false, ◌↔◌, IsTrue}
-use Rattle.std.proofs.lemmas.Bool.Decides.{eqb_tells}
-use Rattle.cw_base.specs.declared.category.Cat.{Cat}
-use Rattle.cw_base.specs.declared.category.Cat.TheVariants.{End}
-use Rattle.cw_base.specs.Category.{all_cats, number_of}
-use Rattle.cw_logtext.specs.LogText.{cat_text}
+use Rattle.cw_logtext.proofs.Terms.{◌≡◌, ◌≢◌, ℕ, ◌+◌, ◌<◌, ◌≤◌, List, get_or, sym, ◌∙◌, ap, arith, Bool, false, ◌↔◌}
+use Rattle.cw_logtext.proofs.Terms.{IsTrue, eqb_tells, Cat, End, all_cats, number_of, cat_text}
 
 pub at-number : (c : Cat) → get_or all_cats (number_of c) End ≡ c
 at-number c = grind arith
@@ -18,7 +14,6 @@ no-cat name count none all cat is =
     none (number_of cat) (omega (arith, within cat, all)) (is ∙ ap cat_text (sym (at-number cat)))
 
 pub one-more-cat : (name : List ℕ) (count : ℕ) (cat : Cat) (found : Bool)
-    → ((i : ℕ) → i < count → name ≢ cat_text (get_or all_cats i End)) → (IsTrue found ↔ (name ≡ cat_text cat))
-    → found ≡ false → get_or all_cats count End ≡ cat → (i : ℕ) → i < count + 1
-    → name ≢ cat_text (get_or all_cats i End)
+    → ((i : ℕ) → i < count → name ≢ cat_text (get_or all_cats i End)) → (IsTrue found ↔ (name ≡ cat_text cat)) → found
+    ≡ false → get_or all_cats count End ≡ cat → (i : ℕ) → i < count + 1 → name ≢ cat_text (get_or all_cats i End)
 one-more-cat name count cat found none named fails here i below is = grind (arith, eqb_tells)

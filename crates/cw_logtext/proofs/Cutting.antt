@@ -1,12 +1,7 @@
 -- The lines of a log's text are its lines.
-use Rattle.std.proofs.Common.{◌≡◌, ℕ, zero, suc, true, not, eqb, List, [], ◌∷◌, ◌++◌, map, All, refl, ◌∙◌, ap, arith}
-use Rattle.std.specs.List.{flat_map}
-use Rattle.std.proofs.lemmas.List.{append_assoc}
-use Rattle.cw_base.specs.Text.{pieces_of}
-use Rattle.cw_base.proofs.TestLaws.{both-left, both-right}
-use Rattle.cw_logtext.specs.LogText.{Block, block_lines, log_lines, ended, IsFineBlock}
-use Rattle.cw_logtext.specs.LinePieces.{lacks}
-use Rattle.cw_logtext.specs.LogLaws.{TextHasLines}
+use Rattle.cw_logtext.proofs.Terms.{◌≡◌, ℕ, zero, suc, true, not, eqb, List, [], ◌∷◌, ◌++◌, map, All, refl, ◌∙◌, ap}
+use Rattle.cw_logtext.proofs.Terms.{arith, flat_map, append_assoc, pieces_of, both-left, both-right, Block, block_lines}
+use Rattle.cw_logtext.proofs.Terms.{log_lines, ended, IsFineBlock, lacks, TextHasLines}
 use Rattle.cw_logtext.proofs.Plain.{line-end, head-end, item-end}
 
 -- a line and its end are a piece

@@ -1,34 +1,19 @@
 -- Each file is a log, or one of its lines is the first that no log has: what a line may be is tried in turn.
-use Rattle.std.proofs.Common.{◌≡◌, ◌≢◌, ◌⊎◌, inl, inr, ℕ, zero, suc, ◌+◌, ◌≤◌, Bool, true, List, [], ◌∷◌, ◌++◌, length}
-use Rattle.std.proofs.Common.{take, drop, get_or, refl, sym, ◌∙◌, ap, subst, arith, length-drop}
-use Rattle.std.proofs.Math.Seq.{drop-append_seam, take-append_seam}
-use Rattle.std.proofs.lemmas.Bool.Decides.{eqb_tells, nat_tests}
-use Rattle.std.proofs.lemmas.List.{length-append, take-append-drop}
-use Rattle.std.specs.List.{flat_map}
-use Rattle.std.proofs.lemmas.Grind.{common_steps}
-use Rattle.cw_base.specs.declared.category.Cat.{Cat}
-use Rattle.cw_base.specs.declared.category.Cat.TheVariants as cats
-use Rattle.cw_base.specs.Category.{all_cats, number_of}
-use Rattle.cw_leaves.specs.declared.kinds.LeafKind.{LeafKind}
-use Rattle.cw_leaves.specs.declared.kinds.LeafKind.TheVariants as kinds
-use Rattle.cw_leaves.specs.LeafLines.{Line}
+use Rattle.cw_logtext.proofs.Terms.{◌≡◌, ◌≢◌, ◌⊎◌, inl, inr, ℕ, zero, suc, ◌+◌, ◌≤◌, Bool, true, List, [], ◌∷◌, ◌++◌}
+use Rattle.cw_logtext.proofs.Terms.{length, take, drop, get_or, refl, sym, ◌∙◌, ap, subst, arith, length-drop}
+use Rattle.cw_logtext.proofs.Terms.{drop-append_seam, take-append_seam, eqb_tells, nat_tests, length-append}
+use Rattle.cw_logtext.proofs.Terms.{take-append-drop, flat_map, common_steps, Cat, all_cats, number_of, LeafKind, Line}
+use Rattle.cw_logtext.proofs.Terms.{Production, Spot, Outside, Inside, IsLeafLine, AreIdentifiers, Reads, none, more}
+use Rattle.cw_logtext.proofs.Terms.{Step, Stuck, opens, leaf, item, closes, blank_and, cat_text, end_text, fits_kind}
+use Rattle.cw_logtext.proofs.Terms.{greatest, head_text, is_identifier, item_text, letter, line_text, IsFineLine}
 use Rattle.cw_table.specs.declared.productions.TheConstants.{ROW_COUNT}
-use Rattle.cw_table.specs.Normal.{Production}
-use Rattle.cw_logtext.specs.declared.reading.Spot.{Spot}
-use Rattle.cw_logtext.specs.declared.reading.Spot.TheVariants.{Outside, Inside}
-use Rattle.cw_logtext.specs.Blocks.{IsLeafLine}
 use Rattle.cw_logtext.specs.Judgement.{Judgement, log, no_log}
-use Rattle.cw_logtext.specs.LinePieces.{AreIdentifiers}
-use Rattle.cw_logtext.specs.LogReading.{Reads, none, more, Step, Stuck, opens, leaf, item, closes}
-use Rattle.cw_logtext.specs.LogText.{blank_and, cat_text, end_text, fits_kind, greatest, head_text, is_identifier}
-use Rattle.cw_logtext.specs.LogText.{item_text, letter, line_text, IsFineLine}
+use Rattle.cw_logtext.proofs.{CatNames.at-number, CatNames.within, Cutting.all-cons, Judging.AtHand, Judging.at-hand}
+use Rattle.cw_logtext.proofs.{Judging.all-taken, Names.Later, Telling.names-same}
 use Rattle.cw_logtext.proofs.BlockSteps.{opened, leaf-step, inner, on, out}
-use Rattle.cw_logtext.proofs.CatNames.{at-number, within}
-use Rattle.cw_logtext.proofs.Cutting.{all-cons}
-use Rattle.cw_logtext.proofs.Judging.{AtHand, at-hand, all-taken}
-use Rattle.cw_logtext.proofs.Names.{Later}
 use Rattle.cw_logtext.proofs.StepLaws.{inside-is-fault, joined-reads, read-is-log, stuck-is-fault, take-next}
-use Rattle.cw_logtext.proofs.Telling.{names-same}
+use Rattle.cw_base.specs.declared.category.Cat.TheVariants as cats
+use Rattle.cw_leaves.specs.declared.kinds.LeafKind.TheVariants as kinds
 
 abbrev Known : Type 0 → Type 0
 Known P = P ⊎ (P → ⊥)
@@ -38,8 +23,7 @@ Known P = P ⊎ (P → ⊥)
 same_number : (m n : ℕ) → Known (m ≡ n)
 same_number m n = elim (eqb_tells m n) [ inl e ↦ inl e.1 | inr e ↦ inr e.1 ]
 
-same_cons : (x y : ℕ) (xs ys : List ℕ) → Known (x ≡ y) → Known (xs ≡ ys)
-    → Known (◌≡◌ {A = List ℕ} (x ∷ xs) (y ∷ ys))
+same_cons : (x y : ℕ) (xs ys : List ℕ) → Known (x ≡ y) → Known (xs ≡ ys) → Known (◌≡◌ {A = List ℕ} (x ∷ xs) (y ∷ ys))
 same_cons x y xs ys h same = grind arith
 
 same_text : (xs ys : List ℕ) → Known (xs ≡ ys)
@@ -79,9 +63,8 @@ some_name n bytes fine l = record {
   is = ap (λ xs. 32 ∷ xs) (sym (take-append-drop n bytes) ∙ ap (λ xs. take n bytes ++ xs) l.is);
 }
 
-no_name : (bytes : List ℕ)
-    → (Upto (length bytes) (λ n. (is_identifier (take n bytes) ≡ true) × Later (drop n bytes)) → ⊥)
-    → Later (32 ∷ bytes) → ⊥
+no_name : (bytes : List ℕ) → (Upto (length bytes) (λ n. (is_identifier (take n bytes) ≡ true) × Later (drop n bytes))
+    → ⊥) → Later (32 ∷ bytes) → ⊥
 no_name bytes lack l = go l.names l.fine l.is
   where
     go : (names : List (List ℕ)) → AreIdentifiers names → 32 ∷ bytes ≡ flat_map blank_and names → ⊥
@@ -155,8 +138,8 @@ module _ (k : LeafKind) (c : Cat) (line : List ℕ) where
   with_names : (b : Behind (front_of k c) line) (l : Later b.rest)
       → Known ((fits_kind k c (length l.names) ≡ true) × (c ≢ cats.End)) → Known (LeafBy k c line)
   with_names b l (inl h) = grind arith
-  with_names b l (inr not) = inr (λ o. let same = names-same o.names l.names o.fine.names l.fine (sym
-      (rest-names b o) ∙ l.is) in not (subst (λ ns. fits_kind k c (length ns) ≡ true) same o.fine.kind, o.fine.real))
+  with_names b l (inr not) = inr (λ o. let same = names-same o.names l.names o.fine.names l.fine (sym (rest-names b o)
+      ∙ l.is) in not (subst (λ ns. fits_kind k c (length ns) ≡ true) same o.fine.kind, o.fine.real))
 
   leaf_behind : (b : Behind (front_of k c) line) → Known (Later b.rest) → Known (LeafBy k c line)
   leaf_behind b (inl l) =
@@ -236,10 +219,9 @@ step_item line (inr not) (inr unended) = grind (arith, inner, on, out)
 
 step_on : (spot : Spot) (line : List ℕ) → Goes spot line
 step_on Outside line = step_outside line (upto (λ n. line ≡ head_text n) (λ n. same_text line (head_text n)) greatest)
-step_on (Inside zero) line =
-    step_item line (upto (λ n. (n ≢ 0) × Upto _ (λ place. line ≡ item_text _)) (λ n. both (n ≢ 0) _ (not_zero n)
-    (upto (λ place. line ≡ item_text (production n _)) (λ place. same_text line (item_text _)) greatest)) _)
-    (same_text line end_text)
+step_on (Inside zero) line = step_item line (upto (λ n. (n ≢ 0) × Upto _ (λ place. line ≡ item_text _))
+    (λ n. both (n ≢ 0) _ (not_zero n) (upto (λ place. line ≡ item_text (production n _))
+    (λ place. same_text line (item_text _)) greatest)) _) (same_text line end_text)
 step_on (Inside (suc k)) line = step_leaf
     k line (leaf_of line (of_some_cat kinds.B line) (of_some_cat _ line) (of_some_cat _ line) (of_some_cat _ line))
 

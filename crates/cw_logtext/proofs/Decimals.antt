@@ -1,8 +1,6 @@
 -- Lines of different kinds differ.
-use Rattle.std.proofs.Common.{◌≡◌, ℕ, ◌≤◌, List, ◌∷◌, arith}
-use Rattle.std.proofs.lemmas.Fmt.{decimal_injective}
-use Rattle.cw_table.specs.Normal.{Production}
-use Rattle.cw_logtext.specs.LogText.{head_text, item_text, end_text, greatest}
+use Rattle.cw_logtext.proofs.Terms.{◌≡◌, ℕ, ◌≤◌, List, ◌∷◌, arith, decimal_injective, Production, head_text, item_text}
+use Rattle.cw_logtext.proofs.Terms.{end_text, greatest}
 
 head-same : (a b : ℕ) (xs ys : List ℕ) → ◌≡◌ {A = List ℕ} (a ∷ xs) (b ∷ ys) → a ≡ b
 head-same a b xs ys e = cc

@@ -1,15 +1,11 @@
 -- The number that digits write, read from the left.
-use Rattle.std.proofs.Common.{◌≡◌, ℕ, suc, ◌+◌, ◌-◌, ◌*◌, ◌<◌, ◌≤◌, ◌^◌, Bool, true, false, ◌&&◌, ◌==◌, nat_lt, List}
-use Rattle.std.proofs.Common.{[], ◌∷◌, length, drop, drop-cons, get_or, refl, sym, ◌∙◌, ap, subst, arith, inl, inr}
-use Rattle.std.specs.Fmt.{decimal}
+use Rattle.cw_logtext.proofs.Terms.{◌≡◌, ℕ, suc, ◌+◌, ◌-◌, ◌*◌, ◌<◌, ◌≤◌, ◌^◌, Bool, true, false, ◌&&◌, ◌==◌, nat_lt}
+use Rattle.cw_logtext.proofs.Terms.{List, [], ◌∷◌, length, drop, drop-cons, get_or, refl, sym, ◌∙◌, ap, subst, arith}
+use Rattle.cw_logtext.proofs.Terms.{inl, inr, decimal, decimal_digit, decimal_nonempty, decimal-digits_value}
+use Rattle.cw_logtext.proofs.Terms.{digits_decimal, digits_value-decimal, first_decimal, eqb_tells, drop_all, both}
+use Rattle.cw_logtext.proofs.Terms.{both-left, both-right, is_digit}
 use Rattle.std.specs.Int.{IsInRange}
-use Rattle.std.proofs.lemmas.Fmt.{decimal_digit, decimal_nonempty, decimal-digits_value, digits_decimal}
-use Rattle.std.proofs.lemmas.Fmt.{digits_value-decimal, first_decimal}
-use Rattle.std.proofs.lemmas.Bool.Decides.{eqb_tells}
-use Rattle.std.proofs.lemmas.List.{drop_all}
 use Rattle.std.proofs.lemmas.Str.Parse.{IsNumeralModel, numerals_by_fold, tells_by_index}
-use Rattle.cw_base.proofs.TestLaws.{both, both-left, both-right}
-use Rattle.cw_rules.specs.Bytes.{is_digit}
 
 abbrev pub AreDigits : List ℕ → Type 0
 AreDigits ds = (i : ℕ) → i < length ds → IsInRange 48 57 (get_or ds i 0)
@@ -129,8 +125,7 @@ lone-zero (d ∷ e ∷ ds) leads value fails zero = absurd (
 
 -- all are read
 pub all-read : (most : ℕ) (digits : List ℕ) (count number : ℕ) → most < 2 ^ 32 → IsRead most digits count number
-    → length digits ≤ count → 0 < length digits → (get_or digits 0 0 ≡ 48 → length digits ≡ 1)
-    → digits ≡ decimal number
+    → length digits ≤ count → 0 < length digits → (get_or digits 0 0 ≡ 48 → length digits ≡ 1) → digits ≡ decimal number
 all-read most digits count number small is whole some zero =
     let value : number ≡ read 0 digits = ap (read number) (sym (drop_all count digits whole)) ∙ is.value in
     let ds : AreDigits digits = λ i below. is.so_far i (omega (arith, below, whole)) in

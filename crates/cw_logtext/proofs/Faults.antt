@@ -1,8 +1,6 @@
 -- A file has one first line that no log has, at most, and none where it is a log.
-use Rattle.std.proofs.Common.{◌≡◌, ℕ, zero, suc, ◌≤◌, ◌<◌, List, [], ◌∷◌, ◌++◌, length, take, refl, arith, append_assoc}
-use Rattle.std.proofs.lemmas.Bool.Decides.{nat_tests}
-use Rattle.std.proofs.lemmas.Grind.{common_steps}
-use Rattle.cw_logtext.specs.LogReading.{IsFault, IsFaultAt, IsLog, wrong, cut_off}
+use Rattle.cw_logtext.proofs.Terms.{◌≡◌, ℕ, zero, suc, ◌≤◌, ◌<◌, List, [], ◌∷◌, ◌++◌, length, take, refl, arith}
+use Rattle.cw_logtext.proofs.Terms.{append_assoc, nat_tests, common_steps, IsFault, IsFaultAt, IsLog, wrong, cut_off}
 
 record Longer (lines : List (List ℕ)) (m n : ℕ) : Type 0 where
   more : List (List ℕ)

@@ -1,12 +1,7 @@
 -- Reading a file line by line.
-use Rattle.std.proofs.Common.{◌≡◌, ℕ, zero, suc, ◌+◌, ◌<◌, ◌≤◌, List, [], ◌∷◌, length, take, drop, get_or, refl, ◌∙◌}
-use Rattle.std.proofs.Common.{arith}
-use Rattle.std.proofs.lemmas.Grind.{common_steps}
-use Rattle.cw_base.specs.Text.{pieces_of}
-use Rattle.cw_logtext.specs.declared.reading.Spot.{Spot}
-use Rattle.cw_logtext.specs.declared.reading.Spot.TheVariants.{Outside, Inside}
-use Rattle.cw_logtext.specs.LinePieces.{IsFirstLine}
-use Rattle.cw_logtext.specs.LogReading.{IsLog, IsFaultAt, Reads, none, more, Step, Stuck}
+use Rattle.cw_logtext.proofs.Terms.{◌≡◌, ℕ, zero, suc, ◌+◌, ◌<◌, ◌≤◌, List, [], ◌∷◌, length, take, drop, get_or, refl}
+use Rattle.cw_logtext.proofs.Terms.{◌∙◌, arith, common_steps, pieces_of, Spot, Outside, Inside, IsFirstLine, IsLog}
+use Rattle.cw_logtext.proofs.Terms.{IsFaultAt, Reads, none, more, Step, Stuck}
 use Rattle.cw_logtext.proofs.StepLaws.{joined-reads, read-is-log, stuck-is-fault, inside-is-fault}
 
 -- The lines before this one are read, and those from it on are the rest.

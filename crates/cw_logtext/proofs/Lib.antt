@@ -1,4 +1,5 @@
 -- Laws of logs.
+mod Terms
 pub mod Decimals
 pub mod StepLaws
 pub mod Plain

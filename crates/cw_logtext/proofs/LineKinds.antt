@@ -1,16 +1,8 @@
 -- What the lines of a log are, from their pieces.
-use Rattle.std.proofs.Common.{◌≡◌, ◌≢◌, ℕ, true, false, List, ◌∷◌, sym, ◌∙◌, ap, arith}
-use Rattle.std.specs.List.{flat_map}
-use Rattle.std.specs.Fmt.{decimal}
-use Rattle.std.proofs.lemmas.Fmt.{decimal_injective}
-use Rattle.cw_base.specs.declared.category.Cat.{Cat}
-use Rattle.cw_base.specs.declared.category.Cat.TheVariants.{End}
-use Rattle.cw_table.specs.Normal.{Production}
-use Rattle.cw_leaves.specs.declared.kinds.LeafKind.{LeafKind}
-use Rattle.cw_leaves.specs.LeafLines.{Line}
-use Rattle.cw_logtext.specs.LogText.{letter, cat_text, blank_and, line_text, item_text, fits_kind, IsFineLine}
-use Rattle.cw_logtext.specs.LogText.{IsFineItem}
-use Rattle.cw_logtext.specs.LinePieces.{IsCut, AreNames, something}
+use Rattle.cw_logtext.proofs.Terms.{◌≡◌, ◌≢◌, ℕ, true, false, List, ◌∷◌, sym, ◌∙◌, ap, arith, flat_map, decimal}
+use Rattle.cw_logtext.proofs.Terms.{decimal_injective, Cat, End, Production, LeafKind, Line, letter, cat_text}
+use Rattle.cw_logtext.proofs.Terms.{blank_and, line_text, item_text, fits_kind, IsFineLine, IsFineItem, IsCut, AreNames}
+use Rattle.cw_logtext.proofs.Terms.{something}
 use Rattle.cw_logtext.proofs.Plain.{cat-blank, decimal-lacks, no-blank}
 use Rattle.cw_logtext.proofs.Telling.{blanked-same, names-blanked, names-same}
 
@@ -32,10 +24,9 @@ leaf-parts byte behind word rest cut said is =
     cut.blanked (names-blanked said.names) (sym cut.is ∙ tail-of 32 32 _ _ (tail-of byte (letter said.kind) _ _ is)) in
     record { letter = cc; cat = same.front; names = same.back }
 
-pub leaf-whole : (kind : LeafKind) (cat : Cat) (byte : ℕ) (behind word rest : List ℕ) (count : ℕ)
-    → byte ≡ letter kind → IsCut behind word rest → cat ≢ End → word ≡ cat_text cat → (names : AreNames rest count)
-    → fits_kind kind cat count ≡ true
-    → IsFineLine (record { kind = kind; cat = cat; names = names.names })
+pub leaf-whole : (kind : LeafKind) (cat : Cat) (byte : ℕ) (behind word rest : List ℕ) (count : ℕ) → byte ≡ letter kind
+    → IsCut behind word rest → cat ≢ End → word ≡ cat_text cat → (names : AreNames rest count)
+    → fits_kind kind cat count ≡ true → IsFineLine (record { kind = kind; cat = cat; names = names.names })
     × (byte ∷ 32 ∷ behind ≡ line_text (record { kind = kind; cat = cat; names = names.names }))
 leaf-whole kind cat byte behind word rest count letters cut real named names fit = grind arith
 
@@ -58,9 +49,8 @@ item-parts behind word rest cut p fine is =
     32 _ no-blank (omega (arith, fine.to_last))) cut.blanked (something _) (sym cut.is ∙ tail-of 80 80 _ _ is) in
     record { number = same.front; place = same.back }
 
-pub item-whole : (behind word digits : List ℕ) (number place : ℕ) → IsCut behind word (32 ∷ digits)
-    → word ≡ decimal number → digits ≡ decimal place
-    → 80 ∷ behind ≡ item_text (record { number = number; place = place })
+pub item-whole : (behind word digits : List ℕ) (number place : ℕ) → IsCut behind word (32 ∷ digits) → word
+    ≡ decimal number → digits ≡ decimal place → 80 ∷ behind ≡ item_text (record { number = number; place = place })
 item-whole behind word digits number place cut n p = grind arith
 
 -- ## From what a line begins with

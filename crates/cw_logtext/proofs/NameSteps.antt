@@ -1,18 +1,11 @@
 -- The names of a leaf line are added one after another.
-use Rattle.std.proofs.Common.{◌≡◌, ℕ, suc, List, [], ◌∷◌, ◌++◌, map, slice_get, refl, sym, ◌∙◌, ap, arith}
-use Rattle.std.specs.List.{flat_map}
-use Rattle.std.proofs.lemmas.List.{append_assoc, map-append}
-use Rattle.cw_names.specs.declared.entry.EntryKind.TheVariants.{Ident}
-use Rattle.cw_names.specs.declared.entry.NameId.{NameId}
-use Rattle.cw_names.specs.Names.{Entry, place_of, with_entry}
-use Rattle.cw_leaves.specs.LeafLines.{IsIdentEntry, text_at}
-use Rattle.cw_logtext.specs.Blocks.{with_idents, AreIdents, HasNames}
-use Rattle.cw_logtext.specs.LinePieces.{AreIdentifiers, HasName, NoName}
-use Rattle.cw_logtext.specs.LogText.{blank_and}
+use Rattle.cw_logtext.proofs.Terms.{◌≡◌, ℕ, suc, List, [], ◌∷◌, ◌++◌, map, slice_get, refl, sym, ◌∙◌, ap, arith}
+use Rattle.cw_logtext.proofs.Terms.{flat_map, append_assoc, map-append, Ident, NameId, Entry, place_of, with_entry}
+use Rattle.cw_logtext.proofs.Terms.{IsIdentEntry, text_at, with_idents, AreIdents, HasNames, AreIdentifiers, HasName}
+use Rattle.cw_logtext.proofs.Terms.{NoName, blank_and}
+use Rattle.cw_logtext.proofs.{Cutting.all-cons, Cutting.all-append, Plain.name-lacks, Telling.Same}
+use Rattle.cw_logtext.proofs.{Telling.blanked-same, Telling.names-blanked}
 use Rattle.cw_logtext.proofs.Adding.{idents-append, idents-kept, new-ident, none-added, one-added, texts-kept}
-use Rattle.cw_logtext.proofs.Cutting.{all-cons, all-append}
-use Rattle.cw_logtext.proofs.Plain.{name-lacks}
-use Rattle.cw_logtext.proofs.Telling.{Same, blanked-same, names-blanked}
 
 append-none-of : (xs : List (List ℕ)) → xs ++ [] ≡ xs
 append-none-of [] = refl
@@ -47,10 +40,9 @@ first-same rest word tail n ns h fine behind =
     blanked-same word n tail (flat_map blank_and ns) (grind (arith, name-lacks))
     (name-lacks 32 refl n (fine 0 n (omega arith))) (grind (arith, names-blanked)) (names-blanked ns) (cc)
 
-left-behind : (mid new : List Entry) (ids : List NameId) (id : NameId) (rest word tail : List ℕ)
-    (texts : List (List ℕ)) → AreIdents mid ids → new ≡ with_entry Ident word mid
-    → id.index ≡ place_of Ident word mid
-    → HasName rest word tail → Left mid ids rest texts → Left new (ids ++ id ∷ []) tail texts
+left-behind : (mid new : List Entry) (ids : List NameId) (id : NameId) (rest word tail : List ℕ) (texts : List (List ℕ))
+    → AreIdents mid ids → new ≡ with_entry Ident word mid → id.index ≡ place_of Ident word mid → HasName rest word tail
+    → Left mid ids rest texts → Left new (ids ++ id ∷ []) tail texts
 left-behind mid new ids id rest word tail texts idents is place h l = go l.left l.fine l.behind l.is
   where
     go : (left : List (List ℕ)) → AreIdentifiers left → rest ≡ flat_map blank_and left

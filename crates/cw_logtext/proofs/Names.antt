@@ -1,13 +1,8 @@
 -- Names each behind a blank, one after another.
-use Rattle.std.proofs.Common.{◌≡◌, ◌≢◌, ℕ, suc, ◌+◌, ◌≤◌, true, List, [], ◌∷◌, ◌++◌, length, refl, sym, ◌∙◌, ap, arith}
-use Rattle.std.proofs.Common.{append_assoc, length-append}
-use Rattle.std.specs.List.{flat_map}
-use Rattle.std.proofs.lemmas.Bool.Decides.{nat_tests}
-use Rattle.std.proofs.lemmas.Grind.{common_steps}
-use Rattle.cw_logtext.specs.LogText.{blank_and, is_identifier}
-use Rattle.cw_logtext.specs.LinePieces.{HasName, NoName, AreNames, AreIdentifiers}
-use Rattle.cw_logtext.proofs.Cutting.{all-append, all-cons}
-use Rattle.cw_logtext.proofs.Telling.{names-blanked}
+use Rattle.cw_logtext.proofs.Terms.{◌≡◌, ◌≢◌, ℕ, suc, ◌+◌, ◌≤◌, true, List, [], ◌∷◌, ◌++◌, length, refl, sym, ◌∙◌, ap}
+use Rattle.cw_logtext.proofs.Terms.{arith, append_assoc, length-append, flat_map, nat_tests, common_steps, blank_and}
+use Rattle.cw_logtext.proofs.Terms.{is_identifier, HasName, NoName, AreNames, AreIdentifiers}
+use Rattle.cw_logtext.proofs.{Cutting.all-append, Cutting.all-cons, Telling.names-blanked}
 
 -- The text is so many names and then the rest.
 pub record Counted (text rest : List ℕ) (count : ℕ) : Type 0 where
@@ -25,8 +20,7 @@ pub record Later (text : List ℕ) : Type 0 where
 pub none-counted : (text : List ℕ) → Counted text text 0
 none-counted text = record { names = []; fine = λ i d lt. absurd (omega arith); many = refl; is = refl }
 
-names-append : (xs ys : List (List ℕ))
-    → flat_map blank_and (xs ++ ys) ≡ flat_map blank_and xs ++ flat_map blank_and ys
+names-append : (xs ys : List (List ℕ)) → flat_map blank_and (xs ++ ys) ≡ flat_map blank_and xs ++ flat_map blank_and ys
 names-append [] ys = refl
 names-append (x ∷ xs) ys = grind (arith, names-append xs ys, append_assoc)
 

@@ -1,22 +1,12 @@
 -- Which bytes the lines of a log lack.
-use Rattle.std.proofs.Common.{◌≡◌, ℕ, suc, ◌<◌, ◌≤◌, ◌^◌, Bool, true, false, not, ◌&&◌, List, [], ◌∷◌, ◌++◌, eqb, All}
-use Rattle.std.proofs.Common.{refl, sym, ◌∙◌, ap, arith, ◌||◌}
-use Rattle.std.specs.List.{flat_map, list_all}
-use Rattle.std.specs.Fmt.{decimal}
-use Rattle.std.specs.Str.Parse.{AllDigits}
-use Rattle.std.proofs.lemmas.Fmt.{decimal_is_IsNumeral}
-use Rattle.std.proofs.lemmas.Bool.Decides.{eqb_tells}
+use Rattle.cw_logtext.proofs.Terms.{◌≡◌, ℕ, suc, ◌<◌, ◌≤◌, ◌^◌, Bool, true, false, not, ◌&&◌, List, [], ◌∷◌, ◌++◌, eqb}
+use Rattle.cw_logtext.proofs.Terms.{All, refl, sym, ◌∙◌, ap, arith, ◌||◌, flat_map, list_all, decimal}
+use Rattle.cw_logtext.proofs.Terms.{decimal_is_IsNumeral, eqb_tells, both-left, both-right, Cat, Line, Production}
+use Rattle.cw_logtext.proofs.Terms.{cat_text, blank_and, line_text, head_text, item_text, greatest, is_identifier}
+use Rattle.cw_logtext.proofs.Terms.{IsFineLine, IsFineItem, lacks, is_digit, is_letter, is_in}
+use Rattle.std.specs.{Str.Parse.AllDigits, Char.digit_value}
 use Rattle.std.proofs.lemmas.List.Folds.{list_all-append}
-use Rattle.cw_base.proofs.TestLaws.{both-left, both-right}
-use Rattle.std.specs.Char.{digit_value}
-use Rattle.cw_base.specs.declared.category.Cat.{Cat}
-use Rattle.cw_leaves.specs.LeafLines.{Line}
-use Rattle.cw_table.specs.Normal.{Production}
-use Rattle.cw_logtext.specs.LogText.{cat_text, blank_and, line_text, head_text, item_text, greatest, is_identifier}
-use Rattle.cw_logtext.specs.LogText.{IsFineLine, IsFineItem}
-use Rattle.cw_logtext.specs.LinePieces.{lacks}
 use Rattle.cw_rules.specs.declared.classes.Class.TheVariants as classes
-use Rattle.cw_rules.specs.Bytes.{is_digit, is_letter, is_in}
 
 pub and-both : (a b : Bool) → a ≡ true → b ≡ true → (a && b) ≡ true
 and-both a b h k = ap (λ x. x && b) h ∙ k

@@ -1,12 +1,9 @@
 -- The text of worked blocks.
-use Rattle.std.proofs.Common.{◌≡◌, List, ℕ, [], ◌∷◌, codes, refl}
+use Rattle.cw_logtext.proofs.Terms.{◌≡◌, List, ℕ, [], ◌∷◌, codes, refl, Cat, Production, Line, Block, log_lines}
+use Rattle.cw_logtext.proofs.Terms.{log_text}
 use Rattle.std.specs.Fmt.{digits}
-use Rattle.cw_base.specs.declared.category.Cat.{Cat}
 use Rattle.cw_base.specs.declared.category.Cat.TheVariants as cats
-use Rattle.cw_table.specs.Normal.{Production}
 use Rattle.cw_leaves.specs.declared.kinds.LeafKind.TheVariants as leaf
-use Rattle.cw_leaves.specs.LeafLines.{Line}
-use Rattle.cw_logtext.specs.LogText.{Block, log_lines, log_text}
 
 abbrev item : ℕ → ℕ → Production
 item number place = record { number = number; place = place }

@@ -1,18 +1,13 @@
 -- Reading line by line.
-use Rattle.std.proofs.Common.{◌≡◌, ℕ, zero, suc, ◌<◌, List, [], ◌∷◌, ◌++◌, length, take, map, All, get_or, refl, sym}
-use Rattle.std.proofs.Common.{◌∙◌, ap, arith, subst, true, append_assoc}
+use Rattle.cw_logtext.proofs.Terms.{◌≡◌, ℕ, zero, suc, ◌<◌, List, [], ◌∷◌, ◌++◌, length, take, map, All, get_or, refl}
+use Rattle.cw_logtext.proofs.Terms.{sym, ◌∙◌, ap, arith, subst, true, append_assoc, Production, Line, Block, line_text}
+use Rattle.cw_logtext.proofs.Terms.{head_text, item_text, end_text, block_lines, log_lines, IsFineLine, IsFineItem}
+use Rattle.cw_logtext.proofs.Terms.{IsFineBlock, is_identifier, Spot, Outside, Inside, IsLog, Begins, wrong, cut_off}
+use Rattle.cw_logtext.proofs.Terms.{Step, opens, leaf, item, closes, Reads, none, more, ReadIsLog, LogIsRead}
+use Rattle.cw_logtext.proofs.Terms.{StuckIsFault, InsideIsFault}
+use Rattle.cw_logtext.proofs.Decimals.{head-injective, item-not-end}
 use Rattle.cw_base.specs.declared.category.Cat.TheVariants as cats
 use Rattle.cw_leaves.specs.declared.kinds.LeafKind.TheVariants as kinds
-use Rattle.cw_table.specs.Normal.{Production}
-use Rattle.cw_leaves.specs.LeafLines.{Line}
-use Rattle.cw_logtext.specs.LogText.{Block, line_text, head_text, item_text, end_text, block_lines, log_lines}
-use Rattle.cw_logtext.specs.LogText.{IsFineLine, IsFineItem, IsFineBlock, is_identifier}
-use Rattle.cw_logtext.specs.declared.reading.Spot.{Spot}
-use Rattle.cw_logtext.specs.declared.reading.Spot.TheVariants.{Outside, Inside}
-use Rattle.cw_logtext.specs.LogReading.{IsLog, Begins, wrong, cut_off, Step, opens, leaf, item, closes, Reads, none}
-use Rattle.cw_logtext.specs.LogReading.{more}
-use Rattle.cw_logtext.specs.LogLaws.{ReadIsLog, LogIsRead, StuckIsFault, InsideIsFault}
-use Rattle.cw_logtext.proofs.Decimals.{head-injective, item-not-end}
 
 -- a log is read
 pub joined-reads : (first middle last : Spot) (xs ys : List (List ℕ)) → Reads first xs middle → Reads middle ys last
@@ -69,9 +64,8 @@ step-means Outside (Inside n) line lines (opens l count most is) r =
     record {
       blocks = b ∷ r.blocks;
       fine = grind (arith);
-      is = ap (λ x. line ∷ x)
-          r.is ∙ (ap (λ x. x ∷ map line_text r.leaves ++ (map item_text r.items ++ end_text ∷ log_lines r.blocks))
-          (is ∙ ap head_text (sym r.count)) ∙ sym (grind (arith, append_assoc)));
+      is = ap (λ x. line ∷ x) r.is ∙ (ap (λ x. x ∷ map line_text r.leaves ++ (map item_text r.items ++ end_text
+          ∷ log_lines r.blocks)) (is ∙ ap head_text (sym r.count)) ∙ sym (grind (arith, append_assoc)));
     }
 step-means first next line lines (leaf l to_come said good is) r = record {
   leaves = said ∷ r.leaves;
@@ -85,9 +79,8 @@ step-means first next line lines (leaf l to_come said good is) r = record {
 }
 step-means first next line lines (item l p good is) r = item-means r.leaves r.count r.is
   where
-    item-means : (ls : List Line) → length ls ≡ zero
-        → lines ≡ map line_text ls ++ (map item_text r.items ++ end_text ∷ log_lines r.blocks)
-        → Rest zero (line ∷ lines)
+    item-means : (ls : List Line) → length ls ≡ zero → lines ≡ map line_text ls
+        ++ (map item_text r.items ++ end_text ∷ log_lines r.blocks) → Rest zero (line ∷ lines)
     item-means [] e h = record {
       leaves = [];
       items = p ∷ r.items;

@@ -1,25 +1,14 @@
 -- The lines of a log tell its blocks.
-use Rattle.std.proofs.Common.{◌≡◌, ℕ, suc, true, List, [], ◌∷◌, ◌++◌, if◌then◌else◌, length, eqb, nat_eq, map, All}
-use Rattle.std.proofs.Common.{refl, sym, ◌∙◌, ap, arith}
-use Rattle.std.specs.List.{flat_map}
-use Rattle.std.specs.Fmt.{decimal}
-use Rattle.std.specs.Cmp.Lexicographic.{pointwise}
-use Rattle.std.proofs.lemmas.Fmt.{decimal_injective}
-use Rattle.std.proofs.lemmas.List.{append_assoc}
-use Rattle.cw_base.proofs.TestLaws.{both-left, both-right}
-use Rattle.cw_base.specs.declared.category.Cat.{Cat}
-use Rattle.cw_base.specs.declared.category.Cat.TheVariants as cats
-use Rattle.cw_base.specs.Category.{all_cats}
-use Rattle.cw_table.specs.Normal.{Production}
-use Rattle.cw_leaves.specs.declared.kinds.LeafKind.{LeafKind}
-use Rattle.cw_leaves.specs.declared.kinds.LeafKind.TheVariants as leaf
-use Rattle.cw_leaves.specs.LeafLines.{Line}
-use Rattle.cw_logtext.specs.LogText.{letter, cat_text, blank_and, line_text, head_text, item_text, end_text, log_lines}
-use Rattle.cw_logtext.specs.LogText.{IsFineLine, IsFineItem, IsFineBlock}
-use Rattle.cw_logtext.specs.LinePieces.{lacks, IsBlanked, nothing, something, AreIdentifiers}
-use Rattle.cw_logtext.specs.LogLaws.{BlocksAreTold}
+use Rattle.cw_logtext.proofs.Terms.{◌≡◌, ℕ, suc, true, List, [], ◌∷◌, ◌++◌, if◌then◌else◌, length, eqb, nat_eq, map}
+use Rattle.cw_logtext.proofs.Terms.{All, refl, sym, ◌∙◌, ap, arith, flat_map, decimal, pointwise, decimal_injective}
+use Rattle.cw_logtext.proofs.Terms.{append_assoc, both-left, both-right, Cat, all_cats, Production, LeafKind, Line}
+use Rattle.cw_logtext.proofs.Terms.{letter, cat_text, blank_and, line_text, head_text, item_text, end_text, log_lines}
+use Rattle.cw_logtext.proofs.Terms.{IsFineLine, IsFineItem, IsFineBlock, lacks, IsBlanked, nothing, something}
+use Rattle.cw_logtext.proofs.Terms.{AreIdentifiers, BlocksAreTold}
 use Rattle.cw_logtext.proofs.Decimals.{head-injective, item-not-end}
 use Rattle.cw_logtext.proofs.Plain.{cat-blank, name-lacks, decimal-lacks, no-blank}
+use Rattle.cw_base.specs.declared.category.Cat.TheVariants as cats
+use Rattle.cw_leaves.specs.declared.kinds.LeafKind.TheVariants as leaf
 
 head-of : {A : Type 0} (a b : A) (xs ys : List A) → ◌≡◌ {A = List A} (a ∷ xs) (b ∷ ys) → a ≡ b
 head-of a b xs ys e = cc
@@ -74,16 +63,15 @@ names-blanked [] = nothing
 names-blanked (name ∷ names) = something (name ++ flat_map blank_and names)
 
 pub names-same : (ns ms : List (List ℕ)) → AreIdentifiers ns → AreIdentifiers ms
-    → flat_map blank_and ns ≡ flat_map blank_and ms
-    → ns ≡ ms
+    → flat_map blank_and ns ≡ flat_map blank_and ms → ns ≡ ms
 names-same [] [] h k e = refl
 names-same [] (m ∷ ms) h k e = absurd cc
 names-same (n ∷ ns) [] h k e = absurd cc
 names-same (n ∷ ns) (m ∷ ms) h k e =
     let s = blanked-same n m (flat_map blank_and ns) (flat_map blank_and ms) (name-lacks 32 refl n (h 0 n (omega
     arith))) (name-lacks 32 refl m (k 0 m (omega arith))) (names-blanked ns) (names-blanked ms) (tail-of 32 32 _ _ e) in
-    ap (λ x. x ∷ ns) s.front ∙ ap
-    (λ xs. m ∷ xs) (names-same ns ms (λ i d lt. h (suc i) d (omega arith)) (λ i d lt. k (suc i) d (omega arith)) s.back)
+    ap (λ x. x ∷ ns) s.front ∙ ap (λ xs. m ∷ xs)
+    (names-same ns ms (λ i d lt. h (suc i) d (omega arith)) (λ i d lt. k (suc i) d (omega arith)) s.back)
 
 pub line-injective : (l m : Line) → IsFineLine l → IsFineLine m → line_text l ≡ line_text m → l ≡ m
 line-injective l m h k e =
@@ -107,8 +95,7 @@ record SameLeaves (ls ms : List Line) (xs ys : List (List ℕ)) : Type 0 where
   later : xs ≡ ys
 
 leaves-same : (ls ms : List Line) (xs ys : List (List ℕ)) → length ls ≡ length ms → All IsFineLine ls
-    → All IsFineLine ms
-    → map line_text ls ++ xs ≡ map line_text ms ++ ys → SameLeaves ls ms xs ys
+    → All IsFineLine ms → map line_text ls ++ xs ≡ map line_text ms ++ ys → SameLeaves ls ms xs ys
 leaves-same [] [] xs ys n h k e = record { leaves = refl; later = e }
 leaves-same (l ∷ ls) (m ∷ ms) xs ys n h k e =
     let s : SameLeaves ls ms xs ys = leaves-same ls ms xs ys (omega (arith, n)) (λ i d lt. h (suc i) d (omega arith))

@@ -1,18 +1,11 @@
 -- Where a word, a line and a name end.
-use Rattle.std.proofs.Common.{◌≡◌, ◌≢◌, ℕ, zero, suc, ◌+◌, ◌<◌, ◌≤◌, Bool, true, false, not, eqb, List, [], ◌∷◌, ◌++◌}
-use Rattle.std.proofs.Common.{length, take, drop, get_or, refl, sym, ◌∙◌, ap, arith, subst, drop-cons, length-drop}
-use Rattle.std.proofs.Common.{if◌then◌else◌}
-use Rattle.std.specs.List.{list_all}
-use Rattle.std.proofs.lemmas.List.{take-append-drop}
-use Rattle.std.proofs.Math.Seq.{drop-append_seam}
-use Rattle.cw_base.specs.Text.{pieces_of}
-use Rattle.cw_base.proofs.TestLaws.{both-left, both-right}
+use Rattle.cw_logtext.proofs.Terms.{◌≡◌, ◌≢◌, ℕ, zero, suc, ◌+◌, ◌<◌, ◌≤◌, Bool, true, false, not, eqb, List, [], ◌∷◌}
+use Rattle.cw_logtext.proofs.Terms.{◌++◌, length, take, drop, get_or, refl, sym, ◌∙◌, ap, arith, subst, drop-cons}
+use Rattle.cw_logtext.proofs.Terms.{length-drop, if◌then◌else◌, list_all, take-append-drop, drop-append_seam, pieces_of}
+use Rattle.cw_logtext.proofs.Terms.{both-left, both-right, is_in, is_letter, run, is_identifier, lacks, IsBlanked}
+use Rattle.cw_logtext.proofs.Terms.{nothing, something, IsCut, HasName, NoName, IsFirstLine}
+use Rattle.cw_logtext.proofs.{Plain.and-both, Plain.letter-word, Cutting.one-cut}
 use Rattle.cw_rules.specs.declared.classes.Class.TheVariants as classes
-use Rattle.cw_rules.specs.Bytes.{is_in, is_letter, run}
-use Rattle.cw_logtext.specs.LogText.{is_identifier}
-use Rattle.cw_logtext.specs.LinePieces.{lacks, IsBlanked, nothing, something, IsCut, HasName, NoName, IsFirstLine}
-use Rattle.cw_logtext.proofs.Plain.{and-both, letter-word}
-use Rattle.cw_logtext.proofs.Cutting.{one-cut}
 
 -- ## Up to a byte
 
@@ -42,9 +35,8 @@ parted byte text n within found = grind (arith, same-byte, drop-cons, take-appen
 blanked-at : (text : List ℕ) (n : ℕ) → n < length text → eqb (get_or text n 0) 32 ≡ true → IsBlanked (drop n text)
 blanked-at text n within found = subst IsBlanked (grind (arith, drop-cons, same-byte)) (something (drop (suc n) text))
 
-pub cut-at : (text : List ℕ) (n : ℕ) → n < length text
-    → ((k : ℕ) → k < n → eqb (get_or text k 0) 32 ≡ true → ⊥) → eqb (get_or text n 0) 32 ≡ true
-    → IsCut text (take n text) (drop n text)
+pub cut-at : (text : List ℕ) (n : ℕ) → n < length text → ((k : ℕ) → k < n → eqb (get_or text k 0) 32 ≡ true → ⊥)
+    → eqb (get_or text n 0) 32 ≡ true → IsCut text (take n text) (drop n text)
 cut-at text n within none found = grind (arith, take-append-drop, lacks-before, blanked-at)
 
 pub cut-nowhere : (text : List ℕ) → ((k : ℕ) → k < length text → eqb (get_or text k 0) 32 ≡ true → ⊥)
@@ -61,9 +53,8 @@ cut-nowhere text none = record {
 
 -- ## Up to the line's end
 
-pub line-at : (text : List ℕ) (n : ℕ) → n < length text
-    → ((k : ℕ) → k < n → eqb (get_or text k 0) 10 ≡ true → ⊥) → eqb (get_or text n 0) 10 ≡ true
-    → IsFirstLine text (take n text) (drop (n + 1) text)
+pub line-at : (text : List ℕ) (n : ℕ) → n < length text → ((k : ℕ) → k < n → eqb (get_or text k 0) 10 ≡ true → ⊥)
+    → eqb (get_or text n 0) 10 ≡ true → IsFirstLine text (take n text) (drop (n + 1) text)
 line-at text n within none found = record {
   cut = ap pieces_of (sym (parted 10 text n within found))
       ∙ one-cut (take n text) (drop (n + 1) text) (lacks-before 10 text n (omega (arith, within)) none);
@@ -110,9 +101,8 @@ first-fine first more h =
 tail-of : (a b : ℕ) (xs ys : List ℕ) → ◌≡◌ {A = List ℕ} (a ∷ xs) (b ∷ ys) → xs ≡ ys
 tail-of a b xs ys e = cc
 
-pub name-here : (first : ℕ) (more : List ℕ) → is_letter first ≡ true
-    → HasName (32 ∷ first ∷ more) (take (run classes.Word (first ∷ more)) (first ∷ more))
-    (drop (run classes.Word (first ∷ more)) (first ∷ more))
+pub name-here : (first : ℕ) (more : List ℕ) → is_letter first ≡ true → HasName (32 ∷ first ∷ more)
+    (take (run classes.Word (first ∷ more)) (first ∷ more)) (drop (run classes.Word (first ∷ more)) (first ∷ more))
 name-here first more h = record {
   is = ap (λ x. 32 ∷ x) (sym (take-append-drop (run classes.Word (first ∷ more)) (first ∷ more)));
   fine = first-fine first more h;

@@ -1,9 +1,6 @@
 -- What is written of blocks is a log of just these.
-use Rattle.std.proofs.Common.{sym, ◌∙◌, ap}
-use Rattle.cw_base.specs.Text.{pieces_of}
-use Rattle.cw_logtext.specs.LogLaws.{TextIsLog, TextTellsBlocks}
-use Rattle.cw_logtext.proofs.Cutting.{text-has-lines}
-use Rattle.cw_logtext.proofs.Telling.{blocks-are-told}
+use Rattle.cw_logtext.proofs.Terms.{sym, ◌∙◌, ap, pieces_of, TextIsLog, TextTellsBlocks}
+use Rattle.cw_logtext.proofs.{Cutting.text-has-lines, Telling.blocks-are-told}
 
 pub text-is-log : TextIsLog
 text-is-log blocks fine = record { blocks = blocks; fine = fine; is = text-has-lines blocks fine }

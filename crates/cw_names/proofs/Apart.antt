@@ -1,11 +1,7 @@
 -- Entries differ, since their keys do.
-use Rattle.std.proofs.Common.{◌≡◌, false, List, [], ◌∷◌, map, sym, ◌∙◌}
-use Rattle.std.specs.List.{IsDistinct, AllByRecursion}
-use Rattle.std.specs.Map.{keys_of}
-use Rattle.cw_base.specs.declared.category.Cat.{Cat}
-use Rattle.cw_names.specs.declared.entry.Key.{Key}
-use Rattle.cw_names.specs.Names.{is_entry, AreDistinct}
-use Rattle.cw_names.specs.Inside.{entry_of}
+use Rattle.cw_names.proofs.Terms.{◌≡◌, false, List, [], ◌∷◌, map, sym, ◌∙◌, AllByRecursion, keys_of, Cat, Key, is_entry}
+use Rattle.cw_names.proofs.Terms.{AreDistinct, entry_of}
+use Rattle.std.specs.List.{IsDistinct}
 use Rattle.cw_names.proofs.Lookup.{key_eq, key_eq-is}
 
 apart : (k : Key) (entries : List (Key × Cat)) → AllByRecursion (λ other. key_eq k other ≡ false) (keys_of entries)

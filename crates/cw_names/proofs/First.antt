@@ -1,12 +1,8 @@
 -- The built-in words stand first, whatever is done to the names.
-use Rattle.std.proofs.Common.{◌≡◌, ℕ, zero, suc, Bool, List, [], ◌∷◌, ◌++◌, refl, sym, ap, ◌∙◌, append_assoc}
-use Rattle.std.proofs.Common.{if◌then◌else◌, arith}
-use Rattle.std.proofs.lemmas.List.{map-append, append-nil}
-use Rattle.cw_base.specs.declared.category.Cat.{Cat}
-use Rattle.cw_names.specs.declared.entry.EntryKind.{EntryKind}
-use Rattle.cw_names.specs.Names.{Entry, with_entry, with_category}
-use Rattle.cw_names.specs.Words.{built_in_words, words_of, BeginsWithWords}
-use Rattle.std.proofs.lemmas.Bool.Decides.{nat_tests}
+use Rattle.cw_names.proofs.Terms.{◌≡◌, ℕ, zero, suc, Bool, List, [], ◌∷◌, ◌++◌, refl, sym, ap, ◌∙◌, append_assoc}
+use Rattle.cw_names.proofs.Terms.{if◌then◌else◌, arith, map-append, append-nil, Cat, EntryKind, Entry, with_entry}
+use Rattle.cw_names.proofs.Terms.{with_category, built_in_words, words_of, nat_tests}
+use Rattle.cw_names.specs.Words.{BeginsWithWords}
 
 pub words-first : BeginsWithWords built_in_words
 unfolding BeginsWithWords
@@ -28,9 +24,8 @@ more : (entry : Entry) (entries : List Entry) → BeginsWithWords entries → Be
 unfolding BeginsWithWords
 more entry entries begins = (
   begins.0 ++ (entry.kind, entry.text) ∷ [],
-  map-append (λ (e : Entry). (e.kind, e.text)) entries (entry ∷ [])
-      ∙ ap (λ words. words ++ (entry.kind, entry.text) ∷ []) begins.1
-      ∙ append_assoc (words_of built_in_words) begins.0 ((entry.kind, entry.text) ∷ []),
+  map-append (λ (e : Entry). (e.kind, e.text)) entries (entry ∷ []) ∙ ap (λ words. words ++ (entry.kind, entry.text)
+      ∷ []) begins.1 ∙ append_assoc (words_of built_in_words) begins.0 ((entry.kind, entry.text) ∷ []),
 )
 
 by-test : (b : Bool) (entry : Entry) (entries : List Entry) → BeginsWithWords entries

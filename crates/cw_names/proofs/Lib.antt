@@ -1,4 +1,5 @@
 -- The laws of names, of the hash table in which they lie, and of the sections in which they occur.
+mod Terms
 pub mod Lookup
 pub mod Ends
 pub mod First

@@ -1,23 +1,12 @@
 -- What the hash table says of the list of entries.
-use Rattle.std.proofs.Common.{◌≡◌, ℕ, zero, suc, ◌+◌, ◌<◌, Bool, true, false, List, [], ◌∷◌, ◌++◌, length, map, Some}
-use Rattle.std.proofs.Common.{None, refl, sym, ap, ◌∙◌, arith, length-append, not, cond, slice_get}
-use Rattle.std.proofs.Common.{subst, IsTrue}
-use Rattle.std.specs.List.{position, position_or_len, IsDistinct, AllByRecursion}
-use Rattle.std.proofs.lemmas.List.{length-map}
-use Rattle.std.proofs.lemmas.List.Sums.{prefix_len-le-length}
+use Rattle.cw_names.proofs.Terms.{◌≡◌, ℕ, zero, suc, ◌+◌, ◌<◌, Bool, true, false, List, [], ◌∷◌, ◌++◌, length, map}
+use Rattle.cw_names.proofs.Terms.{Some, None, refl, sym, ap, ◌∙◌, arith, length-append, not, cond, slice_get, subst}
+use Rattle.cw_names.proofs.Terms.{IsTrue, position, position_or_len, AllByRecursion, length-map, prefix_len-le-length}
+use Rattle.cw_names.proofs.Terms.{keys_of, insert_entry, set_value_at, Cat, Exp, Key, EntryKind, Entry, is_entry}
+use Rattle.cw_names.proofs.Terms.{place_of, with_entry, with_category, entry_of, is_wanted, nat_tests}
+use Rattle.std.specs.List.{IsDistinct}
 use Rattle.std.proofs.lemmas.Bool.{ltb-false, lt-ltb, le-ltb}
-use Rattle.std.specs.Map.{keys_of}
-use Rattle.indexmap.specs.IndexMap.{insert_entry, set_value_at}
-use Rattle.cw_base.specs.declared.category.Cat.{Cat}
-use Rattle.cw_base.specs.declared.category.Cat.TheVariants.{Exp}
-use Rattle.cw_names.specs.declared.entry.Key.{Key}
-use Rattle.cw_names.specs.declared.entry.EntryKind.{EntryKind}
-use Rattle.cw_names.specs.contracts.entry.KeyPartialEq.TheImpl.{eq-value}
-use Rattle.cw_names.specs.Names.{Entry, is_entry, place_of, with_entry, with_category}
-use Rattle.cw_names.specs.declared.entry.Wanted.{Wanted}
-use Rattle.cw_names.specs.Inside.{entry_of, is_wanted}
-use Rattle.cw_names.specs.Wanting.{alike}
-use Rattle.std.proofs.lemmas.Bool.Decides.{nat_tests}
+use Rattle.cw_names.specs.{contracts.entry.KeyPartialEq.TheImpl.eq-value, declared.entry.Wanted.Wanted, Wanting.alike}
 
 -- what `==` says of two keys
 abbrev pub key_eq : Key → Key → Bool

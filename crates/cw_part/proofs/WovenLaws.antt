@@ -44,7 +44,8 @@ weaves-joined {s = s} {a = a} {b = b} {old = old} {mid = mid} {new = new} {first
     begun ended sums = record {
       puts = puts-bytes (append-nil _) (puts-then (puts-then begun.puts ended.puts) (puts-none new.line new.told sum));
       names = ended.names;
-      occurrences = ended.occurrences ∙ ap (λ (os : List Occurrence). os ++ underlined s.section b.marks) begun.occurrences
+      occurrences = ended.occurrences ∙ ap (λ (os : List Occurrence). os ++ underlined s.section b.marks)
+          begun.occurrences
           ∙ append_assoc old.book.xrefs (underlined s.section a.marks) (underlined s.section b.marks)
           ∙ ap (λ (os : List Occurrence). old.book.xrefs ++ os) (sym (underlined-append s.section a.marks b.marks));
       same = ended.same ∙ begun.same;

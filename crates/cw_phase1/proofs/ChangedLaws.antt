@@ -1,11 +1,8 @@
 -- Whether a section is changed is asked of the rows one by one, and the last row is the last section.
-use Rattle.std.proofs.Common.{◌≡◌, ℕ, zero, suc, ◌+◌, ◌<◌, ◌∙◌, ◌||◌, true, false, List, [], ◌∷◌, ap, refl, arith, map}
-use Rattle.std.proofs.Common.{drop, length, get_or, set}
-use Rattle.std.proofs.lemmas.List.{at_drop_more, get_or-map, length-map}
-use Rattle.cw_phase1.specs.Changed.{has_changed, with_last_changed, with_last_marked}
-use Rattle.cw_phase1.specs.Packed.{unpacked}
-use Rattle.cw_phase1.specs.declared.packed.Row.{Row}
-use Rattle.cw_phase1.specs.declared.sections.Section.{Section}
+use Rattle.cw_phase1.proofs.Terms.{◌≡◌, ℕ, zero, suc, ◌+◌, ◌<◌, ◌∙◌, ◌||◌, true, false, List, [], ◌∷◌, ap, refl, arith}
+use Rattle.cw_phase1.proofs.Terms.{map, drop, length, get_or, set, at_drop_more, get_or-map, length-map, has_changed}
+use Rattle.cw_phase1.proofs.Terms.{with_last_changed, with_last_marked, Section}
+use Rattle.cw_phase1.specs.{Packed.unpacked, declared.packed.Row.Row}
 
 has-more : (rows : List Row) (k : ℕ) (d : Row) → k < length rows → has_changed (drop k (map unpacked rows))
     ≡ ((get_or rows k d).changed || has_changed (drop (k + 1) (map unpacked rows)))

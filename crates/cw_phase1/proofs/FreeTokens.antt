@@ -1,20 +1,11 @@
 -- A word or a sign in no head leaves the text standing as it does.
-use Rattle.std.proofs.Common.{◌≡◌, ap, false, true, List, None, arith}
-use Rattle.cw_base.specs.declared.span.Span.{Span}
-use Rattle.cw_base.specs.Web.{MergedLine}
-use Rattle.cw_lex.specs.Heads.{head_behind}
-use Rattle.cw_lex.specs.declared.heads.Wanted.TheVariants as wants
-use Rattle.cw_rules.specs.Answers.{Seen}
-use Rattle.cw_rules.specs.declared.tokens.TokKind.{TokKind}
-use Rattle.cw_rules.specs.declared.tokens.TokKind.TheVariants as kinds
+use Rattle.cw_phase1.proofs.Terms.{◌≡◌, ap, false, true, List, None, arith, Span, MergedLine, head_behind, Seen}
+use Rattle.cw_phase1.proofs.Terms.{TokKind, Role, Standing, Told, HeldState, held_of, is_silent, plain_held, remark_of}
+use Rattle.cw_phase1.proofs.Terms.{waiting_of, free_step, placed_by, stay, token_step, told_step}
 use Rattle.cw_phase1.specs.declared.held.Held.{Held}
-use Rattle.cw_phase1.specs.declared.roles.Role.{Role}
+use Rattle.cw_lex.specs.declared.heads.Wanted.TheVariants as wants
+use Rattle.cw_rules.specs.declared.tokens.TokKind.TheVariants as kinds
 use Rattle.cw_phase1.specs.declared.roles.Role.TheVariants as roles
-use Rattle.cw_phase1.specs.declared.roles.Standing.{Standing}
-use Rattle.cw_phase1.specs.declared.told.Told.{Told}
-use Rattle.cw_phase1.specs.Holding.{HeldState, held_of, is_silent, plain_held, remark_of, waiting_of}
-use Rattle.cw_phase1.specs.Roles.{free_step, placed_by, stay, token_step}
-use Rattle.cw_phase1.specs.Telling.{told_step}
 
 no-head : (kind : TokKind) (span : Span) → head_behind wants.Nothing kind span ≡ None
 no-head kind span = grind arith
@@ -40,7 +31,6 @@ with_told h told = record {
 }
 
 pub stays-held : (role : Role) (lines : List MergedLine) (h : Held) (t : Seen) (told : Told)
-    → token_step t.kind false h.standing t.span ≡ stay role h.standing → h.waiting ≡ None
-    → told ≡ told_step lines (placed_by t None (stay role h.standing)) h.told → with_told h told
-    ≡ plain_held lines t (held_of h)
+    → token_step t.kind false h.standing t.span ≡ stay role h.standing → h.waiting ≡ None → told ≡ told_step lines
+    (placed_by t None (stay role h.standing)) h.told → with_told h told ≡ plain_held lines t (held_of h)
 stays-held role lines h t told step waits is = grind arith

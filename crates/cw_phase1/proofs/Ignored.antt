@@ -1,15 +1,10 @@
 -- An ignored name is one whose reduced text is empty or `...`.
-use Rattle.std.proofs.Common.{◌≡◌, ℕ, zero, suc, ◌&&◌, Bool, true, false, nat_eq, List, [], ◌∷◌, drop, refl, arith}
-use Rattle.std.proofs.Common.{ne_eqb, if◌then◌else◌}
-use Rattle.std.proofs.lemmas.Bool.{eq-eqb, eqb-true}
-use Rattle.std.specs.Cmp.Lexicographic.{pointwise}
+use Rattle.cw_phase1.proofs.Terms.{◌≡◌, ℕ, zero, suc, ◌&&◌, Bool, true, false, nat_eq, List, [], ◌∷◌, drop, refl, arith}
+use Rattle.cw_phase1.proofs.Terms.{ne_eqb, if◌then◌else◌, eq-eqb, eqb-true, pointwise, TokKind, is_void_text, is_white}
+use Rattle.cw_phase1.proofs.Terms.{blank_before, is_reduced_void, name_text, naming, naming_by, reduced, single_blanks}
+use Rattle.cw_phase1.proofs.Terms.{without_first_blank}
 use Rattle.std.proofs.lemmas.Bool.Decides.{nat_tests}
-use Rattle.cw_rules.specs.declared.classes.Class.TheVariants.{White}
-use Rattle.cw_rules.specs.declared.tokens.TokKind.{TokKind}
-use Rattle.cw_rules.specs.Bytes.{begins_with, is_in, run}
-use Rattle.cw_rules.specs.Names.{is_void_text, is_white}
-use Rattle.cw_phase1.specs.Texts.{blank_before, is_reduced_void, name_text, naming, naming_by, reduced, single_blanks}
-use Rattle.cw_phase1.specs.Texts.{without_first_blank}
+use Rattle.cw_rules.specs.{declared.classes.Class.TheVariants.White, Bytes.begins_with, Bytes.is_in, Bytes.run}
 
 and-assoc : (a b c : Bool) → ((a && b) && c) ≡ (a && (b && c))
 and-assoc true b c = refl

@@ -1,4 +1,5 @@
 -- The laws of the first phase: what each answer keeps, and what holds of the book that comes of all answers.
+mod Terms
 mod Rows
 pub mod PlaceLaws
 pub mod NameLaws

@@ -1,18 +1,8 @@
 -- No section name stands before the first section code, so no section refers to one there.
-use Rattle.std.proofs.Common.{◌≡◌, ℕ, ◌≤◌, Bool, false, List, [], ◌∷◌, refl, length, arith}
-use Rattle.cw_base.specs.Web.{MergedLine}
-use Rattle.cw_base.specs.declared.span.Span.{Span}
-use Rattle.cw_base.proofs.TestLaws.{not-both}
-use Rattle.cw_lex.specs.declared.heads.Wanted.{Wanted}
-use Rattle.cw_rules.specs.declared.tokens.TokKind.{TokKind}
-use Rattle.cw_rules.specs.Answers.{Answer, Token, Begin, Finish, Note}
-use Rattle.cw_lex.specs.Limbo.{HasNoNames}
-use Rattle.cw_lex.specs.Nested.{is_section_kind}
-use Rattle.cw_secnames.specs.Kept.{SecName}
-use Rattle.cw_phase1.specs.declared.roles.Standing.{Standing}
-use Rattle.cw_phase1.specs.Roles.{Placed, word_role, head_role, token_step, behind_begin, placed_from}
-use Rattle.cw_phase1.specs.Sections.{is_section_code, sections_of}
-use Rattle.cw_phase1.specs.Uses.{references_of}
+use Rattle.cw_phase1.proofs.Terms.{◌≡◌, ℕ, ◌≤◌, Bool, false, List, [], ◌∷◌, refl, length, arith, MergedLine, Span}
+use Rattle.cw_phase1.proofs.Terms.{not-both, Wanted, TokKind, Answer, Token, Begin, Finish, Note, HasNoNames}
+use Rattle.cw_phase1.proofs.Terms.{is_section_kind, SecName, Standing, Placed, word_role, head_role, token_step}
+use Rattle.cw_phase1.proofs.Terms.{behind_begin, placed_from, is_section_code, sections_of, references_of}
 use Rattle.cw_phase1.proofs.RoleLaws.{is_name_role, count_by, codes, Numbered, Rise, sections_in, rise-reference, rise}
 use Rattle.cw_phase1.proofs.RoleLaws.{section-count}
 
@@ -22,9 +12,8 @@ Unnamed [] = Unit {0}
 Unnamed (p ∷ ps) = is_section_code p.role ≡ false → (is_name_role p.role ≡ false) × Unnamed ps
 
 first-rise-by : (b : Bool) (high : ℕ) (p : Placed) (ps : List Placed) → is_section_code p.role ≡ b → Numbered 0 (p ∷ ps)
-    → codes (p ∷ ps) ≤ high
-    → Unnamed (p ∷ ps) → (Numbered 0 ps → codes ps ≤ high → Unnamed ps → Rise 1 high (sections_in (references_of ps)))
-    → Rise 1 high (sections_in (references_of (p ∷ ps)))
+    → codes (p ∷ ps) ≤ high → Unnamed (p ∷ ps) → (Numbered 0 ps → codes ps ≤ high → Unnamed ps → Rise 1 high
+    (sections_in (references_of ps))) → Rise 1 high (sections_in (references_of (p ∷ ps)))
 first-rise-by b high p ps e n h u k = grind (arith, count_by, rise-reference, rise, sections_in)
 
 first-rise : (high : ℕ) (ps : List Placed) → Numbered 0 ps → codes ps ≤ high → Unnamed ps

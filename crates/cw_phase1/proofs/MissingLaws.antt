@@ -1,19 +1,10 @@
 -- Where each section name has a definition, no section lacks a `=`; else the notes come section by section.
-use Rattle.std.proofs.Common.{◌≡◌, ℕ, zero, suc, ◌+◌, ◌<◌, ◌||◌, Bool, false, List, [], ◌∷◌, ◌++◌, Option, Some, ◌∙◌}
-use Rattle.std.proofs.Common.{refl, ap, sym, append_assoc, arith, drop, filter, length}
-use Rattle.std.proofs.lemmas.List.{at_drop_more}
-use Rattle.std.proofs.lemmas.Option.{get_or_from_slice_get, slice_get_within}
-use Rattle.std.specs.List.{list_any, slice_get}
-use Rattle.std.proofs.lemmas.Grind.{common_steps}
-use Rattle.cw_base.specs.Conditions.{list_if}
-use Rattle.cw_base.specs.Web.{MergedLine}
-use Rattle.cw_base.specs.declared.notes.Note.{Note}
-use Rattle.cw_base.specs.declared.span.Span.{Span}
-use Rattle.cw_secnames.specs.Kept.{SecName}
-use Rattle.cw_secnames.specs.Uses.{NameUse}
-use Rattle.cw_phase1.specs.Missing.{has_no_definition, is_undefined, is_undefined_name, lacks_equals, missing_equals}
-use Rattle.cw_phase1.specs.Missing.{missing_in}
-use Rattle.cw_phase1.specs.declared.sections.Section.{Section}
+use Rattle.cw_phase1.proofs.Terms.{◌≡◌, ℕ, zero, suc, ◌+◌, ◌<◌, ◌||◌, Bool, false, List, [], ◌∷◌, ◌++◌, Option, Some}
+use Rattle.cw_phase1.proofs.Terms.{◌∙◌, refl, ap, sym, append_assoc, arith, drop, filter, length, at_drop_more}
+use Rattle.cw_phase1.proofs.Terms.{get_or_from_slice_get, slice_get_within, list_any, slice_get, common_steps}
+use Rattle.cw_phase1.proofs.Terms.{MergedLine, Span, SecName, NameUse, has_no_definition, is_undefined}
+use Rattle.cw_phase1.proofs.Terms.{is_undefined_name, lacks_equals, missing_equals, missing_in, Section}
+use Rattle.cw_base.specs.{Conditions.list_if, declared.notes.Note.Note}
 
 -- one of two tests that fail together
 pub left-false : (a b : Bool) → (a || b) ≡ false → a ≡ false
@@ -68,13 +59,10 @@ any-more (n ∷ names) (suc k) h = grind (arith, common_steps, any-more names k 
 
 pub equals-more : (lines : List MergedLine) (uses : List NameUse) (names : List SecName) (sections : List Section)
     → (k : ℕ) (s : Section) (total notes more : List Note) → slice_get sections k ≡ Some s
-    → more ≡ notes ++ missing_in lines uses names s
-    → notes ++ missing_equals lines uses names (drop k sections) ≡ total
+    → more ≡ notes ++ missing_in lines uses names s → notes ++ missing_equals lines uses names (drop k sections) ≡ total
     → more ++ missing_equals lines uses names (drop (k + 1) sections) ≡ total
-equals-more lines uses names sections k s total notes more e added i =
-    ap (λ ns. ns ++ missing_equals lines uses names (drop (k + 1) sections)) added
-    ∙ (append_assoc notes (missing_in lines uses names s) (missing_equals lines uses names (drop (k + 1) sections))
-    ∙ (ap (λ ns. notes ++ ns) (sym (at_drop_more (missing_equals lines uses names) sections k s
-    (slice_get_within sections k s e)
-    ∙ ap (λ (x : Section). missing_in lines uses names x
+equals-more lines uses names sections k s total notes more e added i = ap (λ ns. ns ++ missing_equals lines uses names
+    (drop (k + 1) sections)) added ∙ (append_assoc notes (missing_in lines uses names s) (missing_equals lines uses
+    names (drop (k + 1) sections)) ∙ (ap (λ ns. notes ++ ns) (sym (at_drop_more (missing_equals lines uses names)
+    sections k s (slice_get_within sections k s e) ∙ ap (λ (x : Section). missing_in lines uses names x
     ++ missing_equals lines uses names (drop (k + 1) sections)) (get_or_from_slice_get sections k s s e))) ∙ i))

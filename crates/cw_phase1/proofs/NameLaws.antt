@@ -1,14 +1,9 @@
 -- A name keeps its place.
-use Rattle.std.proofs.Common.{◌≡◌, ℕ, zero, suc, Bool, false, List, [], ◌∷◌, ◌++◌, length, refl, ap, arith}
-use Rattle.cw_base.specs.declared.category.Cat.{Cat}
-use Rattle.cw_names.specs.declared.entry.EntryKind.TheVariants.{Ident}
+use Rattle.cw_phase1.proofs.Terms.{◌≡◌, ℕ, zero, suc, Bool, false, List, [], ◌∷◌, ◌++◌, length, refl, ap, arith, Cat}
+use Rattle.cw_phase1.proofs.Terms.{Ident, Placed, NameId, with_format, name_id, word_told, word_occurrence}
+use Rattle.cw_phase1.specs.declared.words.Words.{Words}
 use Rattle.cw_names.specs.Names as names
 use Rattle.cw_phase1.specs.declared.roles.Role.TheVariants as roles
-use Rattle.cw_phase1.specs.Roles.{Placed}
-use Rattle.cw_names.specs.declared.entry.NameId.{NameId}
-use Rattle.cw_phase1.specs.declared.words.Words.{Words}
-use Rattle.cw_phase1.specs.Words.{with_format, name_id}
-use Rattle.cw_phase1.specs.Telling.{word_told, word_occurrence}
 
 pub category-length : (place : ℕ) (category : Cat) (entries : List names.Entry)
     → length (names.with_category place category entries) ≡ length entries
@@ -18,8 +13,7 @@ category-length (suc place) category (e ∷ es) = ap suc (category-length place 
 
 -- The second name of a format definition: it is a word, and then the definition is done.
 pub second-told : (silent : Bool) (p : Placed) (old w : Words) (second : NameId) → p.role ≡ roles.SecondName silent
-    → second ≡ name_id Ident p.token.text old.names → w.first ≡ old.first
-    → w.names ≡ names.with_entry Ident p.token.text old.names
-    → w.waits ≡ false → w.xrefs ≡ old.xrefs ++ word_occurrence silent old.waits p old.names
+    → second ≡ name_id Ident p.token.text old.names → w.first ≡ old.first → w.names ≡ names.with_entry Ident
+    p.token.text old.names → w.waits ≡ false → w.xrefs ≡ old.xrefs ++ word_occurrence silent old.waits p old.names
     → record w { names = with_format w.first second w.names } ≡ word_told p old
 second-told silent p old w second role s f n t x = grind arith

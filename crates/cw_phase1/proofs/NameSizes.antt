@@ -1,18 +1,9 @@
 -- No kept name is longer than the text of the web.
-use Rattle.std.proofs.Common.{ℕ, zero, suc, ◌+◌, ◌≤◌, Bool, List, [], ◌∷◌, ◌++◌, All, drop, length, length-drop, arith}
-use Rattle.std.proofs.Common.{if◌then◌else◌}
-use Rattle.std.proofs.lemmas.List.{length-take}
-use Rattle.std.proofs.lemmas.List.Elements.{All-nil}
-use Rattle.cw_rules.specs.declared.tokens.TokKind.{TokKind}
-use Rattle.cw_rules.specs.Answers.{Answer, Token, Begin, Finish, Note}
-use Rattle.cw_rules.specs.Names.{is_void, uncoded}
-use Rattle.cw_rules.specs.Order.{Covers}
-use Rattle.cw_secnames.specs.declared.kinds.SecKind.{SecKind}
-use Rattle.cw_secnames.specs.Kept.{SecName, unreferred, with_text, grown}
-use Rattle.cw_secnames.specs.References.{Reference, referred}
-use Rattle.cw_phase1.specs.Texts.{single_blanks, without_first_blank, Naming, Void, Full, Prefix, naming_by, naming}
-use Rattle.cw_phase1.specs.Texts.{name_text}
-use Rattle.cw_phase1.specs.Entering.{entering, kept_by, kept_behind, kept_after}
+use Rattle.cw_phase1.proofs.Terms.{ℕ, zero, suc, ◌+◌, ◌≤◌, Bool, List, [], ◌∷◌, ◌++◌, All, drop, length, length-drop}
+use Rattle.cw_phase1.proofs.Terms.{arith, if◌then◌else◌, length-take, All-nil, TokKind, Answer, Token, Begin, Finish}
+use Rattle.cw_phase1.proofs.Terms.{Note, is_void, uncoded, Covers, SecKind, SecName, unreferred, with_text, grown}
+use Rattle.cw_phase1.proofs.Terms.{Reference, referred, single_blanks, without_first_blank, Naming, Void, Full, Prefix}
+use Rattle.cw_phase1.proofs.Terms.{naming_by, naming, name_text, entering, kept_by, kept_behind, kept_after}
 use Rattle.cw_phase1.proofs.Underway.{covers-end, text-length}
 
 -- ## The text of a token
@@ -39,8 +30,7 @@ IsShort n Void = Unit {0}
 IsShort n (Full kind text) = length text ≤ n
 IsShort n (Prefix text) = length text ≤ n
 
-short-by : (t : Bool) (n : ℕ) (x y : Naming) → IsShort n x → IsShort n y
-    → IsShort n (if t then x else y)
+short-by : (t : Bool) (n : ℕ) (x y : Naming) → IsShort n x → IsShort n y → IsShort n (if t then x else y)
 short-by t n x y h k = grind arith
 
 short-naming : (n : ℕ) (void : Bool) (kind : TokKind) (text : List ℕ) → length text ≤ n
@@ -52,8 +42,7 @@ AreShort n [] = Unit {0}
 AreShort n (name ∷ names) = (length name.text ≤ n) × AreShort n names
 
 short-last : (n : ℕ) (names : List SecName) (kind : SecKind) (text : List ℕ) (complete : Bool) → length text ≤ n
-    → AreShort n names
-    → AreShort n (names ++ unreferred kind text complete ∷ [])
+    → AreShort n names → AreShort n (names ++ unreferred kind text complete ∷ [])
 short-last n [] kind text complete t h = (t, tt)
 short-last n (name ∷ names) kind text complete t h = (h.0, short-last n names kind text complete t h.1)
 
@@ -73,9 +62,8 @@ short-entering : (n : ℕ) (m : Naming) (names : List SecName) → IsShort n m �
     → AreShort n (kept_by (entering m names) names)
 short-entering n m names t h = grind (arith, short-text, short-last, short-last, short-grown)
 
-short-kept : (text : List ℕ) (from : ℕ) (names : List SecName) (answers : List Answer)
-    → Covers text from (length text) answers
-    → AreShort (length text) names → AreShort (length text) (kept_after names answers)
+short-kept : (text : List ℕ) (from : ℕ) (names : List SecName) (answers : List Answer) → Covers text from (length text)
+    answers → AreShort (length text) names → AreShort (length text) (kept_after names answers)
 short-kept text from names [] c h = h
 short-kept text from names (Token t ∷ answers) c h =
     let end : t.span.«end» ≤ length text = covers-end text t.span.«end» (length text) answers c.2 in
@@ -92,7 +80,6 @@ short-referred : (n k : ℕ) (references : List Reference) (names : List SecName
 short-referred n k references [] h = All-nil (λ (name : SecName). length name.text ≤ n)
 short-referred n k references (name ∷ names) h = grind (arith, short-referred n (k + 1) references names h.1)
 
-pub all-short : (text : List ℕ) (answers : List Answer) (references : List Reference)
-    → Covers text 0 (length text) answers
-    → All (λ (name : SecName). length name.text ≤ length text) (referred references 0 (kept_after [] answers))
+pub all-short : (text : List ℕ) (answers : List Answer) (references : List Reference) → Covers text 0 (length text)
+    answers → All (λ (name : SecName). length name.text ≤ length text) (referred references 0 (kept_after [] answers))
 all-short text answers references c = grind (arith, short-referred, short-kept)

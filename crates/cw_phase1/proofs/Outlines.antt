@@ -1,20 +1,10 @@
 -- The sections that are told are those of the whole list.
-use Rattle.std.proofs.Common.{◌≡◌, ℕ, Bool, true, false, List, [], ◌∷◌, ◌++◌, Option, Some, None, refl, ap, ◌∙◌}
-use Rattle.std.proofs.Common.{append_assoc, if◌then◌else◌, arith}
-use Rattle.std.proofs.lemmas.List.{append-nil}
-use Rattle.cw_base.specs.Web.{MergedLine}
-use Rattle.cw_secnames.specs.declared.kinds.SecId.{SecId}
-use Rattle.cw_phase1.specs.declared.sections.Section.{Section}
-use Rattle.cw_phase1.specs.declared.sections.Sections.{Sections}
-use Rattle.cw_phase1.specs.declared.sections.Open.{Open}
-use Rattle.cw_phase1.specs.declared.told.Told.{Told}
-use Rattle.cw_phase1.specs.Places.{holds_changed}
-use Rattle.cw_phase1.specs.Roles.{Placed}
-use Rattle.cw_phase1.specs.Sections.{span, ends_tex, ends_definitions, ends_section, first_start, c_part_name}
-use Rattle.cw_phase1.specs.Sections.{sections_of, is_section_code}
-use Rattle.cw_phase1.specs.Outlining.{or_here, name_here, opened, with_token, closed_at, closing, closing_by, open_with}
-use Rattle.std.specs.Prelude.{unwrap_or}
-use Rattle.cw_phase1.specs.Telling.{told_all, told_step, told_start}
+use Rattle.cw_phase1.proofs.Terms.{◌≡◌, ℕ, Bool, true, false, List, [], ◌∷◌, ◌++◌, Option, Some, None, refl, ap, ◌∙◌}
+use Rattle.cw_phase1.proofs.Terms.{append_assoc, if◌then◌else◌, arith, append-nil, MergedLine, SecId, Section, Sections}
+use Rattle.cw_phase1.proofs.Terms.{Open, Told, holds_changed, Placed, span, ends_tex, ends_definitions, ends_section}
+use Rattle.cw_phase1.proofs.Terms.{first_start, c_part_name, sections_of, is_section_code, or_here, name_here, opened}
+use Rattle.cw_phase1.proofs.Terms.{with_token, closed_at, closing, closing_by, open_with, unwrap_or, told_all}
+use Rattle.cw_phase1.proofs.Terms.{told_step, told_start}
 
 -- the name of the token that ends the definitions, now or later
 abbrev name_or : Option ℕ → Option SecId → Option SecId → Option SecId
@@ -47,33 +37,28 @@ IsNamed o = o.definitions_end ≡ None → o.name ≡ None
 
 -- ## One token more
 
-first-by : (t : Bool) (here later : ℕ)
-    → (if t then here else later) ≡ unwrap_or (or_here None t here) later
+first-by : (t : Bool) (here later : ℕ) → (if t then here else later) ≡ unwrap_or (or_here None t here) later
 first-by t here later = grind arith
 
-first-here : (o : Option ℕ) (test : Placed → Bool) (size : ℕ) (p : Placed) (ps : List Placed)
-    → unwrap_or o (first_start test size (p ∷ ps)) ≡ unwrap_or (or_here o (test p) p.token.span.start)
-    (first_start test size ps)
+first-here : (o : Option ℕ) (test : Placed → Bool) (size : ℕ) (p : Placed) (ps : List Placed) → unwrap_or o
+    (first_start test size (p ∷ ps)) ≡ unwrap_or (or_here o (test p) p.token.span.start) (first_start test size ps)
 first-here o test size p ps = grind (arith, first-by)
 
 name-by : (t : Bool) (place : ℕ) (before here later : Option SecId)
-    → (if t then here else later)
-    ≡ name_or (or_here None t place) (name_here None t before here) later
+    → (if t then here else later) ≡ name_or (or_here None t place) (name_here None t before here) later
 name-by t place before here later = grind arith
 
 named-here : (o : Option ℕ) (before : Option SecId) (p : Placed) (ps : List Placed) → is_section_code p.role ≡ false
-    → name_or o before (c_part_name (p ∷ ps))
-    ≡ name_or (or_here o (ends_definitions p) p.token.span.start) (name_here o (ends_definitions p) before p.name)
-    (c_part_name ps)
+    → name_or o before (c_part_name (p ∷ ps)) ≡ name_or (or_here o (ends_definitions p) p.token.span.start)
+    (name_here o (ends_definitions p) before p.name) (c_part_name ps)
 named-here o before p ps h = grind (arith, name-by)
 
 no-end : (size : ℕ) (p : Placed) (ps : List Placed) → is_section_code p.role ≡ false
     → first_start ends_section size (p ∷ ps) ≡ first_start ends_section size ps
 no-end size p ps h = ap (λ (t : Bool). if t then p.token.span.start else first_start ends_section size ps) h
 
-goes-on : (lines : List MergedLine) (size : ℕ) (o : Open) (p : Placed) (ps : List Placed) → is_section_code p.role
-    ≡ false
-    → open_section lines size o (p ∷ ps) ≡ open_section lines size (with_token p o) ps
+goes-on : (lines : List MergedLine) (size : ℕ) (o : Open) (p : Placed) (ps : List Placed)
+    → is_section_code p.role ≡ false → open_section lines size o (p ∷ ps) ≡ open_section lines size (with_token p o) ps
 goes-on lines size o p ps h = grind (arith, first-here, no-end, named-here)
 
 none-here : (lines : List MergedLine) (size : ℕ) (p : Placed) (ps : List Placed) → is_section_code p.role ≡ false
@@ -81,8 +66,7 @@ none-here : (lines : List MergedLine) (size : ℕ) (p : Placed) (ps : List Place
 none-here lines size p ps h = grind arith
 
 goes-by : (o : Option Open) (lines : List MergedLine) (size : ℕ) (p : Placed) (ps : List Placed)
-    → is_section_code p.role ≡ false
-    → sections_by o lines size (p ∷ ps) ≡ sections_by (open_with o p) lines size ps
+    → is_section_code p.role ≡ false → sections_by o lines size (p ∷ ps) ≡ sections_by (open_with o p) lines size ps
 goes-by o lines size p ps h = grind (arith, none-here, goes-on)
 
 -- ## The section that is open closes
@@ -102,19 +86,16 @@ named-with : (o : Option Open) (p : Placed) → AreNamed o → AreNamed (open_wi
 named-with o p n = grind (arith, named-by)
 
 ends-now : (lines : List MergedLine) (size : ℕ) (o : Open) (p : Placed) (ps : List Placed) → IsNamed o
-    → is_section_code p.role ≡ true
-    → closed_at lines p.token.span.start o ≡ open_section lines size o (p ∷ ps)
+    → is_section_code p.role ≡ true → closed_at lines p.token.span.start o ≡ open_section lines size o (p ∷ ps)
 ends-now lines size o p ps n h = grind (arith, name-end)
 
 one-here : (lines : List MergedLine) (size : ℕ) (p : Placed) (ps : List Placed) → is_section_code p.role ≡ true
     → open_section lines size (opened p.token) ps ∷ sections_of lines size ps ≡ sections_of lines size (p ∷ ps)
 one-here lines size p ps h = grind arith
 
-closes-by : (o : Option Open) (lines : List MergedLine) (size : ℕ) (closed : List Section) (p : Placed)
-    (ps : List Placed) → AreNamed o → is_section_code p.role ≡ true
-    → closing_by o lines p.token.span.start closed ++ (open_section lines size (opened p.token) ps
-    ∷ sections_of lines size ps)
-    ≡ closed ++ sections_by o lines size (p ∷ ps)
+closes-by : (o : Option Open) (lines : List MergedLine) (size : ℕ) (closed : List Section) (p : Placed) (ps : List
+    Placed) → AreNamed o → is_section_code p.role ≡ true → closing_by o lines p.token.span.start closed ++ (open_section
+    lines size (opened p.token) ps ∷ sections_of lines size ps) ≡ closed ++ sections_by o lines size (p ∷ ps)
 closes-by o lines size closed p ps n h = grind (arith, one-here, append_assoc, ends-now)
 
 -- The sections that are told in the end.
@@ -128,9 +109,8 @@ pub all-sections : (lines : List MergedLine) (size : ℕ) (ps : List Placed)
     → closing lines size (told_all lines ps told_start).sections ≡ sections_of lines size ps
 all-sections lines size ps = sections-told lines size ps told_start tt
 
-limbo-told : (lines : List MergedLine) (size : ℕ) (ps : List Placed) (t : Told)
-    → unwrap_or (told_all lines ps t).sections.limbo_end size
-    ≡ unwrap_or t.sections.limbo_end (first_start ends_section size ps)
+limbo-told : (lines : List MergedLine) (size : ℕ) (ps : List Placed) (t : Told) → unwrap_or (told_all lines ps
+    t).sections.limbo_end size ≡ unwrap_or t.sections.limbo_end (first_start ends_section size ps)
 limbo-told lines size [] t = refl
 limbo-told lines size (p ∷ ps) t = grind (arith, limbo-told lines size ps (told_step lines p t), first-here, no-end)
 

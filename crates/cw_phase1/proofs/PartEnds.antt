@@ -1,30 +1,17 @@
 -- The first token of a list of answers at which a part of a section ends.
-use Rattle.std.proofs.Common.{arith, ◌≡◌, ℕ, Bool, true, false, not, ◌||◌, List, [], ◌∷◌, ◌++◌, Option, Some, None}
-use Rattle.std.proofs.Common.{append-nil, refl, sym, ap, subst, ◌∙◌, ◌⊎◌, inl, inr, if◌then◌else◌}
-use Rattle.std.specs.List.{list_any}
-use Rattle.cw_base.proofs.TestLaws.{one-failed-left, one-failed-right}
-use Rattle.cw_base.specs.declared.span.Span.{Span}
-use Rattle.cw_rules.specs.declared.codes.Code.{Code}
-use Rattle.cw_rules.specs.declared.codes.Code.TheVariants as at
-use Rattle.cw_lex.specs.declared.heads.Wanted.{Wanted}
-use Rattle.cw_rules.specs.declared.tokens.Mode.{Mode}
-use Rattle.cw_rules.specs.declared.tokens.Mode.TheVariants as modes
-use Rattle.cw_rules.specs.declared.tokens.TokKind.{TokKind}
-use Rattle.cw_rules.specs.declared.tokens.TokKind.TheVariants as kinds
-use Rattle.cw_rules.specs.Answers.{Answer, Token, Begin, Finish, Note, Seen, has_sign}
+use Rattle.cw_phase1.proofs.Terms.{arith, ◌≡◌, ℕ, Bool, true, false, not, ◌||◌, List, [], ◌∷◌, ◌++◌, Option, Some, None}
+use Rattle.cw_phase1.proofs.Terms.{append-nil, refl, sym, ap, subst, ◌∙◌, ◌⊎◌, inl, inr, if◌then◌else◌, list_any}
+use Rattle.cw_phase1.proofs.Terms.{one-failed-left, one-failed-right, Span, Code, Wanted, Mode, TokKind, Answer, Token}
+use Rattle.cw_phase1.proofs.Terms.{Begin, Finish, Note, Seen, has_sign, is_section_kind, is_section_answer}
+use Rattle.cw_phase1.proofs.Terms.{begins_section_in, tokens_of, is_some, SecName, Part, Standing, entered_name}
+use Rattle.cw_phase1.proofs.Terms.{kept_behind, Placed, Step, defining, name_step, token_step, word_role, head_role}
+use Rattle.cw_phase1.proofs.Terms.{behind_begin, placed_by, placed_from, is_section_code, is_tex, first_start}
 use Rattle.cw_rules.proofs.Choices.{or-false}
-use Rattle.cw_lex.specs.Nested.{is_section_kind, is_section_answer, begins_section_in}
-use Rattle.cw_lex.specs.Lexing.{tokens_of}
 use Rattle.cw_lex.specs.Openings.{named, opened_by, tokens_in, opens_part_before, opens_part_in, EndsBefore}
-use Rattle.std.specs.Prelude.{is_some}
-use Rattle.cw_secnames.specs.Kept.{SecName}
-use Rattle.cw_phase1.specs.declared.roles.Part.{Part}
+use Rattle.cw_rules.specs.declared.codes.Code.TheVariants as at
+use Rattle.cw_rules.specs.declared.tokens.Mode.TheVariants as modes
+use Rattle.cw_rules.specs.declared.tokens.TokKind.TheVariants as kinds
 use Rattle.cw_phase1.specs.declared.roles.Part.TheVariants as parts
-use Rattle.cw_phase1.specs.declared.roles.Standing.{Standing}
-use Rattle.cw_phase1.specs.Entering.{entered_name, kept_behind}
-use Rattle.cw_phase1.specs.Roles.{Placed, Step, defining, name_step, token_step, word_role, head_role, behind_begin}
-use Rattle.cw_phase1.specs.Roles.{placed_by, placed_from}
-use Rattle.cw_phase1.specs.Sections.{is_section_code, is_tex, first_start}
 
 -- ## The role and the part of a token
 
@@ -125,9 +112,8 @@ first-none test size (p ∷ ps) h = ap (λ (t : Bool). if t then p.token.span.st
 pub first-behind : (test : Placed → Bool) (size : ℕ) (front ps : List Placed) → list_any test front ≡ false
     → first_start test size (front ++ ps) ≡ first_start test size ps
 first-behind test size [] ps h = refl
-first-behind test size (p ∷ front) ps h =
-    ap (λ (t : Bool). if t then p.token.span.start else first_start test size (front ++ ps))
-    (one-failed-left (test p) (list_any test front) h)
+first-behind test size (p ∷ front) ps h = ap (λ (t : Bool). if t then p.token.span.start else first_start test size
+    (front ++ ps)) (one-failed-left (test p) (list_any test front) h)
     ∙ first-behind test size front ps (one-failed-right (test p) (list_any test front) h)
 
 pub none-stricter : (test other : Placed → Bool) (ps : List Placed) → ((p : Placed) → other p ≡ true → test p ≡ true)
@@ -251,12 +237,10 @@ module _ (good : Part → Bool) where
     pub passes : ends (token_placed standing names token behind) ≡ true
 
   -- answers that tell no token
-  ended-by : (s next : Standing) (kept : List SecName) (a : Answer) (answers : List Answer)
-      → placed_from s kept (a ∷ answers) ≡ placed_from next kept answers → begins_section_in (a ∷ answers)
-      ≡ begins_section_in answers
-      → Ended next kept answers ⊎ Stopped next kept answers → begins_section_in (a ∷ []) ≡ false
-      → ((more xs : List Answer) → Keeps more xs → Keeps more (a ∷ xs)) → Ended s kept (a ∷ answers)
-      ⊎ Stopped s kept (a ∷ answers)
+  ended-by : (s next : Standing) (kept : List SecName) (a : Answer) (answers : List Answer) → placed_from s kept
+      (a ∷ answers) ≡ placed_from next kept answers → begins_section_in (a ∷ answers) ≡ begins_section_in answers
+      → Ended next kept answers ⊎ Stopped next kept answers → begins_section_in (a ∷ []) ≡ false → ((more xs : List
+      Answer) → Keeps more xs → Keeps more (a ∷ xs)) → Ended s kept (a ∷ answers) ⊎ Stopped s kept (a ∷ answers)
   ended-by s next kept a answers p u (inl e) n k = grind arith
   ended-by s next kept a answers p u (inr r) n k = inr (record {
     before = a ∷ r.before;
@@ -275,10 +259,9 @@ module _ (good : Part → Bool) where
   })
 
   token-by : (b : Bool) (s : Standing) (kept : List SecName) (t : Seen) (answers : List Answer) → good s.part ≡ true
-      → ends (token_placed s kept t answers) ≡ b
-      → (good (token_placed s kept t answers).part ≡ true
-      → Ended (token_step t.kind (has_sign answers) s t.span).next (kept_behind t kept) answers
-      ⊎ Stopped (token_step t.kind (has_sign answers) s t.span).next (kept_behind t kept) answers)
+      → ends (token_placed s kept t answers) ≡ b → (good (token_placed s kept t answers).part ≡ true → Ended
+      (token_step t.kind (has_sign answers) s t.span).next (kept_behind t kept) answers ⊎ Stopped
+      (token_step t.kind (has_sign answers) s t.span).next (kept_behind t kept) answers)
       → Ended s kept (Token t ∷ answers) ⊎ Stopped s kept (Token t ∷ answers)
   token-by true s kept t answers g e rest = inr (record {
     before = [];
@@ -330,8 +313,7 @@ module _ (good : Part → Bool) where
   pub stop : (s : Standing) (kept : List SecName) (answers : List Answer) → good s.part ≡ true
       → Ended s kept answers ⊎ Stopped s kept answers
   stop s kept [] g = inl (record { none = refl; uncut = refl; keeps = tt })
-  stop s kept (Token t ∷ answers) g =
-      token-by (ends (token_placed s kept t answers)) s kept t answers g refl
+  stop s kept (Token t ∷ answers) g = token-by (ends (token_placed s kept t answers)) s kept t answers g refl
       (λ h. stop (token_step t.kind (has_sign answers) s t.span).next (kept_behind t kept) answers h)
   stop s kept (Begin t ∷ answers) g = ended-by s (behind_begin s) kept (Begin t) answers refl refl
       (stop (behind_begin s) kept answers g) refl (λ more xs k. k)

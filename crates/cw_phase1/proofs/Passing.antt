@@ -1,30 +1,18 @@
 -- The tokens that one answer settles, and those that are still to come.
-use Rattle.std.proofs.Common.{◌≡◌, ℕ, Bool, true, false, List, [], ◌∷◌, ◌++◌, Option, Some, None, refl, append_assoc}
-use Rattle.std.proofs.Common.{if◌then◌else◌, arith}
-use Rattle.cw_base.specs.Web.{MergedLine}
-use Rattle.cw_lex.specs.declared.heads.Wanted.{Wanted}
-use Rattle.cw_rules.specs.declared.tokens.TokKind.{TokKind}
-use Rattle.cw_rules.specs.Answers.{Seen, Answer, Note, has_sign}
-use Rattle.cw_base.specs.declared.span.Span.{Span}
+use Rattle.cw_phase1.proofs.Terms.{◌≡◌, ℕ, Bool, true, false, List, [], ◌∷◌, ◌++◌, Option, Some, None, refl}
+use Rattle.cw_phase1.proofs.Terms.{append_assoc, if◌then◌else◌, arith, MergedLine, Wanted, TokKind, Seen, Answer, Note}
+use Rattle.cw_phase1.proofs.Terms.{has_sign, Span, NoteKind, SecName, Standing, Told, Void, naming_by, scanned_note}
+use Rattle.cw_phase1.proofs.Terms.{scanned_notes, enters, kept_after, is_unended, note_behind_end, noted_from, Placed}
+use Rattle.cw_phase1.proofs.Terms.{name_step, token_step, token_step_by, behind_begin, placed_by, placed_from}
+use Rattle.cw_phase1.proofs.Terms.{told_step, told_all, is_name_kind, Waiting, HeldState, settled, remark_put}
+use Rattle.cw_phase1.proofs.Terms.{held_step}
 use Rattle.cw_base.specs.declared.notes.Note.{Note as NoteRecord}
-use Rattle.cw_base.specs.declared.notes.NoteKind.{NoteKind}
-use Rattle.cw_secnames.specs.Kept.{SecName}
-use Rattle.cw_phase1.specs.declared.roles.Standing.{Standing}
-use Rattle.cw_phase1.specs.declared.told.Told.{Told}
-use Rattle.cw_phase1.specs.Texts.{Void, naming_by}
-use Rattle.cw_phase1.specs.Notes.{scanned_note, scanned_notes}
-use Rattle.cw_phase1.specs.Entering.{enters, kept_after, is_unended, note_behind_end, noted_from}
-use Rattle.cw_phase1.specs.Roles.{Placed, name_step, token_step, token_step_by, behind_begin, placed_by, placed_from}
-use Rattle.cw_phase1.specs.Telling.{told_step, told_all}
-use Rattle.cw_lex.specs.Limbo.{is_name_kind}
-use Rattle.cw_phase1.specs.Holding.{Waiting, HeldState, settled, remark_put, held_step}
 
 -- The tokens that are settled from here on, where these answers are still to come.
 abbrev pub coming_by : Option Waiting → Standing → List SecName → List Answer → List Placed
 coming_by None s kept answers = placed_from s kept answers
-coming_by (Some w) s kept answers =
-    placed_by w.token w.name (name_step (has_sign answers) s) ∷ placed_from (name_step (has_sign answers) s).next kept
-    answers
+coming_by (Some w) s kept answers = placed_by w.token w.name (name_step (has_sign answers) s) ∷ placed_from
+    (name_step (has_sign answers) s).next kept answers
 
 abbrev pub coming : HeldState → List Answer → List Placed
 coming h answers = coming_by h.pass.waiting h.pass.standing h.kept answers
@@ -79,10 +67,9 @@ abbrev pub notes_at_end : List MergedLine → HeldState → List Answer → List
 notes_at_end lines h answers = h.notes ++ scanned_notes lines (note_behind_end h.remark (noted_from h.kept answers))
 
 note-by : (b : Bool) (lines : List MergedLine) (note : Answer) (kind : NoteKind) (place : ℕ) (answers : List Answer)
-    → is_unended kind ≡ b
-    → scanned_notes lines (if b then Note kind place ∷ note ∷ answers else note ∷ Note kind place ∷ answers)
-    ≡ (if b then scanned_note lines (Note kind place) ++ scanned_note lines note
-    else scanned_note lines note ++ scanned_note lines (Note kind place)) ++ scanned_notes lines answers
+    → is_unended kind ≡ b → scanned_notes lines (if b then Note kind place ∷ note ∷ answers else note ∷ Note kind place
+    ∷ answers) ≡ (if b then scanned_note lines (Note kind place) ++ scanned_note lines note else scanned_note lines note
+    ++ scanned_note lines (Note kind place)) ++ scanned_notes lines answers
 note-by b lines note kind place answers e = grind (arith, append_assoc)
 
 pub notes-pass : (lines : List MergedLine) (answer : Answer) (h : HeldState) (answers : List Answer)

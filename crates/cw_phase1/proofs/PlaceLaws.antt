@@ -1,15 +1,9 @@
 -- Lines and the places where they begin in the merged text.
-use Rattle.std.proofs.Common.{◌≡◌, ℕ, zero, suc, ◌+◌, ◌<◌, ◌≤◌, ◌&&◌, ◌||◌, Bool, true, false, refl, ap, ◌∙◌, List, []}
-use Rattle.std.proofs.Common.{◌∷◌, length, take, drop, get_or, nat_lt, arith, length-append, if◌then◌else◌}
-use Rattle.std.proofs.lemmas.Bool.{lt-ltb, le-ltb, and_right, and_left}
-use Rattle.std.proofs.lemmas.List.{drop_more, take_more}
-use Rattle.std.proofs.lemmas.Grind.{common_steps}
-use Rattle.cw_base.specs.WebLaws.{length-text_of-more}
-use Rattle.cw_base.specs.Web.{MergedLine, text_of, info_from, infos_of}
-use Rattle.cw_base.specs.declared.web.LineInfo.{LineInfo}
-use Rattle.cw_base.specs.declared.notes.Place.{Place}
-use Rattle.cw_phase1.specs.Places.{place_from, holds_changed}
-use Rattle.cw_phase1.specs.LinePlaces.{offset}
+use Rattle.cw_phase1.proofs.Terms.{◌≡◌, ℕ, zero, suc, ◌+◌, ◌<◌, ◌≤◌, ◌&&◌, ◌||◌, Bool, true, false, refl, ap, ◌∙◌, List}
+use Rattle.cw_phase1.proofs.Terms.{[], ◌∷◌, length, take, drop, get_or, nat_lt, arith, length-append, if◌then◌else◌}
+use Rattle.cw_phase1.proofs.Terms.{lt-ltb, le-ltb, and_right, and_left, drop_more, take_more, common_steps, MergedLine}
+use Rattle.cw_phase1.proofs.Terms.{text_of, info_from, infos_of, LineInfo, place_from, holds_changed, offset}
+use Rattle.cw_base.specs.{WebLaws.length-text_of-more, declared.notes.Place.Place}
 
 offset-suc : (line : MergedLine) (lines : List MergedLine) (i : ℕ) → offset (line ∷ lines) (suc i)
     ≡ length line.text + 1 + offset lines i
@@ -25,18 +19,19 @@ info-at (line ∷ lines) at (suc i) other none h =
 
 -- The place of a byte is that of the line that has it.
 pub place-at : (lines : List MergedLine) (at byte i : ℕ) (last : Place) (none : MergedLine) → i < length lines
-    → at + offset lines i ≤ byte
-    → (i + 1 < length lines → byte < at + offset lines (i + 1)) → place_from lines at byte last
-    ≡ (get_or lines i none).place
+    → at + offset lines i ≤ byte → (i + 1 < length lines → byte < at + offset lines (i + 1))
+    → place_from lines at byte last ≡ (get_or lines i none).place
 place-at [] at byte i last none h from to = absurd (let no : i < 0 = h in omega arith)
 place-at (line ∷ lines) at byte zero last none h from to = grind (arith, common_steps, lt-ltb)
 place-at (line ∷ lines) at byte (suc i) last none h from to =
     let test : nat_lt byte (at + length line.text + 1) ≡ false =
     le-ltb byte (at + length line.text + 1) (omega (arith, offset-suc line lines i)) in
-    ap (λ (b : Bool). if b then line.place else place_from lines (at + length line.text + 1) byte line.place) test ∙
-    place-at lines (at + length line.text + 1) byte i line.place none (omega arith)
-    (omega (arith, offset-suc line lines i))
-    (λ more. let below : byte < at + offset (line ∷ lines) (suc i + 1) = to (omega arith) in
+    ap (λ (b : Bool). if b then line.place else place_from lines (at + length line.text + 1) byte line.place) test
+    ∙ place-at lines (at + length line.text + 1) byte i line.place none (omega arith) (omega (
+      arith,
+      offset-suc line
+          lines i,
+    )) (λ more. let below : byte < at + offset (line ∷ lines) (suc i + 1) = to (omega arith) in
     let same : offset (line ∷ lines) (suc i + 1) ≡ offset (line ∷ lines) (suc (i + 1)) =
     ap (offset (line ∷ lines)) (let e : suc i + 1 ≡ suc (i + 1) = omega arith in e) in
     omega (arith, offset-suc line lines (i + 1), below, same))
@@ -69,26 +64,22 @@ offset-more lines i none h =
 -- One line of those that are left.
 pub changed-step : (lines : List MergedLine) (i start end : ℕ) (none : MergedLine) → i < length lines
     → holds_changed (drop i lines) (offset lines i) start end
-    ≡ (((get_or lines i none).changed && (nat_lt (offset lines i) end
-    && nat_lt start (offset lines i + length (get_or lines i none).text + 1)))
-    || holds_changed (drop (i + 1) lines) (offset lines (i + 1)) start end)
+    ≡ (((get_or lines i none).changed && (nat_lt (offset lines i) end && nat_lt start (offset lines i + length
+    (get_or lines i none).text + 1))) || holds_changed (drop (i + 1) lines) (offset lines (i + 1)) start end)
 changed-step lines i start end none h = grind (arith, drop_more, offset-more)
 
 pub changed-hit : (lines : List MergedLine) (i start end : ℕ) (none : MergedLine) → i < length lines
-    → (get_or lines i none).changed ≡ true
-    → offset lines i < end → start ≤ offset lines i + length (get_or lines i none).text
-    → holds_changed (drop i lines) (offset lines i) start end ≡ true
+    → (get_or lines i none).changed ≡ true → offset lines i < end → start ≤ offset lines i + length
+    (get_or lines i none).text → holds_changed (drop i lines) (offset lines i) start end ≡ true
 changed-hit lines i start end none h changed before reaches =
     grind (arith, lt-ltb (offset lines i) end before, changed-step lines i start end none h)
 
 pub changed-plain : (lines : List MergedLine) (i start end : ℕ) (none : MergedLine) → i < length lines
-    → (get_or lines i none).changed ≡ false
-    → holds_changed (drop i lines) (offset lines i) start end
+    → (get_or lines i none).changed ≡ false → holds_changed (drop i lines) (offset lines i) start end
     ≡ holds_changed (drop (i + 1) lines) (offset lines (i + 1)) start end
 changed-plain lines i start end none h plain = grind (arith, changed-step lines i start end none h)
 
 pub changed-before : (lines : List MergedLine) (i start end : ℕ) (none : MergedLine) → i < length lines
-    → offset lines i + length (get_or lines i none).text < start
-    → holds_changed (drop i lines) (offset lines i) start end
-    ≡ holds_changed (drop (i + 1) lines) (offset lines (i + 1)) start end
+    → offset lines i + length (get_or lines i none).text < start → holds_changed (drop i lines) (offset lines i) start
+    end ≡ holds_changed (drop (i + 1) lines) (offset lines (i + 1)) start end
 changed-before lines i start end none h before = grind (arith, changed-step lines i start end none h)

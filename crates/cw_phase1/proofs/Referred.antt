@@ -1,19 +1,11 @@
 -- References that are added one by one, and the notes on names one by one.
-use Rattle.std.proofs.Common.{◌≡◌, ℕ, zero, suc, ◌+◌, ◌<◌, Bool, List, [], ◌∷◌, ◌++◌, All, map, drop, length, get_or}
-use Rattle.std.proofs.Common.{refl, ap, sym, ◌∙◌, append_assoc, zero-add, arith}
-use Rattle.std.specs.Prelude.{slice_get}
-use Rattle.std.proofs.lemmas.List.{append-nil}
-use Rattle.cw_rules.specs.Answers.{Answer, Token, Begin, Finish, Note}
-use Rattle.cw_secnames.specs.declared.kinds.SecKind.{SecKind}
-use Rattle.cw_secnames.specs.Kept.{SecName, unreferred, with_text, grown}
-use Rattle.cw_secnames.specs.References.{Reference, referred}
+use Rattle.cw_phase1.proofs.Terms.{◌≡◌, ℕ, zero, suc, ◌+◌, ◌<◌, Bool, List, [], ◌∷◌, ◌++◌, All, map, drop, length}
+use Rattle.cw_phase1.proofs.Terms.{get_or, refl, ap, sym, ◌∙◌, append_assoc, zero-add, arith, slice_get, append-nil}
+use Rattle.cw_phase1.proofs.Terms.{Answer, Token, Begin, Finish, Note, SecKind, SecName, unreferred, with_text, grown}
+use Rattle.cw_phase1.proofs.Terms.{Reference, referred, referring_of, Naming, naming, entering, kept_by, kept_behind}
+use Rattle.cw_phase1.proofs.Terms.{kept_after, name_notes_from, notes_at_by, with_references}
 use Rattle.cw_secnames.specs.ReferenceLaws.{referred-more}
 use Rattle.cw_phase1.specs.declared.named.Referring.{Referring}
-use Rattle.cw_phase1.specs.Referring.{referring_of}
-use Rattle.cw_phase1.specs.Texts.{Naming, naming}
-use Rattle.cw_phase1.specs.Entering.{entering, kept_by, kept_behind, kept_after}
-use Rattle.cw_phase1.specs.Notes.{name_notes_from}
-use Rattle.cw_phase1.specs.Ending.{notes_at_by, with_references}
 
 -- ## Names without references
 
@@ -26,8 +18,7 @@ AreBare (n ∷ names) = IsBare n × AreBare names
 
 bare-referred : (k : ℕ) (names : List SecName) → AreBare names → referred [] k names ≡ names
 bare-referred k [] h = refl
-bare-referred k (n ∷ names) h =
-    (λ i. record n { defined = sym (h.0.0) i; used = sym (h.0.1) i; cited = sym (h.0.2) i }
+bare-referred k (n ∷ names) h = (λ i. record n { defined = sym (h.0.0) i; used = sym (h.0.1) i; cited = sym (h.0.2) i }
     ∷ bare-referred (k + 1) names h.1 i)
 
 bare-last : (names : List SecName) (kind : SecKind) (text : List ℕ) (complete : Bool) → AreBare names
@@ -69,22 +60,19 @@ add-all before (r ∷ references) names =
 -- The kept names with all references.
 pub all-referred : (references : List Reference) (answers : List Answer)
     → with_references references (kept_after [] answers) ≡ referred references 0 (kept_after [] answers)
-all-referred references answers =
-    ap (with_references references) (sym (bare-referred 0 (kept_after [] answers) (bare-kept [] answers tt))) ∙
-    add-all [] references (kept_after [] answers)
+all-referred references answers = ap (with_references references) (sym
+    (bare-referred 0 (kept_after [] answers) (bare-kept [] answers tt))) ∙ add-all [] references (kept_after [] answers)
 
 pub of-kept : (items : List Referring) (n k : ℕ) (d : Referring)
-    → All (λ (r : Reference). r.name < n) (map referring_of items) → k < length items
-    → (get_or items k d).name < n
+    → All (λ (r : Reference). r.name < n) (map referring_of items) → k < length items → (get_or items k d).name < n
 of-kept [] n k d a h = absurd (omega arith)
 of-kept (r ∷ items) n zero d a h = a zero (referring_of d) (omega arith)
 of-kept (r ∷ items) n (suc k) d a h = of-kept items n k d (λ j e l. a (suc j) e (omega arith)) (omega arith)
 
 -- ## Notes
 
-pub names-step : (names : List SecName) (j k : ℕ) → k < length names
-    → name_notes_from j (drop k names) ≡ notes_at_by (slice_get names k) j ++ name_notes_from (j + 1)
-    (drop (k + 1) names)
+pub names-step : (names : List SecName) (j k : ℕ) → k < length names → name_notes_from j (drop k names)
+    ≡ notes_at_by (slice_get names k) j ++ name_notes_from (j + 1) (drop (k + 1) names)
 names-step [] j k h = absurd (omega arith)
 names-step (n ∷ names) j zero h = refl
 names-step (n ∷ names) j (suc k) h = grind (arith, names-step names j k (omega arith))

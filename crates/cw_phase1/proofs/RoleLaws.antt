@@ -1,31 +1,17 @@
 -- Which tokens have names, and which section each stands in.
-use Rattle.std.proofs.Common.{◌≡◌, ℕ, zero, suc, ◌+◌, ◌<◌, ◌≤◌, Bool, true, false, List, [], ◌∷◌, ◌++◌, Option, Some}
-use Rattle.std.proofs.Common.{None, All, map, length, refl, sym, ◌∙◌, add-zero, zero-add, arith, nat_lt, true≢false}
-use Rattle.std.specs.List.{filter}
-use Rattle.std.proofs.lemmas.Bool.{eqb-true, ltb-false, ltb-true}
-use Rattle.std.proofs.lemmas.List.Elements.{All-nil, All-cons}
-use Rattle.cw_base.specs.Web.{MergedLine}
-use Rattle.cw_rules.specs.declared.codes.Code.{Code}
-use Rattle.cw_lex.specs.declared.heads.Wanted.{Wanted}
-use Rattle.cw_rules.specs.declared.tokens.TokKind.{TokKind}
-use Rattle.cw_rules.specs.Answers.{Seen, Answer, Token, Begin, Finish, Note}
-use Rattle.cw_secnames.specs.declared.kinds.RefKind.{RefKind}
+use Rattle.cw_phase1.proofs.Terms.{◌≡◌, ℕ, zero, suc, ◌+◌, ◌<◌, ◌≤◌, Bool, true, false, List, [], ◌∷◌, ◌++◌, Option}
+use Rattle.cw_phase1.proofs.Terms.{Some, None, All, map, length, refl, sym, ◌∙◌, add-zero, zero-add, arith, nat_lt}
+use Rattle.cw_phase1.proofs.Terms.{true≢false, filter, eqb-true, ltb-false, ltb-true, All-nil, All-cons, MergedLine}
+use Rattle.cw_phase1.proofs.Terms.{Code, Wanted, TokKind, Seen, Answer, Token, Begin, Finish, Note, SecId, SecName}
+use Rattle.cw_phase1.proofs.Terms.{AscendFrom, Reference, once, is_of, referred, NameUse, Role, Standing, Placed, Step}
+use Rattle.cw_phase1.proofs.Terms.{name_step, code_step, free_step, token_step, word_role, head_role, behind_begin}
+use Rattle.cw_phase1.proofs.Terms.{placed_by, placed_from, is_section_code, sections_of, Ascend, RefersUpTo, use_by}
+use Rattle.cw_phase1.proofs.Terms.{uses_of, reference_by, references_of}
+use Rattle.cw_secnames.specs.{declared.kinds.RefKind.RefKind, Marks.is_one_of}
 use Rattle.cw_secnames.specs.declared.kinds.RefKind.TheVariants.{Defined, Used, Cited}
-use Rattle.cw_secnames.specs.declared.kinds.SecId.{SecId}
-use Rattle.cw_secnames.specs.Kept.{SecName}
-use Rattle.cw_secnames.specs.Marks.{is_one_of}
 use Rattle.cw_secnames.specs.OnceLaws.{head-in, in-once, not-in, once-ascends, tail-in}
-use Rattle.cw_secnames.specs.References.{AscendFrom, Reference, once, is_of, referred}
-use Rattle.cw_secnames.specs.Uses.{NameUse}
-use Rattle.cw_phase1.specs.declared.roles.Role.{Role}
-use Rattle.cw_phase1.specs.declared.roles.Role.TheVariants as roles
-use Rattle.cw_phase1.specs.declared.roles.Standing.{Standing}
-use Rattle.cw_phase1.specs.Roles.{Placed, Step, name_step, code_step, free_step, token_step, word_role, head_role}
-use Rattle.cw_phase1.specs.Roles.{behind_begin, placed_by, placed_from}
-use Rattle.cw_phase1.specs.Sections.{is_section_code, sections_of}
-use Rattle.cw_phase1.specs.Sound.{Ascend, RefersUpTo}
-use Rattle.cw_phase1.specs.Uses.{use_by, uses_of, reference_by, references_of}
 use Rattle.cw_phase1.proofs.Passing.{name-free, enters-nothing}
+use Rattle.cw_phase1.specs.declared.roles.Role.TheVariants as roles
 
 -- ## Names
 
@@ -66,9 +52,8 @@ use-below : (role : Role) (name : Option SecId) (place section n : ℕ) (uses : 
     → (is_name_role role ≡ false → name ≡ None) → All (IsReference n) (reference_by role name section ++ references)
     → (All (IsReference n) references → All (IsUse n) uses) → All (IsUse n) (use_by name place ++ uses)
 use-below (roles.Name how) None place section n uses references h a k = k a
-use-below (roles.Name how) (Some id) place section n uses references h a k =
-    All-cons (IsUse n) _ uses (a zero (record { name = id.index; how = how; section = section }) (omega arith))
-    (k (λ j d l. a (suc j) d (omega arith)))
+use-below (roles.Name how) (Some id) place section n uses references h a k = All-cons (IsUse n) _ uses (a zero
+    (record { name = id.index; how = how; section = section }) (omega arith)) (k (λ j d l. a (suc j) d (omega arith)))
 use-below role name place section n uses references h a k = grind arith
 
 pub uses-below : (n : ℕ) (ps : List Placed) → AreFit ps → All (λ (r : Reference). r.name < n) (references_of ps)
@@ -139,8 +124,7 @@ abbrev pub sections_in : List Reference → List ℕ
 sections_in references = map (λ (r : Reference). r.section) references
 
 pub rise-reference : (role : Role) (name : Option SecId) (section low high : ℕ) (references : List Reference)
-    → low ≤ section → section ≤ high
-    → Rise section high (sections_in references)
+    → low ≤ section → section ≤ high → Rise section high (sections_in references)
     → Rise low high (sections_in (reference_by role name section ++ references))
 rise-reference role name section low high references l h r = grind (arith, rise-more)
 
@@ -150,8 +134,7 @@ rise m high [] n h = tt
 rise m high (p ∷ ps) n h = grind (arith, rise p.section high ps n.1 (omega (arith, n.0, h)), rise-reference)
 
 rise-filter : (test : Reference → Bool) (low high : ℕ) (references : List Reference)
-    → Rise low high (sections_in references)
-    → Rise low high (sections_in (filter test references))
+    → Rise low high (sections_in references) → Rise low high (sections_in (filter test references))
 rise-filter test low high [] r = tt
 rise-filter test low high (reference ∷ references) r =
     grind (arith, rise-filter test reference.section high references r.2, rise-more)
@@ -183,14 +166,11 @@ ascend name how high references r = grind (arith, once-between, rise-filter)
 refers : (high : ℕ) (references : List Reference) (k : ℕ) (names : List SecName) → Rise 1 high (sections_in references)
     → All (RefersUpTo high) (referred references k names)
 refers high references k [] r = All-nil (RefersUpTo high)
-refers high references k (n ∷ names) r =
-    All-cons (RefersUpTo high) _ (referred references (k + 1) names)
-    (record {
-      defined = ascend k Defined high references r;
-      used = ascend k Used high references r;
-      cited = ascend k Cited high references r;
-    })
-    (refers high references (k + 1) names r)
+refers high references k (n ∷ names) r = All-cons (RefersUpTo high) _ (referred references (k + 1) names) (record {
+  defined = ascend k Defined high references r;
+  used = ascend k Used high references r;
+  cited = ascend k Cited high references r;
+}) (refers high references (k + 1) names r)
 
 pub all-refer : (lines : List MergedLine) (size : ℕ) (names : List SecName) (ps : List Placed)
     → Rise 1 (length (sections_of lines size ps)) (sections_in (references_of ps))

@@ -1,30 +1,13 @@
 -- Worked webs: the book that the first phase makes of each.
-use Rattle.std.proofs.Common.{◌≡◌, ℕ, ◌+◌, Bool, true, false, List, [], ◌∷◌, Option, Some, None, codes, length, drop}
-use Rattle.std.proofs.Common.{refl}
-use Rattle.cw_base.specs.declared.category.Cat.{Cat}
-use Rattle.cw_base.specs.declared.category.Cat.TheVariants.{Exp, RawInt}
+use Rattle.cw_phase1.proofs.Terms.{◌≡◌, ℕ, ◌+◌, Bool, true, false, List, [], ◌∷◌, Option, Some, None, codes, length}
+use Rattle.cw_phase1.proofs.Terms.{drop, refl, Cat, Exp, RawInt, NoteKind, Span, MergedLine, EntryKind, Ident, Roman}
+use Rattle.cw_phase1.proofs.Terms.{built_in_words, SecKind, SecName, id, NameUse, option_map, Section, span, book}
 use Rattle.cw_base.specs.declared.notes.Note.{Note}
-use Rattle.cw_base.specs.declared.notes.NoteKind.{NoteKind}
-use Rattle.cw_base.specs.declared.notes.NoteKind.TheVariants as notes
-use Rattle.cw_base.specs.declared.span.Span.{Span}
-use Rattle.cw_base.specs.Web.{MergedLine}
-use Rattle.cw_names.specs.declared.entry.EntryKind.{EntryKind}
-use Rattle.cw_names.specs.declared.entry.EntryKind.TheVariants.{Ident, Roman}
-use Rattle.cw_names.specs.Names.{Entry}
-use Rattle.cw_names.specs.Words.{built_in_words}
-use Rattle.cw_secnames.specs.declared.kinds.SecKind.{SecKind}
+use Rattle.cw_names.specs.{Names.Entry, declared.xrefs.Occurrence.Occurrence}
 use Rattle.cw_secnames.specs.declared.kinds.SecKind.TheVariants.{Named, File}
-use Rattle.cw_secnames.specs.Kept.{SecName}
-use Rattle.cw_secnames.specs.Kept.{id}
-use Rattle.cw_names.specs.declared.xrefs.Occurrence.{Occurrence}
-use Rattle.cw_secnames.specs.Uses.{NameUse}
-use Rattle.std.specs.Option.{option_map}
-use Rattle.cw_phase1.specs.declared.sections.Depth.{Depth}
-use Rattle.cw_phase1.specs.declared.sections.Depth.TheVariants.{Zero}
-use Rattle.cw_phase1.specs.declared.sections.Section.{Section}
-use Rattle.cw_phase1.specs.Sections.{span}
-use Rattle.cw_phase1.specs.Book.{book}
-use Rattle.cw_phase1.specs.declared.book.Book.{Book}
+use Rattle.cw_phase1.specs.{declared.sections.Depth.Depth, declared.sections.Depth.TheVariants.Zero}
+use Rattle.cw_phase1.specs.{declared.book.Book.Book}
+use Rattle.cw_base.specs.declared.notes.NoteKind.TheVariants as notes
 
 abbrev lines_from : ℕ → List (List ℕ) → List MergedLine
 lines_from n [] = []
@@ -212,10 +195,9 @@ an_underline_waits : (book (web ((codes "@ @!@<Read@>") ∷ (codes "@ @c x;x;") 
     ≡ occ 102 2 true ∷ occ 102 2 false ∷ []
 an_underline_waits = refl
 
-formats_in_order : (shown (web ((codes "@ @f a b") ∷ (codes "@f b int") ∷ (codes "@f c b") ∷ (codes "@f d 1 int")
-    ∷ []))).names
-    ≡ entry Ident (codes "a") Exp ∷ entry Ident (codes "b") RawInt ∷ entry Ident (codes "c") RawInt
-    ∷ entry Ident (codes "d") Exp ∷ []
+formats_in_order : (shown
+    (web ((codes "@ @f a b") ∷ (codes "@f b int") ∷ (codes "@f c b") ∷ (codes "@f d 1 int") ∷ []))).names ≡ entry Ident
+    (codes "a") Exp ∷ entry Ident (codes "b") RawInt ∷ entry Ident (codes "c") RawInt ∷ entry Ident (codes "d") Exp ∷ []
 formats_in_order = refl
 
 -- ## Notes one by one, with their places
@@ -227,21 +209,18 @@ a_code_in_a_name : notes_in ((codes "@ @<Read") ∷ (codes "all @^of it@>= x;") 
     ≡ note notes.CodeInName 0 0 2 ∷ []
 a_code_in_a_name = refl
 
-a_code_in_an_ambiguous_name :
-    notes_in ((codes "@ @<Read a@>= x;") ∷ (codes "@ @<Read b@>= y;") ∷ (codes "@ @c @<Read a@>; @<Read b@>; @<Read")
-    ∷ (codes "@^ ...@>;") ∷ [])
+a_code_in_an_ambiguous_name : notes_in ((codes "@ @<Read a@>= x;") ∷ (codes "@ @<Read b@>= y;")
+    ∷ (codes "@ @c @<Read a@>; @<Read b@>; @<Read") ∷ (codes "@^ ...@>;") ∷ [])
     ≡ note notes.AmbiguousPrefix 0 0 3 ∷ note notes.CodeInName 0 0 4 ∷ []
 a_code_in_an_ambiguous_name = refl
 
-a_name_that_a_section_ends :
-    notes_in ((codes "@ @<Read a@>= x;") ∷ (codes "@ @<Read b@>= y;") ∷ (codes "@ @c @<Read a@>; @<Read b@>;")
-    ∷ (codes "@<Re@^ad...") ∷ (codes "@ @<Read a@>.") ∷ [])
+a_name_that_a_section_ends : notes_in ((codes "@ @<Read a@>= x;") ∷ (codes "@ @<Read b@>= y;")
+    ∷ (codes "@ @c @<Read a@>; @<Read b@>;") ∷ (codes "@<Re@^ad...") ∷ (codes "@ @<Read a@>.") ∷ [])
     ≡ note notes.NameUnended 0 0 4 ∷ note notes.AmbiguousPrefix 0 0 4 ∷ note notes.CodeInName 0 0 4 ∷ []
 a_name_that_a_section_ends = refl
 
 improper_heads : notes_in ((codes "@ @d") ∷ (codes "1") ∷ (codes "@f a") ∷ (codes "1") ∷ (codes "@s") ∷ (codes "b 2")
-    ∷ [])
-    ≡ note notes.ImproperMacro 0 0 1 ∷ note notes.ImproperFormat 0 0 3 ∷ note notes.ImproperFormat 0 0 5 ∷ []
+    ∷ []) ≡ note notes.ImproperMacro 0 0 1 ∷ note notes.ImproperFormat 0 0 3 ∷ note notes.ImproperFormat 0 0 5 ∷ []
 improper_heads = refl
 
 an_incomplete_name : notes_in ((codes "@ @c @<Re...@>;") ∷ []) ≡ note notes.NameIncomplete 0 0 0 ∷ []

@@ -1,27 +1,12 @@
 -- The tokens of a web stand one behind another, and so do the parts of its sections.
-use Rattle.std.proofs.Common.{◌≡◌, ℕ, ◌<◌, ◌≤◌, ◌||◌, ◌==◌, Bool, true, false, not, List, [], ◌∷◌, ◌++◌, Option, Some}
-use Rattle.std.proofs.Common.{None, All, IfSome, suc, zero, refl, ap, subst, ◌∙◌, append_assoc, arith, if◌then◌else◌}
-use Rattle.std.proofs.lemmas.Bool.{eq-eqb}
-use Rattle.std.proofs.lemmas.List.Elements.{All-nil}
-use Rattle.std.specs.Option.{option_map}
-use Rattle.cw_base.proofs.TestLaws.{one-left}
-use Rattle.cw_base.specs.Web.{MergedLine}
-use Rattle.cw_rules.specs.Answers.{Answer, Token, Begin, Finish, Note}
-use Rattle.cw_rules.specs.Order.{Covers}
-use Rattle.cw_secnames.specs.declared.kinds.SecId.{SecId}
-use Rattle.cw_secnames.specs.Kept.{SecName, id}
-use Rattle.cw_secnames.specs.Uses.{NameUse, name_at}
-use Rattle.cw_phase1.specs.declared.roles.Part.{Part}
-use Rattle.cw_phase1.specs.declared.roles.Standing.{Standing}
-use Rattle.cw_phase1.specs.declared.sections.Section.{Section}
-use Rattle.cw_phase1.specs.Ready.{AreBefore}
-use Rattle.cw_phase1.specs.Roles.{Placed, placed_from}
-use Rattle.cw_phase1.specs.Sections.{is_section_code, is_tex, is_program, ends_section, ends_definitions, ends_tex}
-use Rattle.cw_phase1.specs.Sections.{first_start, c_part_name, section_at, sections_of}
-use Rattle.cw_phase1.specs.Sound.{LiesIn, IsNamedBy}
-use Rattle.cw_phase1.specs.Uses.{use_by, use_of, uses_of}
-use Rattle.cw_phase1.proofs.RoleLaws.{AreFit}
-use Rattle.cw_phase1.proofs.Underway.{before-use, before-more}
+use Rattle.cw_phase1.proofs.Terms.{◌≡◌, ℕ, ◌<◌, ◌≤◌, ◌||◌, ◌==◌, Bool, true, false, not, List, [], ◌∷◌, ◌++◌, Option}
+use Rattle.cw_phase1.proofs.Terms.{Some, None, All, IfSome, suc, zero, refl, ap, subst, ◌∙◌, append_assoc, arith}
+use Rattle.cw_phase1.proofs.Terms.{if◌then◌else◌, eq-eqb, All-nil, option_map, one-left, MergedLine, Answer, Token}
+use Rattle.cw_phase1.proofs.Terms.{Begin, Finish, Note, Covers, SecId, SecName, id, NameUse, name_at, Part, Standing}
+use Rattle.cw_phase1.proofs.Terms.{Section, AreBefore, Placed, placed_from, is_section_code, is_tex, is_program}
+use Rattle.cw_phase1.proofs.Terms.{ends_section, ends_definitions, ends_tex, first_start, c_part_name, section_at}
+use Rattle.cw_phase1.proofs.Terms.{sections_of, LiesIn, IsNamedBy, use_by, use_of, uses_of}
+use Rattle.cw_phase1.proofs.{RoleLaws.AreFit, Underway.before-use, Underway.before-more}
 
 -- The tokens stand one behind another, from one place up to another.
 abbrev pub Follow : ℕ → ℕ → List Placed → Type 0
@@ -34,8 +19,7 @@ follow-more m n size [] h f = omega arith
 follow-more m n size (p ∷ ps) h f = (omega (arith, f.0), f.1, f.2)
 
 pub follows : (text : List ℕ) (from size : ℕ) (s : Standing) (kept : List SecName) (answers : List Answer)
-    → Covers text from size answers
-    → Follow from size (placed_from s kept answers)
+    → Covers text from size answers → Follow from size (placed_from s kept answers)
 follows text from size s kept [] c = c.0
 follows text from size s kept (Token t ∷ answers) c = (c.0.order, c.1, follows text t.span.«end» size _ _ answers c.2)
 follows text from size s kept (Begin t ∷ answers) c =
@@ -60,9 +44,8 @@ first-to : (test : Placed → Bool) (from size : ℕ) (ps : List Placed) → Fol
 first-to test from size [] f = omega arith
 first-to test from size (p ∷ ps) f = grind (arith, first-to test p.token.span.«end» size ps f.2, follow-end)
 
-first-earlier : (test other : Placed → Bool) (from size : ℕ) (ps : List Placed)
-    → ((p : Placed) → test p ≡ true → other p ≡ true) → Follow from size ps
-    → first_start other size ps ≤ first_start test size ps
+first-earlier : (test other : Placed → Bool) (from size : ℕ) (ps : List Placed) → ((p : Placed) → test p ≡ true → other
+    p ≡ true) → Follow from size ps → first_start other size ps ≤ first_start test size ps
 first-earlier test other from size [] h f = omega arith
 first-earlier test other from size (p ∷ ps) h f =
     grind (arith, first-earlier test other p.token.span.«end» size ps h f.2, first-from)
@@ -127,13 +110,17 @@ skip-before from place (u ∷ uses) later h b =
     b zero u (omega arith) in omega arith)) ∙ skip-before from place uses later h (λ k d l. b (suc k) d (omega arith))
 
 pub all-named : (lines : List MergedLine) (uses : List NameUse) (from size : ℕ) (ps : List Placed) → AreBefore from uses
-    → Follow from size ps → AreFit ps
-    → All (IsNamedBy (uses ++ uses_of ps)) (sections_of lines size ps)
+    → Follow from size ps → AreFit ps → All (IsNamedBy (uses ++ uses_of ps)) (sections_of lines size ps)
 all-named lines uses from size [] b f fit = All-nil (IsNamedBy (uses ++ []))
-all-named lines uses from size (p ∷ ps) b f fit =
-    all-by (IsNamedBy (uses ++ (use_of p ++ uses_of ps))) (is_section_code p.role) (section_at lines size p.token ps)
-    (sections_of lines size ps) (grind (arith, first-from, skip-before, not-here, not-same, name-first))
-    (subst (λ us. All (IsNamedBy us) (sections_of lines size ps))
+all-named lines uses from size (p ∷ ps) b f fit = all-by (IsNamedBy (uses ++ (use_of p ++ uses_of ps)))
+    (is_section_code p.role) (section_at lines size p.token ps) (sections_of lines size ps) (grind (
+      arith,
+      first-from,
+      skip-before,
+      not-here,
+      not-same,
+      name-first,
+    )) (subst (λ us. All (IsNamedBy us) (sections_of lines size ps))
     (append_assoc uses (use_of p) (uses_of ps)) (all-named lines (uses ++ use_of p) p.token.span.«end» size ps
     (before-use p.name p.token.span.start p.token.span.«end» uses f.1 (before-more from p.token.span.«end» uses (omega (
       arith,
@@ -153,6 +140,5 @@ at-below place n (u ∷ uses) a = at-by _
     u.name n (name_at place uses) (a zero u (omega arith)) (at-below place n uses (λ k d l. a (suc k) d (omega arith)))
 
 pub named-below : (n : ℕ) (uses : List NameUse) (sections : List Section) → All (λ (u : NameUse). u.name < n) uses
-    → All (IsNamedBy uses) sections
-    → All (λ (s : Section). IfSome s.name (λ i. i.index < n)) sections
+    → All (IsNamedBy uses) sections → All (λ (s : Section). IfSome s.name (λ i. i.index < n)) sections
 named-below n uses sections a b = grind (arith, at-below)

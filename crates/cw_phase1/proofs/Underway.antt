@@ -1,47 +1,22 @@
 -- What holds while the answers come.
-use Rattle.std.proofs.Common.{◌≡◌, ℕ, ◌+◌, ◌<◌, ◌≤◌, Bool, true, false, List, [], ◌∷◌, ◌++◌, Option, Some, None, All}
-use Rattle.std.proofs.Common.{IfSome, length, ap, sym, subst, ◌∙◌, arith, length-append, ◌-◌, drop}
-use Rattle.std.specs.Prelude.{slice_range}
-use Rattle.std.proofs.lemmas.List.{length-take}
-use Rattle.std.proofs.lemmas.List.Elements.{All-append, All-nil, All-cons}
-use Rattle.std.proofs.lemmas.Grind.{common_steps}
-use Rattle.cw_base.specs.Web.{MergedLine, text_of}
-use Rattle.cw_rules.specs.declared.codes.Code.{Code}
-use Rattle.cw_lex.specs.declared.heads.Wanted.{Wanted}
-use Rattle.cw_rules.specs.declared.tokens.TokKind.{TokKind}
-use Rattle.cw_rules.specs.Answers.{Seen, Answer, Token, Begin, Finish, Note, is_head_sign}
-use Rattle.cw_lex.specs.Heads.{head_behind}
-use Rattle.cw_names.specs.Names as names
-use Rattle.cw_names.specs.declared.entry.EntryKind.{EntryKind}
-use Rattle.cw_names.specs.declared.entry.NameId.{NameId}
-use Rattle.cw_secnames.specs.declared.kinds.SecId.{SecId}
-use Rattle.cw_secnames.specs.References.{Reference}
-use Rattle.cw_secnames.specs.Uses.{NameUse}
-use Rattle.cw_phase1.specs.declared.roles.Role.{Role}
-use Rattle.cw_phase1.specs.declared.roles.Role.TheVariants as roles
-use Rattle.cw_phase1.specs.declared.roles.Standing.{Standing}
-use Rattle.cw_phase1.specs.declared.sections.Open.{Open}
-use Rattle.cw_phase1.specs.declared.sections.Section.{Section}
-use Rattle.cw_phase1.specs.Roles.{Placed, Step, name_step, token_step, token_step_by, code_step, section_step}
-use Rattle.cw_phase1.specs.Roles.{word_role, placed_by}
-use Rattle.cw_phase1.specs.Sections.{is_section_code}
-use Rattle.cw_phase1.specs.Uses.{use_by, reference_by}
-use Rattle.cw_phase1.specs.Outlining.{closing_by, open_with}
-use Rattle.cw_phase1.specs.Words.{KnownNames, known_behind, with_format}
-use Rattle.cw_phase1.specs.Telling.{IsKnown, told_step, told_all}
-use Rattle.cw_phase1.specs.declared.told.Told.{Told}
+use Rattle.cw_phase1.proofs.Terms.{◌≡◌, ℕ, ◌+◌, ◌<◌, ◌≤◌, Bool, true, false, List, [], ◌∷◌, ◌++◌, Option, Some, None}
+use Rattle.cw_phase1.proofs.Terms.{All, IfSome, length, ap, sym, subst, ◌∙◌, arith, length-append, ◌-◌, drop}
+use Rattle.cw_phase1.proofs.Terms.{slice_range, length-take, All-append, All-nil, All-cons, common_steps, MergedLine}
+use Rattle.cw_phase1.proofs.Terms.{text_of, Code, Wanted, TokKind, Seen, Answer, Token, Begin, Finish, Note}
+use Rattle.cw_phase1.proofs.Terms.{is_head_sign, head_behind, EntryKind, NameId, SecId, Reference, NameUse, Role}
+use Rattle.cw_phase1.proofs.Terms.{Standing, Open, Section, Placed, Step, name_step, token_step, token_step_by}
+use Rattle.cw_phase1.proofs.Terms.{code_step, section_step, word_role, placed_by, is_section_code, use_by, reference_by}
+use Rattle.cw_phase1.proofs.Terms.{closing_by, open_with, KnownNames, known_behind, with_format, IsKnown, told_step}
+use Rattle.cw_phase1.proofs.Terms.{told_all, Told, IsScanned, open_count, section_total, NoteKind, Covers, tokens_of}
+use Rattle.cw_phase1.proofs.Terms.{Waiting, HeldState, waiting_of, settled_placed, settled_standing, settled}
+use Rattle.cw_phase1.proofs.Terms.{remark_put, token_held_by, ended_held, held_step, IsToken, AreBefore, WaitsBehind}
+use Rattle.cw_phase1.proofs.Terms.{CanSettle, WaitingIsKept, held_start}
 use Rattle.cw_phase1.specs.declared.held.Waiting.{Waiting as WaitingToken}
-use Rattle.cw_phase1.specs.Ending.{IsScanned, open_count, section_total}
-use Rattle.cw_base.specs.declared.notes.NoteKind.{NoteKind}
-use Rattle.cw_rules.specs.Order.{Covers}
-use Rattle.cw_lex.specs.Lexing.{tokens_of}
-use Rattle.cw_rules.specs.declared.tokens.Mode.TheVariants as modes
+use Rattle.cw_phase1.proofs.{NameLaws.category-length, WordLaws.entered-below, WordLaws.entry-grows}
 use Rattle.cw_phase1.proofs.Passing.{told_at_end, kept_at_end, notes_at_end, told-passes, kept-passes, notes-pass}
-use Rattle.cw_phase1.specs.Holding.{Waiting, HeldState, waiting_of, settled_placed, settled_standing, settled}
-use Rattle.cw_phase1.specs.Holding.{remark_put, token_held_by, ended_held, held_step}
-use Rattle.cw_phase1.specs.Ready.{IsToken, AreBefore, WaitsBehind, CanSettle, WaitingIsKept, held_start}
-use Rattle.cw_phase1.proofs.NameLaws.{category-length}
-use Rattle.cw_phase1.proofs.WordLaws.{entered-below, entry-grows}
+use Rattle.cw_names.specs.Names as names
+use Rattle.cw_phase1.specs.declared.roles.Role.TheVariants as roles
+use Rattle.cw_rules.specs.declared.tokens.Mode.TheVariants as modes
 
 -- ## The first name of a format definition
 
@@ -170,12 +145,10 @@ ready-settled : (lines : List MergedLine) (headed : Bool) (from : ℕ) (h : Held
 ready-settled lines headed from h r = grind (arith, common_steps, name-counts, name-section, told-quiet, before-more)
 
 token-ready : (b : Bool) (lines : List MergedLine) (t : Seen) (from : ℕ) (h : HeldState) → IsToken t
-    → from ≤ t.span.start
-    → IsQuiet from (length h.kept) h.pass.standing h.told
-    → WaitingKept (token_held_by b lines t h).pass.waiting (length (token_held_by b lines t h).kept)
-    → length h.kept ≤ length (token_held_by b lines t h).kept
-    → length (token_held_by b lines t h).kept ≤ length h.kept + 1 → length h.kept ≤ from
-    → IsReady t.span.end (token_held_by b lines t h)
+    → from ≤ t.span.start → IsQuiet from (length h.kept) h.pass.standing h.told
+    → WaitingKept (token_held_by b lines t h).pass.waiting (length (token_held_by b lines t h).kept) → length h.kept ≤
+    length (token_held_by b lines t h).kept → length (token_held_by b lines t h).kept ≤ length h.kept + 1
+    → length h.kept ≤ from → IsReady t.span.end (token_held_by b lines t h)
 token-ready true lines t from h token le q id grows one few = grind (arith, before-more)
 token-ready false lines t from h token le q id grows one few =
     let counts = step-counts (head_behind h.pass.standing.wanted t.kind t.span) t.kind h.pass.standing in
@@ -208,21 +181,18 @@ pub record Underway (lines : List MergedLine) (text : List ℕ) (all : List Answ
   pub ready : IsReady from h
 
 pub start : (lines : List MergedLine) (text : List ℕ) (all : List Answer) (h : HeldState) → h ≡ held_start
-    → Covers text 0 (length text) all → length text ≤ 16777216
-    → Underway lines text all h all
+    → Covers text 0 (length text) all → length text ≤ 16777216 → Underway lines text all h all
 start lines text all h e c l = grind (arith, told_at_end, kept_at_end, notes_at_end)
 
 pub text-length : (text : List ℕ) (a b : ℕ) → length (slice_range text a b) ≤ b - a
 text-length text a b = omega (arith, length-take (b - a) (drop a text))
 
 pub is-token : (lines : List MergedLine) (text : List ℕ) (all : List Answer) (h : HeldState) (t : Seen)
-    (rest : List Answer)
-    → Underway lines text all h (Token t ∷ rest) → IsToken t
+    (rest : List Answer) → Underway lines text all h (Token t ∷ rest) → IsToken t
 is-token lines text all h t rest u = grind (arith, covers-end, text-length)
 
 pub section-fits : (lines : List MergedLine) (text : List ℕ) (all : List Answer) (h : HeldState) (t : Seen)
-    (rest : List Answer)
-    → Underway lines text all h (Token t ∷ rest) → h.pass.standing.section < 4294967295
+    (rest : List Answer) → Underway lines text all h (Token t ∷ rest) → h.pass.standing.section < 4294967295
 section-fits lines text all h t rest u = grind (arith, covers-end)
 
 -- what the answers make does not change when one of them is passed
@@ -240,17 +210,14 @@ step-on lines text all h new a rest from u e covers ready = record {
 }
 
 pub token-step : (lines : List MergedLine) (text : List ℕ) (all : List Answer) (h new : HeldState) (t : Seen)
-    (rest : List Answer)
-    → Underway lines text all h (Token t ∷ rest) → new ≡ held_step lines (Token t) h
+    (rest : List Answer) → Underway lines text all h (Token t ∷ rest) → new ≡ held_step lines (Token t) h
     → WaitingKept new.pass.waiting (length new.kept) → length h.kept ≤ length new.kept
-    → length new.kept ≤ length h.kept + 1
-    → Underway lines text all new rest
-token-step lines text all h new t rest u e id grows one =
-    step-on lines text all h new (Token t) rest t.span.end u e u.covers.2 (token-ready _ lines t u.from (settled lines
-    (is_head_sign t.kind) (remark_put lines h)) (is-token lines text all h t rest u) u.covers.0.order (ready-settled
-    lines (is_head_sign t.kind) u.from h u.ready) (subst (λ (h : HeldState). WaitingKept h.pass.waiting (length h.kept))
-    e id) (subst (λ (g : HeldState). length h.kept ≤ length g.kept) e grows)
-    (subst (λ (g : HeldState). length g.kept ≤ length h.kept + 1) e one) u.ready.few)
+    → length new.kept ≤ length h.kept + 1 → Underway lines text all new rest
+token-step lines text all h new t rest u e id grows one = step-on lines text all h new (Token t) rest t.span.end u e
+    u.covers.2 (token-ready _ lines t u.from (settled lines (is_head_sign t.kind) (remark_put lines h))
+    (is-token lines text all h t rest u) u.covers.0.order (ready-settled lines (is_head_sign t.kind) u.from h u.ready)
+    (subst (λ (h : HeldState). WaitingKept h.pass.waiting (length h.kept)) e id) (subst (λ (g : HeldState). length
+    h.kept ≤ length g.kept) e grows) (subst (λ (g : HeldState). length g.kept ≤ length h.kept + 1) e one) u.ready.few)
 
 pub begin-step : (lines : List MergedLine) (text : List ℕ) (all : List Answer) (h new : HeldState) (t : Seen)
     (rest : List Answer)
@@ -259,25 +226,22 @@ begin-step lines text all h new t rest u e = step-on lines
     text all h new (Begin t) rest t.span.end u e u.covers.1 (grind (arith, ready-settled lines false u.from h u.ready))
 
 pub finish-step : (lines : List MergedLine) (text : List ℕ) (all : List Answer) (h new : HeldState) (t : Seen)
-    (rest : List Answer)
-    → Underway lines text all h (Finish t ∷ rest) → new ≡ held_step lines (Finish t) h
+    (rest : List Answer) → Underway lines text all h (Finish t ∷ rest) → new ≡ held_step lines (Finish t) h
     → Underway lines text all new rest
 finish-step lines text all h new t rest u e = step-on lines
     text all h new (Finish t) rest t.span.end u e u.covers.1 (grind (arith, ready-settled lines false u.from h u.ready))
 
 pub note-step : (lines : List MergedLine) (text : List ℕ) (all : List Answer) (h new : HeldState) (kind : NoteKind)
-    (place : ℕ) (rest : List Answer)
-    → Underway lines text all h (Note kind place ∷ rest) → new ≡ held_step lines (Note kind place) h
-    → Underway lines text all new rest
+    (place : ℕ) (rest : List Answer) → Underway lines text all h (Note kind place ∷ rest)
+    → new ≡ held_step lines (Note kind place) h → Underway lines text all new rest
 note-step lines text all h new kind place rest u e =
     step-on lines text all h new (Note kind place) rest u.from u e u.covers (grind arith)
 
 -- ## When all came
 
 pub scanned : (lines : List MergedLine) (text : List ℕ) (all : List Answer) (h new : HeldState)
-    → Underway lines text all h [] → new ≡ ended_held lines h
-    → text ≡ text_of lines → all ≡ tokens_of text 0 (length text) modes.Limbo → Covers text 0 (length text) all
-    → IsScanned lines new
+    → Underway lines text all h [] → new ≡ ended_held lines h → text ≡ text_of lines
+    → all ≡ tokens_of text 0 (length text) modes.Limbo → Covers text 0 (length text) all → IsScanned lines new
 scanned lines text all h new u e same tokens covers = grind (arith, common_steps)
 
 pub waiting-kept : (w : Option WaitingToken) (count : ℕ) → WaitingIsKept w count → WaitingKept (waiting_of w) count

@@ -1,34 +1,22 @@
 -- The parts of a section are whole.
-use Rattle.std.proofs.Common.{◌≡◌, ℕ, Bool, true, false, not, List, [], ◌∷◌, ◌++◌, Some, All, length, drop, take, refl}
-use Rattle.std.proofs.Common.{sym, ap, subst, ◌∙◌, arith, append_assoc, ◌⊎◌, inl, inr, if◌then◌else◌}
-use Rattle.std.proofs.lemmas.List.{take_all, drop_all, length-take}
-use Rattle.std.proofs.lemmas.List.Elements.{All-nil}
-use Rattle.cw_base.proofs.TestLaws.{one-right, not-both, or-false, one-left}
-use Rattle.cw_base.specs.Web.{MergedLine, text_of}
-use Rattle.cw_rules.specs.declared.tokens.Mode.{Mode}
-use Rattle.cw_rules.specs.declared.tokens.Mode.TheVariants as modes
-use Rattle.cw_rules.specs.Answers.{Answer, Token, Begin, Finish, Note, Seen, has_sign}
-use Rattle.cw_lex.specs.Lexing.{answers_at, beginning, tokens_of}
-use Rattle.cw_lex.specs.Nested.{is_section_kind}
+use Rattle.cw_phase1.proofs.Terms.{◌≡◌, ℕ, Bool, true, false, not, List, [], ◌∷◌, ◌++◌, Some, All, length, drop, take}
+use Rattle.cw_phase1.proofs.Terms.{refl, sym, ap, subst, ◌∙◌, arith, append_assoc, ◌⊎◌, inl, inr, if◌then◌else◌}
+use Rattle.cw_phase1.proofs.Terms.{take_all, drop_all, length-take, All-nil, one-right, not-both, or-false, one-left}
+use Rattle.cw_phase1.proofs.Terms.{MergedLine, text_of, Mode, Answer, Token, Begin, Finish, Note, Seen, has_sign}
+use Rattle.cw_phase1.proofs.Terms.{answers_at, beginning, tokens_of, is_section_kind, SecName, Part, Standing, Section}
+use Rattle.cw_phase1.proofs.Terms.{answers_of, kept_behind, Placed, at_limbo, token_step, placed, placed_from, span}
+use Rattle.cw_phase1.proofs.Terms.{is_section_code, is_tex, is_program, ends_section, ends_definitions, ends_tex}
+use Rattle.cw_phase1.proofs.Terms.{first_start, section_at, sections_of}
 use Rattle.cw_lex.specs.Openings.{opens_part_in, TextsEndAtOpenings, TextsEndAtSections}
-use Rattle.cw_lex.proofs.Covering.{tokens-cover}
-use Rattle.cw_lex.proofs.TexTexts.{opens-uncut}
-use Rattle.cw_secnames.specs.Kept.{SecName}
-use Rattle.cw_phase1.specs.declared.roles.Part.{Part}
-use Rattle.cw_phase1.specs.declared.roles.Part.TheVariants as parts
-use Rattle.cw_phase1.specs.declared.roles.Standing.{Standing}
-use Rattle.cw_phase1.specs.declared.sections.Section.{Section}
-use Rattle.cw_phase1.specs.Book.{answers_of}
-use Rattle.cw_phase1.specs.Entering.{kept_behind}
-use Rattle.cw_phase1.specs.Roles.{Placed, at_limbo, token_step, placed, placed_from}
-use Rattle.cw_phase1.specs.Sections.{span, is_section_code, is_tex, is_program, ends_section, ends_definitions}
-use Rattle.cw_phase1.specs.Sections.{ends_tex, first_start, section_at, sections_of}
+use Rattle.cw_lex.proofs.{Covering.tokens-cover, TexTexts.opens-uncut}
 use Rattle.cw_phase1.specs.Whole.{IsUncut, SectionsAreWhole}
 use Rattle.cw_phase1.proofs.PartEnds.{first-none, first-behind, first-token, none-stricter, uncut-before, alone-before}
 use Rattle.cw_phase1.proofs.PartEnds.{tex-opens, ends, token_placed, Ended, Stopped, stop, AtSection, AtDefinitions}
 use Rattle.cw_phase1.proofs.PartEnds.{AtCPart, Nowhere, Ending, EndsBy, ends-so, section-role, section-part, plain-role}
 use Rattle.cw_phase1.proofs.PartEnds.{plain-part}
 use Rattle.cw_phase1.proofs.SpanLaws.{follows, all-lie}
+use Rattle.cw_rules.specs.declared.tokens.Mode.TheVariants as modes
+use Rattle.cw_phase1.specs.declared.roles.Part.TheVariants as parts
 
 -- ## Parts that are empty, and the last one
 
@@ -117,8 +105,7 @@ module _ (sections : TextsEndAtSections) (openings : TextsEndAtOpenings) (text :
   -- where definitions end with a token, and what follows it
   defined-at : (start : ℕ) (s : Standing) (kept : List SecName)
       (r : Stopped not_program s kept (answers_at text (beginning modes.Definition) start)) (how : Ending)
-      → EndsBy r.token.kind (has_sign r.behind) how
-      → Defined start (tokens_at modes.Definition start s kept)
+      → EndsBy r.token.kind (has_sign r.behind) how → Defined start (tokens_at modes.Definition start s kept)
   defined-at start s kept r AtSection h =
       let ps = tokens_at modes.Definition _ s kept in
       let p = token_placed not_program r.standing r.names r.token r.behind in
@@ -159,9 +146,8 @@ module _ (sections : TextsEndAtSections) (openings : TextsEndAtOpenings) (text :
       → Defined start (tokens_at modes.Definition start s kept)
   defined start s kept g = by (stop not_program s kept (answers_at text (beginning modes.Definition) start) g)
     where
-      by : Ended not_program s kept (answers_at text (beginning modes.Definition) start)
-          ⊎ Stopped not_program s kept (answers_at text (beginning modes.Definition) start)
-          → Defined start (tokens_at modes.Definition start s kept)
+      by : Ended not_program s kept (answers_at text (beginning modes.Definition) start) ⊎ Stopped not_program s kept
+          (answers_at text (beginning modes.Definition) start) → Defined start (tokens_at modes.Definition start s kept)
       by (inl e) =
           let ps = tokens_at modes.Definition start s kept in
           let to = first-none _ size ps (grind (arith, none-stricter, ends, definitions-not)) in
@@ -184,26 +170,36 @@ module _ (sections : TextsEndAtSections) (openings : TextsEndAtOpenings) (text :
     c_part : IsUncut text modes.CPart (span (first_start ends_definitions size ps) (first_start ends_section size ps))
 
   told-by : (start to middle end : ℕ) (ps : List Placed) → first_start ends_tex size ps ≡ to
-      → first_start ends_definitions size ps ≡ middle → first_start ends_section size ps ≡ end
-      → Alone start to → IsUncut text modes.Definition (span to middle) → IsUncut text modes.CPart (span middle end)
-      → Told start ps
+      → first_start ends_definitions size ps ≡ middle → first_start ends_section size ps ≡ end → Alone start to
+      → IsUncut text modes.Definition (span to middle) → IsUncut text modes.CPart (span middle end) → Told start ps
   told-by start to middle end ps a b c t d p = record { tex = subst (Alone _) (sym a) t; definitions = cc; c_part = cc }
 
   told-at : (start : ℕ) (s : Standing) (kept : List SecName)
       (r : Stopped is_tex s kept (answers_at text (beginning modes.TexText) start)) (how : Ending)
-      → EndsBy r.token.kind (has_sign r.behind) how
-      → Told start (tokens_at modes.TexText start s kept)
+      → EndsBy r.token.kind (has_sign r.behind) how → Told start (tokens_at modes.TexText start s kept)
   told-at start s kept r AtSection h =
       let ps = tokens_at modes.TexText start s kept in
       let p = token_placed is_tex r.standing r.names r.token r.behind in
       let code = section-role r.standing r.token r.behind h in
       let at = r.token.span.start in
       let law = sections text start modes.TexText r.before r.token r.behind r.split h in
-      told-by start at at at ps (grind (arith, first-behind, first-token))
-      (grind (arith, first-behind, none-stricter, ends, definitions-tex, first-token, one-left))
-      (grind (arith, first-behind, none-stricter, ends, section-tex, first-token))
-      (alone-before text start modes.TexText r.before r.token (Token r.token ∷ r.behind)
-      law.0 (tex-opens (Token r.token ∷ r.behind) r.before r.keeps)) (grind (arith, empty)) (empty-program text at)
+      told-by start at at at ps (grind (arith, first-behind, first-token)) (grind (
+        arith,
+        first-behind,
+        none-stricter,
+        ends,
+        definitions-tex,
+        first-token,
+        one-left,
+      )) (grind (
+        arith,
+        first-behind,
+        none-stricter,
+        ends,
+        section-tex,
+        first-token,
+      )) (alone-before text start modes.TexText r.before r.token (Token r.token ∷ r.behind) law.0
+      (tex-opens (Token r.token ∷ r.behind) r.before r.keeps)) (grind (arith, empty)) (empty-program text at)
   told-at start s kept r AtDefinitions h =
       let ps = tokens_at modes.TexText start s kept in
       let p = token_placed is_tex r.standing r.names r.token r.behind in
@@ -237,9 +233,8 @@ module _ (sections : TextsEndAtSections) (openings : TextsEndAtOpenings) (text :
       → Told start (tokens_at modes.TexText start s kept)
   told start s kept g = by (stop is_tex s kept (answers_at text (beginning modes.TexText) start) g)
     where
-      by : Ended is_tex s kept (answers_at text (beginning modes.TexText) start)
-          ⊎ Stopped is_tex s kept (answers_at text (beginning modes.TexText) start)
-          → Told start (tokens_at modes.TexText start s kept)
+      by : Ended is_tex s kept (answers_at text (beginning modes.TexText) start) ⊎ Stopped is_tex s kept
+          (answers_at text (beginning modes.TexText) start) → Told start (tokens_at modes.TexText start s kept)
       by (inl e) =
           let ps = tokens_at modes.TexText _ s kept in
           told-by _ size size size ps (first-none _ size ps e.none)
@@ -267,23 +262,20 @@ module _ (sections : TextsEndAtSections) (openings : TextsEndAtOpenings) (text :
       subst (λ l. Uncut (section_at lines size t (placed_from s kept l))) (sym law.1)
       (let u = told t.span.end s kept g in record { tex = u.tex; definitions = u.definitions; c_part = u.c_part })
 
-  all-uncut : (lines : List MergedLine) (xs ys : List Answer) (s : Standing) (kept : List SecName)
-      → answers_at text (beginning modes.Limbo) 0 ≡ xs ++ ys
-      → All Uncut (sections_of lines size (placed_from s kept ys))
+  all-uncut : (lines : List MergedLine) (xs ys : List Answer) (s : Standing) (kept : List SecName) → answers_at text
+      (beginning modes.Limbo) 0 ≡ xs ++ ys → All Uncut (sections_of lines size (placed_from s kept ys))
   all-uncut lines xs [] s kept e = All-nil Uncut
   all-uncut lines xs (Token t ∷ ys) s kept e =
       let next = (token_step t.kind (has_sign ys) s t.span).next in
       sections-by (is_section_code (token_step t.kind (has_sign ys) s t.span).role) _ _ (λ code. begun code)
       (all-uncut lines (xs ++ Token t ∷ []) ys next (kept_behind t kept) (e ∙ sym (append_assoc xs (Token t ∷ []) ys)))
     where
-      begun : is_section_code (token_step t.kind (has_sign ys) s t.span).role ≡ true
-          → Uncut (section_at lines size t (placed_from (token_step t.kind (has_sign ys) s t.span).next
-          (kept_behind t kept) ys))
+      begun : is_section_code (token_step t.kind (has_sign ys) s t.span).role ≡ true → Uncut (section_at lines size t
+          (placed_from (token_step t.kind (has_sign ys) s t.span).next (kept_behind t kept) ys))
       begun code = by (is_section_kind t.kind) refl
         where
-          by : (b : Bool) → is_section_kind t.kind ≡ b
-              → Uncut (section_at lines size t (placed_from (token_step t.kind (has_sign ys) s t.span).next
-              (kept_behind t kept) ys))
+          by : (b : Bool) → is_section_kind t.kind ≡ b → Uncut (section_at lines size t
+              (placed_from (token_step t.kind (has_sign ys) s t.span).next (kept_behind t kept) ys))
           by true k = at-code lines xs t ys (token_step _ _ s _).next _ e k (ap is_tex (section-part s t ys k))
           by false k = not-both _ code (plain-role s t ys k)
   all-uncut lines xs (Begin t ∷ ys) s kept e = all-uncut lines _ ys _ kept (e ∙ sym (append_assoc xs (Begin t ∷ []) ys))

@@ -1,28 +1,15 @@
 -- The names, occurrences, uses and references that are told are those of the whole list.
-use Rattle.std.proofs.Common.{◌≡◌, ℕ, zero, suc, ◌+◌, ◌<◌, ◌≤◌, Bool, true, false, List, [], ◌∷◌, ◌++◌, Some, None}
-use Rattle.std.proofs.Common.{length, map, cond, not, eqb, refl, sym, arith, length-append, append_assoc, add-zero}
+use Rattle.cw_phase1.proofs.Terms.{◌≡◌, ℕ, zero, suc, ◌+◌, ◌<◌, ◌≤◌, Bool, true, false, List, [], ◌∷◌, ◌++◌, Some, None}
+use Rattle.cw_phase1.proofs.Terms.{length, map, cond, not, eqb, refl, sym, arith, length-append, append_assoc, add-zero}
+use Rattle.cw_phase1.proofs.Terms.{append-nil, map-append, bytes_decides, MergedLine, Cat, Exp, EntryKind, Ident}
+use Rattle.cw_phase1.proofs.Terms.{built_in_words, Role, Told, Placed, text_behind_code, KnownNames, Mention, word}
+use Rattle.cw_phase1.proofs.Terms.{with_format, known_behind, known_after, names_after, mention_by, mentions_from}
+use Rattle.cw_phase1.proofs.Terms.{occurrence, occurrences, uses_of, references_of, known_of, told_step, told_all}
+use Rattle.cw_phase1.proofs.Terms.{told_start, NameId, Option}
 use Rattle.std.proofs.lemmas.List.Folds.{position_or_len_push}
-use Rattle.std.proofs.lemmas.List.{append-nil, map-append}
-use Rattle.std.specs.Cmp.Lexicographic.{bytes_decides}
-use Rattle.cw_base.specs.Web.{MergedLine}
-use Rattle.cw_base.specs.declared.category.Cat.{Cat}
-use Rattle.cw_base.specs.declared.category.Cat.TheVariants.{Exp}
-use Rattle.cw_names.specs.declared.entry.EntryKind.{EntryKind}
-use Rattle.cw_names.specs.declared.entry.EntryKind.TheVariants.{Ident}
-use Rattle.cw_names.specs.Names as names
-use Rattle.cw_names.specs.Words.{built_in_words}
-use Rattle.cw_phase1.specs.declared.roles.Role.{Role}
-use Rattle.cw_phase1.specs.declared.roles.Role.TheVariants as roles
-use Rattle.cw_phase1.specs.declared.told.Told.{Told}
-use Rattle.cw_phase1.specs.Roles.{Placed}
-use Rattle.cw_rules.specs.ControlTexts.{text_behind_code}
-use Rattle.cw_phase1.specs.Words.{KnownNames, Mention, word, with_format, known_behind, known_after, names_after}
-use Rattle.cw_phase1.specs.Words.{mention_by, mentions_from, occurrence, occurrences}
-use Rattle.cw_phase1.specs.Uses.{uses_of, references_of}
-use Rattle.cw_phase1.specs.Telling.{known_of, told_step, told_all, told_start}
-use Rattle.cw_names.specs.declared.entry.NameId.{NameId}
-use Rattle.std.specs.Prelude.{Option}
 use Rattle.cw_phase1.proofs.NameLaws.{category-length}
+use Rattle.cw_names.specs.Names as names
+use Rattle.cw_phase1.specs.declared.roles.Role.TheVariants as roles
 
 -- The name of this kind and text stands at a place.
 record Stands (kind : EntryKind) (text : List ℕ) (n : ℕ) (entries : List names.Entry) : Type 0 where
@@ -48,8 +35,7 @@ with-entry : (kind : EntryKind) (text : List ℕ) (n : ℕ) (other : EntryKind) 
 with-entry kind text n other word entries s = entry-by _ kind text n _ entries s
 
 format : (first : Option NameId) (kind : EntryKind) (text : List ℕ) (n : ℕ) (second : NameId)
-    (entries : List names.Entry)
-    → Stands kind text n entries → Stands kind text n (with_format first second entries)
+    (entries : List names.Entry) → Stands kind text n entries → Stands kind text n (with_format first second entries)
 format None kind text n second entries s = s
 format (Some first) kind text n second entries s = grind (arith, category-place, category-length)
 
@@ -117,9 +103,8 @@ pub all-names : (lines : List MergedLine) (ps : List Placed) → (told_all lines
     ≡ names_after ps built_in_words
 all-names lines ps = names-told lines ps told_start
 
-xrefs-told : (lines : List MergedLine) (ps : List Placed) (t : Told)
-    → (told_all lines ps t).words.xrefs ≡ t.words.xrefs ++ map (occurrence (known_after ps (known_of t.words)).names)
-    (mentions_from t.words.waits ps)
+xrefs-told : (lines : List MergedLine) (ps : List Placed) (t : Told) → (told_all lines ps t).words.xrefs ≡ t.words.xrefs
+    ++ map (occurrence (known_after ps (known_of t.words)).names) (mentions_from t.words.waits ps)
 xrefs-told lines [] t = sym (append-nil t.words.xrefs)
 xrefs-told lines (p ∷ ps) t =
     grind (arith, xrefs-told lines ps (told_step lines p t), mentioned, append_assoc, map-append)

@@ -29,9 +29,8 @@ use Rattle.cw_translator.proofs.Terms.{TokKind, MakesLeaf, answers_in, after_ans
 use Rattle.cw_translator.proofs.Terms.{progress_over, to_end, with_names, Known}
 
 -- no row fits where none fits before the end
-pub alone-none : (cat : Cat) (may : Bool)
-    → (may ≡ false → (third fourth : Cat) → first_of productions (cat ∷ End ∷ third ∷ fourth ∷ []) ≡ None)
-    → not may ≡ true → first_of productions (cat ∷ []) ≡ None
+pub alone-none : (cat : Cat) (may : Bool) → (may ≡ false → (third fourth : Cat) → first_of productions
+    (cat ∷ End ∷ third ∷ fourth ∷ []) ≡ None) → not may ≡ true → first_of productions (cat ∷ []) ≡ None
 alone-none cat true none e = cc
 alone-none cat false none e = sym (first-window productions (cat ∷ []) productions-sound) ∙ none refl End End
 
@@ -50,19 +49,17 @@ module _ (flags : Flags) (store : StoredLists) (names : List Entry) (marks : Mar
   ends = walk-ends flags state state 1 0 steps (steps + 4)
       (goes-on flags state state 0 0 steps steps begins (omega arith) none).next (omega arith)
 
-  pub alone-done : (lists : List (List StoredToken)) (done : Translated) (steps2 : ℕ)
-      → unfolded lists done.list.index ≡ whole (scraps_of store.lists (entry_of leaf ∷ [])) → done.scraps ≡ 1
-      → done.productions ≡ 0 → steps2 ≡ steps + 4
+  pub alone-done : (lists : List (List StoredToken)) (done : Translated) (steps2 : ℕ) → unfolded lists done.list.index
+      ≡ whole (scraps_of store.lists (entry_of leaf ∷ [])) → done.scraps ≡ 1 → done.productions ≡ 0 → steps2 ≡ steps + 4
       → HasEnded flags (of_leaf leaf) steps lists names marks done steps2 (all_ended flags here_now)
-  alone-done lists done steps2 tree scraps none_done spent =
-      record {
-        tree = tree ∙ ap (λ (s : State). whole s.scraps) ends.normal;
-        names_are = retyped-names flags state state names names ends.normal refl refl;
-        marks_are = ap (λ (s : State). s.marks) ends.normal;
-        scraps = omega (arith, scraps, scraps-one state);
-        productions_are = omega (arith, none_done, ends.number, productions-one flags state);
-        steps_are = omega (arith, spent, ends.ticked, ticks-one flags state);
-      }
+  alone-done lists done steps2 tree scraps none_done spent = record {
+    tree = tree ∙ ap (λ (s : State). whole s.scraps) ends.normal;
+    names_are = retyped-names flags state state names names ends.normal refl refl;
+    marks_are = ap (λ (s : State). s.marks) ends.normal;
+    scraps = omega (arith, scraps, scraps-one state);
+    productions_are = omega (arith, none_done, ends.number, productions-one flags state);
+    steps_are = omega (arith, spent, ends.ticked, ticks-one flags state);
+  }
 
   alone-log : log productions flags state ≡ []
   unfolding count
@@ -117,9 +114,8 @@ module _ (flags : Flags) (named : NameTexts) (nested : AllNested named) (lists :
 
     first-text : all_ended flags (after_answers flags (with_texts named rest) q)
         ≡ translated flags named all names marks
-    first-text = ap (all_ended flags) comes-to
-        ∙ (headed-whole flags named nested lists read.None all (begin names marks) well
-        ∙ headed-translated flags named nested lists read.None all all names names marks made rest-is)
+    first-text = ap (all_ended flags) comes-to ∙ (headed-whole flags named nested lists read.None all (begin names
+        marks) well ∙ headed-translated flags named nested lists read.None all all names names marks made rest-is)
 
     first-way : (new : List Entry) → NamesOnTheWay flags (with_texts named rest) q new
         → NamesOfText flags named all names marks new
@@ -165,9 +161,8 @@ ahead-is b next rest named is = rw (named, is)
 
 pub leaf-as : {L R : Type 0} {told : R → Option Told} (flags : Flags) (named : NameTexts) (leaf : Leaf)
     {xs ys : List Answer} {t : Translator} {work new : Work L R} {result : Result Translated Memory} → t ≡ of_leaf leaf
-    → xs ≡ ys → EndsIn told (to_end flags (with_texts named xs) (progress_over work t)) t work new result
-    → EndsIn told (to_end flags (with_texts named ys) (progress_over work (of_leaf leaf)))
-    (of_leaf leaf) work new result
+    → xs ≡ ys → EndsIn told (to_end flags (with_texts named xs) (progress_over work t)) t work new result → EndsIn told
+    (to_end flags (with_texts named ys) (progress_over work (of_leaf leaf))) (of_leaf leaf) work new result
 leaf-as flags named leaf e same r = rw (e, same) at r
 
 -- A text from its first answer on.

@@ -27,8 +27,7 @@ bare answers = grind arith
 
 pub token-shorter : (answers new : List Answer) (t : Tok) → Gives (without_notes answers) (lexed.Token t) new
     → length new < length answers
-token-shorter answers new t g =
-    omega (arith, ap length g, (bare answers).short)
+token-shorter answers new t g = omega (arith, ap length g, (bare answers).short)
 
 -- answers that begin with a token give no other
 pub only-token : (t : Seen) (rest new : List Answer) (answer : Lexed) → Gives (Token t ∷ rest) answer new
@@ -51,8 +50,7 @@ spelled-behind (w ∷ first) word names =
     let n = names_with w.kind w.text names in
     rw (
       spelled-behind first word n,
-      append_assoc (word_tokens w names) (spelled first n).tokens
-          (word_tokens word (spelled first n).names),
+      append_assoc (word_tokens w names) (spelled first n).tokens (word_tokens word (spelled first n).names),
     )
 
 form-is : (o : Option LeafForm) (token : StoredToken) → option_map (λ form. form.tokens) o ≡ Some (token ∷ [])
@@ -130,10 +128,9 @@ module _ {wanted₀ : Wanted} {all : List Answer} {names₀ : List Entry} {token
     pub word-within : NamesWithin (answer_words wanted₀ all) names₀ names'
     word-within = grind (arith, seen, answer_words, all-words, behind)
 
-    pub reads-word : (token : StoredToken) (tokens' : List StoredToken)
-        → option_map (λ form. form.tokens) (token_form t.kind t.text.now t.hash_line t.span.start names)
-        ≡ Some (token ∷ []) → tokens' ≡ tokens ++ token ∷ []
-        → ReadsWords wanted₀ all names₀ tokens₀ next new names' tokens'
+    pub reads-word : (token : StoredToken) (tokens' : List StoredToken) → option_map (λ form. form.tokens)
+        (token_form t.kind t.text.now t.hash_line t.span.start names) ≡ Some (token ∷ [])
+        → tokens' ≡ tokens ++ token ∷ [] → ReadsWords wanted₀ all names₀ tokens₀ next new names' tokens'
     reads-word token tokens' form pushed = record {
       first = r.first ++ seen t ∷ [];
       words = all-words;
@@ -184,9 +181,8 @@ head-words-by P none more wanted (Group t inner rest) = none wanted (Group t inn
 head-words-by P none more wanted (Leaf t rest) = by (head_behind wanted t.kind t.span) refl
     (λ next. head-words-by P none more next rest)
   where
-    by : (o : Option Wanted) → head_behind wanted t.kind t.span ≡ o
-        → ((next : Wanted) → P next rest (head_words next rest))
-        → P wanted (Leaf t rest) (elim o as (λ o. Words) [
+    by : (o : Option Wanted) → head_behind wanted t.kind t.span ≡ o → ((next : Wanted) → P next rest
+        (head_words next rest)) → P wanted (Leaf t rest) (elim o as (λ o. Words) [
           | Some next ↦ word_before t (head_words next rest)
           | None ↦ no_word (Leaf t rest)
         ])

@@ -118,9 +118,8 @@ spelled-named [] names h = tt
 spelled-named (word ∷ words) names h =
     let n = names_with word.kind word.text names in
     named-append (length (spelled words n).names) (word_tokens word names) (spelled words n).tokens
-    (more-named (length n) (length (spelled words n).names) (spelled-grow words n) (word_tokens word names)
-    (kind-named word.kind word.text word.hash_line word.span.start names
-    (both-left (word_kind word) (list_all word_kind words) h)))
+    (more-named (length n) (length (spelled words n).names) (spelled-grow words n) (word_tokens word names) (kind-named
+    word.kind word.text word.hash_line word.span.start names (both-left (word_kind word) (list_all word_kind words) h)))
     (spelled-named words n (both-right (word_kind word) (list_all word_kind words) h))
 
 -- each word is one token
@@ -136,10 +135,9 @@ kind-one : (k : TokKind) (text : List ℕ) (hash_line : Bool) (n : ℕ) (names :
 kind-one k text hash_line n names h = grind (arith, form-one)
 
 -- the first of them, the break, and the others
-pub break-behind : (words : List Seen) (names : List Entry) → list_all word_kind words ≡ true
-    → names_in_text (spelled (first_word words) names).tokens ++ token.Control control.OptionalBreak
-    ∷ names_in_text (spelled (later_words words) (spelled (first_word words) names).names).tokens
-    ≡ with_break (spelled words names).tokens
+pub break-behind : (words : List Seen) (names : List Entry) → list_all word_kind words ≡ true → names_in_text (spelled
+    (first_word words) names).tokens ++ token.Control control.OptionalBreak ∷ names_in_text (spelled (later_words words)
+    (spelled (first_word words) names).names).tokens ≡ with_break (spelled words names).tokens
 break-behind [] names h = refl
 break-behind (word ∷ words) names h =
     let n = names_with word.kind word.text names in
@@ -243,10 +241,9 @@ module _ (number : ℕ) (words : List Seen) (old new : StoredLists) (names names
 
   -- a dead scrap with these tokens
   dead-by : (head : HeadRead) (h : Head) (ts : List StoredToken) (numbers : List ℕ) → Spells Text Text ts numbers
-      → AreNamed (length names') (dead number ts).tokens
-      → HasTokens (Some (dead number ts).tokens) head old.lists new.lists
-      → ((flags : Flags) (named : NameTexts) (known : Known) → head_made flags named h (with_names names known)
-      ≡ record { scraps = leaf_scrap (dead number ts) ∷ []; items = []; known = with_names names' known })
+      → AreNamed (length names') (dead number ts).tokens → HasTokens (Some (dead number ts).tokens) head old.lists
+      new.lists → ((flags : Flags) (named : NameTexts) (known : Known) → head_made flags named h (with_names names
+      known) ≡ record { scraps = leaf_scrap (dead number ts) ∷ []; items = []; known = with_names names' known })
       → Defines old new names names' head h
   dead-by (read.Dead list) h ts numbers spells all last makes =
       let agrees = dead-agrees number spells in
@@ -258,18 +255,15 @@ module _ (number : ℕ) (words : List Seen) (old new : StoredLists) (names names
       }
   dead-by _ h ts numbers spells all last makes = absurd last
 
-  macro-by : (head : HeadRead)
-      → HasTokens (Some (macro_tokens number (spelled words names).tokens)) head old.lists new.lists
-      → Defines old new names names' head (Macro number words)
+  macro-by : (head : HeadRead) → HasTokens (Some (macro_tokens number (spelled words names).tokens)) head old.lists
+      new.lists → Defines old new names names' head (Macro number words)
   macro-by head last = dead-by head (Macro number words) _ _ (macro-spells words names fit)
       (macro-named (length names') number (spelled words names).tokens spelled-there) last (λ flags named known. rw are)
 
-  format-by : (head : HeadRead) → HeadFits (Format number words)
-      → HasTokens (Some (format_tokens number (spelled words names).tokens)) head old.lists new.lists
-      → Defines old new names names' head (Format number words)
-  format-by head fits last = dead-by head (Format number words) _ _ (format-spells words names fits)
-      (rw (break-behind words names fit)
-      (format-named (length names') number (spelled words names).tokens spelled-there))
+  format-by : (head : HeadRead) → HeadFits (Format number words) → HasTokens (Some (format_tokens number
+      (spelled words names).tokens)) head old.lists new.lists → Defines old new names names' head (Format number words)
+  format-by head fits last = dead-by head (Format number words) _ _ (format-spells words names fits) (rw
+      (break-behind words names fit) (format-named (length names') number (spelled words names).tokens spelled-there))
       (rw (break-behind words names fit) last) (λ flags named known. rw (are ∙ sym (later-names words names)))
 
   silent-by : (head : HeadRead) → HasTokens None head old.lists new.lists
@@ -286,11 +280,10 @@ pub behind : (k : TokKind) (t : Seen) (answers : List Answer) → is_definition 
 behind k t answers d h = grind (arith, words-same)
 
 pub definition-defines : (k : TokKind) (t : Seen) (answers : List Answer) (old new : StoredLists)
-    (names names' : List Entry) (head : HeadRead) → is_definition k ≡ true → IsNested answers
-    → names' ≡ (spelled (answer_words (wanted_by k) answers) names).names → IsTied old.lists → old.building ≡ None
-    → new.building ≡ None
-    → HasTokens (words_tokens (wanted_by k) t.span.start (spelled (answer_words (wanted_by k) answers) names).tokens)
-    head old.lists new.lists → Defines old new names names' head (headed_by k t (nest answers)).head
+    (names names' : List Entry) (head : HeadRead) → is_definition k ≡ true → IsNested answers → names'
+    ≡ (spelled (answer_words (wanted_by k) answers) names).names → IsTied old.lists → old.building ≡ None → new.building
+    ≡ None → HasTokens (words_tokens (wanted_by k) t.span.start (spelled (answer_words (wanted_by k) answers)
+    names).tokens) head old.lists new.lists → Defines old new names names' head (headed_by k t (nest answers)).head
 definition-defines (kind.Code code.Define) t answers old new names names' head d h are tied was idle has =
     rw (words-same wants.Macro answers h) (macro-by t.span.start (answer_words wants.Macro answers) old new names names'
     (words-fit wants.Macro answers h) are tied was idle head has)
@@ -355,8 +348,7 @@ nest-other P none grouped _ new answer g n = none
 
 pub unsigned-other : (name : Seen) (rest new : List Answer) (answer : Lexed) → Gives (without_notes rest) answer new
     → ((t : Tok) → answer ≡ lexed.Token t → ⊥) → named_headed name (nest rest) ≡ headless (Leaf name (nest rest))
-unsigned-other name =
-    nest-other (λ n. named_headed name n ≡ headless (Leaf name n)) refl (λ t inner rest. refl)
+unsigned-other name = nest-other (λ n. named_headed name n ≡ headless (Leaf name n)) refl (λ t inner rest. refl)
 
 pub headless-other : (rest new : List Answer) (answer : Lexed) → Gives (without_notes rest) answer new
     → ((t : Tok) → answer ≡ lexed.Token t → ⊥) → headed (nest rest) ≡ headless (nest rest)
@@ -410,10 +402,9 @@ pub record Signs (name : Seen) (rest : List Answer) (b : Beginning) (ahead : Lis
   pub starts : StartsBelow (2 ^ 32) ahead
 
 pub unsigned-signs : {name : Tok} {answer : Lexed} (rest new : List Answer) (b : Beginning) → b.head ≡ read.None
-    → b.name ≡ Some name → b.next ≡ answer → Gives (without_notes rest) answer new
-    → IsNested (Token (seen name) ∷ rest) → StartsBelow (2 ^ 32) (Token (seen name) ∷ rest)
-    → named_headed (seen name) (nest rest) ≡ headless (Leaf (seen name) (nest rest))
-    → Signs (seen name) rest b (answers_ahead b ++ new)
+    → b.name ≡ Some name → b.next ≡ answer → Gives (without_notes rest) answer new → IsNested (Token (seen name) ∷ rest)
+    → StartsBelow (2 ^ 32) (Token (seen name) ∷ rest) → named_headed (seen name) (nest rest)
+    ≡ headless (Leaf (seen name) (nest rest)) → Signs (seen name) rest b (answers_ahead b ++ new)
 unsigned-signs {name = name} {answer = answer} rest new b head named next g h s u =
     grind (arith, ahead-of, nested-behind, seen, answers_in, nested-by, nest-token)
 

@@ -64,9 +64,8 @@ kind-spells k text hash_line n names h = grind (arith, word-spells, sign-spells)
 spelled-spells : (words : List Seen) (names : List Entry) → list_all word_kind words ≡ true
     → Spells Math Math (spelled words names).tokens (starts words)
 spelled-spells [] names h = spells-none Math
-spelled-spells (word ∷ words) names h = spells-append
-    (kind-spells word.kind word.text word.hash_line word.span.start names
-    (both-left (word_kind word) (list_all word_kind words) h))
+spelled-spells (word ∷ words) names h = spells-append (kind-spells word.kind word.text word.hash_line word.span.start
+    names (both-left (word_kind word) (list_all word_kind words) h))
     (spelled-spells words _ (both-right (word_kind word) (list_all word_kind words) h))
 
 dollared-spells : (tokens : List Token) (numbers : List ℕ) → Spells Math Math tokens numbers
@@ -86,8 +85,7 @@ is_name k = false
 abbrev name_kind : Seen → Bool
 name_kind word = is_name word.kind
 
-word-in-text : (c : Cat) (name : NameId) (n : ℕ)
-    → Spells Text Text (names_in_text (word_form c name n).tokens) (n ∷ [])
+word-in-text : (c : Cat) (name : NameId) (n : ℕ) → Spells Text Text (names_in_text (word_form c name n).tokens) (n ∷ [])
 word-in-text c name n = grind arith
 
 name-in-text : (k : TokKind) (text : List ℕ) (hash_line : Bool) (n : ℕ) (names : List Entry) → is_name k ≡ true
@@ -100,16 +98,13 @@ names-spell [] names h = spells-none Text
 names-spell (word ∷ words) names h =
     let n = names_with word.kind word.text names in
     rw (names-append (word_tokens word names) (spelled words n).tokens)
-    (spells-append (name-in-text word.kind word.text word.hash_line word.span.start names
-    (both-left (name_kind word) (list_all name_kind words) h))
-    (names-spell words n (both-right (name_kind word) (list_all name_kind words) h)))
+    (spells-append (name-in-text word.kind word.text word.hash_line word.span.start names (both-left (name_kind word)
+    (list_all name_kind words) h)) (names-spell words n (both-right (name_kind word) (list_all name_kind words) h)))
 
 -- the tokens of heads
-pub macro-spells : (words : List Seen) (names : List Entry) → list_all word_kind words ≡ true
-    → Spells Text Text (dollared (spelled words names).tokens ++ token.Control control.OptionalBreak ∷ [])
-    (starts words ++ [])
-macro-spells words names fits =
-    spells-append (dollared-spells _ _ (spelled-spells words names fits)) break-spells
+pub macro-spells : (words : List Seen) (names : List Entry) → list_all word_kind words ≡ true → Spells Text Text
+    (dollared (spelled words names).tokens ++ token.Control control.OptionalBreak ∷ []) (starts words ++ [])
+macro-spells words names fits = spells-append (dollared-spells _ _ (spelled-spells words names fits)) break-spells
 
 pub format-spells : (words : List Seen) (names : List Entry) → list_all name_kind words ≡ true
     → Spells Text Text (names_in_text (spelled (first_word words) names).tokens ++ token.Control control.OptionalBreak
@@ -183,16 +178,13 @@ pub reads-head : (flags : Flags) (named : ℕ → Option (List (List Answer))) (
     → IsFineKnown known → IsSoundMade (head_made flags named h known)
 reads-head flags named Headless known fits f = reads-nothing known f
 reads-head flags named (Silent words) known fits f = reads-nothing _ f
-reads-head flags named (Macro number words) known fits f =
-    reads-dead number _ (macro-spells words known.names fits) f
-reads-head flags named (Format number words) known fits f =
-    reads-dead number _ (format-spells words known.names fits) f
+reads-head flags named (Macro number words) known fits f = reads-dead number _ (macro-spells words known.names fits) f
+reads-head flags named (Format number words) known fits f = reads-dead number _ (format-spells words known.names fits) f
 reads-head flags named (Named number sign) known fits f = reads-headed-name flags (named number) (sign_behind sign)
     number known refl tt f
 
-pub reads-headed : (flags : Flags) (named : ℕ → Option (List (List Answer))) (answers : List Answer)
-    (names : List Entry) (marks : List ℕ)
-    → IsSoundMade (headed_made flags named (headed (nest answers)) (begin names marks))
+pub reads-headed : (flags : Flags) (named : ℕ → Option (List (List Answer))) (answers : List Answer) (names : List
+    Entry) (marks : List ℕ) → IsSoundMade (headed_made flags named (headed (nest answers)) (begin names marks))
 reads-headed flags named answers names marks =
     let h = headed (nest answers) in
     let known = begin names marks in
@@ -204,9 +196,8 @@ reads-headed flags named answers names marks =
 pub stands-in-text : (flags : Flags) (named : ℕ → Option (List (List Answer))) (answers : List Answer)
     (names : List Entry) (marks : List ℕ) → ReadsInText (translated flags named answers names marks).tree
 unfolding translated
-stands-in-text flags named answers names marks =
-    reads-end flags (headed_made flags named (headed (nest answers)) (begin names marks))
-    (reads-headed flags named answers names marks)
+stands-in-text flags named answers names marks = reads-end flags
+    (headed_made flags named (headed (nest answers)) (begin names marks)) (reads-headed flags named answers names marks)
 
 most : (flags : Flags) (ended : List State) → list_all fine_state ended ≡ true
     → ticks_in flags ended ≤ limit_in flags ended
@@ -256,9 +247,8 @@ translated-shown flags named answers names marks nested =
     let first = head_made flags named h.head known in
     let is_named = λ (n : ℕ). is_some (named n) in
     struck-end flags (headed_made flags named h known).scraps (headed_made flags named h known).known
-    (reads-headed flags named answers names marks).fine
-    ∙ shows-beside false first (made flags (leaf_of_name flags named) h.rest first.known) (shown_head is_named h.head)
-    (shown_in is_named h.rest) (shows-head flags named h.head known fit.head)
-    (shows-made flags is_named (leaf_of_name flags named) (λ number k. shows-name flags (named number) number k)
-    (reads-leaf flags named) h.rest false first.known (fit.rest (nest-well answers nested))
-    (reads-head flags named h.head known fit.head refl).known)
+    (reads-headed flags named answers names marks).fine ∙ shows-beside false first
+    (made flags (leaf_of_name flags named) h.rest first.known) (shown_head is_named h.head) (shown_in is_named h.rest)
+    (shows-head flags named h.head known fit.head) (shows-made flags is_named (leaf_of_name flags named)
+    (λ number k. shows-name flags (named number) number k) (reads-leaf flags named) h.rest false first.known
+    (fit.rest (nest-well answers nested)) (reads-head flags named h.head known fit.head refl).known)

@@ -80,12 +80,9 @@ step-token k token a = at-form (token_form k token.text token.hash_line token.sp
 
 -- A comment and an inner text.
 level-comment : (flags : Flags) (name : ℕ → Known → Made) (token : Seen) (inner rest : Nest) (a : Progress)
-    → level flags name rest (closed flags (level flags name inner (record {
-      frames = Comment (holder.Comment token.span.start) [] ∷ a.frames;
-      known = a.known;
-    })))
-    ≡ with_made a.frames (made_before (group_made flags kind.LongComment token (made flags name inner a.known))
-    (made flags name rest))
+    → level flags name rest (closed flags (level flags name inner (record
+    { frames = Comment (holder.Comment token.span.start) [] ∷ a.frames; known = a.known }))) ≡ with_made a.frames
+    (made_before (group_made flags kind.LongComment token (made flags name inner a.known)) (made flags name rest))
 level-comment flags name token inner rest a =
     grind (arith, nat_tests, common_steps, extended-scrap, comment_scrap, level-before)
 
@@ -135,9 +132,8 @@ module _ (flags : Flags) (name : ℕ → Known → Made) where
   run-end ns levels next a h s = grind (arith, finish-some, extended-nothing)
 
   run-group : (token : Seen) (ns : List Nest) (levels next : List Level) (a : Progress)
-      → level_begin token.kind levels ≡ Some next → IsTwo next → SameSize ns next
-      → run flags name ns (record { frames = pushed token.kind token.span.start a.frames; known = a.known })
-      ≡ run flags name (group token ns) a
+      → level_begin token.kind levels ≡ Some next → IsTwo next → SameSize ns next → run flags name ns (record
+      { frames = pushed token.kind token.span.start a.frames; known = a.known }) ≡ run flags name (group token ns) a
   run-group token ns levels next a h two s = grind (arith, level-begin)
 
   run-one : (answer : Answer) (answers : List Answer) (levels next : List Level) (a : Progress)
@@ -180,9 +176,8 @@ text_items flags [] known = []
 text_items flags (text ∷ texts) known = InnerText (plain_text flags text known).tree
     ∷ text_items flags texts (plain_text flags text known).known
 
-items-tree : (flags : Flags) (texts : List (List Answer)) (behind : Tree) (known : Known)
-    → name_rest (text_items flags texts known) behind
-    ≡ (texts_made flags texts (Then (Sign control.NameEnd) behind) known).tree
+items-tree : (flags : Flags) (texts : List (List Answer)) (behind : Tree) (known : Known) → name_rest (text_items flags
+    texts known) behind ≡ (texts_made flags texts (Then (Sign control.NameEnd) behind) known).tree
 items-tree flags [] behind known = refl
 items-tree flags (text ∷ texts) behind known = rw (items-tree flags texts behind (plain_text flags text known).known)
 
@@ -238,9 +233,8 @@ module _ (flags : Flags) (named : NameTexts) (nested : AllNested named) where
       → after_answers flags (token_answers named k token) a ≡ with_made a.frames (token_made name k token a.known)
   step-named k token a e = grind (arith, step-name, step-token)
 
-  named-one : (answer : Answer) (answers : List Answer) (a : Progress)
-      → after_answers flags (with_texts named (answer ∷ answers)) a
-      ≡ after_answers flags (with_texts named answers) (stepped flags name answer a)
+  named-one : (answer : Answer) (answers : List Answer) (a : Progress) → after_answers flags (with_texts named
+      (answer ∷ answers)) a ≡ after_answers flags (with_texts named answers) (stepped flags name answer a)
   named-one answer answers a = grind (arith, after-append, token_answers, with_texts, after_answers, step-named)
 
   -- what is made of a head, and then the answers behind it

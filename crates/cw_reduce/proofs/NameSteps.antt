@@ -29,13 +29,11 @@ use Rattle.cw_secnames.specs.declared.kinds.SecId.{SecId}
 use Rattle.cw_translator.specs.NameParts.{AreNamesOf, name_texts, parts_by_kind, texts_kept, texts_of_name}
 
 -- An inner text has begun.
-pub text-begun : {L R : Type 0} {told : R → Option Told} (flags : Flags) (text : List Answer) {t t1 : Translator}
-    {work : Work L R} → IsTranslating work.store.now work.names.now t
-    → t1 ≡ record t { nesting = OpenCText [] ∷ t.nesting }
+pub text-begun : {L R : Type 0} {told : R → Option Told} (flags : Flags) (text : List Answer) {t t1 : Translator} {work
+    : Work L R} → IsTranslating work.store.now work.names.now t → t1 ≡ record t { nesting = OpenCText [] ∷ t.nesting }
     → Advancing told flags (text_answers text) (text ++ Finish text_token ∷ []) (progress_over work t) t work t1 work
-text-begun flags text is e = advancing-next (Begin text_token ∷ []) (text ++ Finish text_token ∷ [])
-    (advancing-begun flags (text_answers text) is) refl
-    (begin-advances {T = Unit {0}} flags text_token {result = Ok tt} is e)
+text-begun flags text is e = advancing-next (Begin text_token ∷ []) (text ++ Finish text_token ∷ []) (advancing-begun
+    flags (text_answers text) is) refl (begin-advances {T = Unit {0}} flags text_token {result = Ok tt} is e)
 
 -- The answers of parts, and the next of them.
 abbrev pub part_answers : List ℕ → Span → List Answer
@@ -44,9 +42,8 @@ part_answers text span = until_section (tokens_of text span.start span.end inner
 abbrev pub all_part_answers : List ℕ → List Span → List Answer
 all_part_answers text spans = texts_answers (map (part_answers text) spans)
 
-pub part-next : (text : List ℕ) (from : ℕ) (span : Span) → IsNextPart text from span
-    → all_part_answers text (parts_at text from) ≡ text_answers (part_answers text span)
-    ++ all_part_answers text (parts_at text (span.end + 1))
+pub part-next : (text : List ℕ) (from : ℕ) (span : Span) → IsNextPart text from span → all_part_answers text
+    (parts_at text from) ≡ text_answers (part_answers text span) ++ all_part_answers text (parts_at text (span.end + 1))
 part-next text from span h = ap (all_part_answers text) h.parts
 
 -- What holds inner texts has begun.
@@ -141,9 +138,8 @@ module _ {kept : List SecName} {uses : List NameUse} {id : SecId} (names : AreNa
     abbrev held_texts : List Answer
     held_texts = held_answers (parts_by_kind k text)
 
-    then-held : (flags : Flags) (p : Progress) → after_answers flags held_texts
-        (with_held (holder.Name token.span.start) p)
-        ≡ after_answers flags (token_answers (name_texts kept uses) token.kind token) p
+    then-held : (flags : Flags) (p : Progress) → after_answers flags held_texts (with_held (holder.Name
+        token.span.start) p) ≡ after_answers flags (token_answers (name_texts kept uses) token.kind token) p
     then-held flags p = grind (arith, answers-are, after_answers, name-begins)
 
     paired-fails : (flags : Flags) (p : Progress) (entries : List Entry)
@@ -197,9 +193,8 @@ module _ (flags : Flags) (named : NameTexts) (nested : AllNested named) (lists :
 
   pub headed-translated : (head : HeadRead) (rest answers : List Answer) (old new : List Entry) (marks : List ℕ)
       → ((f : Flags) (n : NameTexts) (known : Known) → head_made f n (headed (nest answers)).head (with_names old known)
-      ≡ read_made f n lists head (with_names new known))
-      → nest rest ≡ (headed (nest answers)).rest → headed_text flags named lists head rest (begin new marks)
-      ≡ translated flags named answers old marks
+      ≡ read_made f n lists head (with_names new known)) → nest rest ≡ (headed (nest answers)).rest
+      → headed_text flags named lists head rest (begin new marks) ≡ translated flags named answers old marks
   unfolding translated
   headed-translated head rest answers old new marks makes leaves = rw (← makes flags named (begin old marks), leaves)
 
@@ -216,18 +211,15 @@ starts-ahead limit a b c h =
     (first.0, first.1, both.1)
 
 -- the first of them have been read
-pub ahead-advancing : {L R T : Type 0} {told : R → Option Told} (flags : Flags) (named : NameTexts)
-    (a b c : List Answer) {t t' : Translator} {old new : Work L R} {value : T}
-    → IsTranslating old.store.now old.names.now t
-    → Advances told (over flags (with_texts named a) (progress_over old t)) t old t' new (Ok value)
-    → Advancing told flags (with_texts named ((a ++ b) ++ c)) (with_texts named (b ++ c))
-    (progress_over old t) t old t' new
+pub ahead-advancing : {L R T : Type 0} {told : R → Option Told} (flags : Flags) (named : NameTexts) (a b c : List
+    Answer) {t t' : Translator} {old new : Work L R} {value : T} → IsTranslating old.store.now old.names.now t
+    → Advances told (over flags (with_texts named a) (progress_over old t)) t old t' new (Ok value) → Advancing told
+    flags (with_texts named ((a ++ b) ++ c)) (with_texts named (b ++ c)) (progress_over old t) t old t' new
 ahead-advancing flags named a b c is r = grind (arith, advancing-next, with_texts, advancing-begun, cut-first)
 
 pub headed-among : (flags : Flags) (named : NameTexts) (head : HeadRead) (rest : List Answer) (p : Progress)
-    (new : List Entry)
-    → NamesOfHead flags named head p new ⊎ NamesAmong flags (with_texts named rest) (after_head flags named head p) new
-    → NamesOfHeaded flags named head rest p new
+    (new : List Entry) → NamesOfHead flags named head p new ⊎ NamesAmong flags (with_texts named rest)
+    (after_head flags named head p) new → NamesOfHeaded flags named head rest p new
 headed-among flags named head rest p new (inl h) = in_name h
 headed-among flags named head rest p new (inr h) = behind (rw (append-nil (with_texts named rest)) at (h []))
 
@@ -258,9 +250,8 @@ pub headed-as : {L R : Type 0} {told : R → Option Told} (flags : Flags) (named
 headed-as flags named nested head rest well {work = work} e r = grind (arith, ends-as, headed-whole, marked_names)
 
 -- The names where it begins.
-held-start : (flags : Flags) (named : NameTexts) (number sign : ℕ) (rest : List Answer) (p : Progress)
-    (o : Option (List (List Answer))) → named number ≡ o
-    → NamesOfHeaded flags named (read.Named number sign) rest p p.known.names
+held-start : (flags : Flags) (named : NameTexts) (number sign : ℕ) (rest : List Answer) (p : Progress) (o : Option
+    (List (List Answer))) → named number ≡ o → NamesOfHeaded flags named (read.Named number sign) rest p p.known.names
 held-start flags named number sign rest p None e = behind (rw e (here (with_texts named rest) p))
 held-start flags named number sign rest p (Some texts) e =
     in_name (rw e (same-names flags (held_answers texts) (with_held (holder.Head number sign) p)))

@@ -125,9 +125,8 @@ joined-inners m (Whole tree l r ∷ js) all = toggled-inners m l (Sub tree (join
   All-head piece_inners (Whole tree l r) js all,
   joined-inners (after m l r) js (All-tail piece_inners (Whole tree l r) js all),
 )
-joined-inners m (Mark c ∷ js) all = toggled-inners m (needs c)
-    (Then (Sign c) (joined_tree (after m (needs c) (needs c)) js)) (joined-inners (after m (needs c) (needs c)) js
-    (All-tail piece_inners (Mark c) js all))
+joined-inners m (Mark c ∷ js) all = toggled-inners m (needs c) (Then (Sign c) (joined_tree (after m (needs c) (needs c))
+    js)) (joined-inners (after m (needs c) (needs c)) js (All-tail piece_inners (Mark c) js all))
 
 math-inners : (tree : Tree) (l r : MathMode) → InnersRead tree → piece_inners (math_piece tree l r)
 math-inners tree Maybe Maybe h = h
@@ -148,9 +147,8 @@ inners-piece scraps _ all = tt
 keeps-inners : (flags : Flags) (row : Row) (place : ℕ) (scraps : List Scrap) → All inners_of scraps
     → All inners_of (take place scraps ++ rewrite_from flags row (drop place scraps))
 keeps-inners flags row place scraps all = keeps-all inners_of tt (λ s h. reserve-inners s.tree h) (λ cat s h. h)
-    (λ cat ss pieces h. joined-inners Maybe (map (joined_of ss) pieces)
-    (All-map piece_inners (joined_of ss) pieces (λ k d lt. inners-piece ss (get_or pieces k d) h)))
-    flags row place scraps all
+    (λ cat ss pieces h. joined-inners Maybe (map (joined_of ss) pieces) (All-map piece_inners (joined_of ss) pieces
+    (λ k d lt. inners-piece ss (get_or pieces k d) h))) flags row place scraps all
 
 pub record AreRead (scraps : List Scrap) : Type 0 where
   pub modes : All scrap_agrees scraps
@@ -164,11 +162,10 @@ steps-read rows flags (suc n) st are = go (next_place rows st) refl (λ s. steps
     go : (p : Place) → next_place rows st ≡ p → ((s : State) → AreRead s.scraps → AreRead (steps rows flags n s).scraps)
         → AreRead (steps rows flags (suc n) st).scraps
     go Nowhere e rec = rw (steps-none rows flags (suc n) st e) are
-    go (At i r) e rec = rw (steps-turn rows flags n i r st e)
-        (rec (rewrite flags r i st) (record {
-          modes = keeps-modes flags r i st.scraps are.modes;
-          inners = keeps-inners flags r i st.scraps are.inners;
-        }))
+    go (At i r) e rec = rw (steps-turn rows flags n i r st e) (rec (rewrite flags r i st) (record {
+      modes = keeps-modes flags r i st.scraps are.modes;
+      inners = keeps-inners flags r i st.scraps are.inners;
+    }))
 
 pub normal-read : (rows : List Row) (flags : Flags) (st : State) → AreRead st.scraps
     → AreRead (normal rows flags st).scraps
@@ -196,8 +193,7 @@ blank-inners : (scraps : List Scrap) → All inners_of scraps → InnersRead (bl
 blank-inners [] all = tt
 blank-inners (s ∷ scraps) all = dollar-inners s.left (Sub s.tree (dollar_before s.right (blank_and_whole scraps))) (
   All-head inners_of s scraps all,
-  dollar-inners s.right (blank_and_whole scraps) (blank-inners scraps (All-tail
-      inners_of s scraps all)),
+  dollar-inners s.right (blank_and_whole scraps) (blank-inners scraps (All-tail inners_of s scraps all)),
 )
 
 whole-inners : (scraps : List Scrap) → All inners_of scraps → InnersRead (whole scraps)
@@ -367,11 +363,9 @@ shows-made flags is_named name names reads End true known w f = refl
 shows-made flags is_named name names reads End false known w f = refl
 shows-made flags is_named name names reads (Leaf token rest) comment known w f =
     let first = token_made name token.kind token known in
-    shows-beside comment first (made flags name rest first.known)
-    (shown_token is_named token.kind token.span.start) (shown_in is_named rest)
-    (shows-token is_named name comment token.kind token known names w.0)
-    (shows-made flags is_named name names reads rest comment first.known w.1
-    (reads-token name reads token.kind token known f).known)
+    shows-beside comment first (made flags name rest first.known) (shown_token is_named token.kind token.span.start)
+    (shown_in is_named rest) (shows-token is_named name comment token.kind token known names w.0) (shows-made flags
+    is_named name names reads rest comment first.known w.1 (reads-token name reads token.kind token known f).known)
 shows-made flags is_named name names reads (Group token inner rest) comment known w f =
     let within = made flags name inner known in
     let sound = reads-made flags name reads inner known f in
@@ -379,9 +373,8 @@ shows-made flags is_named name names reads (Group token inner rest) comment know
     shows-beside comment first (made flags name rest first.known)
     (list_if (is_comment token.kind) (token.span.start ∷ []) ++ shown_in is_named inner) (shown_in is_named rest)
     (shows-group flags comment token.kind token within (shown_in is_named inner) w.0 sound.fine
-    (shows-made flags is_named name names reads inner (not comment) known w.1 f))
-    (shows-made flags is_named name names reads rest comment first.known w.2
-    (reads-group flags token.kind token within sound).known)
+    (shows-made flags is_named name names reads inner (not comment) known w.1 f)) (shows-made flags is_named name names
+    reads rest comment first.known w.2 (reads-group flags token.kind token within sound).known)
 
 -- Section names.
 pub struck-parts : (flags : Flags) (parts : List (List Answer)) (rest : Tree) (known : Known)

@@ -1,18 +1,11 @@
 -- The log of the productions, one production after another.
-use Rattle.std.proofs.Common.{◌≡◌, ℕ, zero, suc, ◌+◌, ◌<◌, Bool, true, false, eqb, Option, Some, List, [], ◌∷◌, ◌++◌}
-use Rattle.std.proofs.Common.{take, slice_get, refl, sym, ◌∙◌, ap, arith, if◌then◌else◌}
-use Rattle.std.specs.Prelude.{Result, OnErr}
-use Rattle.std.proofs.Math.Seq.{take-length}
-use Rattle.std.proofs.lemmas.Bool.{eqb-true}
-use Rattle.cw_base.specs.declared.flags.Flags.{Flags}
-use Rattle.cw_table.specs.declared.types.Row.{Row}
-use Rattle.cw_table.specs.Normal.{Place, Nowhere, At, next_place, steps, Production, log_of, log, count, weight}
-use Rattle.cw_table.specs.Productions.{productions}
-use Rattle.cw_table.specs.Rewriting.{State, rewrite}
-use Rattle.cw_table.specs.Rows.{row_numbered, row_of}
-use Rattle.cw_table.proofs.Normals.{log-turn-of, steps-none, steps-turn}
-use Rattle.std.proofs.lemmas.List.{append_assoc}
-use Rattle.cw_rewrite.specs.Telling.{EndsWithin, StopsAt, Told, grown_by}
+use Rattle.cw_rewrite.proofs.Terms.{◌≡◌, ℕ, zero, suc, ◌+◌, ◌<◌, Bool, true, false, eqb, Option, Some, List, [], ◌∷◌}
+use Rattle.cw_rewrite.proofs.Terms.{◌++◌, take, slice_get, refl, sym, ◌∙◌, ap, arith, if◌then◌else◌, Result, OnErr}
+use Rattle.cw_rewrite.proofs.Terms.{Flags, Row, Place, Nowhere, At, next_place, steps, Production, log_of, weight}
+use Rattle.cw_rewrite.proofs.Terms.{productions, State, rewrite, row_numbered, row_of, log-turn-of, steps-none}
+use Rattle.cw_rewrite.proofs.Terms.{steps-turn, append_assoc, EndsWithin, StopsAt, Told, grown_by}
+use Rattle.std.proofs.{Math.Seq.take-length, lemmas.Bool.eqb-true}
+use Rattle.cw_table.specs.Normal.{log, count}
 
 -- the row of a number has it
 numbered-own : (rows : List Row) (n : ℕ) (row : Row) → row_numbered rows n ≡ Some row → row.number.number ≡ n
@@ -31,14 +24,12 @@ pub numbered-number : (rows : List Row) (n : ℕ) → row_numbered rows n ≡ So
 numbered-number rows n e = numbered-own rows n (row_of rows n) e
 
 more-of : (rows : List Row) (f : Flags) (n fuel place : ℕ) (row : Row) (state : State) → n < fuel
-    → next_place rows (steps rows f n state) ≡ At place row
-    → take (suc n) (log_of rows f fuel state)
+    → next_place rows (steps rows f n state) ≡ At place row → take (suc n) (log_of rows f fuel state)
     ≡ take n (log_of rows f fuel state) ++ record { number = row.number.number; place = place } ∷ []
 more-of rows f n zero place row state lt e = absurd (omega arith)
 more-of rows f zero (suc k) place row state lt e = ap (take 1) (log-turn-of rows f k place row state e)
-more-of rows f (suc n) (suc k) place row state lt e =
-    go (λ i r at. more-of rows f n k place row (rewrite f r i state) (omega arith)
-    (ap (next_place rows) (sym (steps-turn rows f n i r state at)) ∙ e)) (next_place rows state) refl
+more-of rows f (suc n) (suc k) place row state lt e = go (λ i r at. more-of rows f n k place row (rewrite f r i state)
+    (omega arith) (ap (next_place rows) (sym (steps-turn rows f n i r state at)) ∙ e)) (next_place rows state) refl
   where
     go : ((i : ℕ) (r : Row) → next_place rows state ≡ At i r → take (suc n) (log_of rows f k (rewrite f r i state))
         ≡ take n (log_of rows f k (rewrite f r i state)) ++ record { number = row.number.number; place = place } ∷ [])
@@ -89,8 +80,7 @@ pub told-whole : (f : Flags) (start : State) (done : ℕ) (old : Option Told)
 told-whole f start done old told all = grind (arith, whole-log)
 
 -- what is told of some, and then of one more
-told-more : (xs ys : List Production) (o : Option Told)
-    → grown_by ys (grown_by xs o) ≡ grown_by (xs ++ ys) o
+told-more : (xs ys : List Production) (o : Option Told) → grown_by ys (grown_by xs o) ≡ grown_by (xs ++ ys) o
 told-more xs ys o = grind (arith, append_assoc)
 
 pub told-next : (xs : List Production) (done : ℕ) (p : Production) (old : Option Told)
@@ -107,9 +97,8 @@ module _ (f : Flags) (start was now : State) (before told : Option Told) (done :
     (inside : done < count productions f start) (reached : was ≡ steps productions f done start)
     (same : now ≡ was) where
   pub stops-before : (refuses : Production → Bool) (next : Production)
-      → slice_get (log productions f start) done ≡ Some next → refuses next ≡ true → {old : Option Told}
-      → told ≡ old → old ≡ grown_by (take done (log productions f start)) before
-      → StopsAt f start now before told refuses
+      → slice_get (log productions f start) done ≡ Some next → refuses next ≡ true → {old : Option Told} → told ≡ old
+      → old ≡ grown_by (take done (log productions f start)) before → StopsAt f start now before told refuses
   stops-before refuses next there refused kept heard = grind arith
 
   pub ends-before : {T E : Type 0} (r : Result T E) {old : Option Told} → told ≡ old

@@ -1,35 +1,16 @@
 -- The loop of the reducer, over a line in its store.
-use Rattle.std.proofs.Common.{◌≡◌, ℕ, zero, suc, ◌+◌, ◌-◌, ◌*◌, ◌^◌, ◌<◌, ◌≤◌, true, Some, None, List, [], ◌∷◌, ◌++◌}
-use Rattle.std.proofs.Common.{length, drop, take, slice_get, refl, sym, ◌∙◌, ap, arith}
-use Rattle.cw_base.specs.declared.flags.Flags.{Flags}
-use Rattle.cw_names.specs.Names.{Entry}
-use Rattle.cw_table.specs.Fitting.{row_fits, first_of}
-use Rattle.cw_table.specs.Normal.{count, log, weight, steps as steps_done}
-use Rattle.cw_table.specs.NormalWalk.{walk_left}
-use Rattle.cw_table.specs.Productions.{productions}
-use Rattle.cw_table.specs.Reaching.{IsAfter}
-use Rattle.cw_table.specs.Rewriting.{State, cats_of, rewrite}
-use Rattle.cw_table.specs.Safe.{least}
-use Rattle.cw_table.specs.WalkCounts.{right_of_new, ticks, reservings}
-use Rattle.cw_table.proofs.CountLaws.{ticks-most}
-use Rattle.cw_table.proofs.Examples.{productions-sound}
+use Rattle.cw_rewrite.proofs.Terms.{◌≡◌, ℕ, zero, suc, ◌+◌, ◌-◌, ◌*◌, ◌^◌, ◌<◌, ◌≤◌, true, Some, None, List, [], ◌∷◌}
+use Rattle.cw_rewrite.proofs.Terms.{◌++◌, length, drop, take, slice_get, refl, sym, ◌∙◌, ap, arith, Flags, Entry}
+use Rattle.cw_rewrite.proofs.Terms.{row_fits, first_of, count, log, weight, steps as steps_done, walk_left, productions}
+use Rattle.cw_rewrite.proofs.Terms.{IsAfter, State, cats_of, rewrite, least, right_of_new, ticks, reservings}
+use Rattle.cw_rewrite.proofs.Terms.{ticks-most, productions-sound, count-weight, count-most, StoredLists, LineEntry}
+use Rattle.cw_rewrite.proofs.Terms.{row_of, state_of, Keeps, entry_cats, IsSoundLine, scraps_of, roots_of, keeps-trans}
+use Rattle.cw_rewrite.proofs.Terms.{words_of, GrowsByProductions, HasNoMore, IsFirst, IsNext, PassesOver}
 use Rattle.cw_table.specs.SourceNumbers.{numbers_of}
 use Rattle.cw_table.proofs.NumberLaws.{steps-numbers}
-use Rattle.cw_table.proofs.Normals.{count-weight, count-most}
 use Rattle.cw_tokens.specs.Counting.{token_count}
-use Rattle.cw_tokens.specs.Stored.{StoredLists}
-use Rattle.cw_scraps.specs.declared.line.LineEntry.{LineEntry}
-use Rattle.cw_table.specs.Rows.{row_of}
-use Rattle.cw_scraps.specs.Applying.{state_of}
-use Rattle.cw_scraps.specs.Changing.{Keeps}
-use Rattle.cw_scraps.specs.Inserting.{entry_cats}
-use Rattle.cw_scraps.specs.Lines.{IsSoundLine, scraps_of, roots_of}
 use Rattle.cw_scraps.specs.Marking.{MarkList}
-use Rattle.cw_scraps.proofs.Applied.{keeps-trans}
-use Rattle.cw_scraps.proofs.Productions.{cats-same}
-use Rattle.cw_scraps.proofs.Reservings.{length-scraps}
-use Rattle.cw_names.specs.Words.{words_of}
-use Rattle.cw_rewrite.specs.Reduction.{GrowsByProductions, HasNoMore, IsFirst, IsNext, PassesOver}
+use Rattle.cw_scraps.proofs.{Productions.cats-same, Reservings.length-scraps}
 use Rattle.cw_rewrite.proofs.WalkSteps.{Walks, Rewrites, rewrites, GoesOn, goes-on, WalkEnds, walk-ends, walk-reaches}
 
 -- what holds at each turn; the first values are those with which the reducer was called
@@ -95,9 +76,8 @@ module _ (f : Flags) (line0 : List LineEntry) (store0 : StoredLists) (names0 : L
   bound-line = grind (arith, length-scraps, ticks-most, productions-sound)
 
   numbers-stay : numbers_of (scraps_of store.lists line) ≡ numbers_of (scraps_of store0.lists line0)
-  numbers-stay = ap (λ (x : State). numbers_of x.scraps) h.walks.reached
-      ∙ steps-numbers productions f done (state_of store0.lists line0 marks0 names0) productions-sound
-      h.walks.start_fine
+  numbers-stay = ap (λ (x : State). numbers_of x.scraps) h.walks.reached ∙ steps-numbers productions f done
+      (state_of store0.lists line0 marks0 names0) productions-sound h.walks.start_fine
 
   grows : GrowsByProductions f (state_of store0.lists line0 marks0 names0) store0.lists
       (state_of store.lists line marks names) store.lists
@@ -109,10 +89,8 @@ module _ (f : Flags) (line0 : List LineEntry) (store0 : StoredLists) (names0 : L
       let same : drop place (entry_cats line) ≡ drop place (cats_of (scraps_of store.lists line)) =
       ap (drop place) (sym (cats-same store.lists line)) in
       let w : Rewrites f (state_of store0.lists line0 marks0 names0) (state_of store.lists line marks names) place done
-      steps0 steps number = rewrites f (state_of store0.lists line0 marks0 names0)
-      (state_of store.lists line marks names) place done steps0 steps number h.walks
-      (omega (arith, length-scraps store.lists line))
-      (record {
+      steps0 steps number = rewrites f (state_of store0.lists line0 marks0 names0) (state_of store.lists line marks
+      names) place done steps0 steps number h.walks (omega (arith, length-scraps store.lists line)) (record {
         from_one = is.from_one;
         to_last = is.to_last;
         numbered = is.numbered;
@@ -155,10 +133,9 @@ module _ (f : Flags) (line0 : List LineEntry) (store0 : StoredLists) (names0 : L
       → steps' ≡ steps + 4 → InLoop f line0 store0 names0 marks0 steps0 line store names marks steps' (place + 1) done
   passes steps' inside none s =
       let g : GoesOn f (state_of store0.lists line0 marks0 names0) (state_of store.lists line marks names) place done
-      steps0 steps = goes-on f (state_of store0.lists line0 marks0 names0)
-      (state_of store.lists line marks names) place done steps0 steps h.walks
-      (omega (arith, length-scraps store.lists line)) (ap (λ cs. first_of productions (drop place cs))
-      (cats-same store.lists line) ∙ none) in
+      steps0 steps = goes-on f (state_of store0.lists line0 marks0 names0) (state_of store.lists line marks names) place
+      done steps0 steps h.walks (omega (arith, length-scraps store.lists line))
+      (ap (λ cs. first_of productions (drop place cs)) (cats-same store.lists line) ∙ none) in
       record {
         walks = rw s g.next;
         sound = h.sound;
@@ -180,8 +157,7 @@ module _ (f : Flags) (line0 : List LineEntry) (store0 : StoredLists) (names0 : L
         after = walk-reaches f (state_of store0.lists line0 marks0 names0)
             (state_of store.lists line marks names) place done steps0 steps h.walks;
         numbers = numbers-stay;
-        no_more =
-            omega (arith, e.ticked);
+        no_more = omega (arith, e.ticked);
         bound = omega (arith, e.ticked, bound-line);
         tokens = grows;
       }
@@ -194,12 +170,11 @@ module _ (f : Flags) (line0 : List LineEntry) (store0 : StoredLists) (names0 : L
   few past = grind (arith, ends, count-most, length-scraps)
 
 -- over as many places at which no row fits
-pub passes-by : (n : ℕ) (f : Flags) (line0 : List LineEntry) (store0 : StoredLists) (names0 : List Entry)
-    (marks0 : MarkList) (steps0 : ℕ) (line : List LineEntry) (store : StoredLists) (names : List Entry)
-    (marks : MarkList) (steps place done : ℕ)
-    → InLoop f line0 store0 names0 marks0 steps0 line store names marks steps place done
-    → ((k : ℕ) → place ≤ k → k < place + n → (k < length line) × (first_of productions (drop k (entry_cats line))
-    ≡ None)) → InLoop f line0 store0 names0 marks0 steps0 line store names marks (steps + 4 * n) (place + n) done
+pub passes-by : (n : ℕ) (f : Flags) (line0 : List LineEntry) (store0 : StoredLists) (names0 : List Entry) (marks0
+    : MarkList) (steps0 : ℕ) (line : List LineEntry) (store : StoredLists) (names : List Entry) (marks : MarkList)
+    (steps place done : ℕ) → InLoop f line0 store0 names0 marks0 steps0 line store names marks steps place done → ((k
+    : ℕ) → place ≤ k → k < place + n → (k < length line) × (first_of productions (drop k (entry_cats line)) ≡ None))
+    → InLoop f line0 store0 names0 marks0 steps0 line store names marks (steps + 4 * n) (place + n) done
 passes-by zero f line0 store0 names0 marks0 steps0 line store names marks steps place done h none = grind arith
 passes-by (suc n) f line0 store0 names0 marks0 steps0 line store names marks steps place done h none =
     let before : InLoop f line0 store0 names0 marks0 steps0 line store names marks (steps + 4 * n) (place + n) done =
@@ -211,11 +186,10 @@ passes-by (suc n) f line0 store0 names0 marks0 steps0 line store names marks ste
     rw one (passes f line0 store0 names0 marks0 steps0 line store names marks (steps + 4 * n) (place + n) done before
     (steps + 4 * suc n) here.0 here.1 (omega arith))
 
-pub passes-over : (f : Flags) (line0 : List LineEntry) (store0 : StoredLists) (names0 : List Entry)
-    (marks0 : MarkList) (steps0 : ℕ) (line : List LineEntry) (store : StoredLists) (names : List Entry)
-    (marks : MarkList) (steps place done place' steps' : ℕ)
-    → InLoop f line0 store0 names0 marks0 steps0 line store names marks steps place done
-    → PassesOver line place steps place' steps'
+pub passes-over : (f : Flags) (line0 : List LineEntry) (store0 : StoredLists) (names0 : List Entry) (marks0 : MarkList)
+    (steps0 : ℕ) (line : List LineEntry) (store : StoredLists) (names : List Entry) (marks : MarkList)
+    (steps place done place' steps' : ℕ) → InLoop f line0 store0 names0 marks0 steps0 line store names marks steps place
+    done → PassesOver line place steps place' steps'
     → InLoop f line0 store0 names0 marks0 steps0 line store names marks steps' place' done
 passes-over f line0 store0 names0 marks0 steps0 line store names marks steps place done place' steps' h over =
     let by : InLoop f line0 store0 names0 marks0 steps0 line store names marks (steps + 4 * (place' - place))
@@ -227,9 +201,8 @@ passes-over f line0 store0 names0 marks0 steps0 line store names marks steps pla
 -- the turn at the next place where a row fits, and the end behind the last one
 pub turn-next : {f : Flags} {line0 : List LineEntry} {store0 : StoredLists} {names0 : List Entry} {marks0 : MarkList}
     {steps0 : ℕ} {line : List LineEntry} {store : StoredLists} {names : List Entry} {marks : MarkList}
-    {steps place done place' number steps' : ℕ}
-    → InLoop f line0 store0 names0 marks0 steps0 line store names marks steps place done
-    → (next : IsNext line place steps place' number steps')
+    {steps place done place' number steps' : ℕ} → InLoop f line0 store0 names0 marks0 steps0 line store names marks
+    steps place done → (next : IsNext line place steps place' number steps')
     → Turn f line0 store0 names0 marks0 steps0 line store names marks next.before place' done number
 turn-next h next = turn _ _ _ _ _ _ _ _ _ _ _ _ _
     (passes-over _ _ _ _ _ _ _ _ _ _ _ _ _ _ _ h next.passed) _ next.inside next.first
@@ -237,17 +210,15 @@ turn-next h next = turn _ _ _ _ _ _ _ _ _ _ _ _ _
 -- where the production at the next place isn't done
 pub not-done : {f : Flags} {line0 : List LineEntry} {store0 : StoredLists} {names0 : List Entry} {marks0 : MarkList}
     {steps0 : ℕ} {line : List LineEntry} {store : StoredLists} {names : List Entry} {marks : MarkList}
-    {steps place done place' number steps' : ℕ}
-    → InLoop f line0 store0 names0 marks0 steps0 line store names marks steps place done
-    → IsNext line place steps place' number steps' → (line' : List LineEntry) → line' ≡ line
+    {steps place done place' number steps' : ℕ} → InLoop f line0 store0 names0 marks0 steps0 line store names marks
+    steps place done → IsNext line place steps place' number steps' → (line' : List LineEntry) → line' ≡ line
     → Stops f line0 store0 names0 marks0 steps0 line' store names marks steps'
 not-done {store = store} {names} {marks} h next line' same = (turn-next h next).refused line' store names marks _
     (ap (λ l. state_of store.lists l marks names) same) refl next.counted
 
 pub at-end : {f : Flags} {line0 : List LineEntry} {store0 : StoredLists} {names0 : List Entry} {marks0 : MarkList}
     {steps0 : ℕ} {line : List LineEntry} {store : StoredLists} {names : List Entry} {marks : MarkList}
-    {steps place done steps' : ℕ}
-    → InLoop f line0 store0 names0 marks0 steps0 line store names marks steps place done
+    {steps place done steps' : ℕ} → InLoop f line0 store0 names0 marks0 steps0 line store names marks steps place done
     → (more : HasNoMore line place steps steps')
     → InLoop f line0 store0 names0 marks0 steps0 line store names marks steps' more.end done
 at-end h more = passes-over _ _ _ _ _ _ _ _ _ _ _ _ _ _ _ h more.passed

@@ -1,41 +1,18 @@
 -- The walk of the reducer.
-use Rattle.std.proofs.Common.{◌≡◌, ℕ, zero, suc, ◌+◌, ◌-◌, ◌<◌, ◌≤◌, true, Option, Some, None, List, [], ◌∷◌, length}
-use Rattle.std.proofs.Common.{◌++◌, drop, take, get_or, slice_get, unwrap_or, IfSome, MatchOption, refl, sym, ◌∙◌, ap}
-use Rattle.std.proofs.Common.{arith}
-use Rattle.std.specs.List.{list_all}
-use Rattle.std.specs.Option.{option_map}
+use Rattle.cw_rewrite.proofs.Terms.{◌≡◌, ℕ, zero, suc, ◌+◌, ◌-◌, ◌<◌, ◌≤◌, true, Option, Some, None, List, [], ◌∷◌}
+use Rattle.cw_rewrite.proofs.Terms.{length, ◌++◌, drop, take, get_or, slice_get, unwrap_or, IfSome, MatchOption, refl}
+use Rattle.cw_rewrite.proofs.Terms.{sym, ◌∙◌, ap, arith, list_all, option_map, Flags, Entry, with_category, Search, Row}
+use Rattle.cw_rewrite.proofs.Terms.{row_fits, first_of, window_of, At, next_place, normal, count, log, steps, weight}
+use Rattle.cw_rewrite.proofs.Terms.{is_fine, walk_left, productions, IsAfter, State, cats_of, rewrite, no_row}
+use Rattle.cw_rewrite.proofs.Terms.{row_numbered, row_of, least, right_of_new, ticks_from, ticks, ticks-end, ticks-past}
+use Rattle.cw_rewrite.proofs.Terms.{ticks-taken, none-below-next, productions-sound, productions-numbered, normal-none}
+use Rattle.cw_rewrite.proofs.Terms.{normal-step, count-none, count-step, count-weight, LineEntry, retyped, entry_cats}
+use Rattle.cw_rewrite.proofs.Terms.{no_entry, window-line, words_of, IsFirst}
 use Rattle.cw_base.specs.declared.category.Cat.{Cat}
-use Rattle.cw_base.specs.declared.flags.Flags.{Flags}
-use Rattle.cw_names.specs.Names.{Entry, with_category}
-use Rattle.cw_trees.specs.Tree.{Search}
-use Rattle.cw_table.specs.declared.productions.TheConstants.{ROW_COUNT}
-use Rattle.cw_table.specs.declared.types.Row.{Row}
-use Rattle.cw_table.specs.declared.types.RowNo.{RowNo}
-use Rattle.cw_table.specs.Fitting.{row_fits, first_of, window_of}
-use Rattle.cw_table.specs.Normal.{At, next_place, normal, count, log, steps, weight, is_fine}
-use Rattle.cw_table.specs.NormalWalk.{walk_left}
-use Rattle.cw_table.specs.Productions.{productions}
-use Rattle.cw_table.specs.Reaching.{IsAfter}
-use Rattle.cw_table.specs.Rewriting.{State, cats_of, rewrite}
-use Rattle.cw_table.specs.Rows.{no_row, row_numbered, row_of}
-use Rattle.cw_table.specs.Safe.{least}
-use Rattle.cw_table.specs.WalkCounts.{right_of_new, ticks_from, ticks}
-use Rattle.cw_table.proofs.CountLaws.{ticks-end, ticks-past, ticks-taken, none-below-next}
-use Rattle.cw_table.proofs.Examples.{productions-sound, productions-numbered}
-use Rattle.cw_table.proofs.FirstLaws.{first-window}
-use Rattle.cw_table.proofs.Normals.{normal-none, normal-step, count-none, count-step, count-weight}
-use Rattle.cw_table.proofs.Joining.{productions-length}
-use Rattle.cw_table.proofs.Numbers.{first-numbered, numbered-row}
-use Rattle.cw_table.proofs.ScrapFacts.{cats-length}
-use Rattle.cw_table.proofs.StepLaws.{steps-next, is-after}
+use Rattle.cw_table.specs.{declared.productions.TheConstants.ROW_COUNT, declared.types.RowNo.RowNo}
+use Rattle.cw_table.proofs.{FirstLaws.first-window, Joining.productions-length, Numbers.first-numbered}
+use Rattle.cw_table.proofs.{Numbers.numbered-row, ScrapFacts.cats-length, StepLaws.steps-next, StepLaws.is-after}
 use Rattle.cw_table.proofs.WalkLaws.{NoneBelow, Turns, turning, next-nowhere}
-use Rattle.cw_scraps.specs.declared.line.LineEntry.{LineEntry}
-use Rattle.cw_scraps.specs.Applying.{retyped}
-use Rattle.cw_scraps.specs.Inserting.{entry_cats}
-use Rattle.cw_scraps.specs.Lines.{no_entry}
-use Rattle.cw_scraps.proofs.FirstRows.{window-line}
-use Rattle.cw_names.specs.Words.{words_of}
-use Rattle.cw_rewrite.specs.Reduction.{IsFirst}
 use Rattle.cw_rewrite.proofs.LogSteps.{heard-more, heard-next, numbered-number}
 
 -- the number that the window gives is that of the first row that fits
@@ -45,9 +22,8 @@ number_of o = option_map (λ row. row.number) o
 abbrev pub first_fits : List Cat → Option RowNo → Type 0
 first_fits cats o = MatchOption o (first_of productions cats ≡ None) (λ row. IsFirst cats row.number)
 
-first-is : (cats : List Cat) (o : Option RowNo) (first : Option Row) → first_of productions cats ≡ first
-    → o ≡ number_of first → IfSome o (λ row. 1 ≤ row.number) → IfSome o (λ row. row.number ≤ ROW_COUNT)
-    → first_fits cats o
+first-is : (cats : List Cat) (o : Option RowNo) (first : Option Row) → first_of productions cats ≡ first → o
+    ≡ number_of first → IfSome o (λ row. 1 ≤ row.number) → IfSome o (λ row. row.number ≤ ROW_COUNT) → first_fits cats o
 first-is cats None None found is one last = found
 first-is cats None (Some row) found is one last = absurd cc
 first-is cats (Some n) None found is one last = absurd cc
@@ -60,34 +36,28 @@ first-is cats (Some n) (Some row) found is one last =
       from_one = one;
       to_last = last;
       numbered = numbered ∙ ap Some (sym row_is);
-      fits = found
-          ∙ ap Some (sym row_is);
+      fits = found ∙ ap Some (sym row_is);
     }
 
-pub first-line : (line : List LineEntry) (place : ℕ) (window : List Cat) (o : Option RowNo)
-    → window ≡ window_of (drop place (entry_cats line)) → o ≡ number_of (first_of productions window)
-    → IfSome o (λ row. 1 ≤ row.number) → IfSome o (λ row. row.number ≤ ROW_COUNT)
-    → first_fits (drop place (entry_cats line)) o
+pub first-line : (line : List LineEntry) (place : ℕ) (window : List Cat) (o : Option RowNo) → window ≡ window_of
+    (drop place (entry_cats line)) → o ≡ number_of (first_of productions window) → IfSome o (λ row. 1 ≤ row.number)
+    → IfSome o (λ row. row.number ≤ ROW_COUNT) → first_fits (drop place (entry_cats line)) o
 first-line line place window o w is one last = first-is (drop place (entry_cats line)) o
-    (first_of productions (drop place (entry_cats line))) refl (is
-    ∙ ap number_of (ap (first_of productions) w ∙ first-window productions (drop place (entry_cats line))
-    productions-sound)) one last
+    (first_of productions (drop place (entry_cats line))) refl (is ∙ ap number_of (ap (first_of productions) w
+    ∙ first-window productions (drop place (entry_cats line)) productions-sound)) one last
 
 -- no row fits where no window that begins with the two categories there has one
 pub none-line : (line : List LineEntry) (place : ℕ) (first second : Cat) → first ≡ (get_or line place no_entry).cat
-    → second ≡ (get_or line (place + 1) no_entry).cat
-    → ((third fourth : Cat) → first_of productions (first ∷ second ∷ third ∷ fourth ∷ []) ≡ None)
-    → first_of productions (drop place (entry_cats line)) ≡ None
+    → second ≡ (get_or line (place + 1) no_entry).cat → ((third fourth : Cat) → first_of productions
+    (first ∷ second ∷ third ∷ fourth ∷ []) ≡ None) → first_of productions (drop place (entry_cats line)) ≡ None
 none-line line place first second a b none =
     grind (arith, first-window productions (drop place (entry_cats line)) productions-sound, window-line line place)
 
 -- the least safe distance of a number is that of its row
-pub least-row : (n distance : ℕ) → 1 ≤ n → n ≤ ROW_COUNT
-    → IfSome (row_numbered productions n) (λ row. distance ≡ least productions row) → distance
-    ≡ least productions (row_of productions n)
-least-row n distance one last is =
-    go (row_numbered productions n) (numbered-row productions productions n no_row refl refl one
-    (omega (arith, productions-length))) is
+pub least-row : (n distance : ℕ) → 1 ≤ n → n ≤ ROW_COUNT → IfSome (row_numbered productions n)
+    (λ row. distance ≡ least productions row) → distance ≡ least productions (row_of productions n)
+least-row n distance one last is = go (row_numbered productions n)
+    (numbered-row productions productions n no_row refl refl one (omega (arith, productions-length))) is
   where
     go : {row : Row} (o : Option Row) → o ≡ Some row → IfSome o (λ row. distance ≡ least productions row) → distance
         ≡ least productions (unwrap_or o no_row)
@@ -147,8 +117,7 @@ rewrites f start now place done first spent number w inside is =
     let at : next_place productions (steps productions f done start) ≡ At place (row_of productions number) =
     ap (next_place productions) (sym w.reached) ∙ t.next in
     let before : done < weight start.scraps = omega (arith, one, w.number, count-weight productions f start) in
-    let own : (row_of productions number).number.number ≡ number =
-    numbered-number productions number is.numbered in
+    let own : (row_of productions number).number.number ≡ number = numbered-number productions number is.numbered in
     record {
       heard = heard-more f start (row_of productions number) place done number before at own;
       there = heard-next f start (row_of productions number) place done number before at own;
@@ -160,17 +129,15 @@ rewrites f start now place done first spent number w inside is =
         start_fine = w.start_fine;
         fine = ap (λ (x : State). list_all is_fine x.scraps) e ∙ t.takes.falls.fine;
         below = rw e t.below;
-        reached = e ∙ ap (rewrite f (row_of productions number) place) w.reached
-            ∙ sym (steps-next productions f done place (row_of productions number) start
-            (ap (next_place productions) (sym w.reached) ∙ t.next))
+        reached = e ∙ ap (rewrite f (row_of productions number) place) w.reached ∙ sym (steps-next productions f done
+            place (row_of productions number) start (ap (next_place productions) (sym w.reached) ∙ t.next))
             ∙ ap (λ n. steps productions f n start) (let more : suc done ≡ done + 1 = omega arith in more);
         number = omega (arith, one, w.number, ap (count productions f) e);
         same = ap (normal productions f) e ∙ sym (normal-step productions f now place (row_of productions number)
             productions-sound w.fine t.next) ∙ w.same;
-        ticked = rw e (let k : spent + 4 + right_of_new f (row_of productions number) place now
-            + ticks_from productions f (place - least productions (row_of productions number))
-            (rewrite f (row_of productions number) place now) ≡ first + ticks productions f start =
-            omega (arith, tick, w.ticked) in k);
+        ticked = rw e (let k : spent + 4 + right_of_new f (row_of productions number) place now + ticks_from productions
+            f (place - least productions (row_of productions number)) (rewrite f (row_of productions number) place now)
+            ≡ first + ticks productions f start = omega (arith, tick, w.ticked) in k);
       };
     }
 

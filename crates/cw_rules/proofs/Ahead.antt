@@ -1,23 +1,21 @@
 -- What the rules for tokens see of the bytes ahead, where an `@` or a bar stands that no token takes.
-use Rattle.std.proofs.Common.{◌≡◌, ℕ, zero, suc, ◌+◌, ◌≤◌, Bool, true, false, ◌&&◌, ◌||◌, not, ◌==◌, nat_lt, List, []}
-use Rattle.std.proofs.Common.{◌∷◌, ◌++◌, codes, length, slice_index, take, drop, refl, sym, ap, ◌∙◌, arith}
-use Rattle.std.specs.Prelude.{if◌then◌else◌}
-use Rattle.std.specs.List.{list_any}
-use Rattle.cw_rules.specs.declared.{classes.Class.Class, signs.Sign.Sign}
-use Rattle.cw_rules.specs.declared.classes.Class.TheVariants as classes
-use Rattle.cw_rules.specs.declared.parts.Start.TheVariants as start
-use Rattle.cw_rules.specs.Bytes.{apostrophe, is_mark, star, plus, minus, slash, at_sign, left_paren, right_paren, comma}
-use Rattle.cw_rules.specs.Bytes.{run, is_in, is_letter, is_letter_of, begins, begins_by, begins_with}
+use Rattle.cw_rules.proofs.Terms.{◌≡◌, ℕ, zero, suc, ◌+◌, ◌≤◌, Bool, true, false, ◌&&◌, ◌||◌, not, ◌==◌, nat_lt, List}
+use Rattle.cw_rules.proofs.Terms.{[], ◌∷◌, ◌++◌, codes, length, slice_index, take, drop, refl, sym, ap, ◌∙◌, arith}
+use Rattle.cw_rules.proofs.Terms.{if◌then◌else◌, list_any, classes.Class.Class, signs.Sign.Sign, apostrophe, is_mark}
+use Rattle.cw_rules.proofs.Terms.{star, plus, minus, slash, at_sign, left_paren, right_paren, comma, run, is_in}
+use Rattle.cw_rules.proofs.Terms.{is_letter, is_letter_of, begins, begins_by, begins_with, more_digits, digits}
+use Rattle.cw_rules.proofs.Terms.{fraction, exponent_sign, exponent, mantissa, scaled, is_prefixed, hexadecimal, binary}
+use Rattle.cw_rules.proofs.Terms.{decimal, number, constant, lemmas.List.get_or_append_left}
+use Rattle.cw_rules.proofs.Terms.{lemmas.Bool.Decides.nat_tests}
 use Rattle.cw_base.specs.Text.{bar}
 use Rattle.cw_rules.specs.{Signs.all_signs, Signs.spelling, Signs.longer, Signs.longest, Prefixes.prefix_size}
 use Rattle.cw_rules.specs.{Codes.code_at, Codes.begins_section, Tokens.parameter_follows, Tokens.depth_size}
 use Rattle.cw_rules.specs.{Tokens.is_include}
-use Rattle.cw_rules.specs.Constants.{more_digits, digits, fraction, exponent_sign, exponent, mantissa, scaled}
-use Rattle.cw_rules.specs.Constants.{is_prefixed, hexadecimal, binary, decimal, number, constant}
 use Rattle.cw_rules.specs.Tokens.{start_of, sign_or_other, is_signed, behind_white, name_follows, is_parameter}
 use Rattle.cw_rules.proofs.{Sizes.run-le, Sizes.digits-le, Sizes.mantissa-le, Sizes.number-le, Choices.if-same}
 use Rattle.cw_rules.proofs.{Choices.and-none, Choices.or-first, Choices.or-second, StringPrefixes.prefix-below}
-use Rattle.std.proofs.{lemmas.List.get_or_append_left, lemmas.Bool.Decides.nat_tests}
+use Rattle.cw_rules.specs.declared.classes.Class.TheVariants as classes
+use Rattle.cw_rules.specs.declared.parts.Start.TheVariants as start
 
 pub drop-same : (n : ℕ) (bs more : List ℕ) → n ≤ length bs → drop n (bs ++ more) ≡ drop n bs ++ more
 drop-same zero bs more h = refl
@@ -67,8 +65,7 @@ module _ (stop : ℕ) (more : List ℕ) where
   pub with-before : (wanted bs : List ℕ) → list_any (λ w. stop == w) wanted ≡ false
       → begins_with wanted (bs ++ stop ∷ more) ≡ begins_with wanted bs
   with-before [] bs h = refl
-  with-before (w ∷ ws) [] h =
-      ap (λ t. t && begins_with ws more) (or-first (stop == w) (list_any (λ w. stop == w) ws) h)
+  with-before (w ∷ ws) [] h = ap (λ t. t && begins_with ws more) (or-first (stop == w) (list_any (λ w. stop == w) ws) h)
   with-before (w ∷ ws) (b ∷ bs) h = ap (λ t. b == w && t)
       (with-before ws bs (or-second (stop == w) (list_any (λ w. stop == w) ws) h))
 
@@ -98,9 +95,8 @@ longest-same s more [] byte bs h = refl
 longest-same s more (sign ∷ all) byte bs h =
     λ i. longer (spelling-same s more sign byte bs h i) sign (longest-same s more all byte bs h i)
 
-bar-same : (s : Stop) (more : List ℕ) (ends : Bool) (byte : ℕ) (bs : List ℕ) → IsApart s byte bs
-    → (byte == bar && (ends && not (begins bar (bs ++ byte_of s ∷ more))))
-    ≡ (byte == bar && (ends && not (begins bar bs)))
+bar-same : (s : Stop) (more : List ℕ) (ends : Bool) (byte : ℕ) (bs : List ℕ) → IsApart s byte bs → (byte == bar &&
+    (ends && not (begins bar (bs ++ byte_of s ∷ more)))) ≡ (byte == bar && (ends && not (begins bar bs)))
 bar-same At more ends byte bs h = ap (λ t. byte == bar && (ends && not t)) (begins-before 64 more bar bs refl)
 bar-same Bar more ends byte [] h = (λ i. h i && (ends && not true)) ∙ sym (λ i. h i && (ends && not false))
 bar-same Bar more ends byte (b ∷ bs) h = refl
@@ -133,10 +129,8 @@ module _ (s : Stop) (more : List ℕ) where
   more_digits-same : (class : Class) (bs : List ℕ) → is_in class 64 ≡ false → is_in class 124 ≡ false
       → more_digits class (bs ++ byte_of s ∷ more) ≡ more_digits class bs
   more_digits-same class [] g h = grind (arith, nat_tests, of-both)
-  more_digits-same class (b ∷ bs) g h =
-      λ i. if is_in class b || (b == apostrophe && begins_by-same (is_in class) bs g h i) then
-      1 + more_digits-same class bs g h i
-      else 0
+  more_digits-same class (b ∷ bs) g h = λ i. if is_in class b ||
+      (b == apostrophe && begins_by-same (is_in class) bs g h i) then 1 + more_digits-same class bs g h i else 0
 
   digits-same : (class : Class) (bs : List ℕ) → is_in class 64 ≡ false → is_in class 124 ≡ false
       → digits class (bs ++ byte_of s ∷ more) ≡ digits class bs
@@ -166,12 +160,10 @@ module _ (s : Stop) (more : List ℕ) where
   scaled-same class letter bs g h k l = grind (arith, nat_tests, mantissa-same, drop-same, mantissa-le, exponent-same)
 
   -- a number behind `0` and a letter
-  prefixed-same : (letter : ℕ) (class : Class) (size : List ℕ → ℕ) (bs : List ℕ)
-      → is_letter_of letter 64 ≡ false → is_letter_of letter 124 ≡ false
-      → is_in class 64 ≡ false → is_in class 124 ≡ false
-      → ((cs : List ℕ) → size (cs ++ byte_of s ∷ more) ≡ size cs)
-      → (if is_prefixed letter class (bs ++ byte_of s ∷ more) then 2 + size (drop 2 (bs ++ byte_of s ∷ more)) else 0)
-      ≡ (if is_prefixed letter class bs then 2 + size (drop 2 bs) else 0)
+  prefixed-same : (letter : ℕ) (class : Class) (size : List ℕ → ℕ) (bs : List ℕ) → is_letter_of letter 64 ≡ false
+      → is_letter_of letter 124 ≡ false → is_in class 64 ≡ false → is_in class 124 ≡ false → ((cs : List ℕ) → size
+      (cs ++ byte_of s ∷ more) ≡ size cs) → (if is_prefixed letter class (bs ++ byte_of s ∷ more) then 2 + size
+      (drop 2 (bs ++ byte_of s ∷ more)) else 0) ≡ (if is_prefixed letter class bs then 2 + size (drop 2 bs) else 0)
   prefixed-same letter class size bs k l g h same = grind (arith, nat_tests, of-both, and-none, begins_by-same)
 
   hexadecimal-same : (bs : List ℕ) → hexadecimal (bs ++ byte_of s ∷ more) ≡ hexadecimal bs
@@ -197,29 +189,24 @@ module _ (s : Stop) (more : List ℕ) where
   prefix-same byte bs = grind (arith, nat_tests, of-both, and-none, begins_by-same)
 
   -- the byte behind the prefix
-  mark-same : (byte : ℕ) (bs : List ℕ)
-      → slice_index (byte ∷ (bs ++ byte_of s ∷ more)) (prefix_size (byte ∷ (bs ++ byte_of s ∷ more)))
-      ≡ slice_index (byte ∷ bs) (prefix_size (byte ∷ bs))
+  mark-same : (byte : ℕ) (bs : List ℕ) → slice_index (byte ∷ (bs ++ byte_of s ∷ more))
+      (prefix_size (byte ∷ (bs ++ byte_of s ∷ more))) ≡ slice_index (byte ∷ bs) (prefix_size (byte ∷ bs))
   mark-same byte bs = grind (arith, nat_tests, prefix-same, get_or_append_left, prefix-below)
 
   -- ## What begins at a byte
 
-  pub start_of-same : (ends : Bool) (byte : ℕ) (bs : List ℕ) → IsApart s byte bs
-      → ((byte == at_sign) ≡ true → code_at (bs ++ byte_of s ∷ more) ≡ code_at bs)
-      → start_of ends byte (bs ++ byte_of s ∷ more) ≡ start_of ends byte bs
-  start_of-same ends byte bs apart code =
-      if-same (nat_lt 0 (prefix_size (byte ∷ (bs ++ byte_of s ∷ more)))) (nat_lt 0 (prefix_size (byte ∷ bs))) _ _ _ _
-      (ap (nat_lt 0) (prefix-same byte bs)) (λ e. ap start.Quoted (mark-same byte bs))
-      (λ e. if-same (is_letter byte) (is_letter byte) _ _ _ _ refl (λ e. refl)
-      (λ e. if-same (nat_lt 0 (constant (byte ∷ (bs ++ byte_of s ∷ more)))) (nat_lt 0 (constant (byte ∷ bs))) _ _ _ _
-      (ap (nat_lt 0) (constant-same (byte ∷ bs))) (λ e. refl)
-      (λ e. if-same (is_mark byte) (is_mark byte) _ _ _ _ refl (λ e. refl)
+  pub start_of-same : (ends : Bool) (byte : ℕ) (bs : List ℕ) → IsApart s byte bs → ((byte == at_sign) ≡ true → code_at
+      (bs ++ byte_of s ∷ more) ≡ code_at bs) → start_of ends byte (bs ++ byte_of s ∷ more) ≡ start_of ends byte bs
+  start_of-same ends byte bs apart code = if-same (nat_lt 0 (prefix_size (byte ∷ (bs ++ byte_of s ∷ more))))
+      (nat_lt 0 (prefix_size (byte ∷ bs))) _ _ _ _ (ap (nat_lt 0) (prefix-same byte bs)) (λ e. ap start.Quoted
+      (mark-same byte bs)) (λ e. if-same (is_letter byte) (is_letter byte) _ _ _ _ refl (λ e. refl) (λ e. if-same
+      (nat_lt 0 (constant (byte ∷ (bs ++ byte_of s ∷ more)))) (nat_lt 0 (constant (byte ∷ bs))) _ _ _ _ (ap (nat_lt 0)
+      (constant-same (byte ∷ bs))) (λ e. refl) (λ e. if-same (is_mark byte) (is_mark byte) _ _ _ _ refl (λ e. refl)
       (λ e. if-same (byte == slash && begins star (bs ++ byte_of s ∷ more)) (byte == slash && begins star bs) _ _ _ _
-      (ap (λ t. byte == slash && t) (begins-same star bs refl refl)) (λ e. refl)
-      (λ e. if-same (byte == slash && begins slash (bs ++ byte_of s ∷ more)) (byte == slash && begins slash bs) _ _ _ _
-      (ap (λ t. byte == slash && t) (begins-same slash bs refl refl)) (λ e. refl)
-      (λ e. if-same (byte == at_sign) (byte == at_sign) _ _ _ _ refl (λ e. ap start.Code (code e))
-      (λ e. if-same (byte == bar && (ends && not (begins bar (bs ++ byte_of s ∷ more))))
+      (ap (λ t. byte == slash && t) (begins-same star bs refl refl)) (λ e. refl) (λ e. if-same (byte == slash && begins
+      slash (bs ++ byte_of s ∷ more)) (byte == slash && begins slash bs) _ _ _ _ (ap (λ t. byte == slash && t)
+      (begins-same slash bs refl refl)) (λ e. refl) (λ e. if-same (byte == at_sign) (byte == at_sign) _ _ _ _ refl
+      (λ e. ap start.Code (code e)) (λ e. if-same (byte == bar && (ends && not (begins bar (bs ++ byte_of s ∷ more))))
       (byte == bar && (ends && not (begins bar bs))) _ _ _ _ (bar-same s more ends byte bs apart) (λ e. refl)
       (λ e. ap sign_or_other (longest-same s more all_signs byte bs apart)))))))))
 
@@ -243,8 +230,7 @@ module _ (s : Stop) (more : List ℕ) where
   parameter-same bs = ap is_parameter (white-same bs) ∙ is_parameter-same (behind_white bs)
 
   pub paren-same : (bs : List ℕ) → begins left_paren (drop (run classes.Word (bs ++ byte_of s ∷ more))
-      (bs ++ byte_of s ∷ more))
-      ≡ begins left_paren (drop (run classes.Word bs) bs)
+      (bs ++ byte_of s ∷ more)) ≡ begins left_paren (drop (run classes.Word bs) bs)
   paren-same bs = grind (arith, nat_tests, run-same, drop-same, run-le, begins-same)
 
   pub include-same : (bs : List ℕ) → is_include (bs ++ byte_of s ∷ more) ≡ is_include bs

@@ -1,13 +1,10 @@
 -- A body that ends before an `@` or a bar which it doesn't take is the same where the text ends there.
-use Rattle.std.proofs.Common.{◌++◌, None, codes, length, refl, sym, ap, ◌∙◌, arith, length-append, length-drop, ◌≡◌, ℕ}
-use Rattle.std.proofs.Common.{suc, ◌+◌, ◌<◌, ◌≤◌, Bool, true, false, ◌&&◌, ◌||◌, not, ◌==◌, List, [], ◌∷◌}
-use Rattle.std.specs.Prelude.{if◌then◌else◌}
-use Rattle.std.proofs.{lemmas.Bool.eqb-true, lemmas.Bool.Decides.nat_tests}
-use Rattle.cw_base.specs.declared.notes.NoteKind.{NoteKind}
-use Rattle.cw_rules.specs.declared.{bodies.Body.Body, bodies.Inside.Inside}
-use Rattle.cw_rules.specs.Bytes.{greater, at_sign, begins, begins_with}
-use Rattle.cw_rules.specs.Bodies.{stops, takes_next, note_on, stepped, goes_on, ended, note_here, with_note, noted}
-use Rattle.cw_rules.specs.Bodies.{closing_bytes, stop_at, extent, all_notes}
+use Rattle.cw_rules.proofs.Terms.{◌++◌, None, codes, length, refl, sym, ap, ◌∙◌, arith, length-append, length-drop, ◌≡◌}
+use Rattle.cw_rules.proofs.Terms.{ℕ, suc, ◌+◌, ◌<◌, ◌≤◌, Bool, true, false, ◌&&◌, ◌||◌, not, ◌==◌, List, [], ◌∷◌}
+use Rattle.cw_rules.proofs.Terms.{if◌then◌else◌, lemmas.Bool.eqb-true, lemmas.Bool.Decides.nat_tests, NoteKind}
+use Rattle.cw_rules.proofs.Terms.{bodies.Body.Body, bodies.Inside.Inside, greater, at_sign, begins, begins_with, stops}
+use Rattle.cw_rules.proofs.Terms.{takes_next, note_on, stepped, goes_on, ended, note_here, with_note, noted}
+use Rattle.cw_rules.proofs.Terms.{closing_bytes, stop_at, extent, all_notes}
 use Rattle.cw_rules.proofs.{Inside.ended-some, Inside.ended-le, Sizes.ended-most, Choices.if-both, Ahead.section-same}
 use Rattle.cw_rules.proofs.Ahead.{Stop, At, Bar, byte_of, drop-same, begins-before, with-before, begins-same}
 use Rattle.cw_rules.specs.declared.bodies.Body.TheVariants as bodies
@@ -83,12 +80,10 @@ here-by : (i : Inside) (b : ℕ) (xs ys : List ℕ) → note_on i.body i.braces 
 here-by i b xs ys e = ap (λ n. if i.along then None else n) e
 
 -- behind a byte that takes along, and notes, the same
-body-on : (s : Stop) (more : List ℕ) (i : Inside) (b : ℕ) (bs : List ℕ)
-    → takes_next i.body b (bs ++ byte_of s ∷ more) ≡ takes_next i.body b bs
-    → note_on i.body i.braces b (bs ++ byte_of s ∷ more) ≡ note_on i.body i.braces b bs
-    → ((ended (stepped i b bs) (bs ++ byte_of s ∷ more)).place ≤ (i.place + 1) + length bs
-    → SameBody s more (stepped i b bs) bs)
-    → (ended i (b ∷ (bs ++ byte_of s ∷ more))).place ≤ i.place + suc (length bs) → SameBody s more i (b ∷ bs)
+body-on : (s : Stop) (more : List ℕ) (i : Inside) (b : ℕ) (bs : List ℕ) → takes_next i.body b (bs ++ byte_of s ∷ more)
+    ≡ takes_next i.body b bs → note_on i.body i.braces b (bs ++ byte_of s ∷ more) ≡ note_on i.body i.braces b bs
+    → ((ended (stepped i b bs) (bs ++ byte_of s ∷ more)).place ≤ (i.place + 1) + length bs → SameBody s more (stepped i
+    b bs) bs) → (ended i (b ∷ (bs ++ byte_of s ∷ more))).place ≤ i.place + suc (length bs) → SameBody s more i (b ∷ bs)
 body-on s more i b bs takes note rec h = by (goes_on i (b ∷ bs)) refl
   where
     by : (t : Bool) → goes_on i (b ∷ bs) ≡ t → SameBody s more i (b ∷ bs)
@@ -110,10 +105,8 @@ body-on s more i b bs takes note rec h = by (goes_on i (b ∷ bs)) refl
         record {
           place = ap (λ (j : Inside). j.place) on ∙ r.place ∙ sym (ap (λ (j : Inside). j.place) cut);
           braces = ap (λ (j : Inside). j.braces) on ∙ r.braces ∙ sym (ap (λ (j : Inside). j.braces) cut);
-          notes = noted-on i b all f
-              ∙ (λ j. with_note (here-by i b all bs note j) i.place (noted (step j) all))
-              ∙ ap (λ l. with_note (note_here i b bs) i.place l) r.notes
-              ∙ sym (noted-on i b bs e);
+          notes = noted-on i b all f ∙ (λ j. with_note (here-by i b all bs note j) i.place (noted (step j) all))
+              ∙ ap (λ l. with_note (note_here i b bs) i.place l) r.notes ∙ sym (noted-on i b bs e);
         }
 
 body-end : (s : Stop) (more : List ℕ) (i : Inside) → (ended i (byte_of s ∷ more)).place ≤ i.place + 0
@@ -149,11 +142,9 @@ body-last more i b h = by (goes_on i (b ∷ [])) refl
         record {
           place = ap (λ (j : Inside). j.place) full ∙ sym (ap (λ (j : Inside). j.place) cut);
           braces = ap (λ (j : Inside). j.braces) full ∙ sym (ap (λ (j : Inside). j.braces) cut);
-          notes = noted-on i b (64 ∷ more) f
-              ∙ ap (λ l. with_note (note_here i b (64 ∷ more)) i.place l)
+          notes = noted-on i b (64 ∷ more) f ∙ ap (λ l. with_note (note_here i b (64 ∷ more)) i.place l)
               (noted-here (stepped i b (64 ∷ more)) 64 more stop)
-              ∙ ap (λ n. with_note n i.place []) (last-note more i b along)
-              ∙ sym (noted-on i b [] e);
+              ∙ ap (λ n. with_note n i.place []) (last-note more i b along) ∙ sym (noted-on i b [] e);
         }
 
 at-same : (more : List ℕ) (i : Inside) (bs : List ℕ) → (ended i (bs ++ 64 ∷ more)).place ≤ i.place + length bs
@@ -175,9 +166,8 @@ body-same s more i bs h = grind (arith, at-same, bar-same)
 
 -- a body that goes on over the stop ends before it only where it ends earlier
 pub body-inside : (s : Stop) (more : List ℕ) (i : Inside) (bs : List ℕ)
-    → ((before : ℕ) → stops i.body before (byte_of s) more ≡ false)
-    → (ended i (bs ++ byte_of s ∷ more)).place ≤ i.place + length bs → (ended i (bs ++ byte_of s ∷ more)).place
-    < i.place + length bs
+    → ((before : ℕ) → stops i.body before (byte_of s) more ≡ false) → (ended i (bs ++ byte_of s ∷ more)).place ≤ i.place
+    + length bs → (ended i (bs ++ byte_of s ∷ more)).place < i.place + length bs
 body-inside s more i [] over h =
     let on : goes_on i (byte_of s ∷ more) ≡ true = ap (λ t. i.along || not t) (over i.before) ∙ or-true i.along in
     absurd (omega (arith, ended-some i (byte_of s ∷ more) on))
@@ -241,9 +231,8 @@ stop-some place x2 h = grind (arith, nat_tests)
 
 -- the notes of a body that goes on over the stop
 pub all_notes-same : (s : Stop) (more : List ℕ) (lost : NoteKind) (i : Inside) (bs : List ℕ) → IsFree s more
-    → NoStop s i.body → ((before : ℕ) → stops i.body before (byte_of s) more ≡ false)
-    → (extent i (bs ++ byte_of s ∷ more)).size ≤ length bs
-    → all_notes lost i (bs ++ byte_of s ∷ more) ≡ all_notes lost i bs
+    → NoStop s i.body → ((before : ℕ) → stops i.body before (byte_of s) more ≡ false) → (extent i
+    (bs ++ byte_of s ∷ more)).size ≤ length bs → all_notes lost i (bs ++ byte_of s ∷ more) ≡ all_notes lost i bs
 all_notes-same s more lost i bs g n over fits = grind (
   arith,
   nat_tests,

@@ -1,25 +1,22 @@
 -- What begins at a place of C text or a comment is the same where the text ends before an `@` or a bar that it doesn't
 -- take.
-use Rattle.std.proofs.Common.{◌≡◌, ℕ, suc, ◌+◌, ◌<◌, ◌≤◌, Bool, true, false, ◌&&◌, ◌||◌, not, ◌==◌, nat_lt, List, []}
-use Rattle.std.proofs.Common.{◌∷◌, ◌++◌, Option, Some, None, length, take, drop, refl, sym, ap, subst, ◌∙◌, arith, ◌⊎◌}
-use Rattle.std.proofs.Common.{inl, inr, slice_index, length-drop}
-use Rattle.std.specs.Prelude.{if◌then◌else◌}
-use Rattle.std.proofs.{lemmas.Bool.eqb-true, lemmas.List.drop_all, lemmas.Bool.Decides.nat_tests}
-use Rattle.cw_base.proofs.TestLaws.{both-right}
-use Rattle.cw_base.specs.{declared.notes.NoteKind.NoteKind, Text.bar}
-use Rattle.cw_rules.specs.declared.{bodies.Inside.Inside, codes.Code.Code, codes.Effect.Effect, parts.Part.Part}
-use Rattle.cw_rules.specs.declared.{parts.Opened.Opened, parts.Start.Start, signs.Sign.Sign}
+use Rattle.cw_rules.proofs.Terms.{◌≡◌, ℕ, suc, ◌+◌, ◌<◌, ◌≤◌, Bool, true, false, ◌&&◌, ◌||◌, not, ◌==◌, nat_lt, List}
+use Rattle.cw_rules.proofs.Terms.{[], ◌∷◌, ◌++◌, Option, Some, None, length, take, drop, refl, sym, ap, subst, ◌∙◌}
+use Rattle.cw_rules.proofs.Terms.{arith, ◌⊎◌, inl, inr, slice_index, length-drop, if◌then◌else◌, lemmas.Bool.eqb-true}
+use Rattle.cw_rules.proofs.Terms.{lemmas.List.drop_all, lemmas.Bool.Decides.nat_tests, both-right}
+use Rattle.cw_rules.proofs.Terms.{declared.notes.NoteKind.NoteKind, Text.bar, bodies.Inside.Inside, codes.Code.Code}
+use Rattle.cw_rules.proofs.Terms.{codes.Effect.Effect, parts.Part.Part, parts.Opened.Opened, parts.Start.Start}
+use Rattle.cw_rules.proofs.Terms.{signs.Sign.Sign, quote, apostrophe, star, slash, less, greater, at_sign, run}
+use Rattle.cw_rules.proofs.Terms.{is_letter, is_mark, at_start, stops, extent, ended, noted, one_note, note_unless}
+use Rattle.cw_rules.proofs.Terms.{Answer, Where, Cut, Found, before, plain, dropped}
 use Rattle.cw_rules.specs.{declared.tokens.TokKind.TokKind, Bytes.begins, Constants.constant, Prefixes.prefix_size}
 use Rattle.cw_rules.specs.{Signs.all_signs, Signs.longest, Codes.code_at, Codes.has_control_text, Names.is_void}
-use Rattle.cw_rules.specs.Bytes.{quote, apostrophe, star, slash, less, greater, at_sign, run, is_letter, is_mark}
-use Rattle.cw_rules.proofs.StringPrefixes.{prefix-below, prefix-mark}
-use Rattle.cw_rules.specs.Bodies.{at_start, stops, extent, ended, noted, one_note, note_unless}
-use Rattle.cw_rules.specs.Answers.{Answer, Where, Cut, Found, before, plain, dropped}
 use Rattle.cw_rules.specs.Tokens.{sign_or_other, identifier, string, string_of, closes_on_line, include_name}
 use Rattle.cw_rules.specs.Tokens.{section_name, is_name, is_quote, control_or_plain, code_token, dropped_code}
 use Rattle.cw_rules.specs.Tokens.{is_signed, is_head, in_hash_line, passed, moved, one, comment_begin, comment_closed}
 use Rattle.cw_rules.specs.Tokens.{piece_start, piece, effect_in, may_head, code_by, in_code, start_of}
 use Rattle.cw_rules.specs.Apart.{comment_text_apart, code_text_apart, in_text_apart}
+use Rattle.cw_rules.proofs.StringPrefixes.{prefix-below, prefix-mark}
 use Rattle.cw_rules.proofs.{Choices.if-both, Sizes.run-le, IncludeEnds.greater-stops}
 use Rattle.cw_rules.proofs.Ahead.{Stop, At, Bar, byte_of, of-both, IsApart, apart-on, drop-same, take-same, begins-same}
 use Rattle.cw_rules.proofs.Ahead.{run-same, constant-same, prefix-same, start_of-same, signed-same, include-same}
@@ -135,9 +132,8 @@ apart-or Bar more ends w place byte g = by (byte == 124) refl
 module _ (s : Stop) (more : List ℕ) (free : IsFree s more) where
   -- a token with its bytes
   pub one-local : (hash_line : Bool) (next other : Where) (place byte : ℕ) (bs : List ℕ) (c d : Cut)
-      → (c.size ≤ suc (length bs) → (next ≡ other) × (c ≡ d))
-      → Local (length bs) (one hash_line next place (byte ∷ (bs ++ byte_of s ∷ more)) c)
-      (one hash_line other place (byte ∷ bs) d)
+      → (c.size ≤ suc (length bs) → (next ≡ other) × (c ≡ d)) → Local (length bs)
+      (one hash_line next place (byte ∷ (bs ++ byte_of s ∷ more)) c) (one hash_line other place (byte ∷ bs) d)
   one-local hash_line next other place byte bs c d same = grind (arith, nat_tests, byte_of, take-same)
 
   pub simple-local : (hash_line : Bool) (next : Where) (place byte : ℕ) (bs : List ℕ) (c d : Cut) → c ≡ d
@@ -153,25 +149,21 @@ module _ (s : Stop) (more : List ℕ) (free : IsFree s more) where
   string-local kind opening q i bs left b n l =
       grind (arith, nat_tests, byte_of, quote-over, extent-same, all_notes-same)
 
-  control-local : (c : Code) (place byte next : ℕ) (bs : List ℕ)
-      → CutLocal (suc (suc (length bs))) (control_or_plain c place (byte ∷ next ∷ (bs ++ byte_of s ∷ more)))
-      (control_or_plain c place (byte ∷ next ∷ bs))
+  control-local : (c : Code) (place byte next : ℕ) (bs : List ℕ) → CutLocal (suc (suc (length bs)))
+      (control_or_plain c place (byte ∷ next ∷ (bs ++ byte_of s ∷ more))) (control_or_plain c place (byte ∷ next ∷ bs))
   control-local c place byte next bs =
       let i : Inside = at_start bodies.ControlText (place + 2) in
-      if-cut (suc (suc (length bs))) (has_control_text c) _ _ _ _
-      (λ t. record {
+      if-cut (suc (suc (length bs))) (has_control_text c) _ _ _ _ (λ t. record {
         same = λ h.
             let fits : (extent i (bs ++ byte_of s ∷ more)).size ≤ length bs = omega (arith, h) in
             let e = extent-same s more i bs free tt fits in
             let m = all_notes-same s more notes.ControlTextUnended i bs free tt
             (λ before. control-over s more before free) fits in
             λ j. record { kind = kinds.Code c; size = 2 + e.size j; notes = m j };
-      })
-      (λ t. record { same = λ h. refl })
+      }) (λ t. record { same = λ h. refl })
 
-  name-local : (c : Code) (place byte next : ℕ) (bs : List ℕ)
-      → CutLocal (suc (suc (length bs))) (section_name c place (byte ∷ next ∷ (bs ++ byte_of s ∷ more)))
-      (section_name c place (byte ∷ next ∷ bs))
+  name-local : (c : Code) (place byte next : ℕ) (bs : List ℕ) → CutLocal (suc (suc (length bs)))
+      (section_name c place (byte ∷ next ∷ (bs ++ byte_of s ∷ more))) (section_name c place (byte ∷ next ∷ bs))
   name-local c place byte next bs = record {
     same = λ h.
         let i : Inside = at_start bodies.SectionName (place + 2) in
@@ -187,16 +179,13 @@ module _ (s : Stop) (more : List ℕ) (free : IsFree s more) where
         };
   }
 
-  pub code-local : (c : Code) (place byte next : ℕ) (bs : List ℕ)
-      → CutLocal (suc (suc (length bs))) (code_token c place (byte ∷ next ∷ (bs ++ byte_of s ∷ more)))
-      (code_token c place (byte ∷ next ∷ bs))
+  pub code-local : (c : Code) (place byte next : ℕ) (bs : List ℕ) → CutLocal (suc (suc (length bs)))
+      (code_token c place (byte ∷ next ∷ (bs ++ byte_of s ∷ more))) (code_token c place (byte ∷ next ∷ bs))
   code-local c place byte next bs =
       let left = suc (suc (length bs)) in
-      if-cut left (is_name c) _ _ _ _ (λ t. name-local c place byte next bs)
-      (λ t. if-cut left (is_quote c) _ _ _ _ (λ t. string-local (kinds.Code c) 2 apostrophe
-      (at_start (bodies.Quoted apostrophe) (place + 2)) bs left refl (of-both (λ b. b == apostrophe) false s refl refl)
-      (omega arith))
-      (λ t. control-local c place byte next bs))
+      if-cut left (is_name c) _ _ _ _ (λ t. name-local c place byte next bs) (λ t. if-cut left (is_quote c) _ _ _ _
+      (λ t. string-local (kinds.Code c) 2 apostrophe (at_start (bodies.Quoted apostrophe) (place + 2)) bs left refl
+      (of-both (λ b. b == apostrophe) false s refl refl) (omega arith)) (λ t. control-local c place byte next bs))
 
   pub dropped-local : (note : NoteKind) (c : Code) (place byte next : ℕ) (bs : List ℕ)
       → CutLocal (suc (suc (length bs))) (dropped_code note c place (byte ∷ next ∷ (bs ++ byte_of s ∷ more)))
@@ -236,68 +225,54 @@ module _ (s : Stop) (more : List ℕ) (free : IsFree s more) where
 
   -- ## C text
 
-  code_by-local : (effect : Effect) (c : Code) (w : Where) (place byte next : ℕ) (bs : List ℕ)
-      → Local (suc (length bs)) (code_by effect c w place (byte ∷ next ∷ (bs ++ byte_of s ∷ more)))
-      (code_by effect c w place (byte ∷ next ∷ bs))
+  code_by-local : (effect : Effect) (c : Code) (w : Where) (place byte next : ℕ) (bs : List ℕ) → Local (suc (length bs))
+      (code_by effect c w place (byte ∷ next ∷ (bs ++ byte_of s ∷ more))) (code_by effect c w place (byte ∷ next ∷ bs))
   code_by-local effects.Stands c w place byte next bs =
       let may = may_head w.part w.comments in
       one-local (in_hash_line w.part) _ _ place byte (next ∷ bs)
-      (code_token c place (byte ∷ next ∷ (bs ++ byte_of s ∷ more)))
-      (code_token c place (byte ∷ next ∷ bs))
-      (λ h. (
-        ap (λ t. if t then moved w parts.Head else moved w (passed w.part))
-            (heads-same c may place byte next bs h),
+      (code_token c place (byte ∷ next ∷ (bs ++ byte_of s ∷ more))) (code_token c place (byte ∷ next ∷ bs)) (λ h. (
+        ap (λ t. if t then moved w parts.Head else moved w (passed w.part)) (heads-same c may place byte next bs h),
         (code-local c place byte next bs).same h,
       ))
   code_by-local (effects.Drops note) c w place byte next bs = one-local (in_hash_line w.part) _ _ place byte (next ∷ bs)
       _ _ (λ h. (refl, (dropped-local note c place byte next bs).same h))
   code_by-local _ _ _ _ _ _ _ = grind (arith, nat_tests, simple-local)
 
-  begin-local : (long : Bool) (w : Where) (place byte : ℕ) (bs : List ℕ)
-      → Local (length bs) (comment_begin long w place (byte ∷ (bs ++ byte_of s ∷ more)))
-      (comment_begin long w place (byte ∷ bs))
+  begin-local : (long : Bool) (w : Where) (place byte : ℕ) (bs : List ℕ) → Local (length bs)
+      (comment_begin long w place (byte ∷ (bs ++ byte_of s ∷ more))) (comment_begin long w place (byte ∷ bs))
   begin-local long w place byte bs = grind (arith, nat_tests, take-same, byte_of)
 
   -- a string, behind so many bytes that begin it
-  quoted-local : (opening q place : ℕ) (bs : List ℕ) → (byte_of s == q) ≡ false → opening ≤ length bs
-      → CutLocal (length bs) (string kinds.Quoted opening q place (bs ++ byte_of s ∷ more))
-      (string kinds.Quoted opening q place bs)
+  quoted-local : (opening q place : ℕ) (bs : List ℕ) → (byte_of s == q) ≡ false → opening ≤ length bs → CutLocal (length
+      bs) (string kinds.Quoted opening q place (bs ++ byte_of s ∷ more)) (string kinds.Quoted opening q place bs)
   quoted-local opening q place bs n fits =
       let i = at_start (bodies.Quoted q) (place + opening) in
-      subst (λ l. CutLocal (length bs) (string_of kinds.Quoted opening i l)
-      (string_of kinds.Quoted opening i (drop opening bs))) (sym (drop-same opening bs (byte_of s ∷ more) fits))
-      (string-local kinds.Quoted opening q i (drop opening bs) (length bs) refl n
-      (omega (arith, length-drop opening bs, fits)))
+      subst (λ l. CutLocal (length bs) (string_of kinds.Quoted opening i l) (string_of kinds.Quoted opening i
+      (drop opening bs))) (sym (drop-same opening bs (byte_of s ∷ more) fits)) (string-local kinds.Quoted opening q i
+      (drop opening bs) (length bs) refl n (omega (arith, length-drop opening bs, fits)))
 
   -- what begins at a byte, where more than one byte is left or it is no code
   begun-local : (b : Start) (part : Part) (cs : List Opened) (place byte : ℕ) (bs : List ℕ) → QuoteIs s b
-      → (is_code_start b ≡ true → 0 < length bs)
-      → Local (length bs) (in_code b (record { part = part; comments = cs }) place (byte ∷ (bs ++ byte_of s ∷ more)))
-      (in_code b (record { part = part; comments = cs }) place (byte ∷ bs))
-  begun-local start.Identifier part cs place byte bs q k =
-      one-local (in_hash_line part) _ _ place byte bs (identifier (byte ∷ (bs ++ byte_of s ∷ more)))
-      (identifier (byte ∷ bs))
-      (λ h. (
+      → (is_code_start b ≡ true → 0 < length bs) → Local (length bs) (in_code b (record { part = part; comments = cs })
+      place (byte ∷ (bs ++ byte_of s ∷ more))) (in_code b (record { part = part; comments = cs }) place (byte ∷ bs))
+  begun-local start.Identifier part cs place byte bs q k = one-local (in_hash_line part) _ _ place byte bs
+      (identifier (byte ∷ (bs ++ byte_of s ∷ more))) (identifier (byte ∷ bs)) (λ h. (
         ap (λ t. record {
           part = if in_hash_line part && t then parts.Plain true true else passed part;
           comments = cs;
         }) (include-same s more (byte ∷ bs)),
-        ap (plain kinds.Identifier)
-            (run-same s more classes.Word (byte ∷ bs) refl refl),
+        ap (plain kinds.Identifier) (run-same s more classes.Word (byte ∷ bs) refl refl),
       ))
-  begun-local start.Constant part cs place byte bs q k =
-      simple-local (in_hash_line part) _ place byte bs _ _
+  begun-local start.Constant part cs place byte bs q k = simple-local (in_hash_line part) _ place byte bs _ _
       (ap (plain kinds.Constant) (constant-same s more (byte ∷ bs)))
   begun-local (start.Quoted quoted) part cs place byte bs q k =
       let whole = byte ∷ (bs ++ byte_of s ∷ more) in
       let short = string kinds.Quoted (prefix_size (byte ∷ bs) + 1) quoted place (byte ∷ bs) in
       one-local (in_hash_line part) _ _ place byte bs
-      (string kinds.Quoted (prefix_size whole + 1) quoted place whole) short
-      (λ h. (
+      (string kinds.Quoted (prefix_size whole + 1) quoted place whole) short (λ h. (
         refl,
         (subst (λ n. CutLocal (suc (length bs)) (string kinds.Quoted (n + 1) quoted place whole) short)
-            (sym (prefix-same s more byte bs))
-            (quoted-local (prefix_size (byte ∷ bs) + 1) quoted place (byte ∷ bs) q
+            (sym (prefix-same s more byte bs)) (quoted-local (prefix_size (byte ∷ bs) + 1) quoted place (byte ∷ bs) q
             (omega (arith, prefix-below byte bs)))).same h,
       ))
   begun-local (start.Code c) part cs place byte [] q k = absurd (omega (arith, k refl))
@@ -320,16 +295,14 @@ module _ (s : Stop) (more : List ℕ) (free : IsFree s more) where
   closes-cases bs = grind (arith, nat_tests, include-run, byte_of, drop-same, run-le, begins-same, drop_all)
 
   include-local : (hash_line : Bool) (next : Where) (place byte : ℕ) (bs : List ℕ) → closes_on_line bs ≡ true
-      → Local (length bs) (one hash_line next place (byte ∷ (bs ++ byte_of s ∷ more))
-      (include_name place (byte ∷ (bs ++ byte_of s ∷ more))))
-      (one hash_line next place (byte ∷ bs) (include_name place (byte ∷ bs)))
+      → Local (length bs) (one hash_line next place (byte ∷ (bs ++ byte_of s ∷ more)) (include_name place
+      (byte ∷ (bs ++ byte_of s ∷ more)))) (one hash_line next place (byte ∷ bs) (include_name place (byte ∷ bs)))
   include-local hash_line next place byte bs closes = one-local hash_line next next place byte bs
       (include_name place (byte ∷ (bs ++ byte_of s ∷ more))) (include_name place (byte ∷ bs))
       (λ h. (refl, same (omega (arith, h)) (include-run bs)))
     where
-      same : run classes.IncludeName (bs ++ byte_of s ∷ more) < length bs
-          → ((run classes.IncludeName (bs ++ byte_of s ∷ more) ≡ run classes.IncludeName bs)
-          × (run classes.IncludeName bs < length bs))
+      same : run classes.IncludeName (bs ++ byte_of s ∷ more) < length bs → ((run classes.IncludeName
+          (bs ++ byte_of s ∷ more) ≡ run classes.IncludeName bs) × (run classes.IncludeName bs < length bs))
           ⊎ ((run classes.IncludeName bs ≡ length bs) × (length bs < run classes.IncludeName (bs ++ byte_of s ∷ more)))
           → include_name place (byte ∷ (bs ++ byte_of s ∷ more)) ≡ include_name place (byte ∷ bs)
       same least (inl r) =
@@ -350,29 +323,24 @@ module _ (s : Stop) (more : List ℕ) (free : IsFree s more) where
       same least (inr r) = absurd (omega (arith, r.1, least))
 
   include-or : (hash_line behind : Bool) (next : Where) (place byte : ℕ) (bs : List ℕ) (f g : Found)
-      → Local (length bs) f g
-      → Local (length bs) (if byte == less && (behind && closes_on_line (bs ++ byte_of s ∷ more)) then one hash_line
-      next place
-      (byte ∷ (bs ++ byte_of s ∷ more)) (include_name place (byte ∷ (bs ++ byte_of s ∷ more))) else f)
-      (if byte == less && (behind && closes_on_line bs) then one hash_line next place (byte ∷ bs)
-      (include_name place (byte ∷ bs)) else g)
+      → Local (length bs) f g → Local (length bs)
+      (if byte == less && (behind && closes_on_line (bs ++ byte_of s ∷ more)) then one hash_line next place (byte
+      ∷ (bs ++ byte_of s ∷ more)) (include_name place (byte ∷ (bs ++ byte_of s ∷ more))) else f) (if byte == less &&
+      (behind && closes_on_line bs) then one hash_line next place (byte ∷ bs) (include_name place (byte ∷ bs)) else g)
   include-or hash_line behind next place byte bs f g l =
       grind (arith, nat_tests, closes-cases, byte_of, if-local, include-local, both-right)
 
   -- ## C text and comments
 
   begun-quote : (ends : Bool) (byte : ℕ) (bs : List ℕ) → Quotes s (start_of ends byte bs)
-  begun-quote ends byte bs =
-      if-both (Quotes s) (nat_lt 0 (prefix_size (byte ∷ bs))) _ _
-      (λ h. record { is = marked (slice_index (byte ∷ bs) (prefix_size (byte ∷ bs))) (prefix-mark byte bs h) })
-      (λ h. if-both (Quotes s) (is_letter byte) _ _ (λ h. record { is = tt })
-      (λ h. if-both (Quotes s) (nat_lt 0 (constant (byte ∷ bs))) _ _ (λ h. record { is = tt })
-      (λ h. if-both (Quotes s) (is_mark byte) _ _ (λ h. record { is = marked byte h })
-      (λ h. if-both (Quotes s) (byte == slash && begins star bs) _ _ (λ h. record { is = tt })
-      (λ h. if-both (Quotes s) (byte == slash && begins slash bs) _ _ (λ h. record { is = tt })
-      (λ h. if-both (Quotes s) (byte == at_sign) _ _ (λ h. record { is = tt })
-      (λ h. if-both (Quotes s) (byte == bar && (ends && not (begins bar bs))) _ _ (λ h. record { is = tt })
-      (λ h. record { is = sign-quote (longest all_signs (byte ∷ bs)) }))))))))
+  begun-quote ends byte bs = if-both (Quotes s) (nat_lt 0 (prefix_size (byte ∷ bs))) _ _ (λ h. record
+      { is = marked (slice_index (byte ∷ bs) (prefix_size (byte ∷ bs))) (prefix-mark byte bs h) }) (λ h. if-both (Quotes
+      s) (is_letter byte) _ _ (λ h. record { is = tt }) (λ h. if-both (Quotes s) (nat_lt 0 (constant (byte ∷ bs))) _ _
+      (λ h. record { is = tt }) (λ h. if-both (Quotes s) (is_mark byte) _ _ (λ h. record { is = marked byte h })
+      (λ h. if-both (Quotes s) (byte == slash && begins star bs) _ _ (λ h. record { is = tt }) (λ h. if-both (Quotes s)
+      (byte == slash && begins slash bs) _ _ (λ h. record { is = tt }) (λ h. if-both (Quotes s) (byte == at_sign) _ _
+      (λ h. record { is = tt }) (λ h. if-both (Quotes s) (byte == bar && (ends && not (begins bar bs))) _ _
+      (λ h. record { is = tt }) (λ h. record { is = sign-quote (longest all_signs (byte ∷ bs)) }))))))))
     where
       quoted : (b : ℕ) (t : Bool) → (b == quote) ≡ t → is_mark b ≡ true → (byte_of s == b) ≡ false
       quoted b t e h = grind (arith, nat_tests, byte_of, eqb-true, of-both)
@@ -388,42 +356,33 @@ module _ (s : Stop) (more : List ℕ) (free : IsFree s more) where
   begun : (ends : Bool) (part : Part) (cs : List Opened) (place byte : ℕ) (bs : List ℕ)
       → Local (length bs) (in_code (start_of ends byte (bs ++ byte_of s ∷ more)) (standing part cs) place
       (byte ∷ (bs ++ byte_of s ∷ more))) (in_code (start_of ends byte bs) (standing part cs) place (byte ∷ bs))
-  begun ends part cs place byte (c ∷ bs) =
-      subst (λ b. Local (suc (length bs)) (in_code b (standing part cs) place (byte ∷ c ∷ (bs ++ byte_of s ∷ more)))
-      (in_code (start_of ends byte (c ∷ bs)) (standing part cs) place (byte ∷ c ∷ bs)))
-      (sym (start_of-same s more ends byte (c ∷ bs) (apart-on s byte c bs) (λ e. refl)))
-      (begun-local (start_of ends byte (c ∷ bs)) part cs place byte (c ∷ bs) (begun-quote ends byte (c ∷ bs)).is
-      (λ e. omega arith))
-  begun ends part cs place byte [] = by (byte == at_sign) refl
-      (apart-or s more ends (standing part cs) place byte (in_code (start_of ends byte []) (standing part cs) place
-      (byte ∷ [])))
+  begun ends part cs place byte (c ∷ bs) = subst (λ b. Local (suc (length bs)) (in_code b (standing part cs) place (byte
+      ∷ c ∷ (bs ++ byte_of s ∷ more))) (in_code (start_of ends byte (c ∷ bs)) (standing part cs) place (byte ∷ c ∷ bs)))
+      (sym (start_of-same s more ends byte (c ∷ bs) (apart-on s byte c bs) (λ e. refl))) (begun-local
+      (start_of ends byte (c ∷ bs)) part cs place byte (c ∷ bs) (begun-quote ends byte (c ∷ bs)).is (λ e. omega arith))
+  begun ends part cs place byte [] = by (byte == at_sign) refl (apart-or s more ends (standing part cs) place byte
+      (in_code (start_of ends byte []) (standing part cs) place (byte ∷ [])))
     where
       no-code : (byte == at_sign) ≡ false → NoCode (start_of ends byte [])
-      no-code e =
-          if-both NoCode (nat_lt 0 (prefix_size (byte ∷ []))) _ _ (λ h. record { is = refl })
+      no-code e = if-both NoCode (nat_lt 0 (prefix_size (byte ∷ []))) _ _ (λ h. record { is = refl })
           (λ h. if-both NoCode (is_letter byte) _ _ (λ h. record { is = refl })
-          (λ h. if-both NoCode (nat_lt 0 (constant (byte ∷ []))) _ _ (λ h. record { is = refl })
-          (λ h. if-both NoCode (is_mark byte) _ _ (λ h. record { is = refl })
-          (λ h. if-both NoCode (byte == slash && begins star []) _ _ (λ h. record { is = refl })
-          (λ h. if-both NoCode (byte == slash && begins slash []) _ _ (λ h. record { is = refl })
-          (λ h. if-both NoCode (byte == at_sign) _ _ (λ h. absurd (let k : true ≡ false = sym h ∙ e in cc))
-          (λ h. if-both NoCode (byte == bar && (ends && not (begins bar []))) _ _ (λ h. record { is = refl })
-          (λ h. record { is = sign-no-code (longest all_signs (byte ∷ [])) }))))))))
+          (λ h. if-both NoCode (nat_lt 0 (constant (byte ∷ []))) _ _ (λ h. record { is = refl }) (λ h. if-both NoCode
+          (is_mark byte) _ _ (λ h. record { is = refl }) (λ h. if-both NoCode (byte == slash && begins star []) _ _
+          (λ h. record { is = refl }) (λ h. if-both NoCode (byte == slash && begins slash []) _ _
+          (λ h. record { is = refl }) (λ h. if-both NoCode (byte == at_sign) _ _ (λ h. absurd
+          (let k : true ≡ false = sym h ∙ e in cc)) (λ h. if-both NoCode (byte == bar && (ends && not (begins bar [])))
+          _ _ (λ h. record { is = refl }) (λ h. record { is = sign-no-code (longest all_signs (byte ∷ [])) }))))))))
 
-      by : (t : Bool) → (byte == at_sign) ≡ t → IsApart s byte []
-          ⊎ Local 0 (in_code (start_of ends byte (byte_of s ∷ more)) (standing part cs) place (byte ∷ byte_of s ∷ more))
-          (in_code (start_of ends byte []) (standing part cs) place (byte ∷ []))
-          → Local 0 (in_code (start_of ends byte (byte_of s ∷ more)) (standing part cs) place (byte ∷ byte_of s ∷ more))
-          (in_code (start_of ends byte []) (standing part cs) place (byte ∷ []))
-      by true e o =
-          subst (λ b. Local 0 (in_code b (standing part cs) place (byte ∷ byte_of s ∷ more))
+      by : (t : Bool) → (byte == at_sign) ≡ t → IsApart s byte [] ⊎ Local 0 (in_code (start_of ends byte (byte_of s
+          ∷ more)) (standing part cs) place (byte ∷ byte_of s ∷ more)) (in_code (start_of ends byte []) (standing part
+          cs) place (byte ∷ [])) → Local 0 (in_code (start_of ends byte (byte_of s ∷ more)) (standing part cs) place
+          (byte ∷ byte_of s ∷ more)) (in_code (start_of ends byte []) (standing part cs) place (byte ∷ []))
+      by true e o = subst (λ b. Local 0 (in_code b (standing part cs) place (byte ∷ byte_of s ∷ more))
           (in_code (start_of ends byte []) (standing part cs) place (byte ∷ [])))
-          (sym (ap (λ b. start_of ends b (byte_of s ∷ more)) (eqb-true byte at_sign e)))
-          (at-end s more (standing part cs) place byte (in_code (start_of ends byte []) (standing part cs) place
-          (byte ∷ [])))
+          (sym (ap (λ b. start_of ends b (byte_of s ∷ more)) (eqb-true byte at_sign e))) (at-end s more
+          (standing part cs) place byte (in_code (start_of ends byte []) (standing part cs) place (byte ∷ [])))
       by false e (inr l) = l
-      by false e (inl apart) =
-          subst (λ b. Local 0 (in_code b (standing part cs) place (byte ∷ byte_of s ∷ more))
+      by false e (inl apart) = subst (λ b. Local 0 (in_code b (standing part cs) place (byte ∷ byte_of s ∷ more))
           (in_code (start_of ends byte []) (standing part cs) place (byte ∷ [])))
           (sym (start_of-same s more ends byte [] apart (λ h. absurd (let k : true ≡ false = sym h ∙ e in cc))))
           (begun-local (start_of ends byte []) part cs place byte [] (begun-quote ends byte []).is
@@ -431,8 +390,7 @@ module _ (s : Stop) (more : List ℕ) (free : IsFree s more) where
 
   pub code_text-local : (part : Part) (cs : List Opened) (fresh : Bool) (last place byte : ℕ) (bs : List ℕ)
       → Local (length bs) (code_text_apart (record { part = part; comments = cs }) fresh last place byte
-      (bs ++ byte_of s ∷ more))
-      (code_text_apart (record { part = part; comments = cs }) fresh last place byte bs)
+      (bs ++ byte_of s ∷ more)) (code_text_apart (record { part = part; comments = cs }) fresh last place byte bs)
   code_text-local part cs fresh last place byte bs =
       grind (arith, nat_tests, if-local, same-local, byte_of, begins-same, simple-local, include-or, begun)
 
@@ -440,13 +398,11 @@ module _ (s : Stop) (more : List ℕ) (free : IsFree s more) where
       → Local (length bs) (piece part cs c place (byte ∷ (bs ++ byte_of s ∷ more))) (piece part cs c place (byte ∷ bs))
   piece-local part cs c place byte bs =
       let i = piece_start part cs c place in
-      one-local (in_hash_line part) _ _ place byte bs
-      (record {
+      one-local (in_hash_line part) _ _ place byte bs (record {
         kind = kinds.Text;
         size = (extent i (byte ∷ (bs ++ byte_of s ∷ more))).size;
         notes = noted i (byte ∷ (bs ++ byte_of s ∷ more));
-      })
-      (record { kind = kinds.Text; size = (extent i (byte ∷ bs)).size; notes = noted i (byte ∷ bs) })
+      }) (record { kind = kinds.Text; size = (extent i (byte ∷ bs)).size; notes = noted i (byte ∷ bs) })
       (λ h. let e = extent-same s more i (byte ∷ bs) free tt h in (
         (λ j. record {
           part = part;
@@ -460,9 +416,8 @@ module _ (s : Stop) (more : List ℕ) (free : IsFree s more) where
         (λ j. record { kind = kinds.Text; size = e.size j; notes = e.notes j }),
       ))
 
-  closed-local : (part : Part) (c : Opened) (cs : List Opened) (place byte : ℕ) (bs : List ℕ)
-      → Local (length bs) (comment_closed part c cs place (byte ∷ (bs ++ byte_of s ∷ more)))
-      (comment_closed part c cs place (byte ∷ bs))
+  closed-local : (part : Part) (c : Opened) (cs : List Opened) (place byte : ℕ) (bs : List ℕ) → Local (length bs)
+      (comment_closed part c cs place (byte ∷ (bs ++ byte_of s ∷ more))) (comment_closed part c cs place (byte ∷ bs))
   closed-local part c cs place byte bs = grind (arith, nat_tests, take-same, byte_of)
 
   comment_text-local : (part : Part) (c : Opened) (cs : List Opened) (last place byte : ℕ) (bs : List ℕ)
@@ -474,15 +429,13 @@ module _ (s : Stop) (more : List ℕ) (free : IsFree s more) where
   pub within-local : (part : Part) (c : Opened) (cs : List Opened) (fresh : Bool) (last place byte : ℕ) (bs : List ℕ)
       → Local (length bs) (in_text_apart part (c ∷ cs) fresh last place byte (bs ++ byte_of s ∷ more))
       (in_text_apart part (c ∷ cs) fresh last place byte bs)
-  within-local part c cs fresh last place byte bs =
-      if-local (length bs) c.inner c.inner _ _ _ _ refl (λ h. code_text-local part (c ∷ cs) fresh last place byte bs)
-      (λ h. comment_text-local part c cs last place byte bs)
+  within-local part c cs fresh last place byte bs = if-local (length bs) c.inner c.inner _ _ _ _ refl (λ h.
+      code_text-local part (c ∷ cs) fresh last place byte bs) (λ h. comment_text-local part c cs last place byte bs)
 
 -- inner C text of TeX text
 pub inner-local : (s : Stop) (more : List ℕ) (free : IsFree s more) (cs : List Opened) (fresh : Bool)
-    (last place byte : ℕ) (bs : List ℕ)
-    → Local (length bs) (in_text_apart parts.TexInner cs fresh last place byte (bs ++ byte_of s ∷ more))
-    (in_text_apart parts.TexInner cs fresh last place byte bs)
+    (last place byte : ℕ) (bs : List ℕ) → Local (length bs) (in_text_apart parts.TexInner cs fresh last place byte
+    (bs ++ byte_of s ∷ more)) (in_text_apart parts.TexInner cs fresh last place byte bs)
 inner-local s more free [] fresh last place byte bs =
     code_text-local s more free parts.TexInner [] fresh last place byte bs
 inner-local s more free (c ∷ cs) fresh last place byte bs =

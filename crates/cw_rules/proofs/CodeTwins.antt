@@ -1,11 +1,9 @@
 -- At the code of a definition, and at the code or the name of a C part, what begins is the same as where the part
 -- begins.
-use Rattle.std.proofs.Common.{arith, ◌≡◌, ℕ, Bool, true, false, List, [], ◌∷◌, refl, sym, ap, subst}
-use Rattle.std.specs.Prelude.{if◌then◌else◌}
-use Rattle.std.proofs.lemmas.Bool.Decides.{nat_tests}
-use Rattle.cw_rules.specs.declared.{bodies.Noted.Noted, codes.Code.Code, parts.Part.Part, parts.Opened.Opened}
-use Rattle.cw_rules.specs.Answers.{Answer, Token, Note, Seen, Where, Cut, Found, before}
-use Rattle.cw_rules.specs.Codes.{code_at, is_section, effect_in_tex, effect_in_c, effect_in_definition, effect_at_begin}
+use Rattle.cw_rules.proofs.Terms.{arith, ◌≡◌, ℕ, Bool, true, false, List, [], ◌∷◌, refl, sym, ap, subst, if◌then◌else◌}
+use Rattle.cw_rules.proofs.Terms.{nat_tests, bodies.Noted.Noted, codes.Code.Code, parts.Part.Part, parts.Opened.Opened}
+use Rattle.cw_rules.proofs.Terms.{Answer, Token, Note, Seen, Where, Cut, Found, before, code_at, is_section}
+use Rattle.cw_rules.proofs.Terms.{effect_in_tex, effect_in_c, effect_in_definition, effect_at_begin}
 use Rattle.cw_rules.specs.Tokens.{one, moved, passed, in_hash_line, effect_in, is_head, is_name, is_space, code_by}
 use Rattle.cw_rules.specs.Tokens.{code_token, tex_by, section}
 use Rattle.cw_rules.specs.Apart.{code_text_apart, comment_text_apart, part_text_apart, in_text_apart, found_apart}
@@ -112,9 +110,8 @@ definition-twin at.SilentFormat place bytes f e h =
 definition-twin _ place bytes f e h = absurd cc
 
 code-definition : (part : Part) (cs : List Opened) (c : Code) (place : ℕ) (bytes : List ℕ) → is_definition_code c ≡ true
-    → Defines (code_by (effect_in part cs c) c (record { part = part; comments = cs }) place bytes)
-    → Twin (code_by (effect_in part cs c) c (record { part = part; comments = cs }) place bytes)
-    (at_definition c place bytes)
+    → Defines (code_by (effect_in part cs c) c (record { part = part; comments = cs }) place bytes) → Twin (code_by
+    (effect_in part cs c) c (record { part = part; comments = cs }) place bytes) (at_definition c place bytes)
 code-definition parts.Definition [] c place bytes d h = definition-twin c place bytes _ refl d
 code-definition parts.Begin [] c place bytes d h =
     wrong _ h (no-definition-first c (record { part = parts.Begin; comments = [] }) place bytes)
@@ -153,9 +150,8 @@ program-in-definition at.Program place bytes h = refl
 program-in-definition _ place bytes h = absurd cc
 
 code-program : (part : Part) (cs : List Opened) (c : Code) (place : ℕ) (bytes : List ℕ) → is_program_code c ≡ true
-    → Programs (code_by (effect_in part cs c) c (record { part = part; comments = cs }) place bytes)
-    → Twin (code_by (effect_in part cs c) c (record { part = part; comments = cs }) place bytes)
-    (at_program c place bytes)
+    → Programs (code_by (effect_in part cs c) c (record { part = part; comments = cs }) place bytes) → Twin (code_by
+    (effect_in part cs c) c (record { part = part; comments = cs }) place bytes) (at_program c place bytes)
 code-program part cs c place bytes d h =
     grind (arith, nat_tests, program-twin, program-in-definition, wrong, no-program)
 
@@ -202,15 +198,13 @@ code-name at.SectionName parts.Begin [] place bytes n o h = headed-twin (is_head
 code-name at.SectionName part cs place bytes n o h = wrong _ h (not-head part cs o)
 code-name at.FileName parts.Definition [] place bytes n o h = headed-twin (is_head place (bytes)) definition
     (moved program (parts.Plain false false)) place bytes (code_token at.FileName place bytes) refl h
-code-name at.FileName parts.Begin [] place bytes n o h = headed-twin (is_head place (bytes))
-    (moved program (parts.Plain false false)) (moved program (parts.Plain false false)) place bytes
-    (code_token at.FileName place bytes) refl h
+code-name at.FileName parts.Begin [] place bytes n o h = headed-twin (is_head place (bytes)) (moved program (parts.Plain
+    false false)) (moved program (parts.Plain false false)) place bytes (code_token at.FileName place bytes) refl h
 code-name at.FileName part cs place bytes n o h = wrong _ h (not-head part cs o)
 code-name _ part cs place bytes n o h = absurd cc
 
-tex-name : (c : Code) (place : ℕ) (bytes : List ℕ) → is_name c ≡ true
-    → is_head_where (tex_by (effect_in_tex c) c tex place bytes).next ≡ true
-    → Twin (tex_by (effect_in_tex c) c tex place bytes) (at_program c place bytes)
+tex-name : (c : Code) (place : ℕ) (bytes : List ℕ) → is_name c ≡ true → is_head_where (tex_by (effect_in_tex c) c tex
+    place bytes).next ≡ true → Twin (tex_by (effect_in_tex c) c tex place bytes) (at_program c place bytes)
 tex-name at.SectionName place bytes n h = headed-twin (is_head place bytes) tex
     (moved program (parts.Plain false false)) place bytes (code_token at.SectionName place bytes) refl h
 tex-name at.FileName place bytes n h = headed-twin (is_head place bytes) tex (moved program (parts.Plain false false))
@@ -251,17 +245,15 @@ record Twins (o : Opens) (g f : Found) : Type 0 where
   twin : OpensBy o f → Twin f g
 
 code-twins : (o : Opens) (part : Part) (cs : List Opened) (c : Code) (place : ℕ) (bytes : List ℕ)
-    → is_head_where (record { part = part; comments = cs }) ≡ false → OpensAt o c
-    → Twins o (opened o c place bytes) (code_by (effect_in part cs c) c (record { part = part; comments = cs }) place
-    bytes)
+    → is_head_where (record { part = part; comments = cs }) ≡ false → OpensAt o c → Twins o (opened o c place bytes)
+    (code_by (effect_in part cs c) c (record { part = part; comments = cs }) place bytes)
 code-twins o part cs c place bytes n d = grind (arith, code-definition, code-program, code-name)
 
 text-twins : (o : Opens) (w : Where) (fresh : Bool) (last place : ℕ) (bytes : List ℕ) → is_head_where w ≡ false
     → OpensAt o (code_at bytes)
     → Twins o (opened o (code_at bytes) place (64 ∷ bytes)) (code_text_apart w fresh last place 64 bytes)
-text-twins o w fresh last place bytes n d =
-    subst (Twins o (opened o (code_at bytes) place (64 ∷ bytes))) (sym (at-code w fresh last place bytes))
-    (code-twins o w.part w.comments (code_at bytes) place (64 ∷ bytes) n d)
+text-twins o w fresh last place bytes n d = subst (Twins o (opened o (code_at bytes) place (64 ∷ bytes)))
+    (sym (at-code w fresh last place bytes)) (code-twins o w.part w.comments (code_at bytes) place (64 ∷ bytes) n d)
 
 tex-twins : (o : Opens) (c : Code) (place : ℕ) (bytes : List ℕ) → OpensAt o c
     → Twins o (opened o c place bytes) (tex_by (effect_in_tex c) c tex place bytes)
@@ -279,10 +271,8 @@ comment-twins : (o : Opens) (g : Found) (part : Part) (c : Opened) (cs : List Op
 comment-twins o g part c cs last place bytes = grind (arith, nat_tests, if-both, wrong, and-none, none-twins)
 
 part-twins : (o : Opens) (part : Part) (fresh : Bool) (last place : ℕ) (bytes : List ℕ) → is_limbo part ≡ false
-    → OpensAt o (code_at bytes)
-    → Twins o (opened o (code_at bytes) place (64 ∷ bytes))
-    (part_text_apart part (record { part = part; comments = [] })
-    fresh last place 64 bytes)
+    → OpensAt o (code_at bytes) → Twins o (opened o (code_at bytes) place (64 ∷ bytes))
+    (part_text_apart part (record { part = part; comments = [] }) fresh last place 64 bytes)
 part-twins o parts.Limbo fresh last place bytes l d = absurd cc
 part-twins o parts.Tex fresh last place bytes l d = tex-twins o (code_at bytes) place (64 ∷ bytes) d
 part-twins o parts.Head fresh last place bytes l d = none-twins o _ _ refl
@@ -314,9 +304,8 @@ in-text-twins o part (c ∷ cs) fresh last place bytes l d =
     let w : Where = record { part = part; comments = c ∷ cs } in
     let g = opened o (code_at bytes) place (64 ∷ bytes) in
     if-both (Twins o g) c.inner (code_text_apart w fresh last place 64 bytes)
-    (comment_text_apart part c cs last place 64 bytes)
-    (λ e. text-twins o w fresh last place bytes (open-no-head part c cs) d)
-    (λ e. comment-twins o g part c cs last place bytes)
+    (comment_text_apart part c cs last place 64 bytes) (λ e. text-twins o w fresh last place bytes
+    (open-no-head part c cs) d) (λ e. comment-twins o g part c cs last place bytes)
 
 found-part : (o : Opens) (fresh : Bool) (last place : ℕ) (bytes : List ℕ) → is_section (code_at bytes) ≡ false
     → found_apart (beginning_of o) fresh last place 64 bytes ≡ opened o (code_at bytes) place (64 ∷ bytes)
@@ -324,15 +313,12 @@ found-part x1 fresh last place bytes h = grind (arith, nat_tests, nat_tests, at-
 
 -- Where a part begins outside of limbo, what begins is what begins there where the scan of the part begins.
 pub found-twin : (o : Opens) (w : Where) (fresh : Bool) (last place : ℕ) (bytes : List ℕ) → is_limbo w.part ≡ false
-    → is_section (code_at bytes) ≡ false → OpensAt o (code_at bytes)
-    → OpensBy o (found_apart w fresh last place 64 bytes)
-    → Twin (found_apart w fresh last place 64 bytes) (found_apart (beginning_of o) fresh last place 64 bytes)
+    → is_section (code_at bytes) ≡ false → OpensAt o (code_at bytes) → OpensBy o (found_apart w fresh last place 64
+    bytes) → Twin (found_apart w fresh last place 64 bytes) (found_apart (beginning_of o) fresh last place 64 bytes)
 found-twin o w fresh last place bytes l s d h =
     let plain = ap (λ t. if t then section w place bytes else in_text_apart w.part w.comments fresh last place 64 bytes)
     s in
-    let t : Twin (in_text_apart w.part w.comments fresh last place 64 bytes)
-    (opened o (code_at bytes) place (64 ∷ bytes)) =
-    (in-text-twins o w.part w.comments fresh last place bytes l d).twin (subst (OpensBy o) plain h) in
-    subst (λ f. Twin f (found_apart (beginning_of o) fresh last place 64 bytes)) (sym plain)
-    (subst (Twin (in_text_apart w.part w.comments fresh last place 64 bytes))
-    (sym (found-part o fresh last place bytes s)) t)
+    let t : Twin (in_text_apart w.part w.comments fresh last place 64 bytes) (opened o (code_at bytes) place
+    (64 ∷ bytes)) = (in-text-twins o w.part w.comments fresh last place bytes l d).twin (subst (OpensBy o) plain h) in
+    subst (λ f. Twin f (found_apart (beginning_of o) fresh last place 64 bytes)) (sym plain) (subst
+    (Twin (in_text_apart w.part w.comments fresh last place 64 bytes)) (sym (found-part o fresh last place bytes s)) t)

@@ -1,11 +1,9 @@
 -- A section name is the same where the text ends behind it.
-use Rattle.std.proofs.Common.{◌≡◌, ℕ, zero, suc, ◌+◌, ◌-◌, ◌≤◌, Bool, true, false, ◌&&◌, ◌||◌, not, ◌==◌, List, [], ◌∷◌}
-use Rattle.std.proofs.Common.{codes, length, take, drop, refl, sym, ap, ◌∙◌, arith}
-use Rattle.std.specs.Prelude.{if◌then◌else◌}
-use Rattle.std.proofs.{Math.Seq.take-nil, lemmas.Bool.Decides.nat_tests}
+use Rattle.cw_rules.proofs.Terms.{◌≡◌, ℕ, zero, suc, ◌+◌, ◌-◌, ◌≤◌, Bool, true, false, ◌&&◌, ◌||◌, not, ◌==◌, List, []}
+use Rattle.cw_rules.proofs.Terms.{◌∷◌, codes, length, take, drop, refl, sym, ap, ◌∙◌, arith, if◌then◌else◌}
+use Rattle.cw_rules.proofs.Terms.{Math.Seq.take-nil, lemmas.Bool.Decides.nat_tests, stops, stepped, goes_on, ended}
+use Rattle.cw_rules.proofs.Terms.{extent, closing_bytes, greater, at_sign, begins, begins_with}
 use Rattle.cw_rules.specs.{declared.bodies.Inside.Inside, Codes.begins_section}
-use Rattle.cw_rules.specs.Bodies.{stops, stepped, goes_on, ended, extent, closing_bytes}
-use Rattle.cw_rules.specs.Bytes.{greater, at_sign, begins, begins_with}
 use Rattle.cw_rules.proofs.{BodiesAhead.ended-here, BodiesAhead.ended-on, Inside.ended-le}
 use Rattle.cw_rules.specs.declared.bodies.Body.TheVariants as bodies
 
@@ -18,10 +16,9 @@ size-on i b bs e h =
     let place : (ended i (b ∷ bs)).place ≡ k = ap (λ (i : Inside). i.place) (ended-on i b bs h) in
     let inner : (ended i (b ∷ bs)).place - i.place ≡ suc (k - (i.place + 1)) = omega (arith, place, low) in
     (λ t. if begins_with (closing_bytes (e t)) (drop (inner t) (b ∷ bs)) then inner t + length (closing_bytes (e t))
-    else inner t)
-    ∙ later (begins_with (codes "@>") (drop (k - (i.place + 1)) bs)) (k - (i.place + 1))
-    ∙ sym (λ t. suc (if begins_with (closing_bytes (e t)) (drop (k - (i.place + 1)) bs) then (k - (i.place + 1))
-    + length (closing_bytes (e t)) else k - (i.place + 1)))
+    else inner t) ∙ later (begins_with (codes "@>") (drop (k - (i.place + 1)) bs)) (k - (i.place + 1))
+    ∙ sym (λ t. suc (if begins_with (closing_bytes (e t)) (drop (k - (i.place + 1)) bs) then
+    (k - (i.place + 1)) + length (closing_bytes (e t)) else k - (i.place + 1)))
   where
     later : (t : Bool) (n : ℕ) → (if t then suc n + 2 else suc n) ≡ suc (if t then n + 2 else n)
     later t n = grind (arith, nat_tests)
@@ -31,9 +28,8 @@ size-here : (i : Inside) (b : ℕ) (bs : List ℕ) → i.body ≡ bodies.Section
 size-here i b bs e h =
     let inner : (ended i (b ∷ bs)).place - i.place ≡ 0 =
     omega (arith, ap (λ (i : Inside). i.place) (ended-here i b bs h)) in
-    (λ t. if begins_with (closing_bytes (e t)) (drop (inner t) (b ∷ bs)) then inner t + length (closing_bytes (e t))
-    else inner t)
-    ∙ ap (λ t. if t then 2 else 0) (ap (λ t. b == 64 && t) (one bs))
+    (λ t. if begins_with (closing_bytes (e t)) (drop (inner t) (b ∷ bs)) then inner t + length
+    (closing_bytes (e t)) else inner t) ∙ ap (λ t. if t then 2 else 0) (ap (λ t. b == 64 && t) (one bs))
   where
     one : (bs : List ℕ) → begins_with (codes ">") bs ≡ begins 62 bs
     one bs = grind (arith, nat_tests)
@@ -41,11 +37,9 @@ size-here i b bs e h =
 -- A name goes on where less of it is seen.
 goes-less : (i : Inside) (b n : ℕ) (bs : List ℕ) → i.body ≡ bodies.SectionName → goes_on i (b ∷ bs) ≡ true
     → goes_on i (b ∷ take n bs) ≡ true
-goes-less i b n bs e h =
-    (λ t. i.along || not (stops (e t) i.before b (take n bs)))
-    ∙ less i.along (b == at_sign) (begins greater bs) (begins_section bs) (begins greater (take n bs))
-    (begins_section (take n bs)) (greater-less n bs) (section-less n bs)
-    ((λ t. i.along || not (stops (sym e t) i.before b bs)) ∙ h)
+goes-less i b n bs e h = (λ t. i.along || not (stops (e t) i.before b (take n bs))) ∙ less i.along (b == at_sign)
+    (begins greater bs) (begins_section bs) (begins greater (take n bs)) (begins_section (take n bs))
+    (greater-less n bs) (section-less n bs) ((λ t. i.along || not (stops (sym e t) i.before b bs)) ∙ h)
   where
     greater-less : (n : ℕ) (bs : List ℕ) → begins greater (take n bs) ≡ true → begins greater bs ≡ true
     greater-less zero bs h = absurd cc

@@ -1,17 +1,13 @@
 -- What begins at a place is one of these rules: each law of what is found there is proved by these cases.
-use Rattle.std.proofs.Common.{◌≡◌, ℕ, ◌+◌, Bool, true, false, ◌&&◌, not, ◌==◌, nat_lt, List, [], ◌∷◌, Option, length}
-use Rattle.std.proofs.Common.{Some, None, drop, slice_index, refl, sym, ap, ◌∙◌, arith}
-use Rattle.std.specs.Prelude.{if◌then◌else◌}
-use Rattle.std.proofs.lemmas.Bool.Decides.{nat_tests}
-use Rattle.cw_base.proofs.TestLaws.{both-left, both-right, not-true}
-use Rattle.cw_base.specs.{declared.notes.NoteKind.NoteKind, Bytes.newline, Text.bar}
-use Rattle.cw_rules.specs.declared.{codes.Code.Code, codes.Effect.Effect, parts.Part.Part, parts.Opened.Opened}
-use Rattle.cw_rules.specs.declared.{parts.Start.Start, signs.Sign.Sign}
-use Rattle.cw_rules.specs.Answers.{Note, Where, Cut, Found, before, plain, dropped}
+use Rattle.cw_rules.proofs.Terms.{◌≡◌, ℕ, ◌+◌, Bool, true, false, ◌&&◌, not, ◌==◌, nat_lt, List, [], ◌∷◌, Option}
+use Rattle.cw_rules.proofs.Terms.{length, Some, None, drop, slice_index, refl, sym, ap, ◌∙◌, arith, if◌then◌else◌}
+use Rattle.cw_rules.proofs.Terms.{nat_tests, both-left, both-right, not-true, declared.notes.NoteKind.NoteKind}
+use Rattle.cw_rules.proofs.Terms.{Bytes.newline, Text.bar, codes.Code.Code, codes.Effect.Effect, parts.Part.Part}
+use Rattle.cw_rules.proofs.Terms.{parts.Opened.Opened, parts.Start.Start, signs.Sign.Sign, Note, Where, Cut, Found}
+use Rattle.cw_rules.proofs.Terms.{before, plain, dropped, slash, star, at_sign, hash, less, comma, equals, left_paren}
+use Rattle.cw_rules.proofs.Terms.{right_paren, run, begins, begins_by, is_in, is_letter, is_mark, code_at}
+use Rattle.cw_rules.proofs.Terms.{effect_in_limbo, effect_in_tex}
 use Rattle.cw_rules.specs.Apart.{code_text_apart, comment_text_apart, behind_head_apart, part_text_apart}
-use Rattle.cw_rules.specs.Bytes.{slash, star, at_sign, hash, less, comma, equals, left_paren, right_paren, run, begins}
-use Rattle.cw_rules.specs.Bytes.{begins_by, is_in, is_letter, is_mark}
-use Rattle.cw_rules.specs.Codes.{code_at, effect_in_limbo, effect_in_tex}
 use Rattle.cw_rules.specs.{Constants.constant, Prefixes.prefix_size, Signs.all_signs, Signs.longest, Signs.spelling}
 use Rattle.cw_rules.specs.Tokens.{alone_size, behind_format, behind_include, behind_white, behind_word, closes_on_line}
 use Rattle.cw_rules.specs.Tokens.{code_by, code_token, comment_begin, comment_closed, comment_end, dropped_code}
@@ -109,12 +105,10 @@ module _ (w : Where) (fresh : Bool) (last place byte : ℕ) (bytes : List ℕ) w
       → Ruled (code_by effect (code_at bytes) w place (byte ∷ bytes))
   code-by-rule effects.Stands at e =
       let heads = may_head w.part w.comments && is_head place (byte ∷ bytes) in
-      if-both (λ n. Ruled (one (in_hash_line w.part) n place (byte ∷ bytes)
-      (code_token (code_at bytes) place (byte ∷ bytes)))) (is_name (code_at bytes) && heads) _ _
-      (λ h. let k = both-right (is_name (code_at bytes)) heads h in
+      if-both (λ n. Ruled (one (in_hash_line w.part) n place (byte ∷ bytes) (code_token (code_at bytes) place (byte
+      ∷ bytes)))) (is_name (code_at bytes) && heads) _ _ (λ h. let k = both-right (is_name (code_at bytes)) heads h in
       Heading at e (both-left (is_name (code_at bytes)) heads h) (both-left (may_head w.part w.comments) _ k)
-      (both-right (may_head w.part w.comments) _ k))
-      (λ h. Passed _ (Standing at e))
+      (both-right (may_head w.part w.comments) _ k)) (λ h. Passed _ (Standing at e))
   code-by-rule (effects.Drops note) at e = Passed _ (Dropping note at e)
   code-by-rule effects.Defines at e = Beginning effects.Defines _ at e Macro
   code-by-rule effects.Formats at e = Beginning effects.Formats _ at e Format
@@ -133,27 +127,21 @@ module _ (w : Where) (fresh : Bool) (last place byte : ℕ) (bytes : List ℕ) w
       let takes = takes_hash_line w.part w.comments in
       let closes = behind_include w.part && closes_on_line bytes in
       if-both Ruled (byte == newline) _ _ LineEnd
-      (λ line. if-both Ruled (is_space w.part byte bytes) _ _ (Space line)
-      (λ space. if-both Ruled (byte == hash && (takes && fresh)) _ _
-      (λ h. let k = both-right (byte == hash) (takes && fresh) h in
+      (λ line. if-both Ruled (is_space w.part byte bytes) _ _ (Space line) (λ space. if-both Ruled
+      (byte == hash && (takes && fresh)) _ _ (λ h. let k = both-right (byte == hash) (takes && fresh) h in
       HashLine (both-left (byte == hash) (takes && fresh) h) (both-left takes fresh k) (both-right takes fresh k))
-      (λ hash. if-both Ruled (byte == less && closes) _ _
-      (λ h. let k = both-right (byte == less) closes h in
+      (λ hash. if-both Ruled (byte == less && closes) _ _ (λ h. let k = both-right (byte == less) closes h in
       Passed _ (IncludeName (both-left (byte == less) closes h) (both-left (behind_include w.part) _ k)
-      (both-right (behind_include w.part) _ k)))
-      (λ less. if-both P (nat_lt 0 (prefix_size all)) (start.Quoted (slice_index all (prefix_size all))) _
-      (λ h. Passed _ (Prefixed h))
-      (λ bare. if-both P (is_letter byte) start.Identifier _ (Word bare)
-      (λ letter. if-both P (nat_lt 0 (constant all)) start.Constant _ (λ h. Passed _ (Constant h))
-      (λ constant. if-both P (is_mark byte) (start.Quoted byte) _ (λ h. Passed _ (Quoted letter h))
-      (λ mark. if-both P (byte == slash && begins star bytes) start.LongComment _ (Comment true)
-      (λ long. if-both P (byte == slash && begins slash bytes) start.ShortComment _ (Comment false)
-      (λ short. if-both P (byte == at_sign) (start.Code (code_at bytes)) _
-      (λ h. code-by-rule (effect_in w.part w.comments (code_at bytes)) h refl)
-      (λ code. if-both P (byte == bar && (ends && not (begins bar bytes))) start.EndOfInner
-      (sign_or_other (longest all_signs all))
-      (λ h. InnerEnd (both-left (byte == bar) _ h) (both-left ends _ (both-right (byte == bar) _ h)))
-      (λ h. sign-rule (longest all_signs all) refl (record {
+      (both-right (behind_include w.part) _ k))) (λ less. if-both P (nat_lt 0 (prefix_size all))
+      (start.Quoted (slice_index all (prefix_size all))) _ (λ h. Passed _ (Prefixed h)) (λ bare. if-both P
+      (is_letter byte) start.Identifier _ (Word bare) (λ letter. if-both P (nat_lt 0 (constant all)) start.Constant _
+      (λ h. Passed _ (Constant h)) (λ constant. if-both P (is_mark byte) (start.Quoted byte) _ (λ h. Passed _
+      (Quoted letter h)) (λ mark. if-both P (byte == slash && begins star bytes) start.LongComment _ (Comment true)
+      (λ long. if-both P (byte == slash && begins slash bytes) start.ShortComment _ (Comment false) (λ short. if-both P
+      (byte == at_sign) (start.Code (code_at bytes)) _ (λ h. code-by-rule (effect_in w.part w.comments (code_at bytes))
+      h refl) (λ code. if-both P (byte == bar && (ends && not (begins bar bytes))) start.EndOfInner
+      (sign_or_other (longest all_signs all)) (λ h. InnerEnd (both-left (byte == bar) _ h)
+      (both-left ends _ (both-right (byte == bar) _ h))) (λ h. sign-rule (longest all_signs all) refl (record {
         line = line;
         space = space;
         hash = hash;
@@ -187,13 +175,10 @@ pub comment-rule : (part : Part) (c : Opened) (comments : List Opened) (last pla
 comment-rule part c comments last place byte bytes =
     let P = CommentRule part c comments last place byte bytes in
     let deep = is_deep part (c ∷ comments) in
-    if-both P (c.long && (byte == star && begins slash bytes)) _ _
-    (λ h. Closed (both-left c.long _ h) (both-right c.long _ h))
-    (λ closes. if-both P (not c.long && byte == newline) _ _
-    (λ h. EndedLine (not-true c.long (both-left (not c.long) _ h)) (both-right (not c.long) _ h))
-    (λ line. if-both P (byte == bar && not deep) _ _
-    (λ h. InnerBegin (both-left (byte == bar) _ h) (not-true deep (both-right (byte == bar) _ h)))
-    (λ opens. Piece closes line opens)))
+    if-both P (c.long && (byte == star && begins slash bytes)) _ _ (λ h. Closed (both-left c.long _ h) (both-right
+    c.long _ h)) (λ closes. if-both P (not c.long && byte == newline) _ _ (λ h. EndedLine (not-true c.long (both-left
+    (not c.long) _ h)) (both-right (not c.long) _ h)) (λ line. if-both P (byte == bar && not deep) _ _ (λ h. InnerBegin
+    (both-left (byte == bar) _ h) (not-true deep (both-right (byte == bar) _ h))) (λ opens. Piece closes line opens)))
 
 -- ## Limbo, TeX text and heads
 
@@ -222,13 +207,11 @@ all-stay code = grind (arith, nat_tests)
 
 limbo-rule : (place byte : ℕ) (bytes : List ℕ)
     → LimboRule place byte bytes (limbo_text (within parts.Limbo) place byte bytes)
-limbo-rule place byte bytes =
-    if-both (LimboRule place byte bytes) (byte == at_sign) _ _
+limbo-rule place byte bytes = if-both (LimboRule place byte bytes) (byte == at_sign) _ _
     (λ at. by at (effect_in_limbo (code_at bytes)) refl (all-stay (code_at bytes))) LimboText
   where
-    by : (byte == at_sign) ≡ true → (effect : Effect) → effect_in_limbo (code_at bytes) ≡ effect
-        → stays_in_limbo effect ≡ true
-        → LimboRule place byte bytes (limbo_by effect (code_at bytes) (within parts.Limbo) place (byte ∷ bytes))
+    by : (byte == at_sign) ≡ true → (effect : Effect) → effect_in_limbo (code_at bytes) ≡ effect → stays_in_limbo effect
+        ≡ true → LimboRule place byte bytes (limbo_by effect (code_at bytes) (within parts.Limbo) place (byte ∷ bytes))
     by at effects.Stands e h = LimboCode at e
     by at effects.Formats e h = LimboFormat at e
     by at (effects.Drops note) e h = LimboDropped note at e
@@ -320,11 +303,9 @@ module _ (fresh : Bool) (last place byte : ℕ) (bytes : List ℕ) where
 
   tex-by-rule : (effect : Effect) → (byte == at_sign) ≡ true → effect_in_tex (code_at bytes) ≡ effect
       → In parts.Tex (tex_by effect (code_at bytes) (within parts.Tex) place (byte ∷ bytes))
-  tex-by-rule effects.Stands at e =
-      if-both (λ n. In parts.Tex (one false n place (byte ∷ bytes) (code_token (code_at bytes) place (byte ∷ bytes))))
-      (is_name (code_at bytes) && is_head place (byte ∷ bytes)) _ _
-      (λ h. TexHeading at e (both-left (is_name (code_at bytes)) _ h) (both-right (is_name (code_at bytes)) _ h))
-      (λ h. TexCode at e)
+  tex-by-rule effects.Stands at e = if-both (λ n. In parts.Tex (one false n place (byte ∷ bytes) (code_token (code_at
+      bytes) place (byte ∷ bytes)))) (is_name (code_at bytes) && is_head place (byte ∷ bytes)) _ _ (λ h. TexHeading at e
+      (both-left (is_name (code_at bytes)) _ h) (both-right (is_name (code_at bytes)) _ h)) (λ h. TexCode at e)
   tex-by-rule (effects.Drops note) at e = TexDropped note at e
   tex-by-rule effects.Defines at e = TexBeginning effects.Defines _ at e Macro
   tex-by-rule effects.Formats at e = TexBeginning effects.Formats _ at e Format
@@ -334,9 +315,8 @@ module _ (fresh : Bool) (last place byte : ℕ) (bytes : List ℕ) where
   here-wanted : is_in classes.White byte ≡ false → behind_white (byte ∷ bytes) ≡ byte ∷ bytes
   here-wanted white = grind (arith, nat_tests)
 
-  word-rule : (part next : Part) → name_follows (byte ∷ bytes) ≡ true → is_in classes.White byte ≡ false
-      → IsHeadWord (byte ∷ bytes) part next
-      → In part (one false (within next) place (byte ∷ bytes) (identifier (byte ∷ bytes)))
+  word-rule : (part next : Part) → name_follows (byte ∷ bytes) ≡ true → is_in classes.White byte ≡ false → IsHeadWord
+      (byte ∷ bytes) part next → In part (one false (within next) place (byte ∷ bytes) (identifier (byte ∷ bytes)))
   word-rule part next follows white k =
       HeadWord part next (ap (begins_by is_letter) (sym (here-wanted white)) ∙ follows) k
 
@@ -345,10 +325,9 @@ module _ (fresh : Bool) (last place byte : ℕ) (bytes : List ℕ) where
   macro-rule code follows =
       let part = parts.MacroName code in
       if-both (In part) (is_in classes.White byte) _ _ (λ h. White part h (MacroWanted code follows))
-      (λ white. if-both (λ n. In part (one false n place (byte ∷ bytes) (identifier (byte ∷ bytes))))
-      (begins left_paren (drop (run classes.Word (byte ∷ bytes)) (byte ∷ bytes))) _ _
-      (λ h. word-rule part (parts.MacroParen code) follows white (BeforeParameters code h))
-      (λ h. word-rule part parts.Definition follows white (LastOfMacro code)))
+      (λ white. if-both (λ n. In part (one false n place (byte ∷ bytes) (identifier (byte ∷ bytes)))) (begins left_paren
+      (drop (run classes.Word (byte ∷ bytes)) (byte ∷ bytes))) _ _ (λ h. word-rule part (parts.MacroParen code) follows
+      white (BeforeParameters code h)) (λ h. word-rule part parts.Definition follows white (LastOfMacro code)))
 
   parameter-rule : (code : ℕ) → parameter_follows (byte ∷ bytes) ≡ true
       → In (parts.Parameters code) (parameter (within (parts.Parameters code)) place byte bytes)
@@ -357,13 +336,11 @@ module _ (fresh : Bool) (last place byte : ℕ) (bytes : List ℕ) where
       if-both (In part) (is_in classes.White byte) _ _ (λ h. White part h (ParameterWanted code follows))
       (λ white. if-both (In part) (is_letter byte) _ _ (λ h. HeadWord part part h (OfParameters code))
       (λ letter. if-both (In part) (byte == comma) _ _ (λ h. ParameterSign code signs.Comma part (CommaStands h))
-      (λ none. if-both (In part) (byte == right_paren) _ _
-      (λ h. ParameterSign code signs.RightParen parts.Definition (Closes h))
-      (λ more. ParameterSign code signs.Ellipsis part (Dots white letter none more follows)))))
+      (λ none. if-both (In part) (byte == right_paren) _ _ (λ h. ParameterSign code signs.RightParen parts.Definition
+      (Closes h)) (λ more. ParameterSign code signs.Ellipsis part (Dots white letter none more follows)))))
 
-  format-rule : (code : ℕ) (second limbo : Bool) → name_follows (byte ∷ bytes) ≡ true
-      → In (parts.FormatName code second limbo)
-      (format_name code second limbo (within (parts.FormatName code second limbo)) place byte bytes)
+  format-rule : (code : ℕ) (second limbo : Bool) → name_follows (byte ∷ bytes) ≡ true → In (parts.FormatName code second
+      limbo) (format_name code second limbo (within (parts.FormatName code second limbo)) place byte bytes)
   format-rule code second limbo follows =
       let part = parts.FormatName code second limbo in
       if-both (In part) (is_in classes.White byte) _ _ (λ h. White part h (FormatWanted code second limbo follows))
@@ -379,21 +356,18 @@ module _ (fresh : Bool) (last place byte : ℕ) (bytes : List ℕ) where
 
   pub part-rule : (part : Part) → In part (part_text_apart part (within part) fresh last place byte bytes)
   part-rule parts.Limbo = OfLimbo _ (limbo-rule place byte bytes)
-  part-rule parts.Tex =
-      if-both (In parts.Tex) (byte == at_sign) _ _ (λ h. tex-by-rule (effect_in_tex (code_at bytes)) h refl)
-      (λ at. if-both (In parts.Tex) (byte == bar) _ _ TexInner (TexText at))
+  part-rule parts.Tex = if-both (In parts.Tex) (byte == at_sign) _ _ (λ h. tex-by-rule
+      (effect_in_tex (code_at bytes)) h refl) (λ at. if-both (In parts.Tex) (byte == bar) _ _ TexInner (TexText at))
   part-rule parts.Head = if-both (In parts.Head) (is_in classes.Blank byte) _ _ Blank HeadSign
   part-rule (parts.MacroName code) =
       if-both (In (parts.MacroName code)) (name_follows (byte ∷ bytes)) _ _ (macro-rule code)
       (λ h. Improper _ _ _ _ (ImproperMacro code) (code-rule (within parts.Definition) fresh last place byte bytes))
   part-rule (parts.MacroParen code) = Opening code
-  part-rule (parts.Parameters code) =
-      if-both (In (parts.Parameters code)) (parameter_follows (byte ∷ bytes)) _ _ (parameter-rule code)
-      (λ h. Improper _ _ _ _ (ImproperParameters code)
+  part-rule (parts.Parameters code) = if-both (In (parts.Parameters code)) (parameter_follows (byte ∷ bytes)) _ _
+      (parameter-rule code) (λ h. Improper _ _ _ _ (ImproperParameters code)
       (code-rule (within parts.Definition) fresh last place byte bytes))
-  part-rule (parts.FormatName code second limbo) =
-      if-both (In (parts.FormatName code second limbo)) (name_follows (byte ∷ bytes)) _ _
-      (format-rule code second limbo) (λ h. by limbo)
+  part-rule (parts.FormatName code second limbo) = if-both (In (parts.FormatName code second limbo))
+      (name_follows (byte ∷ bytes)) _ _ (format-rule code second limbo) (λ h. by limbo)
     where
       by : (limbo : Bool) → In (parts.FormatName code second limbo) (before (Note notes.ImproperFormat code ∷ [])
           (behind_head_apart limbo (within (parts.FormatName code second limbo)) fresh last place byte bytes))

@@ -1,33 +1,29 @@
 -- What begins at a place takes the bytes there: answers without bytes come first, and then what has them all.
-use Rattle.std.proofs.Common.{◌≡◌, ℕ, suc, ◌+◌, ◌-◌, ◌<◌, Bool, true, false, ◌&&◌, not, ◌==◌, List, [], ◌∷◌, ◌++◌}
-use Rattle.std.proofs.Common.{length, take, refl, ap, arith, append_assoc}
-use Rattle.std.specs.Prelude.{if◌then◌else◌}
-use Rattle.std.proofs.{lemmas.Bool.ltb-true, lemmas.Bool.Decides.nat_tests}
-use Rattle.cw_base.proofs.TestLaws.{one-left, one-right}
-use Rattle.cw_base.specs.{Bytes.newline, Bytes.backslash, Text.bar, declared.notes.NoteKind.TheVariants.ImproperFormat}
-use Rattle.cw_rules.specs.declared.{bodies.Noted.Noted, classes.Class.Class, codes.Code.Code, parts.Part.Part}
-use Rattle.cw_rules.specs.declared.{parts.Opened.Opened, signs.Sign.Sign}
-use Rattle.cw_rules.specs.Bytes.{star, slash, at_sign, run, is_in, is_letter, is_digit, begins, equals}
+use Rattle.cw_rules.proofs.Terms.{◌≡◌, ℕ, suc, ◌+◌, ◌-◌, ◌<◌, Bool, true, false, ◌&&◌, not, ◌==◌, List, [], ◌∷◌, ◌++◌}
+use Rattle.cw_rules.proofs.Terms.{length, take, refl, ap, arith, append_assoc, if◌then◌else◌, lemmas.Bool.ltb-true}
+use Rattle.cw_rules.proofs.Terms.{lemmas.Bool.Decides.nat_tests, one-left, one-right, Bytes.newline, Bytes.backslash}
+use Rattle.cw_rules.proofs.Terms.{Text.bar, declared.notes.NoteKind.TheVariants.ImproperFormat, bodies.Noted.Noted}
+use Rattle.cw_rules.proofs.Terms.{classes.Class.Class, codes.Code.Code, parts.Part.Part, parts.Opened.Opened}
+use Rattle.cw_rules.proofs.Terms.{signs.Sign.Sign, star, slash, at_sign, run, is_in, is_letter, is_digit, begins}
+use Rattle.cw_rules.proofs.Terms.{equals, plain, Answer, Token, Begin, Finish, Note, Seen, Where, Cut, Found, before}
+use Rattle.cw_rules.proofs.Terms.{code_at, begins_section, has_control_text, stops, goes_on, extent, ended, noted}
 use Rattle.cw_rules.specs.{Constants.constant, Answers.note_answers, Answers.dropped, Order.begins_space}
 use Rattle.cw_rules.specs.{Apart.found_apart, Apart.in_text_apart, Signs.spelling}
-use Rattle.cw_rules.specs.Answers.{plain, Answer, Token, Begin, Finish, Note, Seen, Where, Cut, Found, before}
-use Rattle.cw_rules.specs.Codes.{code_at, begins_section, has_control_text}
-use Rattle.cw_rules.specs.Bodies.{stops, goes_on, extent, ended, noted}
 use Rattle.cw_rules.specs.Tokens.{in_hash_line, is_space, is_deep, passed, one, skipped_byte, comment_end, inner_cut}
 use Rattle.cw_rules.specs.Tokens.{comment_cut, part_cut, inner_or_none, all_cut, section, section_code, line_end}
 use Rattle.cw_rules.specs.Tokens.{identifier, alone_size, control_or_plain, code_token, dropped_code, comment_begin}
 use Rattle.cw_rules.specs.Tokens.{inner_begin, inner_end, piece_start, piece, comment_closed}
 use Rattle.cw_rules.proofs.{Inside.ended-some, Choices.if-both, Choices.or-false, Choices.at-byte}
-use Rattle.cw_rules.specs.declared.classes.Class.TheVariants as classes
-use Rattle.cw_rules.specs.declared.parts.Part.TheVariants as parts
-use Rattle.cw_rules.specs.declared.signs.Sign.TheVariants as signs
-use Rattle.cw_rules.specs.declared.tokens.TokKind.TheVariants as kinds
 use Rattle.cw_rules.proofs.Rules.{IsPassed, Constant, Standing, Dropping, OfSign, CodeRule, LineEnd, Space, HashLine}
 use Rattle.cw_rules.proofs.Rules.{Word, Passed, Heading, Beginning, Comment, InnerEnd, CommentRule, Closed, EndedLine}
 use Rattle.cw_rules.proofs.Rules.{InnerBegin, Piece, LimboRule, LimboCode, LimboFormat, LimboDropped, LimboText}
 use Rattle.cw_rules.proofs.Rules.{PartRule, OfCode, OfLimbo, TexCode, TexHeading, TexDropped, TexBeginning, TexInner}
 use Rattle.cw_rules.proofs.Rules.{TexText, Blank, HeadSign, White, HeadWord, Opening, ParameterSign, Improper}
 use Rattle.cw_rules.proofs.Rules.{ImproperInLimbo, within, code-rule, comment-rule, part-rule}
+use Rattle.cw_rules.specs.declared.classes.Class.TheVariants as classes
+use Rattle.cw_rules.specs.declared.parts.Part.TheVariants as parts
+use Rattle.cw_rules.specs.declared.signs.Sign.TheVariants as signs
+use Rattle.cw_rules.specs.declared.tokens.TokKind.TheVariants as kinds
 
 -- answers without bytes at a place
 abbrev pub AreBare : ℕ → List Answer → Type 0
@@ -140,13 +136,11 @@ line_end-takes : (part : Part) (comments : List Opened) (last place : ℕ) (byte
 line_end-takes part [] last place bytes = grind (arith, nat_tests, if-both, one-as, skipped-takes)
 line_end-takes part (c ∷ comments) last place bytes =
     let hash_line = in_hash_line part in
-    if-both (Takes place (newline ∷ bytes)) c.long _ _
-    (λ h. skipped-takes place (newline ∷ bytes) (record { part = part; comments = c ∷ comments }) refl)
-    (λ h. before-takes place (newline ∷ bytes) (inner_cut hash_line place place ++ comment_end hash_line c place 0 [])
-    (line_end (passed part) comments last place)
-    (bare-append place (inner_cut hash_line place place) (comment_end hash_line c place 0 [])
-    (bare-inner hash_line place place) (bare-comment-end hash_line c place))
-    (line_end-takes (passed part) comments last place bytes))
+    if-both (Takes place (newline ∷ bytes)) c.long _ _ (λ h. skipped-takes place (newline ∷ bytes)
+    (record { part = part; comments = c ∷ comments }) refl) (λ h. before-takes place (newline ∷ bytes)
+    (inner_cut hash_line place place ++ comment_end hash_line c place 0 []) (line_end (passed part) comments last place)
+    (bare-append place (inner_cut hash_line place place) (comment_end hash_line c place 0 []) (bare-inner hash_line
+    place place) (bare-comment-end hash_line c place)) (line_end-takes (passed part) comments last place bytes))
 
 -- ## C text
 
@@ -207,18 +201,16 @@ passed-some w fresh place byte bytes _ _ = record { is = omega arith }
 
 code-takes : (w : Where) (fresh : Bool) (last place byte : ℕ) (bytes : List ℕ) (f : Found)
     → CodeRule w fresh last place byte bytes f → Takes place (byte ∷ bytes) f
-code-takes w fresh last place byte bytes _ (LineEnd h) =
-    at-byte (λ b. Takes place (b ∷ bytes) (line_end w.part w.comments last place)) byte newline h
-    (line_end-takes w.part w.comments last place bytes)
+code-takes w fresh last place byte bytes _ (LineEnd h) = at-byte (λ b. Takes place (b ∷ bytes)
+    (line_end w.part w.comments last place)) byte newline h (line_end-takes w.part w.comments last place bytes)
 code-takes w fresh last place byte bytes _ (Space line h) =
     skipped-takes place (byte ∷ bytes) w (space-space w.part byte bytes h)
 code-takes w fresh last place byte bytes _ (Word bare h) =
     one-takes _ _ place (byte ∷ bytes) (identifier (byte ∷ bytes)) (identifier-some byte bytes h)
 code-takes w fresh last place byte bytes _ (Passed cut p) =
     one-takes _ _ place (byte ∷ bytes) cut (passed-some w fresh place byte bytes cut p).is
-code-takes w fresh last place byte bytes _ (Heading at e name may headed) =
-    one-takes _ _ place (byte ∷ bytes) (code_token (code_at bytes) place (byte ∷ bytes))
-    (code-some (code_at bytes) place (byte ∷ bytes)).is
+code-takes w fresh last place byte bytes _ (Heading at e name may headed) = one-takes _ _ place (byte ∷ bytes)
+    (code_token (code_at bytes) place (byte ∷ bytes)) (code-some (code_at bytes) place (byte ∷ bytes)).is
 code-takes w fresh last place byte bytes _ (Comment long h) = comment-takes long w place (byte ∷ bytes)
 code-takes w fresh last place byte bytes _ (InnerEnd h ends) = end-takes w place (byte ∷ bytes)
 code-takes w fresh last place byte bytes _ (HashLine h takes first) =
@@ -254,12 +246,10 @@ comment-text-takes : (part : Part) (c : Opened) (comments : List Opened) (last p
     → CommentRule part c comments last place byte bytes f → Takes place (byte ∷ bytes) f
 comment-text-takes part c comments last place byte bytes section _ (Closed long h) =
     closed-takes part c comments place (byte ∷ bytes)
-comment-text-takes part c comments last place byte bytes section _ (EndedLine short h) =
-    at-byte (λ b. Takes place (b ∷ bytes) (before (comment_end (in_hash_line part) c place 0 [])
-    (line_end part comments last place))) byte newline h
-    (before-takes place (newline ∷ bytes) (comment_end (in_hash_line part) c place 0 [])
-    (line_end part comments last place) (bare-comment-end (in_hash_line part) c place)
-    (line_end-takes part comments last place bytes))
+comment-text-takes part c comments last place byte bytes section _ (EndedLine short h) = at-byte (λ b. Takes place
+    (b ∷ bytes) (before (comment_end (in_hash_line part) c place 0 []) (line_end part comments last place))) byte
+    newline h (before-takes place (newline ∷ bytes) (comment_end (in_hash_line part) c place 0 []) (line_end part
+    comments last place) (bare-comment-end (in_hash_line part) c place) (line_end-takes part comments last place bytes))
 comment-text-takes part c comments last place byte bytes section _ (InnerBegin h deep) =
     begin-takes (in_hash_line part) _ place (byte ∷ bytes)
 comment-text-takes part c comments last place byte bytes section _ (Piece closes line opens) =
@@ -277,12 +267,10 @@ limbo-takes : (place byte : ℕ) (bytes : List ℕ) (f : Found) → LimboRule pl
 limbo-takes place byte bytes _ (LimboCode at e) = code-as false _ (code_at bytes) place (byte ∷ bytes)
 limbo-takes place byte bytes _ (LimboFormat at e) =
     one-takes false _ place (byte ∷ bytes) (plain (kinds.Code (code_at bytes)) 2) (omega arith)
-limbo-takes place byte bytes _ (LimboDropped note at e) =
-    one-takes false _ place (byte ∷ bytes)
+limbo-takes place byte bytes _ (LimboDropped note at e) = one-takes false _ place (byte ∷ bytes)
     (dropped note place (plain (kinds.Code (code_at bytes)) (alone_size (byte ∷ bytes)))) (alone-some (byte ∷ bytes))
-limbo-takes place byte bytes _ (LimboText h) =
-    one-takes false _ place (byte ∷ bytes) (plain kinds.Text (run classes.LimboText (byte ∷ bytes)))
-    (run-some classes.LimboText byte bytes (ap not h))
+limbo-takes place byte bytes _ (LimboText h) = one-takes false _ place (byte ∷ bytes)
+    (plain kinds.Text (run classes.LimboText (byte ∷ bytes))) (run-some classes.LimboText byte bytes (ap not h))
 
 part-takes : (fresh : Bool) (last place byte : ℕ) (bytes : List ℕ) (part : Part) (f : Found)
     → PartRule fresh last place byte bytes part f → Takes place (byte ∷ bytes) f
@@ -292,9 +280,8 @@ part-takes fresh last place byte bytes _ _ (OfLimbo f r) = limbo-takes place byt
 part-takes fresh last place byte bytes _ _ (TexCode at e) = code-as false _ (code_at bytes) place (byte ∷ bytes)
 part-takes fresh last place byte bytes _ _ (TexHeading at e name headed) =
     code-as false _ (code_at bytes) place (byte ∷ bytes)
-part-takes fresh last place byte bytes _ _ (TexDropped note at e) =
-    one-takes false _ place (byte ∷ bytes) (dropped_code note (code_at bytes) place (byte ∷ bytes))
-    (control-some (code_at bytes) place (byte ∷ bytes)).is
+part-takes fresh last place byte bytes _ _ (TexDropped note at e) = one-takes false _ place (byte ∷ bytes)
+    (dropped_code note (code_at bytes) place (byte ∷ bytes)) (control-some (code_at bytes) place (byte ∷ bytes)).is
 part-takes fresh last place byte bytes _ _ (TexBeginning effect part at e begun) =
     one-takes false _ place (byte ∷ bytes) (plain (kinds.Code (code_at bytes)) 2) (omega arith)
 part-takes fresh last place byte bytes _ _ (TexInner h) = begin-takes false _ place (byte ∷ bytes)
@@ -303,10 +290,9 @@ part-takes fresh last place byte bytes _ _ (TexText at h) =
     (run-some classes.TexText byte bytes (ap not (or-false (byte == at_sign) (byte == bar) at h)))
 part-takes fresh last place byte bytes _ _ (Blank h) =
     skipped-takes place (byte ∷ bytes) (within parts.Head) (blank-space byte bytes h)
-part-takes fresh last place byte bytes _ _ (HeadSign h) =
-    if-both (λ n. Takes place (byte ∷ bytes) (one false (within (parts.Plain false false)) place (byte ∷ bytes)
-    (plain kinds.HeadSign n))) (begins equals bytes) 2 1
-    (λ h. one-takes false _ place (byte ∷ bytes) (plain kinds.HeadSign 2) (omega arith))
+part-takes fresh last place byte bytes _ _ (HeadSign h) = if-both (λ n. Takes place (byte ∷ bytes)
+    (one false (within (parts.Plain false false)) place (byte ∷ bytes) (plain kinds.HeadSign n)))
+    (begins equals bytes) 2 1 (λ h. one-takes false _ place (byte ∷ bytes) (plain kinds.HeadSign 2) (omega arith))
     (λ h. one-takes false _ place (byte ∷ bytes) (plain kinds.HeadSign 1) (omega arith))
 part-takes fresh last place byte bytes _ _ (White part h wanted) =
     skipped-takes place (byte ∷ bytes) (within part) (white-space byte bytes h)
@@ -316,9 +302,8 @@ part-takes fresh last place byte bytes _ _ (Opening code) =
     one-takes false _ place (byte ∷ bytes) (plain (kinds.Sign signs.LeftParen) 1) (omega arith)
 part-takes fresh last place byte bytes _ _ (ParameterSign code sign next k) =
     one-takes false _ place (byte ∷ bytes) (plain (kinds.Sign sign) (length (spelling sign))) (spelling-some sign)
-part-takes fresh last place byte bytes _ _ (Improper part kind code f i r) =
-    before-takes place (byte ∷ bytes) (Note kind code ∷ []) f tt
-    (code-takes (within parts.Definition) fresh last place byte bytes f r)
+part-takes fresh last place byte bytes _ _ (Improper part kind code f i r) = before-takes place (byte ∷ bytes)
+    (Note kind code ∷ []) f tt (code-takes (within parts.Definition) fresh last place byte bytes f r)
 part-takes fresh last place byte bytes _ _ (ImproperInLimbo code second f r) =
     before-takes place (byte ∷ bytes) (Note ImproperFormat code ∷ []) f tt (limbo-takes place byte bytes f r)
 
@@ -331,16 +316,14 @@ in_text-takes part [] fresh last place byte bytes h =
     part-takes fresh last place byte bytes part _ (part-rule fresh last place byte bytes part)
 in_text-takes part (c ∷ comments) fresh last place byte bytes h =
     let w : Where = record { part = part; comments = c ∷ comments } in
-    if-both (Takes place (byte ∷ bytes)) c.inner _ _
-    (λ e. code-takes w fresh last place byte bytes _ (code-rule w fresh last place byte bytes))
-    (λ e. comment-text-takes part c comments last place byte bytes h _
+    if-both (Takes place (byte ∷ bytes)) c.inner _ _ (λ e. code-takes w fresh last place byte bytes _
+    (code-rule w fresh last place byte bytes)) (λ e. comment-text-takes part c comments last place byte bytes h _
     (comment-rule part c comments last place byte bytes))
 
 pub found-takes : (w : Where) (fresh : Bool) (last place byte : ℕ) (bytes : List ℕ)
     → Takes place (byte ∷ bytes) (found_apart w fresh last place byte bytes)
-found-takes w fresh last place byte bytes =
-    if-both (Takes place (byte ∷ bytes)) (byte == at_sign && begins_section bytes) _ _
-    (λ h. section-takes w place byte bytes (and-first (byte == at_sign) (begins_section bytes) h))
+found-takes w fresh last place byte bytes = if-both (Takes place (byte ∷ bytes)) (byte == at_sign && begins_section
+    bytes) _ _ (λ h. section-takes w place byte bytes (and-first (byte == at_sign) (begins_section bytes) h))
     (λ h. in_text-takes w.part w.comments fresh last place byte bytes h)
   where
     and-first : (a b : Bool) → (a && b) ≡ true → a ≡ true

@@ -1,19 +1,16 @@
 -- What begins at a byte lies in the bytes that are left.
-use Rattle.std.proofs.Common.{◌≡◌, ℕ, suc, ◌+◌, ◌<◌, ◌≤◌, Bool, true, false, ◌&&◌, ◌||◌, not, ◌==◌, List, [], ◌∷◌, ◌++◌}
-use Rattle.std.proofs.Common.{length, sym, ap, ◌∙◌, arith, Option, codes, if◌then◌else◌}
-use Rattle.std.proofs.{lemmas.Bool.Decides.nat_tests, lemmas.Grind.common_steps}
-use Rattle.cw_base.proofs.TestLaws.{both-right}
-use Rattle.cw_base.specs.{declared.notes.NoteKind.NoteKind, Bytes.newline, Text.bar}
+use Rattle.cw_rules.proofs.Terms.{◌≡◌, ℕ, suc, ◌+◌, ◌<◌, ◌≤◌, Bool, true, false, ◌&&◌, ◌||◌, not, ◌==◌, List, [], ◌∷◌}
+use Rattle.cw_rules.proofs.Terms.{◌++◌, length, sym, ap, ◌∙◌, arith, Option, codes, if◌then◌else◌}
+use Rattle.cw_rules.proofs.Terms.{lemmas.Bool.Decides.nat_tests, lemmas.Grind.common_steps, both-right}
+use Rattle.cw_rules.proofs.Terms.{declared.notes.NoteKind.NoteKind, Bytes.newline, Text.bar, bodies.Noted.Noted}
+use Rattle.cw_rules.proofs.Terms.{codes.Code.Code, codes.Effect.Effect, parts.Part.Part, parts.Opened.Opened}
+use Rattle.cw_rules.proofs.Terms.{parts.Start.Start, signs.Sign.Sign, hash, star, comma, slash, less, right_paren}
+use Rattle.cw_rules.proofs.Terms.{at_sign, is_in, is_letter, begins, code_at, begins_section, effect_in_limbo}
+use Rattle.cw_rules.proofs.Terms.{effect_in_tex, extent, noted, one_note, note_unless, Answer, Note, Where, Cut, Found}
+use Rattle.cw_rules.proofs.Terms.{before, note_answers}
 use Rattle.cw_base.specs.declared.notes.NoteKind.TheVariants.{UnknownCode, MissingBrace, ImproperMacro, ImproperFormat}
-use Rattle.cw_rules.specs.declared.{bodies.Noted.Noted, codes.Code.Code, codes.Effect.Effect, parts.Part.Part}
-use Rattle.cw_rules.specs.declared.{parts.Opened.Opened, parts.Start.Start, signs.Sign.Sign}
-use Rattle.cw_rules.specs.Bytes.{hash, star, comma, slash, less, right_paren, at_sign, is_in, is_letter, begins}
 use Rattle.cw_rules.specs.{Bytes.begins_with, Prefixes.prefix_size, Order.AreWithin, Apart.found_apart}
 use Rattle.cw_rules.specs.Signs.{all_signs, longest, spelling}
-use Rattle.cw_rules.proofs.{StringPrefixes.prefix-below, Sizes.section_code-le}
-use Rattle.cw_rules.specs.Codes.{code_at, begins_section, effect_in_limbo, effect_in_tex}
-use Rattle.cw_rules.specs.Bodies.{extent, noted, one_note, note_unless}
-use Rattle.cw_rules.specs.Answers.{Answer, Note, Where, Cut, Found, before, note_answers}
 use Rattle.cw_rules.specs.Tokens.{in_hash_line, behind_include, takes_hash_line, is_space, is_deep, ends_at_bar}
 use Rattle.cw_rules.specs.Tokens.{closes_on_line, moved, one, skipped_byte, comment_end, inner_cut, part_cut, all_cut}
 use Rattle.cw_rules.specs.Tokens.{section, passed, line_end, sign_or_other, start_of, effect_in, code_by, in_code}
@@ -21,6 +18,7 @@ use Rattle.cw_rules.specs.Tokens.{string, code_token, dropped_code, include_name
 use Rattle.cw_rules.specs.Tokens.{limbo_by, limbo_text, tex_by, tex_text, head_text, behind_white, name_follows}
 use Rattle.cw_rules.specs.Tokens.{macro_name, is_parameter, parameter_follows, parameter, format_name}
 use Rattle.cw_rules.specs.Apart.{code_text_apart, comment_text_apart, behind_head_apart, part_text_apart, in_text_apart}
+use Rattle.cw_rules.proofs.{StringPrefixes.prefix-below, Sizes.section_code-le}
 use Rattle.cw_rules.proofs.Sizes.{begins-some, begins_with-le, run-le, constant-le, AllFit, longest-fits, extent-le}
 use Rattle.cw_rules.proofs.Sizes.{identifier-le, string-le, include_name-le, control_or_plain-le, code_token-le}
 use Rattle.cw_rules.specs.declared.classes.Class.TheVariants as classes
@@ -91,8 +89,7 @@ all_cut-within part (c ∷ comments) place about left =
     grind (arith, nat_tests, all_cut-within part comments place about left)
 
 section-fits : (w : Where) (place : ℕ) (bytes : List ℕ) → Fits place (suc (length bytes)) (section w place bytes)
-section-fits w place bytes =
-    before-fits place (suc (length bytes)) (all_cut w.part w.comments place place) _
+section-fits w place bytes = before-fits place (suc (length bytes)) (all_cut w.part w.comments place place) _
     (all_cut-within w.part w.comments place place (suc (length bytes)))
     (one-fits false (record { part = parts.Tex; comments = [] }) place (at_sign ∷ bytes) _ (suc (length bytes))
     (section_code-le at_sign bytes) (omega arith))
@@ -134,9 +131,8 @@ effect-unknown part comments = grind arith
 
 code_by-fits : (effect : Effect) (code : Code) (w : Where) (place byte next : ℕ) (bytes : List ℕ)
     → Fits place (suc (suc (length bytes))) (code_by effect code w place (byte ∷ next ∷ bytes))
-code_by-fits effects.Stands code w place byte next bytes = one-fits _ _ place (byte ∷ next ∷ bytes)
-    (code_token code place (byte ∷ next ∷ bytes)) (suc (suc (length bytes))) (code_token-le code place byte next bytes)
-    (omega arith)
+code_by-fits effects.Stands code w place byte next bytes = one-fits _ _ place (byte ∷ next ∷ bytes) (code_token code
+    place (byte ∷ next ∷ bytes)) (suc (suc (length bytes))) (code_token-le code place byte next bytes) (omega arith)
 code_by-fits (effects.Drops note) code w place byte next bytes =
     one-fits _ _ place (byte ∷ next ∷ bytes) (dropped_code note code place (byte ∷ next ∷ bytes))
     (suc (suc (length bytes))) (control_or_plain-le code place byte next bytes) (omega arith)
@@ -144,9 +140,8 @@ code_by-fits _ _ _ _ _ _ _ = search (one-fits, arith)
 
 -- a code, which may be the last byte
 code-fits : (part : Part) (comments : List Opened) (code : Code) (place byte : ℕ) (bytes : List ℕ)
-    → code ≡ code_at bytes
-    → Fits place (suc (length bytes)) (code_by (effect_in part comments code) code
-    (record { part = part; comments = comments }) place (byte ∷ bytes))
+    → code ≡ code_at bytes → Fits place (suc (length bytes))
+    (code_by (effect_in part comments code) code (record { part = part; comments = comments }) place (byte ∷ bytes))
 code-fits part comments code place byte bytes e = grind (arith, nat_tests, code_by-fits, effect-unknown, one-fits)
 
 in_code-fits : (begins : Start) (w : Where) (place byte : ℕ) (bytes : List ℕ) → StartFits begins bytes
@@ -169,15 +164,13 @@ code_text-fits : (w : Where) (fresh : Bool) (last place byte : ℕ) (bytes : Lis
 code_text-fits w fresh last place byte bytes =
     let left = suc (length bytes) in
     either place left (byte == newline) _ _ (λ h. line_end-fits w.part w.comments last place left (omega arith))
-    (λ h. either place left (is_space w.part byte bytes) _ _ (λ h. skipped-fits place left w (omega arith))
-    (λ h. either place left (byte == hash && (takes_hash_line w.part w.comments && fresh)) _ _
-    (λ h. search (one-fits, arith))
+    (λ h. either place left (is_space w.part byte bytes) _ _ (λ h. skipped-fits place left w (omega arith)) (λ h. either
+    place left (byte == hash && (takes_hash_line w.part w.comments && fresh)) _ _ (λ h. search (one-fits, arith))
     (λ h. either place left (byte == less && (behind_include w.part && closes_on_line bytes)) _ _
-    (λ h. one-fits _ _ place (byte ∷ bytes) (include_name place (byte ∷ bytes)) left
-    (include_name-le place byte bytes (both-right (behind_include w.part) (closes_on_line bytes)
-    (both-right (byte == less) (behind_include w.part && closes_on_line bytes) h))) (omega arith))
-    (λ h. in_code-fits (start_of (ends_at_bar w.part w.comments) byte bytes) w place byte bytes
-    (start_of-fits (ends_at_bar w.part w.comments) byte bytes)))))
+    (λ h. one-fits _ _ place (byte ∷ bytes) (include_name place (byte ∷ bytes)) left (include_name-le place byte bytes
+    (both-right (behind_include w.part) (closes_on_line bytes) (both-right (byte == less) (behind_include w.part &&
+    closes_on_line bytes) h))) (omega arith)) (λ h. in_code-fits (start_of (ends_at_bar w.part w.comments) byte bytes) w
+    place byte bytes (start_of-fits (ends_at_bar w.part w.comments) byte bytes)))))
 
 -- ## Comments
 
@@ -196,14 +189,12 @@ comment_text-fits : (part : Part) (c : Opened) (comments : List Opened) (last pl
 comment_text-fits part c comments last place byte bytes =
     let left = suc (length bytes) in
     let hash_line = in_hash_line part in
-    either place left (c.long && (byte == star && begins slash bytes)) _ _
-    (λ h. closed (begins-some slash bytes (both-right (byte == star) (begins slash bytes)
-    (both-right c.long (byte == star && begins slash bytes) h))))
+    either place left (c.long && (byte == star && begins slash bytes)) _ _ (λ h. closed (begins-some slash bytes
+    (both-right (byte == star) (begins slash bytes) (both-right c.long (byte == star && begins slash bytes) h))))
     (λ h. either place left (not c.long && byte == newline) _ _
     (λ h. before-fits place left (comment_end hash_line c place 0 []) (line_end part comments last place)
-    (comment_end-within hash_line c place 0 [] left (omega arith))
-    (line_end-fits part comments last place left (omega arith)))
-    (λ h. either place left (byte == bar && not (is_deep part (c ∷ comments))) _ _
+    (comment_end-within hash_line c place 0 [] left (omega arith)) (line_end-fits part comments last place left
+    (omega arith))) (λ h. either place left (byte == bar && not (is_deep part (c ∷ comments))) _ _
     (λ h. record { within = ((omega arith, omega arith, omega arith), tt); more = omega arith })
     (λ h. piece-fits part comments c place byte bytes)))
   where
@@ -212,9 +203,8 @@ comment_text-fits part c comments last place byte bytes =
 
 -- ## Limbo, TeX text and heads
 
-limbo-code-fits : (w : Where) (place byte : ℕ) (bytes : List ℕ)
-    → Fits place (suc (length bytes)) (limbo_by (effect_in_limbo (code_at bytes)) (code_at bytes) w place
-    (byte ∷ bytes))
+limbo-code-fits : (w : Where) (place byte : ℕ) (bytes : List ℕ) → Fits place (suc (length bytes))
+    (limbo_by (effect_in_limbo (code_at bytes)) (code_at bytes) w place (byte ∷ bytes))
 limbo-code-fits w place byte [] = search (one-fits, arith)
 limbo-code-fits w place byte (next ∷ bytes) = by (effect_in_limbo (code_at (next ∷ bytes))) (code_at (next ∷ bytes))
   where
@@ -240,9 +230,8 @@ tex-code-fits w place byte (next ∷ bytes) = by (effect_in_tex (code_at (next �
         (tex_by effect code w place (byte ∷ next ∷ bytes))
     by effects.Stands code = one-fits _ _ place (byte ∷ next ∷ bytes) (code_token code place (byte ∷ next ∷ bytes))
         (suc (suc (length bytes))) (code_token-le code place byte next bytes) (omega arith)
-    by (effects.Drops note) code = one-fits _ _ place (byte ∷ next ∷ bytes)
-        (dropped_code note code place (byte ∷ next ∷ bytes)) (suc (suc (length bytes)))
-        (control_or_plain-le code place byte next bytes) (omega arith)
+    by (effects.Drops note) code = one-fits _ _ place (byte ∷ next ∷ bytes) (dropped_code note code place
+        (byte ∷ next ∷ bytes)) (suc (suc (length bytes))) (control_or_plain-le code place byte next bytes) (omega arith)
     by effects.Formats code = search (one-fits, arith)
     by effects.Defines code = search (one-fits, arith)
     by effects.BeginsC code = search (one-fits, arith)
@@ -282,8 +271,7 @@ parameter-fits w place byte bytes follows =
     either place left (is_in classes.White byte) _ _ (λ h. skipped-fits place left w (omega arith))
     (λ white. either place left (is_letter byte) _ _ (λ h. search (one-fits, arith, identifier-le (byte ∷ bytes)))
     (λ l. either place left (byte == comma) _ _ (λ h. search (one-fits, arith))
-    (λ c. either place left (byte == right_paren) _ _ (λ h. search (one-fits, arith))
-    (λ p. search (
+    (λ c. either place left (byte == right_paren) _ _ (λ h. search (one-fits, arith)) (λ p. search (
       one-fits,
       arith,
       begins_with-le (codes "...") (byte ∷ bytes)
@@ -298,9 +286,8 @@ behind_head-fits false w fresh last place byte bytes = code_text-fits (moved w p
     bytes
 
 improper-fits : (note : NoteKind) (code : ℕ) (limbo : Bool) (w : Where) (fresh : Bool) (last place byte : ℕ)
-    (bytes : List ℕ)
-    → Fits place (suc (length bytes)) (before (Note note code ∷ []) (behind_head_apart limbo w fresh last place byte
-    bytes))
+    (bytes : List ℕ) → Fits place (suc (length bytes))
+    (before (Note note code ∷ []) (behind_head_apart limbo w fresh last place byte bytes))
 improper-fits note code limbo w fresh last place byte bytes = grind (arith, nat_tests, before-fits, behind_head-fits)
 
 -- ## Any text
@@ -329,6 +316,5 @@ in_text-fits part comments fresh last place byte bytes =
 
 pub found-fits : (w : Where) (fresh : Bool) (last place byte : ℕ) (bytes : List ℕ)
     → Fits place (suc (length bytes)) (found_apart w fresh last place byte bytes)
-found-fits w fresh last place byte bytes =
-    either place (suc (length bytes)) (byte == at_sign && begins_section bytes) _ _ (λ h. section-fits w place bytes)
-    (λ h. in_text-fits w.part w.comments fresh last place byte bytes)
+found-fits w fresh last place byte bytes = either place (suc (length bytes)) (byte == at_sign && begins_section bytes) _
+    _ (λ h. section-fits w place bytes) (λ h. in_text-fits w.part w.comments fresh last place byte bytes)

@@ -1,21 +1,18 @@
 -- Names in memory, and the first that pass a test.
-use Rattle.std.proofs.Common.{◌≡◌, ℕ, zero, suc, ◌+◌, ◌<◌, ◌≤◌, ◌&&◌, Bool, true, false, not, nat_lt, List, [], ◌∷◌}
-use Rattle.std.proofs.Common.{Option, Some, None, map, length, drop, cond, refl, ap, sym, get_or, add-zero, zero-add}
-use Rattle.std.proofs.Common.{arith}
+use Rattle.cw_secnames.proofs.Terms.{◌≡◌, ℕ, zero, suc, ◌+◌, ◌<◌, ◌≤◌, ◌&&◌, Bool, true, false, not, nat_lt, List, []}
+use Rattle.cw_secnames.proofs.Terms.{◌∷◌, Option, Some, None, map, length, drop, cond, refl, ap, sym, get_or, add-zero}
+use Rattle.cw_secnames.proofs.Terms.{zero-add, arith, kinds.RefKind.RefKind, sec_names.Kept.Kept, List.position}
+use Rattle.cw_secnames.proofs.Terms.{List.position_or_len, Option.option_map, Global.Vec, SecName, with_text}
+use Rattle.cw_secnames.proofs.Terms.{positions_from, grown, earliest, slice_set}
 use Rattle.cw_secnames.specs.declared.kinds.Earliest.TheVariants.{Nobody, One, Several}
-use Rattle.cw_secnames.specs.declared.{kinds.RefKind.RefKind, sec_names.Kept.Kept}
 use Rattle.cw_secnames.specs.{References.with_section, References.with_reference, Inside.name_of}
-use Rattle.std.specs.{List.position, List.position_or_len, Option.option_map, Global.Vec}
-use Rattle.cw_secnames.specs.Kept.{SecName, with_text, positions_from, grown, earliest}
-use Rattle.std.specs.Prelude.{slice_set}
 
 pub length-named : (xs : List Kept) → length (map name_of xs) ≡ length xs
 length-named [] = refl
 length-named (x ∷ xs) = ap suc (length-named xs)
 
 pub with_text-map : (xs : List Kept) (i : ℕ) (d old : Kept) (t : Vec ℕ) (text : List ℕ) (complete : Bool)
-    → old ≡ get_or xs i d → t.items ≡ text
-    → map name_of (slice_set xs i (record old { text = t; complete = complete }))
+    → old ≡ get_or xs i d → t.items ≡ text → map name_of (slice_set xs i (record old { text = t; complete = complete }))
     ≡ with_text i text complete (map name_of xs)
 with_text-map [] i d old t text complete same h = refl
 with_text-map (x ∷ xs) zero d old t text complete same h = rw (same, h) refl
@@ -74,8 +71,7 @@ still : (complete : Bool) → (not complete && false) ≡ false
 still complete = grind arith
 
 pub grown-longer : (prefix : List ℕ) (xs : List Kept) (i : ℕ) (d : Kept)
-    → length prefix ≤ length (get_or xs i d).text.items
-    → map name_of xs ≡ grown prefix i (map name_of xs)
+    → length prefix ≤ length (get_or xs i d).text.items → map name_of xs ≡ grown prefix i (map name_of xs)
 grown-longer prefix [] i d h = refl
 grown-longer prefix (x ∷ xs) zero d h = rw (not-below _ _ h, still x.complete, grown) refl
 grown-longer prefix (x ∷ xs) (suc i) d h = ap (λ rest. name_of x ∷ rest) (grown-longer prefix xs i d h)
@@ -101,9 +97,8 @@ is_first test [] k h = absurd (omega arith)
 is_first test (n ∷ names) k h = grind (arith, is_first test names (k + 1), first-by)
 
 nobody-by : (t : Bool) (test : SecName → Bool) (n : SecName) (names : List SecName) (k j : ℕ) → test n ≡ t
-    → (cond (not t) (1 + j) 0 < suc (length names) → ⊥) → ((j < length names → ⊥) → positions_from (k + 1) test names
-    ≡ [])
-    → positions_from k test (n ∷ names) ≡ []
+    → (cond (not t) (1 + j) 0 < suc (length names) → ⊥)
+    → ((j < length names → ⊥) → positions_from (k + 1) test names ≡ []) → positions_from k test (n ∷ names) ≡ []
 nobody-by t test n names k j h none rest = grind arith
 
 nobody : (test : SecName → Bool) (names : List SecName) (k : ℕ) → (position_or_len test names < length names → ⊥)
@@ -148,24 +143,20 @@ moved-some : (i k : ℕ) (o : Option ℕ) → option_map (λ more. i + more) o �
     × (i + more ≡ k)
 moved-some i k o h = grind arith
 
-pub from-nobody : (test : SecName → Bool) (names : List SecName)
-    → option_map (λ more. 0 + more) (position test (drop 0 names)) ≡ None
-    → Nobody ≡ earliest (positions_from 0 test names)
+pub from-nobody : (test : SecName → Bool) (names : List SecName) → option_map (λ more. 0 + more)
+    (position test (drop 0 names)) ≡ None → Nobody ≡ earliest (positions_from 0 test names)
 from-nobody test names h = earliest-nobody test names (moved-none 0 (position test names) h)
 
 first-from : (test : SecName → Bool) (names : List SecName) (i : ℕ)
-    → option_map (λ more. 0 + more) (position test (drop 0 names)) ≡ Some i
-    → position test names ≡ Some i
+    → option_map (λ more. 0 + more) (position test (drop 0 names)) ≡ Some i → position test names ≡ Some i
 first-from test names i h = grind (arith, moved-some, zero-add)
 
 pub from-one : (test : SecName → Bool) (names : List SecName) (i : ℕ)
-    → option_map (λ more. 0 + more) (position test (drop 0 names)) ≡ Some i
-    → option_map (λ more. (i + 1) + more) (position test (drop (i + 1) names)) ≡ None
-    → One i ≡ earliest (positions_from 0 test names)
+    → option_map (λ more. 0 + more) (position test (drop 0 names)) ≡ Some i → option_map (λ more. (i + 1) + more)
+    (position test (drop (i + 1) names)) ≡ None → One i ≡ earliest (positions_from 0 test names)
 from-one test names i h none = grind (arith, earliest-one, first-from, moved-none)
 
 pub from-several : (test : SecName → Bool) (names : List SecName) (i next : ℕ)
-    → option_map (λ more. 0 + more) (position test (drop 0 names)) ≡ Some i
-    → option_map (λ more. (i + 1) + more) (position test (drop (i + 1) names)) ≡ Some next
-    → Several i next ≡ earliest (positions_from 0 test names)
+    → option_map (λ more. 0 + more) (position test (drop 0 names)) ≡ Some i → option_map (λ more. (i + 1) + more)
+    (position test (drop (i + 1) names)) ≡ Some next → Several i next ≡ earliest (positions_from 0 test names)
 from-several test names i next h more = grind (arith, moved-some, earliest-several, first-from)

@@ -1,12 +1,9 @@
 -- What tables have under a mark, with a link more.
-use Rattle.std.proofs.Common.{◌≡◌, ◌≢◌, ℕ, zero, suc, ◌-◌, ◌<◌, ◌≤◌, ◌==◌, ◌⊎◌, Bool, true, List, [], ◌∷◌, ◌++◌, length}
-use Rattle.std.proofs.Common.{get_or, set, refl, Option, Some, None, sym, subst, append_assoc, arith, eq-eqb}
-use Rattle.std.proofs.Common.{length-append}
-use Rattle.std.specs.Prelude.{slice_get}
-use Rattle.std.proofs.lemmas.List.{get_or-set_same, get_or-set_other, length-set}
-use Rattle.cw_base.proofs.TestLaws.{one-left, one-right}
+use Rattle.cw_secnames.proofs.Terms.{◌≡◌, ◌≢◌, ℕ, zero, suc, ◌-◌, ◌<◌, ◌≤◌, ◌==◌, ◌⊎◌, Bool, true, List, [], ◌∷◌, ◌++◌}
+use Rattle.cw_secnames.proofs.Terms.{length, get_or, set, refl, Option, Some, None, sym, subst, append_assoc, arith}
+use Rattle.cw_secnames.proofs.Terms.{eq-eqb, length-append, slice_get, get_or-set_same, get_or-set_other, length-set}
+use Rattle.cw_secnames.proofs.Terms.{one-left, one-right, at_link, back_from, is_one_of, row_of, sign_of, with_sign}
 use Rattle.cw_secnames.{specs.declared.tables.Link.Link, proofs.Marked.or-yes}
-use Rattle.cw_secnames.specs.Marks.{at_link, back_from, is_one_of, row_of, sign_of, with_sign}
 
 -- ## A link more in a table
 
@@ -15,24 +12,21 @@ at-link-more : (sign k : ℕ) (before more : ℕ → List ℕ) (found : Option L
     → is_one_of k (at_link sign before found) ≡ true → is_one_of k (at_link sign more found) ≡ true
 at-link-more sign k before more found f h = grind (arith, or-yes, one-left, one-right)
 
-found-still : (links : List Link) (new : Link) (place sign k : ℕ) (before : ℕ → List ℕ)
-    → is_one_of k (at_link sign before (slice_get links place)) ≡ true
-    → slice_get (links ++ new ∷ []) place ≡ slice_get links place
+found-still : (links : List Link) (new : Link) (place sign k : ℕ) (before : ℕ → List ℕ) → is_one_of k
+    (at_link sign before (slice_get links place)) ≡ true → slice_get (links ++ new ∷ []) place ≡ slice_get links place
 found-still [] new place sign k before h = absurd (cc)
 found-still (link ∷ links) new zero sign k before h = refl
 found-still (link ∷ links) new (suc place) sign k before h = found-still links new place sign k before h
 
 -- it hides none of those before it
-back-more : (links : List Link) (new : Link) (count more sign place k : ℕ) → count ≤ more
-    → is_one_of k (back_from links count sign place) ≡ true
-    → is_one_of k (back_from (links ++ new ∷ []) more sign place) ≡ true
+back-more : (links : List Link) (new : Link) (count more sign place k : ℕ) → count ≤ more → is_one_of k
+    (back_from links count sign place) ≡ true → is_one_of k (back_from (links ++ new ∷ []) more sign place) ≡ true
 back-more links new zero more sign place k most h = absurd (cc)
 back-more links new (suc count) zero sign place k most h = absurd (omega arith)
-back-more links new (suc count) (suc more) sign place k most h =
-    subst (λ found. is_one_of k (at_link sign (back_from (links ++ new ∷ []) more sign) found) ≡ true)
-    (sym (found-still links new place sign k (back_from links count sign) h))
-    (at-link-more sign k (back_from links count sign) (back_from (links ++ new ∷ []) more sign) (slice_get links place)
-    (λ at found. back-more links new count more sign at k (omega arith) found) h)
+back-more links new (suc count) (suc more) sign place k most h = subst (λ found. is_one_of k
+    (at_link sign (back_from (links ++ new ∷ []) more sign) found) ≡ true) (sym (found-still links new place sign k
+    (back_from links count sign) h)) (at-link-more sign k (back_from links count sign) (back_from (links ++ new ∷ [])
+    more sign) (slice_get links place) (λ at found. back-more links new count more sign at k (omega arith) found) h)
 
 last-found : (links : List Link) (new : Link) → slice_get (links ++ new ∷ []) (length links) ≡ Some new
 last-found [] new = refl
@@ -46,10 +40,8 @@ behind-sign : (b : Bool) (position k : ℕ) (before : List ℕ) → is_one_of k 
 behind-sign b position k before h = grind (arith, one-right)
 
 -- from the new link on
-from-last : (links : List Link) (new : Link) (sign k : ℕ)
-    → is_one_of k (with_sign (new.sign == sign) new.position (back_from (links ++ new ∷ []) (length links) sign
-    new.before))
-    ≡ true
+from-last : (links : List Link) (new : Link) (sign k : ℕ) → is_one_of k
+    (with_sign (new.sign == sign) new.position (back_from (links ++ new ∷ []) (length links) sign new.before)) ≡ true
     → is_one_of k (back_from (links ++ new ∷ []) (length (links ++ new ∷ [])) sign (length links)) ≡ true
 from-last links new sign k h = grind (arith, size-more, last-found)
 
@@ -58,18 +50,16 @@ either a b = grind arith
 
 -- the positions under a mark, by the parts of a table
 abbrev pub under : List ℕ → List Link → ℕ → List ℕ
-under rows links mark =
-    back_from links (length links) (sign_of mark) (get_or rows (row_of mark (length rows)) 65535)
+under rows links mark = back_from links (length links) (sign_of mark) (get_or rows (row_of mark (length rows)) 65535)
 
 -- the rows, of which one begins with the new link
 abbrev pub begun : List ℕ → ℕ → List Link → List ℕ
 begun rows row links = set rows row (length links)
 
-under-more : (rows : List ℕ) (links : List Link) (new : Link) (row mark k : ℕ) → row < length rows
-    → new.before ≡ get_or rows row 65535 → is_one_of k (under rows links mark) ≡ true
-    → (row_of mark (length rows) ≡ row) ⊎ (row_of mark (length rows) ≢ row)
-    → is_one_of k (back_from (links ++ new ∷ []) (length (links ++ new ∷ [])) (sign_of mark)
-    (get_or (begun rows row links) (row_of mark (length rows)) 65535)) ≡ true
+under-more : (rows : List ℕ) (links : List Link) (new : Link) (row mark k : ℕ) → row < length rows → new.before
+    ≡ get_or rows row 65535 → is_one_of k (under rows links mark) ≡ true → (row_of mark (length rows) ≡ row)
+    ⊎ (row_of mark (length rows) ≢ row) → is_one_of k (back_from (links ++ new ∷ []) (length (links ++ new ∷ []))
+    (sign_of mark) (get_or (begun rows row links) (row_of mark (length rows)) 65535)) ≡ true
 under-more rows links new row mark k within before h g =
     grind (arith, get_or-set_same, from-last, behind-sign, back-more, get_or-set_other, size-more)
 

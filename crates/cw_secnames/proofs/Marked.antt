@@ -1,14 +1,13 @@
 -- The positions that are found by marks hold those of all names near a text.
-use Rattle.std.proofs.Common.{nat_lt, ◌≡◌, ℕ, zero, suc, ◌+◌, ◌<◌, ◌≤◌, ◌&&◌, ◌||◌, ◌==◌, ◌⊎◌, Bool, true, nat_eq, List}
-use Rattle.std.proofs.Common.{[], ◌∷◌, ◌++◌, length, take, get_or, refl, ap, if◌then◌else◌, ◌∙◌, sym, subst, arith, min}
-use Rattle.std.proofs.Common.{length-take, take_all, take-take}
-use Rattle.std.proofs.{lemmas.Bool.ltb-true, lemmas.Cmp.nat_list_eq_equiv, lemmas.List.Folds.list_any-append}
+use Rattle.cw_secnames.proofs.Terms.{nat_lt, ◌≡◌, ℕ, zero, suc, ◌+◌, ◌<◌, ◌≤◌, ◌&&◌, ◌||◌, ◌==◌, ◌⊎◌, Bool, true}
+use Rattle.cw_secnames.proofs.Terms.{nat_eq, List, [], ◌∷◌, ◌++◌, length, take, get_or, refl, ap, if◌then◌else◌, ◌∙◌}
+use Rattle.cw_secnames.proofs.Terms.{sym, subst, arith, min, length-take, take_all, take-take, lemmas.Bool.ltb-true}
+use Rattle.cw_secnames.proofs.Terms.{lemmas.Cmp.nat_list_eq_equiv, lemmas.List.Folds.list_any-append, one-left}
+use Rattle.cw_secnames.proofs.Terms.{one-right, kinds.SecKind.SecKind, marks.Marks.Marks, is_beginning_of, first_mark}
+use Rattle.cw_secnames.proofs.Terms.{next_mark, mark_from, mark_of, last_kept, Has, HasAll, positions_at, is_one_of}
+use Rattle.cw_secnames.proofs.Terms.{wholes_at, IsMarked, KeepsMarks, IsNear}
 use Rattle.std.specs.Cmp.Lexicographic.{same_text, pointwise}
-use Rattle.cw_base.proofs.TestLaws.{one-left, one-right}
-use Rattle.cw_secnames.specs.declared.{kinds.SecKind.SecKind, marks.Marks.Marks}
-use Rattle.cw_secnames.specs.Kept.{is_beginning_of}
-use Rattle.cw_secnames.specs.Marks.{first_mark, next_mark, mark_from, mark_of, is_kept_length, last_kept, Has, HasAll}
-use Rattle.cw_secnames.specs.Marks.{positions_at, is_one_of, wholes_at, IsMarked, KeepsMarks, IsNear}
+use Rattle.cw_secnames.specs.Marks.{is_kept_length}
 
 -- ## What tables have under a mark
 
@@ -49,8 +48,7 @@ pub record Found (marks : Marks) (kind : SecKind) (text : List ℕ) (count mark 
   pub shorter : (before k : ℕ) → before < count → IsMarked marks kind (take before text) k → is_one_of k near ≡ true
 
 pub found-first : (marks : Marks) (kind : SecKind) (text : List ℕ) (mark start : ℕ) (near : List ℕ)
-    → mark ≡ first_mark kind → start ≡ first_mark kind
-    → Found marks kind text 0 mark start near
+    → mark ≡ first_mark kind → start ≡ first_mark kind → Found marks kind text 0 mark start near
 unfolding is_kept_length
 found-first marks kind text mark start near is same = grind arith
 
@@ -58,28 +56,24 @@ below-or : (a b : ℕ) → a < b + 1 → (a < b) ⊎ (a ≡ b)
 below-or a b h = grind arith
 
 -- a text with so many bytes is found under its mark
-found-here : (short : Bool) (marks : Marks) (kind : SecKind) (text : List ℕ) (count k mark : ℕ)
-    → nat_lt count marks.shortest ≡ short
-    → mark ≡ mark_of kind (take count text) → IsMarked marks kind (take count text) k
+found-here : (short : Bool) (marks : Marks) (kind : SecKind) (text : List ℕ) (count k mark : ℕ) → nat_lt count
+    marks.shortest ≡ short → mark ≡ mark_of kind (take count text) → IsMarked marks kind (take count text) k
     → is_one_of k (if short then [] else positions_at mark marks.wholes) ≡ true
 found-here short marks kind text count k mark below is m = grind (arith, ltb-true, length-take)
 
 shorter-more : (marks : Marks) (kind : SecKind) (text : List ℕ) (count mark : ℕ) (near : List ℕ)
-    → mark ≡ mark_of kind (take count text)
-    → ((before k : ℕ) → before < count → IsMarked marks kind (take before text) k → is_one_of k near ≡ true)
-    → (before k : ℕ) → before < count + 1 → IsMarked marks kind (take before text) k
+    → mark ≡ mark_of kind (take count text) → ((before k : ℕ) → before < count → IsMarked marks kind (take before text)
+    k → is_one_of k near ≡ true) → (before k : ℕ) → before < count + 1 → IsMarked marks kind (take before text) k
     → is_one_of k (near ++ wholes_at marks count mark) ≡ true
 shorter-more marks kind text count mark near is f before k h m = grind (arith, below-or, in-left, in-right, found-here)
 
 pub found-more : (marks : Marks) (kind : SecKind) (text : List ℕ) (count mark start d : ℕ) (near : List ℕ)
-    → Found marks kind text count mark start near → count < length text
-    → Found marks kind text (count + 1) (next_mark mark (get_or text count d)) start
-    (near ++ wholes_at marks count mark)
+    → Found marks kind text count mark start near → count < length text → Found marks kind text (count + 1)
+    (next_mark mark (get_or text count d)) start (near ++ wholes_at marks count mark)
 found-more marks kind text count mark start d near f h = grind (arith, mark-more, shorter-more)
 
 kept-by : (b : Bool) (marks : Marks) (kind : SecKind) (text : List ℕ) (count mark start : ℕ) (near : List ℕ)
-    → is_kept_length count ≡ b
-    → Found marks kind text count mark start near
+    → is_kept_length count ≡ b → Found marks kind text count mark start near
     → Found marks kind text count mark (if b then mark else start) near
 kept-by b marks kind text count mark start near kept f = grind arith
 
@@ -118,8 +112,7 @@ found-all marks kind text other mark start k near f m h =
 
 pub found-end : (marks : Marks) (kind : SecKind) (text other : List ℕ) (count mark start k : ℕ) (near : List ℕ)
     → Found marks kind text count mark start near → length text ≤ count → IsMarked marks kind other k
-    → IsNear other text
-    → is_one_of k (near ++ positions_at start marks.starts) ≡ true
+    → IsNear other text → is_one_of k (near ++ positions_at start marks.starts) ≡ true
 found-end marks kind text other count mark start k near f end m h =
     let within : count ≤ length text = f.within in
     let same : count ≡ length text = omega arith in
@@ -140,22 +133,19 @@ pub record Marking (old marks : Marks) (kind : SecKind) (text : List ℕ) (k cou
   pub starts : (at : ℕ) → at ≤ count → is_kept_length at ≡ true → Has marks.starts (mark_of kind (take at text)) k
 
 pub enter-first : (old marks : Marks) (kind : SecKind) (text : List ℕ) (k mark : ℕ) → mark ≡ first_mark kind
-    → marks.shortest ≡ min old.shortest (length text)
-    → HasAll old.wholes marks.wholes → HasAll old.starts marks.starts
+    → marks.shortest ≡ min old.shortest (length text) → HasAll old.wholes marks.wholes → HasAll old.starts marks.starts
     → (is_kept_length 0 ≡ true → Has marks.starts mark k) → Marking old marks kind text k 0 mark
 enter-first old marks kind text k mark is shortest wholes keeps has = grind arith
 
-starts-more : (marks more : Marks) (kind : SecKind) (text : List ℕ) (k count mark : ℕ)
-    → HasAll marks.starts more.starts
+starts-more : (marks more : Marks) (kind : SecKind) (text : List ℕ) (k count mark : ℕ) → HasAll marks.starts more.starts
     → ((at : ℕ) → at ≤ count → is_kept_length at ≡ true → Has marks.starts (mark_of kind (take at text)) k)
-    → (is_kept_length (count + 1) ≡ true → Has more.starts (mark_of kind (take (count + 1) text)) k)
-    → (at : ℕ) → at ≤ count + 1 → is_kept_length at ≡ true → Has more.starts (mark_of kind (take at text)) k
+    → (is_kept_length (count + 1) ≡ true → Has more.starts (mark_of kind (take (count + 1) text)) k) → (at : ℕ)
+    → at ≤ count + 1 → is_kept_length at ≡ true → Has more.starts (mark_of kind (take at text)) k
 starts-more marks more kind text k count mark grows starts has at h kept = grind (arith, decide)
 
 pub enter-more : (old marks more : Marks) (kind : SecKind) (text : List ℕ) (k count mark new d : ℕ)
-    → Marking old marks kind text k count mark
-    → count < length text → new ≡ next_mark mark (get_or text count d) → more.shortest ≡ marks.shortest
-    → HasAll marks.wholes more.wholes → HasAll marks.starts more.starts
+    → Marking old marks kind text k count mark → count < length text → new ≡ next_mark mark (get_or text count d)
+    → more.shortest ≡ marks.shortest → HasAll marks.wholes more.wholes → HasAll marks.starts more.starts
     → (is_kept_length (count + 1) ≡ true → Has more.starts new k) → Marking old more kind text k (count + 1) new
 enter-more old marks more kind text k count mark new d e h byte shortest wholes grows has =
     grind (arith, mark-more, starts-more)

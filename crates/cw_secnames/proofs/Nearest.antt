@@ -1,18 +1,16 @@
 -- The earliest name that passes is the least position, among those near a text, of a name that passes.
-use Rattle.std.proofs.Common.{◌≡◌, ℕ, zero, suc, ◌+◌, ◌-◌, ◌<◌, ◌≤◌, ◌&&◌, ◌==◌, ◌⊎◌, inl, inr, Bool, true, false}
-use Rattle.std.proofs.Common.{nat_lt, nat_le, nat_eq, List, [], ◌∷◌, ◌++◌, Option, Some, None, IfSome, slice_set}
-use Rattle.std.proofs.Common.{option_map, map, length, drop, take, get_or, cond, refl, ap, ◌∙◌, sym, subst, arith}
-use Rattle.std.proofs.Common.{add-zero, zero-add, length-drop, get_or-drop, eqb-true, lt-ltb, ltb-true, ltb-false}
-use Rattle.std.proofs.Common.{le-ltb, leb-true, le-leb}
-use Rattle.std.specs.List.{position, position_or_len}
-use Rattle.std.proofs.{lemmas.List.Sums.position_or_len_is, lemmas.Bool.Decides.nat_tests, lemmas.Grind.common_steps}
-use Rattle.cw_base.proofs.TestLaws.{one-left, one-right}
-use Rattle.cw_secnames.specs.declared.{kinds.SecKind.SecKind, kinds.SecKind.TheVariants.Named, sec_names.Asked.Asked}
-use Rattle.cw_secnames.specs.declared.{sec_names.Kept.Kept, marks.Marks.Marks, kinds.RefKind.RefKind}
+use Rattle.cw_secnames.proofs.Terms.{◌≡◌, ℕ, zero, suc, ◌+◌, ◌-◌, ◌<◌, ◌≤◌, ◌&&◌, ◌==◌, ◌⊎◌, inl, inr, Bool, true}
+use Rattle.cw_secnames.proofs.Terms.{false, nat_lt, nat_le, nat_eq, List, [], ◌∷◌, ◌++◌, Option, Some, None, IfSome}
+use Rattle.cw_secnames.proofs.Terms.{slice_set, option_map, map, length, drop, take, get_or, cond, refl, ap, ◌∙◌, sym}
+use Rattle.cw_secnames.proofs.Terms.{subst, arith, add-zero, zero-add, length-drop, get_or-drop, eqb-true, lt-ltb}
+use Rattle.cw_secnames.proofs.Terms.{ltb-true, ltb-false, le-ltb, leb-true, le-leb, position, position_or_len}
+use Rattle.cw_secnames.proofs.Terms.{lemmas.List.Sums.position_or_len_is, lemmas.Bool.Decides.nat_tests}
+use Rattle.cw_secnames.proofs.Terms.{lemmas.Grind.common_steps, one-left, one-right, kinds.SecKind.SecKind}
+use Rattle.cw_secnames.proofs.Terms.{kinds.SecKind.TheVariants.Named, sec_names.Asked.Asked, sec_names.Kept.Kept}
+use Rattle.cw_secnames.proofs.Terms.{marks.Marks.Marks, kinds.RefKind.RefKind, SecName, same_name_kind, is_beginning_of}
+use Rattle.cw_secnames.proofs.Terms.{unreferred, kind_asked, passes, passes_at, is_below, chosen, is_lesser, least_of}
+use Rattle.cw_secnames.proofs.Terms.{is_one_of, is_near, IsNear, IsMarked, KeepsMarks, AreMarked, HoldNear}
 use Rattle.cw_secnames.specs.{References.with_reference, References.with_section, Inside.name_of}
-use Rattle.cw_secnames.specs.Kept.{SecName, same_name_kind, is_beginning_of, unreferred}
-use Rattle.cw_secnames.specs.Asked.{kind_asked, passes, passes_at, is_below, chosen, is_lesser, least_of}
-use Rattle.cw_secnames.specs.Marks.{is_one_of, is_near, IsNear, IsMarked, KeepsMarks, AreMarked, HoldNear}
 use Rattle.cw_secnames.proofs.{Finding.length-named, Marked.both, Marked.and-yes, Marked.or-yes, Marked.begins-self}
 
 -- ## All names are marked
@@ -23,13 +21,11 @@ marked-more marks more k [] keeps h = tt
 marked-more marks more k (n ∷ names) keeps h = grind (arith, marked-more marks more (k + 1) names keeps h.1, keeps)
 
 marked-by : (marks : Marks) (k : ℕ) (how : RefKind) (section : ℕ) (n : SecName) (names : List SecName)
-    → AreMarked marks k (n ∷ names)
-    → AreMarked marks k (with_section how section n ∷ names)
+    → AreMarked marks k (n ∷ names) → AreMarked marks k (with_section how section n ∷ names)
 marked-by marks k how section n names h = grind arith
 
 pub marked-with_reference : (marks : Marks) (k i : ℕ) (how : RefKind) (section : ℕ) (names : List SecName)
-    → AreMarked marks k names
-    → AreMarked marks k (with_reference i how section names)
+    → AreMarked marks k names → AreMarked marks k (with_reference i how section names)
 marked-with_reference marks k i how section [] h = tt
 marked-with_reference marks k zero how section (n ∷ names) h = marked-by marks k how section n names h
 marked-with_reference marks k (suc i) how section (n ∷ names) h =
@@ -41,20 +37,17 @@ same : (a b : SecKind) → same_name_kind a b ≡ true → b ≡ a
 same a b h = grind arith
 
 pub holds : (marks : Marks) (near : List ℕ) (kind : SecKind) (text : List ℕ) (k : ℕ) (names : List SecName)
-    → AreMarked marks k names
-    → ((other : List ℕ) (k : ℕ) → IsMarked marks kind other k → IsNear other text → is_one_of k near ≡ true)
-    → HoldNear near kind text k names
+    → AreMarked marks k names → ((other : List ℕ) (k : ℕ) → IsMarked marks kind other k → IsNear other text → is_one_of
+    k near ≡ true) → HoldNear near kind text k names
 holds marks near kind text k [] h f = tt
 holds marks near kind text k (n ∷ names) h f = grind (arith, holds marks near kind text (k + 1) names h.1 f, both, same)
 
-begun : (kind : SecKind) (text : List ℕ) (n : SecName) → same_name_kind kind n.kind ≡ true → is_beginning_of n.text text
-    ≡ true
-    → is_near kind text n ≡ true
+begun : (kind : SecKind) (text : List ℕ) (n : SecName) → same_name_kind kind n.kind ≡ true
+    → is_beginning_of n.text text ≡ true → is_near kind text n ≡ true
 begun kind text n h k = grind (arith, and-yes, one-left)
 
 begins-it : (kind : SecKind) (text : List ℕ) (n : SecName) → same_name_kind kind n.kind ≡ true
-    → is_beginning_of text n.text ≡ true
-    → is_near kind text n ≡ true
+    → is_beginning_of text n.text ≡ true → is_near kind text n ≡ true
 begins-it kind text n h k = grind (arith, and-yes, one-right)
 
 -- a name that passes is near
@@ -62,9 +55,8 @@ passes-near : (asked : Asked) (text : List ℕ) (n : SecName) → passes asked t
     → is_near (kind_asked asked) text n ≡ true
 passes-near asked text n h = grind (arith, nat_tests, common_steps, nat_eq, both, begins-it, begins-self, begun, or-yes)
 
-pub is-held : (near : List ℕ) (asked : Asked) (text : List ℕ) (j : ℕ) (names : List SecName) (k : ℕ)
-    → HoldNear near (kind_asked asked) text j names
-    → passes_at (passes asked text) names k ≡ true → is_one_of (j + k) near ≡ true
+pub is-held : (near : List ℕ) (asked : Asked) (text : List ℕ) (j : ℕ) (names : List SecName) (k : ℕ) → HoldNear near
+    (kind_asked asked) text j names → passes_at (passes asked text) names k ≡ true → is_one_of (j + k) near ≡ true
 is-held near asked text j [] k h p = grind (arith, both, ltb-true)
 is-held near asked text j (n ∷ names) zero h p = grind (arith, both, add-zero, passes-near)
 is-held near asked text j (n ∷ names) (suc k) h p =
@@ -73,8 +65,7 @@ is-held near asked text j (n ∷ names) (suc k) h p =
     both (nat_lt (suc k) (suc (length names))) (passes asked text at) p in
     let below : suc k < suc (length names) = ltb-true (suc k) (suc (length names)) a.0 in
     let one : (j + 1) + k ≡ j + suc k = omega arith in
-    subst (λ i. is_one_of i near ≡ true) one
-    (is-held near asked text (j + 1) names k h.1
+    subst (λ i. is_one_of i near ≡ true) one (is-held near asked text (j + 1) names k h.1
     (and-yes (nat_lt k (length names)) (passes asked text at) (lt-ltb k (length names) (omega arith)) a.1))
 
 -- ## The least position
@@ -91,17 +82,14 @@ abbrev lesser : (SecName → Bool) → List SecName → ℕ → Option ℕ → �
 lesser test names from least k = chosen (is_lesser test names from least k) k least
 
 sound-by : (b : Bool) (test : SecName → Bool) (names : List SecName) (from k : ℕ) (least : Option ℕ)
-    → is_lesser test names from least k ≡ b
-    → Sound test names from least → Sound test names from (chosen b k least)
+    → is_lesser test names from least k ≡ b → Sound test names from least → Sound test names from (chosen b k least)
 sound-by b test names from k least h s = grind (arith, nat_le, both, leb-true)
 
 pub sound : (test : SecName → Bool) (names : List SecName) (from : ℕ) (least : Option ℕ) (positions : List ℕ)
-    → Sound test names from least
-    → Sound test names from (least_of test names from least positions)
+    → Sound test names from least → Sound test names from (least_of test names from least positions)
 sound test names from least [] s = s
-sound test names from least (k ∷ positions) s =
-    sound test names from (lesser test names from least k) positions (sound-by (is_lesser test names from least k) test
-    names from k least refl s)
+sound test names from least (k ∷ positions) s = sound test names from (lesser test names from least k) positions
+    (sound-by (is_lesser test names from least k) test names from k least refl s)
 
 keeps-by : (b : Bool) (k j : ℕ) (least : Option ℕ) → (b ≡ true → is_below j least ≡ true) → AtMost least k
     → AtMost (chosen b j least) k
@@ -119,13 +107,11 @@ and-no : (a b c : Bool) → a ≡ true → c ≡ true → (a && (b && c)) ≡ fa
 and-no a b c h k e = grind (arith, and-yes)
 
 here : (test : SecName → Bool) (names : List SecName) (from k : ℕ) (least : Option ℕ) → from ≤ k
-    → passes_at test names k ≡ true
-    → AtMost (lesser test names from least k) k
+    → passes_at test names k ≡ true → AtMost (lesser test names from least k) k
 here test names from k least h p = grind (arith, here-below, and-no, nat_le, le-leb)
 
 pub at-most : (test : SecName → Bool) (names : List SecName) (from : ℕ) (least : Option ℕ) (positions : List ℕ) (k : ℕ)
-    → from ≤ k
-    → passes_at test names k ≡ true → (is_one_of k positions ≡ true) ⊎ AtMost least k
+    → from ≤ k → passes_at test names k ≡ true → (is_one_of k positions ≡ true) ⊎ AtMost least k
     → AtMost (least_of test names from least positions) k
 at-most test names from least [] k h p (inl e) = absurd (cc)
 at-most test names from least [] k h p (inr e) = e
@@ -148,8 +134,7 @@ abbrev nobody : SecName
 nobody = unreferred Named [] false
 
 passes-behind : (test : SecName → Bool) (names : List SecName) (from k : ℕ) → k < length (drop from names)
-    → test (get_or (drop from names) k nobody) ≡ true
-    → passes_at test names (from + k) ≡ true
+    → test (get_or (drop from names) k nobody) ≡ true → passes_at test names (from + k) ≡ true
 passes-behind test names from k h e = grind (arith, length-drop, and-yes, lt-ltb, get_or-drop)
 
 at-end : (p n : ℕ) → p ≡ n → cond (nat_lt p n) (Some p) None ≡ None
@@ -162,11 +147,10 @@ pub least-is : (test : SecName → Bool) (names : List SecName) (from : ℕ) (r 
     → ((k : ℕ) → from ≤ k → passes_at test names k ≡ true → AtMost r k)
     → r ≡ option_map (λ more. from + more) (position test (drop from names))
 least-is test names from None s h =
-    let place : position_or_len test (drop from names) ≡ length (drop from names) =
-    position_or_len_is test (drop from names) (length (drop from names)) nobody (omega arith)
+    let place : position_or_len test (drop from names) ≡ length (drop from names) = position_or_len_is test
+    (drop from names) (length (drop from names)) nobody (omega arith)
     (λ k below. not-true (test (get_or (drop from names) k nobody))
-    (λ e. h (from + k) (omega arith) (passes-behind test names from k below e)))
-    (λ below. absurd (omega arith)) in
+    (λ e. h (from + k) (omega arith) (passes-behind test names from k below e))) (λ below. absurd (omega arith)) in
     ap (option_map (λ more. from + more)) (sym (at-end (position_or_len test (drop from names))
     (length (drop from names)) place))
 least-is test names from (Some i) s h =
@@ -176,24 +160,20 @@ least-is test names from (Some i) s h =
     let high : i < length names = ltb-true i (length names) a.0 in
     let long : length (drop from names) ≡ length names - from = length-drop from names in
     let back : from + (i - from) ≡ i = omega arith in
-    let place : position_or_len test (drop from names) ≡ i - from =
-    position_or_len_is test (drop from names) (i - from) nobody (omega arith)
-    (λ k below. not-true (test (get_or (drop from names) k nobody)) (λ e.
+    let place : position_or_len test (drop from names) ≡ i - from = position_or_len_is test (drop from names)
+    (i - from) nobody (omega arith) (λ k below. not-true (test (get_or (drop from names) k nobody)) (λ e.
     let most : i ≤ from + k = h (from + k) (omega arith) (passes-behind test names from k (omega arith) e) in
     omega arith))
     (λ below. ap test (get_or-drop from names (i - from) nobody ∙ ap (λ j. get_or names j nobody) back) ∙ a.1) in
     ap Some (sym back) ∙ ap (option_map (λ more. from + more))
-    (sym (at-some (position_or_len test (drop from names)) (length (drop from names)) (i - from) place
-    (omega arith)))
+    (sym (at-some (position_or_len test (drop from names)) (length (drop from names)) (i - from) place (omega arith)))
 
 -- what is least among the positions near a text is the first of all names
 pub least-first : (near : List ℕ) (asked : Asked) (text : List ℕ) (names : List SecName) (from : ℕ)
-    → HoldNear near (kind_asked asked) text 0 names
-    → least_of (passes asked text) names from None near
+    → HoldNear near (kind_asked asked) text 0 names → least_of (passes asked text) names from None near
     ≡ option_map (λ more. from + more) (position (passes asked text) (drop from names))
-least-first near asked text names from h =
-    least-is (passes asked text) names from (least_of (passes asked text) names from None near)
-    (sound (passes asked text) names from None near tt)
+least-first near asked text names from h = least-is (passes asked text) names from
+    (least_of (passes asked text) names from None near) (sound (passes asked text) names from None near tt)
     (λ k low p. at-most (passes asked text) names from None near k low p
     (inl (subst (λ i. is_one_of i near ≡ true) (zero-add k) (is-held near asked text 0 names k h p))))
 
@@ -202,8 +182,7 @@ from-first o = grind (arith, zero-add)
 
 -- a position more
 least-more : (test : SecName → Bool) (names : List SecName) (from : ℕ) (least : Option ℕ) (near : List ℕ) (i : ℕ)
-    → i < length near
-    → least_of test names from least (take (i + 1) near)
+    → i < length near → least_of test names from least (take (i + 1) near)
     ≡ lesser test names from (least_of test names from least (take i near)) (get_or near i 0)
 least-more test names from least [] i h = absurd (omega arith)
 least-more test names from least (k ∷ near) zero h = refl
@@ -213,10 +192,9 @@ least-more test names from least (k ∷ near) (suc i) h =
     ∙ least-more test names from (lesser test names from least k) near i (omega arith)
 
 pub least-next : (test : SecName → Bool) (names : List SecName) (from : ℕ) (near : List ℕ) (i : ℕ) (less : Bool)
-    (best next : Option ℕ)
-    → i < length near → best ≡ least_of test names from None (take i near)
-    → less ≡ is_lesser test names from best (get_or near i 0)
-    → next ≡ chosen less (get_or near i 0) best → next ≡ least_of test names from None (take (i + 1) near)
+    (best next : Option ℕ) → i < length near → best ≡ least_of test names from None (take i near)
+    → less ≡ is_lesser test names from best (get_or near i 0) → next ≡ chosen less (get_or near i 0) best
+    → next ≡ least_of test names from None (take (i + 1) near)
 least-next test names from near i less best next h is goes chooses = grind (arith, least-more)
 
 sound-within : (test : SecName → Bool) (names : List SecName) (from : ℕ) (r : Option ℕ) → Sound test names from r
@@ -245,8 +223,7 @@ marked-set marks k (x ∷ xs) (suc i) new h m =
     (h.0, marked-set marks (k + 1) xs i new h.1 (subst (IsMarked marks new.kind new.text.items) one m))
 
 pub marked-as : (marks : Marks) (kind other : SecKind) (text items : List ℕ) (k j : ℕ) → kind ≡ other → items ≡ text
-    → k ≡ j → IsMarked marks kind text k
-    → IsMarked marks other items (0 + j)
+    → k ≡ j → IsMarked marks kind text k → IsMarked marks other items (0 + j)
 marked-as marks kind other text items k j e f g m = grind (arith, zero-add)
 
 pub same-kind : (xs : List Kept) (i : ℕ) (a b : Kept) → i < length xs → (get_or xs i a).kind ≡ (get_or xs i b).kind
@@ -260,9 +237,8 @@ named-at [] k d e h = absurd (omega arith)
 named-at (x ∷ xs) zero d e h = refl
 named-at (x ∷ xs) (suc k) d e h = named-at xs k d e (omega arith)
 
-pub passes-there : (test : SecName → Bool) (xs : List Kept) (names : List SecName) (k : ℕ) (x : Kept) → map name_of xs
-    ≡ names → k < length xs
-    → x ≡ get_or xs k x → test (name_of x) ≡ passes_at test names k
+pub passes-there : (test : SecName → Bool) (xs : List Kept) (names : List SecName) (k : ℕ) (x : Kept)
+    → map name_of xs ≡ names → k < length xs → x ≡ get_or xs k x → test (name_of x) ≡ passes_at test names k
 passes-there test xs names k x view h is = grind (arith, lt-ltb, length-named, named-at)
 
 pub passes-not : (test : SecName → Bool) (names : List SecName) (k : ℕ) → length names ≤ k

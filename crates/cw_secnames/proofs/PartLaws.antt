@@ -1,9 +1,7 @@
 -- Of the parts of a section name that lie ahead.
-use Rattle.std.proofs.Common.{◌≡◌, ℕ, zero, suc, ◌+◌, ◌<◌, ◌≤◌, List, [], ◌∷◌, Option, Some, ◌∙◌, refl, arith, drop}
-use Rattle.std.proofs.Common.{length, get_or, option_map, drop-cons, add-one, add-zero}
-use Rattle.std.proofs.lemmas.List.{drop-drop}
-use Rattle.cw_base.specs.declared.span.Span.{Span}
-use Rattle.cw_secnames.specs.Parts.{end_of_part, part_here, parts_at, parts_from, IsNextPart}
+use Rattle.cw_secnames.proofs.Terms.{◌≡◌, ℕ, zero, suc, ◌+◌, ◌<◌, ◌≤◌, List, [], ◌∷◌, Option, Some, ◌∙◌, refl, arith}
+use Rattle.cw_secnames.proofs.Terms.{drop, length, get_or, option_map, drop-cons, add-one, add-zero, drop-drop, Span}
+use Rattle.cw_secnames.proofs.Terms.{end_of_part, part_here, parts_at, parts_from, IsNextPart}
 
 -- Bytes that belong to the part before are passed.
 parts_from-taken : (bytes : List ℕ) (place taken : ℕ) → parts_from bytes place taken
@@ -13,9 +11,8 @@ parts_from-taken [] place (suc taken) = refl
 parts_from-taken (byte ∷ bytes) place (suc taken) = grind (arith, parts_from-taken bytes (place + 1) taken)
 
 part-here : (size : Option ℕ) (place end : ℕ) (rest : ℕ → List Span) (tail : List Span)
-    → option_map (λ n. place + n) size ≡ Some end
-    → ((n : ℕ) → place + n ≡ end → rest (n + 1) ≡ tail) → part_here size place rest
-    ≡ record { start = place; «end» = end } ∷ tail
+    → option_map (λ n. place + n) size ≡ Some end → ((n : ℕ) → place + n ≡ end → rest (n + 1) ≡ tail)
+    → part_here size place rest ≡ record { start = place; «end» = end } ∷ tail
 part-here size place end rest tail e behind = grind arith
 
 behind-part : (text : List ℕ) (bar end n : ℕ) → bar + 1 + n ≡ end
@@ -27,7 +24,6 @@ drop-bar : (text : List ℕ) (bar : ℕ) → bar < length text → get_or text b
 drop-bar text bar within is = drop-cons text bar 0 within ∙ rw (is, add-one bar) refl
 
 -- A bar opens a part where a bar ends it.
-pub next-part : (text : List ℕ) (bar end : ℕ) → bar < length text → get_or text bar 0 ≡ 124 → Some end
-    ≡ end_of_part text (bar + 1)
-    → bar + 1 ≤ end → end < length text → IsNextPart text bar (record { start = bar + 1; «end» = end })
+pub next-part : (text : List ℕ) (bar end : ℕ) → bar < length text → get_or text bar 0 ≡ 124 → Some end ≡ end_of_part
+    text (bar + 1) → bar + 1 ≤ end → end < length text → IsNextPart text bar (record { start = bar + 1; «end» = end })
 next-part text bar end within opens ends order inside = grind (arith, drop-bar, part-here, behind-part)

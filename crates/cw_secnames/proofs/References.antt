@@ -1,14 +1,11 @@
 -- A number more in an ascending list.
-use Rattle.std.proofs.Common.{◌≡◌, ℕ, zero, suc, ◌<◌, ◌≤◌, ◌==◌, ◌||◌, ◌+◌, Bool, true, false, List, [], ◌∷◌, ◌++◌}
-use Rattle.std.proofs.Common.{length, refl, ap, sym, ◌∙◌, get_or, map, insert, slice_set, arith, Result, Ok, Err}
-use Rattle.std.proofs.Common.{MatchResult}
-use Rattle.std.specs.{List.Sorted.IsBinarySearchResult, Ordering.nat_cmp}
-use Rattle.std.proofs.{lemmas.List.Sorted.searched, lemmas.Bool.eq-eqb, lemmas.Bool.eqb-true}
-use Rattle.cw_base.proofs.TestLaws.{or-false}
-use Rattle.cw_secnames.specs.declared.{kinds.RefKind.RefKind, sec_names.Kept.Kept}
+use Rattle.cw_secnames.proofs.Terms.{◌≡◌, ℕ, zero, suc, ◌<◌, ◌≤◌, ◌==◌, ◌||◌, ◌+◌, Bool, true, false, List, [], ◌∷◌}
+use Rattle.cw_secnames.proofs.Terms.{◌++◌, length, refl, ap, sym, ◌∙◌, get_or, map, insert, slice_set, arith, Result}
+use Rattle.cw_secnames.proofs.Terms.{Ok, Err, MatchResult, List.Sorted.IsBinarySearchResult, Ordering.nat_cmp}
+use Rattle.cw_secnames.proofs.Terms.{lemmas.List.Sorted.searched, lemmas.Bool.eq-eqb, lemmas.Bool.eqb-true, or-false}
+use Rattle.cw_secnames.proofs.Terms.{kinds.RefKind.RefKind, sec_names.Kept.Kept, Ascend, AscendFrom, ReferAscending}
+use Rattle.cw_secnames.proofs.Terms.{RefersAscending, with_number, with_reference, with_section}
 use Rattle.cw_secnames.specs.{Inside.listed, Inside.lists_of, Inside.name_of, Kept.SecName, Marks.is_one_of}
-use Rattle.cw_secnames.specs.References.{Ascend, AscendFrom, ReferAscending, RefersAscending, with_number}
-use Rattle.cw_secnames.specs.References.{with_reference, with_section}
 use Rattle.cw_secnames.specs.OnceLaws.{with_number-ascends, with_number-is}
 
 or-comm : (a b : Bool) → (a || b) ≡ (b || a)
@@ -65,9 +62,8 @@ found-in (suc i) n (x ∷ ns) low is = ap (λ b. (x == n) || b) (found-in i n ns
 pub with_there : (i n : ℕ) (ns : List ℕ) → Ascend ns → i < length ns → get_or ns i 0 ≡ n → with_number n ns ≡ ns
 with_there i n ns up low is = grind (arith, with_number-is, or-comm, eqb-true, found-in, or-false)
 
-ascend-inserted : (least i n : ℕ) (ns : List ℕ) → AscendFrom least ns → i ≤ length ns → least ≤ n
-    → ((k : ℕ) → k < i → get_or ns k 0 < n) → ((k : ℕ) → i ≤ k → k < length ns → n < get_or ns k 0)
-    → AscendFrom least (insert ns i n)
+ascend-inserted : (least i n : ℕ) (ns : List ℕ) → AscendFrom least ns → i ≤ length ns → least ≤ n → ((k : ℕ) → k < i
+    → get_or ns k 0 < n) → ((k : ℕ) → i ≤ k → k < length ns → n < get_or ns k 0) → AscendFrom least (insert ns i n)
 ascend-inserted least zero n [] up within low before behind = (low, tt)
 ascend-inserted least (suc i) n [] up within low before behind = absurd (omega arith)
 ascend-inserted least zero n (x ∷ ns) up within low before behind =
@@ -84,23 +80,19 @@ in-inserted zero n k (x ∷ ns) = or-comm (is_one_of k (x ∷ ns)) (n == k)
 in-inserted (suc i) n k (x ∷ ns) = grind (arith, in-inserted i n k ns, or-assoc)
 in-inserted _ n k _ = sym (or-false (n == k))
 
-pub with_inserted : (i n : ℕ) (ns : List ℕ) → Ascend ns → i ≤ length ns
-    → ((k : ℕ) → k < i → get_or ns k 0 < n) → ((k : ℕ) → i ≤ k → k < length ns → n < get_or ns k 0)
-    → insert ns i n ≡ with_number n ns
-with_inserted i n ns up within before behind =
-    sym (with_number-is n ns (insert ns i n) (ascend-inserted 0 i n ns up within (omega arith) before behind)
-    (λ k. in-inserted i n k ns))
+pub with_inserted : (i n : ℕ) (ns : List ℕ) → Ascend ns → i ≤ length ns → ((k : ℕ) → k < i → get_or ns k 0 < n)
+    → ((k : ℕ) → i ≤ k → k < length ns → n < get_or ns k 0) → insert ns i n ≡ with_number n ns
+with_inserted i n ns up within before behind = sym (with_number-is n ns (insert ns i n)
+    (ascend-inserted 0 i n ns up within (omega arith) before behind) (λ k. in-inserted i n k ns))
 
 -- what a binary search answers
-pub searched_number : (n : ℕ) (ns : List ℕ) (r : Result ℕ ℕ) → Ascend ns
-    → IsBinarySearchResult (λ other. nat_cmp other n) ns r
-    → MatchResult r (λ i. ns ≡ with_number n ns) (λ i. insert ns i n ≡ with_number n ns)
+pub searched_number : (n : ℕ) (ns : List ℕ) (r : Result ℕ ℕ) → Ascend ns → IsBinarySearchResult (λ other. nat_cmp other
+    n) ns r → MatchResult r (λ i. ns ≡ with_number n ns) (λ i. insert ns i n ≡ with_number n ns)
 searched_number n ns r up is = by r (searched ns n r is (rises 0 ns up))
   where
-    by : (r : Result ℕ ℕ) → MatchResult r (λ i. (i < length ns) × (get_or ns i 0 ≡ n))
-        (λ i. (i ≤ length ns) × ((k : ℕ) → k < i → get_or ns k 0 < n)
-        × ((k : ℕ) → i ≤ k → k < length ns → n < get_or ns k 0))
-        → MatchResult r (λ i. ns ≡ with_number n ns) (λ i. insert ns i n ≡ with_number n ns)
+    by : (r : Result ℕ ℕ) → MatchResult r (λ i. (i < length ns) × (get_or ns i 0 ≡ n)) (λ i. (i ≤ length ns)
+        × ((k : ℕ) → k < i → get_or ns k 0 < n) × ((k : ℕ) → i ≤ k → k < length ns → n < get_or ns k 0)) → MatchResult r
+        (λ i. ns ≡ with_number n ns) (λ i. insert ns i n ≡ with_number n ns)
     by (Ok i) h = sym (with_there i n ns up h.0 h.1)
     by (Err i) h = with_inserted i n ns up h.0 h.1 h.2
 
@@ -114,8 +106,7 @@ pub ascending-with_reference : (i : ℕ) (how : RefKind) (section : ℕ) (names 
     → ReferAscending (with_reference i how section names)
 ascending-with_reference i how section [] up = tt
 ascending-with_reference zero how section (n ∷ names) up = (section-ascends how section n up.0, up.1)
-ascending-with_reference (suc i) how section (n ∷ names) up =
-    (up.0, ascending-with_reference i how section names up.1)
+ascending-with_reference (suc i) how section (n ∷ names) up = (up.0, ascending-with_reference i how section names up.1)
 
 pub ascending-behind : (xs : List Kept) (x : Kept) → ReferAscending (map name_of xs) → RefersAscending (name_of x)
     → ReferAscending (map name_of (xs ++ x ∷ []))

@@ -1,7 +1,8 @@
 -- The pair at a place.
-use Rattle.std.proofs.Common.{◌≡◌, ◌≢◌, ℕ, zero, suc, ◌<◌, ◌≤◌, Bool, true, false, List, [], ◌∷◌, ◌++◌, Some, None, map}
-use Rattle.std.proofs.Common.{length, nat_lt, refl, ap, get_or, arith, All, length-append}
-use Rattle.std.proofs.{Math.ListN.get_or-append, Math.Seq.get_or-append_seam, Math.Dec.ltb, lemmas.Grind.common_steps}
+use Rattle.cw_secnames.proofs.Terms.{◌≡◌, ◌≢◌, ℕ, zero, suc, ◌<◌, ◌≤◌, Bool, true, false, List, [], ◌∷◌, ◌++◌, Some}
+use Rattle.cw_secnames.proofs.Terms.{None, map, length, nat_lt, refl, ap, get_or, arith, All, length-append}
+use Rattle.cw_secnames.proofs.Terms.{Math.ListN.get_or-append, Math.Seq.get_or-append_seam, Math.Dec.ltb}
+use Rattle.cw_secnames.proofs.Terms.{lemmas.Grind.common_steps}
 use Rattle.std.specs.List.Sorted.{IsPartitionPoint, IsPartitionedBy}
 use Rattle.std.proofs.lemmas.Bool.Decides.{nat_tests}
 use Rattle.cw_base.proofs.NumberLaws.{apart}
@@ -20,11 +21,9 @@ at-first place (p ∷ pairs) (suc i) d h below e =
     e)
 
 pub nowhere : (place : ℕ) (pairs : List Pair) (d : Pair)
-    → ((k : ℕ) → k < length pairs → (get_or pairs k d).place ≢ place)
-    → name_at place (map use_of pairs) ≡ None
+    → ((k : ℕ) → k < length pairs → (get_or pairs k d).place ≢ place) → name_at place (map use_of pairs) ≡ None
 nowhere place [] d none = refl
-nowhere place (p ∷ pairs) d none =
-    rw (apart p.place place (none zero (omega arith)), name_at)
+nowhere place (p ∷ pairs) d none = rw (apart p.place place (none zero (omega arith)), name_at)
     (nowhere place pairs d (λ k l. none (suc k) (omega arith)))
 
 -- One pair more, behind all others.
@@ -43,13 +42,11 @@ more-by b pairs p i j d t a below h within =
     grind (arith, nat_tests, common_steps, get_or-append, length-append, length-uses, get_or-append_seam, use_at)
 
 pub ascending-more : (pairs : List Pair) (p : Pair) → AreAscending pairs
-    → All (λ u. u.place < p.place) (map use_of pairs)
-    → AreAscending (pairs ++ p ∷ [])
+    → All (λ u. u.place < p.place) (map use_of pairs) → AreAscending (pairs ++ p ∷ [])
 ascending-more pairs p a below i j d h within = more-by (nat_lt j (length pairs)) pairs p i j d refl a below h within
 
 weak-by : (b : Bool) (pairs : List Pair) (i j : ℕ) (d : Pair) → nat_lt i j ≡ b → AreAscending pairs → i ≤ j
-    → j < length pairs
-    → (get_or pairs i d).place ≤ (get_or pairs j d).place
+    → j < length pairs → (get_or pairs i d).place ≤ (get_or pairs j d).place
 weak-by b pairs i j d t a h within = grind arith
 
 -- The pairs of one place and more are those behind a point.
@@ -67,14 +64,12 @@ unfolding IsPoint
 point-below place pairs first d point k h = ltb-true _ _ (point.0 k d (omega arith) h)
 
 none-by : (before behind : Bool) (place : ℕ) (pairs : List Pair) (first k : ℕ) (d : Pair) → nat_lt k first ≡ before
-    → nat_lt first k ≡ behind
-    → AreAscending pairs → IsPoint place pairs first → (first < length pairs → (get_or pairs first d).place ≢ place)
-    → k < length pairs → (get_or pairs k d).place ≢ place
+    → nat_lt first k ≡ behind → AreAscending pairs → IsPoint place pairs first → (first < length pairs
+    → (get_or pairs first d).place ≢ place) → k < length pairs → (get_or pairs k d).place ≢ place
 unfolding IsPoint
 none-by before behind place pairs first k d t u a point other within same = grind arith
 
 pub nowhere-by : (place : ℕ) (pairs : List Pair) (first : ℕ) (d : Pair) → AreAscending pairs → IsPoint place pairs first
     → (first < length pairs → (get_or pairs first d).place ≢ place) → name_at place (map use_of pairs) ≡ None
-nowhere-by place pairs first d a point other =
-    nowhere place pairs d (λ k within. none-by (nat_lt k first) (nat_lt first k) place pairs first k d refl refl a point
-    other within)
+nowhere-by place pairs first d a point other = nowhere place pairs d
+    (λ k within. none-by (nat_lt k first) (nat_lt first k) place pairs first k d refl refl a point other within)

@@ -1,25 +1,12 @@
 -- What the code that checks a row needs.
-use Rattle.std.proofs.Common.{◌≡◌, ◌<◌, ◌≤◌, ◌+◌, ◌-◌, ◌∙◌, sym, ap, ℕ, zero, suc, Bool, true, false, not, List, []}
-use Rattle.std.proofs.Common.{◌∷◌, ◌++◌, length, get_or, take, drop, Some, None, refl, arith, ◌&&◌, eqb, eq-eqb}
-use Rattle.std.proofs.Common.{take_all}
-use Rattle.std.specs.List.{All, list_all}
-use Rattle.std.proofs.lemmas.Bool.{ne_eqb}
-use Rattle.std.proofs.lemmas.List.{drop_more}
-use Rattle.std.proofs.lemmas.List.Sums.{AllPass-from_list_all}
-use Rattle.std.proofs.lemmas.List.Folds.{list_all-append, list_all_at, list_all_more}
-use Rattle.std.proofs.lemmas.Bool.Decides.{nat_tests}
-use Rattle.cw_base.specs.declared.category.Cat.{Cat}
-use Rattle.cw_base.specs.declared.category.Cat.TheVariants.{End}
-use Rattle.cw_base.specs.Category.{all_cats, in_set}
-use Rattle.cw_table.specs.declared.types.Piece.{Piece}
-use Rattle.cw_table.specs.declared.types.Row.{Row}
-use Rattle.cw_table.specs.Rows.{test}
-use Rattle.cw_table.specs.Sound.{IsSound, counts_parts, lowers, lowers_all, marks_parts, numbers_from, pieces_parts}
-use Rattle.cw_table.specs.Sound.{result_parts, row_is_sound, same_numbers, scrap_in, scraps_in, tests_parts}
-use Rattle.cw_table.specs.Sound.{without_end}
-use Rattle.cw_table.proofs.HazardLaws.{not-all-numbers}
-use Rattle.cw_table.proofs.SafeLaws.{all-numbers}
-use Rattle.cw_table.proofs.Soundness.{sound-row}
+use Rattle.cw_table.proofs.Terms.{◌≡◌, ◌<◌, ◌≤◌, ◌+◌, ◌-◌, ◌∙◌, sym, ap, ℕ, zero, suc, Bool, true, false, not, List, []}
+use Rattle.cw_table.proofs.Terms.{◌∷◌, ◌++◌, length, get_or, take, drop, Some, None, refl, arith, ◌&&◌, eqb, eq-eqb}
+use Rattle.cw_table.proofs.Terms.{take_all, All, list_all, ne_eqb, drop_more, AllPass-from_list_all, list_all-append}
+use Rattle.cw_table.proofs.Terms.{list_all_at, list_all_more, nat_tests, Cat, End, all_cats, in_set, Piece, Row, test}
+use Rattle.cw_table.proofs.Terms.{IsSound, counts_parts, lowers, marks_parts, numbers_from, pieces_parts, result_parts}
+use Rattle.cw_table.proofs.Terms.{same_numbers, scrap_in, scraps_in, tests_parts, without_end}
+use Rattle.cw_table.specs.Sound.{lowers_all, row_is_sound}
+use Rattle.cw_table.proofs.{HazardLaws.not-all-numbers, SafeLaws.all-numbers, Soundness.sound-row}
 
 pub all-sound : (rows : List Row) → list_all row_is_sound rows ≡ true → All IsSound rows
 all-sound rows h k d lt = sound-row (get_or rows k d) (AllPass-from_list_all row_is_sound rows h k d lt)
@@ -45,9 +32,8 @@ ends-none row k from to h =
     sym (not-all-numbers (λ n. not (in_set (test row n) End)) row.offset row.replaced (k - row.offset) (omega arith)
     (ap (λ n. not (in_set (test row n) End)) split ∙ ap not h))
 
-pub ends-whole : (row : Row) (k : ℕ) → row.offset + row.replaced ≤ k
-    → ((n : ℕ) → row.offset ≤ n → n < k → in_set (test row n) End ≡ false)
-    → true ≡ without_end row row.offset row.replaced
+pub ends-whole : (row : Row) (k : ℕ) → row.offset + row.replaced ≤ k → ((n : ℕ) → row.offset ≤ n → n < k → in_set
+    (test row n) End ≡ false) → true ≡ without_end row row.offset row.replaced
 ends-whole row k past h = grind (arith, nat_tests, all-numbers)
 
 -- The pieces, one after the other.
@@ -102,22 +88,18 @@ pub order-end : (pieces : List Piece) (i next end : ℕ) → length pieces ≤ i
 order-end pieces i next end past within = grind (arith, nat_tests, drop-past, eq-eqb, ne_eqb)
 
 -- the five parts together are the whole test
-pub parts-joined : (row : Row) (a b c d e : Bool) → a ≡ list_all (λ x. x) (tests_parts row)
-    → b ≡ list_all (λ x. x) (pieces_parts row) → c ≡ list_all (λ x. x) (result_parts row)
-    → d ≡ list_all (λ x. x) (marks_parts row) → e ≡ list_all (λ x. x) (counts_parts row) → ((((a && b) && c) && d) && e)
-    ≡ row_is_sound row
+pub parts-joined : (row : Row) (a b c d e : Bool) → a ≡ list_all (λ x. x) (tests_parts row) → b ≡ list_all (λ x. x)
+    (pieces_parts row) → c ≡ list_all (λ x. x) (result_parts row) → d ≡ list_all (λ x. x) (marks_parts row)
+    → e ≡ list_all (λ x. x) (counts_parts row) → ((((a && b) && c) && d) && e) ≡ row_is_sound row
 unfolding row_is_sound
 parts-joined row a b c d e ea eb ec ed ee =
     let parts : ((((a && b) && c) && d) && e)
-    ≡ ((((list_all (λ x. x) (tests_parts row) && list_all (λ x. x) (pieces_parts row))
-    && list_all (λ x. x) (result_parts row)) && list_all (λ x. x) (marks_parts row))
-    && list_all (λ x. x) (counts_parts row)) = cc in
-    parts
-    ∙ ap (λ x. ((x && list_all (λ y. y) (result_parts row)) && list_all (λ y. y) (marks_parts row))
-    && list_all (λ y. y) (counts_parts row)) (sym (list_all-append (λ x. x) (tests_parts row) (pieces_parts row)))
+    ≡ ((((list_all (λ x. x) (tests_parts row) && list_all (λ x. x) (pieces_parts row)) && list_all (λ x. x)
+    (result_parts row)) && list_all (λ x. x) (marks_parts row)) && list_all (λ x. x) (counts_parts row)) = cc in
+    parts ∙ ap (λ x. ((x && list_all (λ y. y) (result_parts row)) && list_all (λ y. y) (marks_parts row)) && list_all
+    (λ y. y) (counts_parts row)) (sym (list_all-append (λ x. x) (tests_parts row) (pieces_parts row)))
     ∙ ap (λ x. (x && list_all (λ y. y) (marks_parts row)) && list_all (λ y. y) (counts_parts row))
     (sym (list_all-append (λ x. x) (tests_parts row ++ pieces_parts row) (result_parts row)))
-    ∙ ap (λ x. x && list_all (λ y. y) (counts_parts row))
-    (sym (list_all-append (λ x. x) ((tests_parts row ++ pieces_parts row) ++ result_parts row) (marks_parts row)))
-    ∙ sym (list_all-append (λ x. x) (((tests_parts row ++ pieces_parts row) ++ result_parts row) ++ marks_parts row)
-    (counts_parts row))
+    ∙ ap (λ x. x && list_all (λ y. y) (counts_parts row)) (sym (list_all-append (λ x. x)
+    ((tests_parts row ++ pieces_parts row) ++ result_parts row) (marks_parts row))) ∙ sym (list_all-append (λ x. x)
+    (((tests_parts row ++ pieces_parts row) ++ result_parts row) ++ marks_parts row) (counts_parts row))

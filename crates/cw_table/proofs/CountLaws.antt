@@ -1,22 +1,14 @@
 -- How many turns the walk takes, and how many steps it counts.
-use Rattle.std.proofs.Common.{◌≡◌, ℕ, zero, suc, ◌+◌, ◌-◌, ◌*◌, ◌<◌, ◌≤◌, Bool, true, false, ltb, Option, Some, None}
-use Rattle.std.proofs.Common.{List, [], ◌∷◌, length, drop, refl, sym, ◌∙◌, ap, arith, ltb-true, ltb-false}
-use Rattle.std.specs.List.{list_all, All}
+use Rattle.cw_table.proofs.Terms.{◌≡◌, ℕ, zero, suc, ◌+◌, ◌-◌, ◌*◌, ◌<◌, ◌≤◌, Bool, true, false, ltb, Option, Some}
+use Rattle.cw_table.proofs.Terms.{None, List, [], ◌∷◌, length, drop, refl, sym, ◌∙◌, ap, arith, ltb-true, ltb-false}
+use Rattle.cw_table.proofs.Terms.{list_all, All, nat_tests, Flags, Row, first_of, least, row_is_sound, cats_of, State}
+use Rattle.cw_table.proofs.Terms.{rewrite, Place, Nowhere, At, next_place, weight, is_fine, walk_left, Position}
+use Rattle.cw_table.proofs.Terms.{positions_of, turns, NoneFitsBelow}
 use Rattle.std.proofs.lemmas.List.Elements.{All-nil, All-cons}
-use Rattle.std.proofs.lemmas.Bool.Decides.{nat_tests}
-use Rattle.cw_base.specs.declared.flags.Flags.{Flags}
-use Rattle.cw_table.specs.declared.types.Row.{Row}
-use Rattle.cw_table.specs.Fitting.{first_of}
-use Rattle.cw_table.specs.Safe.{least}
-use Rattle.cw_table.specs.Sound.{row_is_sound}
-use Rattle.cw_table.specs.Rewriting.{cats_of, State, rewrite}
-use Rattle.cw_table.specs.Normal.{Place, Nowhere, At, next_place, weight, is_fine}
-use Rattle.cw_table.specs.NormalWalk.{walk_left, Position, positions_of, positions, turns}
+use Rattle.cw_table.specs.NormalWalk.{positions}
 use Rattle.cw_table.specs.WalkCounts.{where_reserving, right_of_new, looks_of, looks, reservings_of, reservings}
 use Rattle.cw_table.specs.WalkCounts.{ticks_from, ticks}
-use Rattle.cw_table.specs.NormalLaws.{NoneFitsBelow}
-use Rattle.cw_table.proofs.Normals.{takes, more-same}
-use Rattle.cw_table.proofs.ScrapFacts.{cats-length, weight-most}
+use Rattle.cw_table.proofs.{Normals.takes, Normals.more-same, ScrapFacts.cats-length, ScrapFacts.weight-most}
 use Rattle.cw_table.proofs.WalkLaws.{NoneBelow, Turns, turning, next-nowhere, lt-or-is, step_of, step-is}
 
 -- Above a place where no row fits, none fits below the next one.
@@ -29,10 +21,9 @@ abbrev here : ℕ → State → Position
 here place st = record { place = place; state = st }
 
 positions-step : (rows : List Row) (f : Flags) (n place : ℕ) (st : State) (b : Bool) (o : Option Row)
-    → ltb place (length st.scraps) ≡ b → first_of rows (drop place (cats_of st.scraps)) ≡ o
-    → positions_of rows f (least rows) (suc n) place st
-    ≡ step_of b o [] (here place st ∷ positions_of rows f (least rows) n (suc place) st) (λ r. here place st
-    ∷ positions_of rows f (least rows) n (place - least rows r) (rewrite f r place st))
+    → ltb place (length st.scraps) ≡ b → first_of rows (drop place (cats_of st.scraps)) ≡ o → positions_of rows f
+    (least rows) (suc n) place st ≡ step_of b o [] (here place st ∷ positions_of rows f (least rows) n (suc place) st)
+    (λ r. here place st ∷ positions_of rows f (least rows) n (place - least rows r) (rewrite f r place st))
 positions-step rows f n place st b o e found = grind (arith, nat_tests, step-is)
 
 positions-same : (rows : List Row) (f : Flags) (n m place : ℕ) (st : State) → list_all row_is_sound rows ≡ true
@@ -43,11 +34,10 @@ positions-same rows f (suc n) zero place st all fine below a b = absurd (omega a
 positions-same rows f (suc n) (suc m) place st all fine below a b = go (ltb place (length st.scraps))
     (first_of rows (drop place (cats_of st.scraps))) refl refl (λ q s. positions-same rows f n m q s all)
   where
-    go : (inside : Bool) (o : Option Row) → ltb place (length st.scraps) ≡ inside
-        → first_of rows (drop place (cats_of st.scraps)) ≡ o → ((q : ℕ) (s : State) → list_all is_fine s.scraps ≡ true
-        → NoneBelow rows s q → walk_left q s < n → walk_left q s < m → positions_of rows f (least rows) n q s
-        ≡ positions_of rows f (least rows) m q s) → positions_of rows f (least rows) (suc n) place st
-        ≡ positions_of rows f (least rows) (suc m) place st
+    go : (inside : Bool) (o : Option Row) → ltb place (length st.scraps) ≡ inside → first_of rows (drop place (cats_of
+        st.scraps)) ≡ o → ((q : ℕ) (s : State) → list_all is_fine s.scraps ≡ true → NoneBelow rows s q → walk_left q s <
+        n → walk_left q s < m → positions_of rows f (least rows) n q s ≡ positions_of rows f (least rows) m q s)
+        → positions_of rows f (least rows) (suc n) place st ≡ positions_of rows f (least rows) (suc m) place st
     go false o e found rec = positions-step rows f n place st false o e found
         ∙ sym (positions-step rows f m place st false o e found)
     go true None e found rec =
@@ -73,9 +63,8 @@ inside-is : (place n : ℕ) → place < n → ltb place n ≡ true
 inside-is place n less = grind (arith, nat_tests, ltb-false)
 
 pub turns-past : (rows : List Row) (f : Flags) (place : ℕ) (st : State) → list_all row_is_sound rows ≡ true
-    → list_all is_fine st.scraps ≡ true → NoneBelow rows st place → place < length st.scraps
-    → first_of rows (drop place (cats_of st.scraps)) ≡ None → turns rows f (least rows) place st
-    ≡ 1 + turns rows f (least rows) (suc place) st
+    → list_all is_fine st.scraps ≡ true → NoneBelow rows st place → place < length st.scraps → first_of rows (drop place
+    (cats_of st.scraps)) ≡ None → turns rows f (least rows) place st ≡ 1 + turns rows f (least rows) (suc place) st
 unfolding positions
 turns-past rows f place st all fine below inside found =
     grind (arith, nat_tests, positions-step, inside-is, positions-same, none-below-next)
@@ -112,8 +101,7 @@ turns-short rows f (suc n) place st all fine below = go (ltb place (length st.sc
         omega (
           arith,
           ap length (positions-step rows f n place st true (Some r) e found),
-          rec (place - least rows r)
-              (rewrite f r place st) t.takes.falls.fine t.below,
+          rec (place - least rows r) (rewrite f r place st) t.takes.falls.fine t.below,
           t.less,
         )
 
@@ -122,8 +110,7 @@ pub turns-most : (rows : List Row) (f : Flags) (st : State) → list_all row_is_
 unfolding positions
 turns-most rows f st all fine = omega (
   arith,
-  turns-short rows f (suc (walk_left 0 st)) 0 st all fine
-      (λ k less. absurd (omega arith)),
+  turns-short rows f (suc (walk_left 0 st)) 0 st all fine (λ k less. absurd (omega arith)),
   weight-most st.scraps,
 )
 
@@ -140,9 +127,8 @@ leftmost-of rows f (suc n) place st all fine below = go (ltb place (length st.sc
         → NoneBelow rows s q → All (NoneFitsBelow rows) (positions_of rows f (least rows) n q s))
         → All (NoneFitsBelow rows) (positions_of rows f (least rows) (suc n) place st)
     go false o e found rec = rw (positions-step rows f n place st false o e found) (All-nil (NoneFitsBelow rows))
-    go true None e found rec = rw (positions-step rows f n place st true None e found)
-        (All-cons (NoneFitsBelow rows) (here place st) _ below
-        (rec (suc place) st fine (none-below-next rows st place below found)))
+    go true None e found rec = rw (positions-step rows f n place st true None e found) (All-cons (NoneFitsBelow rows)
+        (here place st) _ below (rec (suc place) st fine (none-below-next rows st place below found)))
     go true (Some r) e found rec =
         let inside : place < length st.scraps = ltb-true _ _ e in
         let t = turning rows f st place r all fine below inside found in
@@ -168,9 +154,8 @@ one-reservings : (rows : List Row) (f : Flags) (n i : ℕ) (r : Row) (st : State
     → reservings_of rows f (suc n) st ≡ where_reserving r.action.reserve 1 + reservings_of rows f n (rewrite f r i st)
 one-reservings rows f n i r st e = grind (arith, nat_tests)
 
-looks-same : (rows : List Row) (f : Flags) (n m : ℕ) (st : State) → list_all row_is_sound rows ≡ true
-    → list_all is_fine st.scraps ≡ true → weight st.scraps ≤ n → weight st.scraps ≤ m → looks_of rows f n st
-    ≡ looks_of rows f m st
+looks-same : (rows : List Row) (f : Flags) (n m : ℕ) (st : State) → list_all row_is_sound rows ≡ true → list_all is_fine
+    st.scraps ≡ true → weight st.scraps ≤ n → weight st.scraps ≤ m → looks_of rows f n st ≡ looks_of rows f m st
 looks-same rows f = more-same ℕ rows f (looks_of rows f) (λ s i r x. right_of_new f r i s + x) (λ s. 0)
     (none-looks rows f) (one-looks rows f)
 
@@ -184,18 +169,16 @@ pub looks-step : (rows : List Row) (f : Flags) (st : State) (i : ℕ) (r : Row) 
 unfolding looks
 looks-step rows f st i r all fine e =
     let t = (takes rows f st i r all fine e).falls in
-    looks-same rows f (weight st.scraps) (suc (weight st.scraps)) st all fine (omega arith) (omega arith)
-    ∙ one-looks rows f (weight st.scraps) i r st e
-    ∙ ap (λ x. right_of_new f r i st + x) (looks-same rows f (weight st.scraps) (weight (rewrite f r i st).scraps)
-    (rewrite f r i st) all t.fine (omega (arith, t.lighter)) (omega arith))
+    looks-same rows f (weight st.scraps) (suc (weight st.scraps)) st all fine (omega arith) (omega arith) ∙ one-looks
+    rows f (weight st.scraps) i r st e ∙ ap (λ x. right_of_new f r i st + x) (looks-same rows f (weight st.scraps)
+    (weight (rewrite f r i st).scraps) (rewrite f r i st) all t.fine (omega (arith, t.lighter)) (omega arith))
 
 sum-most : (o : Option ℕ) (right more v most : ℕ) → right ≤ most → more ≤ most * v
     → where_reserving o right + more ≤ most * (where_reserving o 1 + v)
 sum-most x1 right more v most a b = grind (arith, nat_tests)
 
-looks-most-of : (rows : List Row) (f : Flags) (n most : ℕ) (st : State) → list_all row_is_sound rows ≡ true
-    → list_all is_fine st.scraps ≡ true → length st.scraps ≤ most
-    → looks_of rows f n st ≤ most * reservings_of rows f n st
+looks-most-of : (rows : List Row) (f : Flags) (n most : ℕ) (st : State) → list_all row_is_sound rows ≡ true → list_all
+    is_fine st.scraps ≡ true → length st.scraps ≤ most → looks_of rows f n st ≤ most * reservings_of rows f n st
 looks-most-of rows f zero most st all fine short = omega arith
 looks-most-of rows f (suc n) most st all fine short = go (λ s. looks-most-of rows f n most s all) (next_place rows st)
     refl
@@ -225,19 +208,16 @@ pub ticks-end : (rows : List Row) (f : Flags) (place : ℕ) (st : State) → Non
 ticks-end rows f place st below past = grind (arith, nat_tests, cats-length, turns-end, looks-none, next-nowhere)
 
 pub ticks-past : (rows : List Row) (f : Flags) (place : ℕ) (st : State) → list_all row_is_sound rows ≡ true
-    → list_all is_fine st.scraps ≡ true → NoneBelow rows st place → place < length st.scraps
-    → first_of rows (drop place (cats_of st.scraps)) ≡ None → ticks_from rows f place st
-    ≡ 4 + ticks_from rows f (suc place) st
+    → list_all is_fine st.scraps ≡ true → NoneBelow rows st place → place < length st.scraps → first_of rows
+    (drop place (cats_of st.scraps)) ≡ None → ticks_from rows f place st ≡ 4 + ticks_from rows f (suc place) st
 ticks-past rows f place st all fine below inside found = grind (arith, nat_tests, turns-past)
 
 pub ticks-taken : (rows : List Row) (f : Flags) (place : ℕ) (st : State) (r : Row) → list_all row_is_sound rows ≡ true
-    → list_all is_fine st.scraps ≡ true → place < length st.scraps → Turns rows f st place r
-    → ticks_from rows f place st ≡ 4 + (right_of_new f r place st + ticks_from rows f (place - least rows r)
-    (rewrite f r place st))
+    → list_all is_fine st.scraps ≡ true → place < length st.scraps → Turns rows f st place r → ticks_from rows f place
+    st ≡ 4 + (right_of_new f r place st + ticks_from rows f (place - least rows r) (rewrite f r place st))
 ticks-taken rows f place st r all fine inside t = grind (arith, nat_tests, turns-taken, looks-step)
 
 -- At most 132 steps for each scrap, and as many more as there are scraps for each production by a row that reserves.
-pub ticks-most : (rows : List Row) (f : Flags) (st : State) → list_all row_is_sound rows ≡ true
-    → list_all is_fine st.scraps ≡ true → ticks rows f st ≤ 132 * length st.scraps + length st.scraps
-    * reservings rows f st
+pub ticks-most : (rows : List Row) (f : Flags) (st : State) → list_all row_is_sound rows ≡ true → list_all is_fine
+    st.scraps ≡ true → ticks rows f st ≤ 132 * length st.scraps + length st.scraps * reservings rows f st
 ticks-most rows f st all fine = omega (arith, turns-most rows f st all fine, looks-most rows f st all fine)

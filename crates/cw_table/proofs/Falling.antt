@@ -1,34 +1,18 @@
 -- Each production of a sound row lowers the weight, and keeps every scrap fine.
-use Rattle.std.proofs.Common.{◌≡◌, ℕ, zero, suc, ◌+◌, ◌-◌, ◌<◌, ◌≤◌, ◌⊎◌, inl, inr, Bool, true, false, Option, Some}
-use Rattle.std.proofs.Common.{None, List, [], ◌∷◌, map, length, get_or, take, drop, leb, refl, sym, ◌∙◌, ap, arith}
-use Rattle.std.proofs.Common.{true≢false, leb-true, leb-false, length-append, length-drop, drop-drop, ◌&&◌}
-use Rattle.std.proofs.lemmas.List.{length-take-le, get_or_past}
-use Rattle.std.specs.List.{list_all}
-use Rattle.std.proofs.lemmas.Bool.Decides.{nat_tests}
-use Rattle.cw_base.proofs.TestLaws.{both}
-use Rattle.cw_base.specs.declared.category.Cat.{Cat}
-use Rattle.cw_base.specs.declared.category.Cat.TheVariants.{Exp, FnDecl, Stmt, End}
-use Rattle.cw_base.specs.declared.category.CatSet.{CatSet}
-use Rattle.cw_base.specs.declared.flags.Flags.{Flags}
-use Rattle.cw_base.specs.Category.{rank, may_be_bare, in_set}
-use Rattle.cw_base.specs.declared.mode.MathMode.TheVariants.{Maybe}
-use Rattle.cw_trees.specs.Tree.{bare_name}
-use Rattle.cw_trees.specs.Joining.{Scrap, no_scrap, join}
-use Rattle.cw_table.specs.declared.types.Piece.{Piece}
-use Rattle.cw_table.specs.declared.types.Piece.TheVariants as piece
-use Rattle.cw_table.specs.declared.types.Row.{Row}
-use Rattle.cw_table.specs.declared.types.RowResult.{RowResult}
-use Rattle.cw_table.specs.declared.types.RowResult.TheVariants.{Is, SameAs}
-use Rattle.cw_table.specs.Rows.{empty, tests_of, test, result_at}
-use Rattle.cw_table.specs.Fitting.{all_hold, row_fits}
-use Rattle.cw_table.specs.Sound.{scraps_in, numbers_from, result_from, IsLowering, IsSound}
-use Rattle.cw_table.specs.Rewriting.{cats_of, row_pieces, joined_of, alone, with_cat, new_scrap, reserved_at}
-use Rattle.cw_table.specs.Rewriting.{rewrite_from, State, rewrite}
-use Rattle.cw_table.specs.Normal.{rank_with, weight_of, weight, fine_with, is_fine}
+use Rattle.cw_table.proofs.Terms.{◌≡◌, ℕ, zero, suc, ◌+◌, ◌-◌, ◌<◌, ◌≤◌, ◌⊎◌, inl, inr, Bool, true, false, Option, Some}
+use Rattle.cw_table.proofs.Terms.{None, List, [], ◌∷◌, map, length, get_or, take, drop, leb, refl, sym, ◌∙◌, ap, arith}
+use Rattle.cw_table.proofs.Terms.{true≢false, leb-true, leb-false, length-append, length-drop, drop-drop, ◌&&◌}
+use Rattle.cw_table.proofs.Terms.{length-take-le, get_or_past, list_all, nat_tests, both, Cat, Exp, FnDecl, Stmt, End}
+use Rattle.cw_table.proofs.Terms.{CatSet, Flags, rank, may_be_bare, in_set, Maybe, bare_name, Scrap, no_scrap, join}
+use Rattle.cw_table.proofs.Terms.{Piece, Row, RowResult, Is, SameAs, empty, tests_of, test, result_at, all_hold}
+use Rattle.cw_table.proofs.Terms.{row_fits, scraps_in, numbers_from, result_from, IsLowering, IsSound, cats_of}
+use Rattle.cw_table.proofs.Terms.{row_pieces, joined_of, alone, with_cat, new_scrap, reserved_at, rewrite_from, State}
+use Rattle.cw_table.proofs.Terms.{rewrite, rank_with, weight_of, weight, fine_with, is_fine}
 use Rattle.cw_table.proofs.ScrapFacts.{all-append, all-take, all-drop, all-get, rank_with-none, rank_with-least}
 use Rattle.cw_table.proofs.ScrapFacts.{rank-most, joined-bare, weight-append, weight-split, weight-least, weight-one}
 use Rattle.cw_table.proofs.ScrapFacts.{cats-get, cats-length, cats-drop, at-cats, at-weight, at-fine, at-length}
 use Rattle.cw_table.proofs.ScrapFacts.{right-weight, right-fine, right-length}
+use Rattle.cw_table.specs.declared.types.Piece.TheVariants as piece
 
 -- a row that fits admits what stands at each of its places
 pub hold-at : (ts : List CatSet) (cs : List Cat) (q : ℕ) → all_hold ts cs ≡ true → q < length ts
@@ -161,17 +145,15 @@ new-weight f r xs s fits fine = go (alone r.replaced (row_pieces f r (cats_of xs
     some : 1 ≤ r.replaced
     some = s.some_replaced
 
-    go : (o : Option ℕ) → alone r.replaced (row_pieces f r (cats_of xs)) ≡ o
-        → weight_of (elim o [
-          | Some k ↦ with_cat (result_at r.result (cats_of xs)) (get_or xs k no_scrap)
-          | None ↦ join (result_at r.result (cats_of xs)) (map (joined_of xs) (row_pieces f r (cats_of xs)))
-        ])
+    go : (o : Option ℕ) → alone r.replaced (row_pieces f r (cats_of xs)) ≡ o → weight_of (elim o [
+      | Some k ↦ with_cat (result_at r.result (cats_of xs)) (get_or xs k no_scrap)
+      | None ↦ join (result_at r.result (cats_of xs)) (map (joined_of xs) (row_pieces f r (cats_of xs)))
+    ])
         < weight (take r.replaced (drop r.offset xs))
     go None e = more (one-or-more r.replaced some)
       where
-        more : (r.replaced ≡ 1) ⊎ (2 ≤ r.replaced)
-            → weight_of (join (result_at r.result (cats_of xs)) (map (joined_of xs) (row_pieces f r (cats_of xs))))
-            < weight (take r.replaced (drop r.offset xs))
+        more : (r.replaced ≡ 1) ⊎ (2 ≤ r.replaced) → weight_of (join (result_at r.result (cats_of xs))
+            (map (joined_of xs) (row_pieces f r (cats_of xs)))) < weight (take r.replaced (drop r.offset xs))
         more (inl one) =
             let w : weight (take r.replaced (drop r.offset xs)) ≡ weight_of (get_or xs r.offset no_scrap) =
             ap (λ k. weight (take k (drop r.offset xs))) one ∙ weight-one xs r.offset (omega (arith, there)) in
@@ -211,11 +193,10 @@ new-fine f r xs s fits fine = go (alone r.replaced (row_pieces f r (cats_of xs))
     there : r.offset + r.replaced ≤ length xs
     there = rw (← cats-length xs) (room r (cats_of xs) s fits)
 
-    go : (o : Option ℕ) → alone r.replaced (row_pieces f r (cats_of xs)) ≡ o
-        → is_fine (elim o [
-          | Some k ↦ with_cat (result_at r.result (cats_of xs)) (get_or xs k no_scrap)
-          | None ↦ join (result_at r.result (cats_of xs)) (map (joined_of xs) (row_pieces f r (cats_of xs)))
-        ]) ≡ true
+    go : (o : Option ℕ) → alone r.replaced (row_pieces f r (cats_of xs)) ≡ o → is_fine (elim o [
+      | Some k ↦ with_cat (result_at r.result (cats_of xs)) (get_or xs k no_scrap)
+      | None ↦ join (result_at r.result (cats_of xs)) (map (joined_of xs) (row_pieces f r (cats_of xs)))
+    ]) ≡ true
     go None e = ap (λ b. fine_with (result_at r.result (cats_of xs)) b)
         (joined-bare Maybe (map (joined_of xs) (row_pieces f r (cats_of xs))))
     go (Some n) e =

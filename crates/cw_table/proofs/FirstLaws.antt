@@ -1,15 +1,7 @@
 -- Laws of the first row that fits.
-use Rattle.std.proofs.Common.{◌≡◌, ◌≤◌, ◌∙◌, sym, ℕ, zero, suc, Bool, true, false, List, [], ◌∷◌, length, Some, refl}
-use Rattle.std.proofs.Common.{arith, length-take-le}
-use Rattle.std.specs.List.{list_all}
-use Rattle.std.proofs.lemmas.Bool.Decides.{nat_tests}
-use Rattle.cw_base.specs.declared.category.Cat.{Cat}
-use Rattle.cw_base.specs.declared.category.CatSet.{CatSet}
-use Rattle.cw_base.proofs.TestLaws.{both-left, both-right}
-use Rattle.cw_table.specs.declared.types.Row.{Row}
-use Rattle.cw_table.specs.Fitting.{all_hold, first_of, row_fits, seen, window_of}
-use Rattle.cw_table.specs.Rows.{tests_of}
-use Rattle.cw_table.specs.Sound.{IsSound, row_is_sound}
+use Rattle.cw_table.proofs.Terms.{◌≡◌, ◌≤◌, ◌∙◌, sym, ℕ, zero, suc, Bool, true, false, List, [], ◌∷◌, length, Some}
+use Rattle.cw_table.proofs.Terms.{refl, arith, length-take-le, list_all, nat_tests, Cat, CatSet, both-left, both-right}
+use Rattle.cw_table.proofs.Terms.{Row, all_hold, first_of, row_fits, seen, window_of, tests_of, IsSound, row_is_sound}
 use Rattle.cw_table.proofs.Soundness.{sound-row}
 
 pub first-here : (row : Row) (rows : List Row) (cats : List Cat) → row_fits row cats ≡ true → first_of (row ∷ rows) cats

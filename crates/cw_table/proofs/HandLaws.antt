@@ -1,30 +1,15 @@
 -- What the program's data has of a production is what its row has.
-use Rattle.std.proofs.Common.{Option, Some, None, Bool, true, false, eqb, refl, arith, eqb-true, map, option_map, ◌≡◌}
-use Rattle.std.proofs.Common.{◌<◌, ◌≤◌, ◌+◌, ◌-◌, ◌∙◌, sym, ap, ℕ, List, [], length, get_or, take, unwrap_or}
-use Rattle.std.specs.Prelude.{slice_get}
-use Rattle.std.proofs.lemmas.List.{get_or-map, get_or-take, length-take, length-take-le}
-use Rattle.std.proofs.lemmas.Option.{slice_get-get_or}
-use Rattle.std.proofs.lemmas.Bool.Decides.{nat_tests}
-use Rattle.cw_base.specs.declared.category.Cat.TheVariants.{RawInt}
-use Rattle.cw_base.proofs.CategoryLaws.{each-of}
-use Rattle.cw_table.specs.declared.productions.Head.{Head}
-use Rattle.cw_table.specs.declared.productions.TheConstants.{TESTS, USUAL, OTHER, HEADS, ROW_COUNT, USUAL_INSERTIONS}
-use Rattle.cw_table.specs.declared.productions.TheConstants.{OTHER_INSERTIONS}
-use Rattle.cw_table.specs.declared.types.Choice.TheVariants.{Always}
-use Rattle.cw_table.specs.declared.types.Insertion.{Insertion}
-use Rattle.cw_table.specs.declared.types.Piece.{Piece}
-use Rattle.cw_table.specs.declared.types.Piece.TheVariants.{Scrap}
-use Rattle.cw_table.specs.declared.types.Row.{Row}
-use Rattle.cw_table.specs.declared.types.RowResult.TheVariants.{Is}
-use Rattle.cw_table.specs.Insertions.{insertion_of}
-use Rattle.cw_table.specs.Joined.{joined}
-use Rattle.cw_table.specs.Productions.{productions}
-use Rattle.cw_table.specs.Rows.{no_row, pieces_for, row_numbered, row_of}
-use Rattle.cw_table.specs.Sound.{IsSound, row_is_sound}
-use Rattle.cw_table.proofs.Examples.{productions-numbered}
+use Rattle.cw_table.proofs.Terms.{Option, Some, None, Bool, true, false, eqb, refl, arith, eqb-true, map, option_map}
+use Rattle.cw_table.proofs.Terms.{◌≡◌, ◌<◌, ◌≤◌, ◌+◌, ◌-◌, ◌∙◌, sym, ap, ℕ, List, [], length, get_or, take, unwrap_or}
+use Rattle.cw_table.proofs.Terms.{slice_get, get_or-map, get_or-take, length-take, length-take-le, slice_get-get_or}
+use Rattle.cw_table.proofs.Terms.{nat_tests, RawInt, each-of, Head, TESTS, USUAL, OTHER, HEADS, ROW_COUNT}
+use Rattle.cw_table.proofs.Terms.{USUAL_INSERTIONS, OTHER_INSERTIONS, Piece, Row, Is, joined, productions, no_row}
+use Rattle.cw_table.proofs.Terms.{pieces_for, row_numbered, row_of, IsSound, row_is_sound}
+use Rattle.cw_table.specs.{declared.types.Choice.TheVariants.Always, declared.types.Insertion.Insertion}
+use Rattle.cw_table.specs.{declared.types.Piece.TheVariants.Scrap, Insertions.insertion_of}
+use Rattle.cw_table.proofs.{Examples.productions-numbered, Soundness.sound-row}
 use Rattle.cw_table.proofs.Joining.{productions-length, zipped-get, zipped-is}
 use Rattle.cw_table.proofs.Numbers.{numbered-at, numbered-row, numbered-sound}
-use Rattle.cw_table.proofs.Soundness.{sound-row}
 
 -- what is read past the data
 abbrev pub no_head : Head
@@ -48,8 +33,7 @@ row_at i = joined (get_or TESTS i []) (get_or USUAL i []) (get_or OTHER i []) (g
 -- it is the row of the number after the place
 pub row-at : (i : ℕ) → i < ROW_COUNT → row_at i ≡ row_of productions (i + 1)
 row-at i lt =
-    let at : slice_get productions i ≡ Some (row_at i) =
-    ap (λ rows. slice_get rows i) (sym zipped-is)
+    let at : slice_get productions i ≡ Some (row_at i) = ap (λ rows. slice_get rows i) (sym zipped-is)
     ∙ zipped-get TESTS USUAL OTHER HEADS i [] [] [] no_head (omega arith) (omega arith) (omega arith) (omega arith) in
     let numbered : row_numbered productions (i + 1) ≡ Some (row_at i) =
     numbered-at productions 1 i (i + 1) (row_at i) (omega arith) productions-numbered at in
@@ -65,14 +49,12 @@ row-sound n from to =
 
 -- each translation has twelve places
 usual-places : (i : ℕ) → i < ROW_COUNT → length (get_or USUAL i []) ≡ 12
-usual-places i lt =
-    eqb-true _ _ (each-of (λ ps. eqb (length ps) 12) USUAL i (get_or USUAL i []) refl
-    (slice_get-get_or USUAL i [] (omega arith)))
+usual-places i lt = eqb-true _ _
+    (each-of (λ ps. eqb (length ps) 12) USUAL i (get_or USUAL i []) refl (slice_get-get_or USUAL i [] (omega arith)))
 
 other-places : (i : ℕ) → i < ROW_COUNT → length (get_or OTHER i []) ≡ 12
-other-places i lt =
-    eqb-true _ _ (each-of (λ ps. eqb (length ps) 12) OTHER i (get_or OTHER i []) refl
-    (slice_get-get_or OTHER i [] (omega arith)))
+other-places i lt = eqb-true _ _
+    (each-of (λ ps. eqb (length ps) 12) OTHER i (get_or OTHER i []) refl (slice_get-get_or OTHER i [] (omega arith)))
 
 -- a counted piece is one of the places
 taken : (ps : List Piece) (count i : ℕ) (d : Piece) → i < length (take count ps) → slice_get (take count ps) i
@@ -128,9 +110,8 @@ pub usual-insertion : (i j : ℕ) (d : List Insertion) (e : Insertion) (other : 
 usual-insertion i j d e other row lt off is inside =
     let has : HasPieces other (get_or USUAL i []) (get_or HEADS i no_head).usual_count row =
     usual-pieces i other row lt off is in
-    ap (option_map insertion_of) (has.piece j inside)
-    ∙ ap Some (sym (ap (λ rows. get_or (get_or rows i d) j e) usual-inserted
-    ∙ inserted-at USUAL i j d e (omega arith) (omega (arith, usual-places i lt, has.below j inside))))
+    ap (option_map insertion_of) (has.piece j inside) ∙ ap Some (sym (ap (λ rows. get_or (get_or rows i d) j e)
+    usual-inserted ∙ inserted-at USUAL i j d e (omega arith) (omega (arith, usual-places i lt, has.below j inside))))
 
 pub other-insertion : (i j : ℕ) (d : List Insertion) (e : Insertion) (other : Bool) (row : Row) → i < ROW_COUNT
     → other ≡ true → row_of productions (i + 1) ≡ row → j < length (pieces_for other row)
@@ -138,6 +119,5 @@ pub other-insertion : (i j : ℕ) (d : List Insertion) (e : Insertion) (other : 
 other-insertion i j d e other row lt on is inside =
     let has : HasPieces other (get_or OTHER i []) (get_or HEADS i no_head).other_count row =
     other-pieces i other row lt on is in
-    ap (option_map insertion_of) (has.piece j inside)
-    ∙ ap Some (sym (ap (λ rows. get_or (get_or rows i d) j e) other-inserted
-    ∙ inserted-at OTHER i j d e (omega arith) (omega (arith, other-places i lt, has.below j inside))))
+    ap (option_map insertion_of) (has.piece j inside) ∙ ap Some (sym (ap (λ rows. get_or (get_or rows i d) j e)
+    other-inserted ∙ inserted-at OTHER i j d e (omega arith) (omega (arith, other-places i lt, has.below j inside))))

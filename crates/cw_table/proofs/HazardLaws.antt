@@ -1,21 +1,11 @@
 -- The code's test of pairs, on sets of categories, is that of the pairs themselves.
-use Rattle.std.proofs.Common.{◌≡◌, ◌<◌, ◌≤◌, ◌+◌, ◌∙◌, sym, ap, ℕ, zero, suc, Bool, true, false, not, List, [], ◌∷◌}
-use Rattle.std.proofs.Common.{◌++◌, map, refl, arith, ◌&&◌, ◌||◌, eq-eqb, add-zero, get_or, length, take, take_all}
-use Rattle.std.specs.List.{flat_map, list_all, list_any}
-use Rattle.std.specs.Prelude.{filter}
-use Rattle.std.proofs.lemmas.Bool.{ne_eqb}
-use Rattle.std.proofs.lemmas.List.Folds.{list_any_at, list_any_more}
-use Rattle.std.proofs.lemmas.Bool.Decides.{nat_tests}
-use Rattle.std.proofs.lemmas.Grind.{common_steps}
-use Rattle.cw_base.specs.declared.category.Cat.{Cat}
-use Rattle.cw_base.specs.declared.category.CatSet.{CatSet}
-use Rattle.cw_base.specs.Category.{all_cats, in_set, leaves, meet, some_of}
-use Rattle.cw_base.proofs.SetLaws.{any-same}
-use Rattle.cw_table.specs.declared.types.RowResult.TheVariants.{Is, SameAs}
-use Rattle.cw_table.specs.declared.types.Row.{Row}
-use Rattle.cw_table.specs.Rows.{test}
-use Rattle.cw_table.specs.Safe.{brings, endangers, is_hazard, members, pairs_by, pairs_of, sees_moved}
-use Rattle.cw_table.specs.Sound.{numbers_from}
+use Rattle.cw_table.proofs.Terms.{◌≡◌, ◌<◌, ◌≤◌, ◌+◌, ◌∙◌, sym, ap, ℕ, zero, suc, Bool, true, false, not, List, [], ◌∷◌}
+use Rattle.cw_table.proofs.Terms.{◌++◌, map, refl, arith, ◌&&◌, ◌||◌, eq-eqb, add-zero, get_or, length, take, take_all}
+use Rattle.cw_table.proofs.Terms.{flat_map, list_all, list_any, filter, ne_eqb, list_any_at, list_any_more, nat_tests}
+use Rattle.cw_table.proofs.Terms.{common_steps, Cat, CatSet, all_cats, in_set, any-same, Is, SameAs, Row, test, brings}
+use Rattle.cw_table.proofs.Terms.{is_hazard, members, pairs_by, pairs_of, sees_moved, numbers_from}
+use Rattle.cw_base.specs.Category.{leaves, meet, some_of}
+use Rattle.cw_table.specs.Safe.{endangers}
 use Rattle.cw_table.proofs.SafeLaws.{any-map, filter-no, filter-yes, other-pairs, same-pairs}
 
 pub and-yes : (a x y : Bool) → a ≡ true → x ≡ y → x ≡ (a && y)
@@ -98,8 +88,7 @@ module _ (row other : Row) (q : ℕ) where
 
   news-members : (a : Bool) → list_any (λ c. a && (not (in_set admitted c) || moved)) (members old) ≡ (a && news)
   unfolding leaves some_of
-  news-members a =
-      member-any (λ c. a && (not (in_set admitted c) || moved)) old
+  news-members a = member-any (λ c. a && (not (in_set admitted c) || moved)) old
       ∙ news-any a moved (in_set old) (λ c. not (in_set admitted c)) all_cats
 
   pub pairs-is : (new : Cat) → row.result ≡ Is new → list_any (brings row other q) (pairs_of row)
@@ -109,24 +98,19 @@ module _ (row other : Row) (q : ℕ) where
   pub pairs-same : (k : ℕ) → row.result ≡ SameAs k → k ≡ row.offset → list_any (brings row other q) (pairs_of row)
       ≡ (moved && meet old admitted)
   unfolding meet
-  pairs-same k e same =
-      ap (λ result. list_any (brings row other q) (pairs_by result row)) e
-      ∙ ap (list_any (brings row other q)) (same-pairs row k (eq-eqb _ _ same))
-      ∙ any-map (brings row other q) (λ c. (c, c)) (members old)
-      ∙ member-any (λ c. in_set admitted c && (not (in_set admitted c) || moved)) old
+  pairs-same k e same = ap (λ result. list_any (brings row other q) (pairs_by result row)) e
+      ∙ ap (list_any (brings row other q)) (same-pairs row k (eq-eqb _ _ same)) ∙ any-map (brings row other q)
+      (λ c. (c, c)) (members old) ∙ member-any (λ c. in_set admitted c && (not (in_set admitted c) || moved)) old
       ∙ moved-any moved (in_set old) (in_set admitted) all_cats
 
   pub pairs-other : (k : ℕ) → row.result ≡ SameAs k → (k ≡ row.offset → ⊥)
       → list_any (brings row other q) (pairs_of row) ≡ (meet (test row k) admitted && news)
   unfolding meet
-  pairs-other k e differs =
-      ap (λ result. list_any (brings row other q) (pairs_by result row)) e
-      ∙ ap (list_any (brings row other q)) (other-pairs row k (ne_eqb _ _ differs))
-      ∙ flat-any (brings row other q) (λ o. map (λ n. (o, n)) (members (test row k))) (members old)
-      ∙ any-same _ _ (members old) (λ o.
-      any-map (brings row other q) (λ n. (o, n)) (members (test row k))
-      ∙ member-any (λ n. in_set admitted n && (not (in_set admitted o) || moved)) (test row k)
-      ∙ with-any (not (in_set admitted o) || moved) (in_set (test row k)) (in_set admitted) all_cats)
+  pairs-other k e differs = ap (λ result. list_any (brings row other q) (pairs_by result row)) e ∙ ap (list_any
+      (brings row other q)) (other-pairs row k (ne_eqb _ _ differs)) ∙ flat-any (brings row other q) (λ o. map (λ n.
+      (o, n)) (members (test row k))) (members old) ∙ any-same _ _ (members old) (λ o. any-map (brings row other q)
+      (λ n. (o, n)) (members (test row k)) ∙ member-any (λ n. in_set admitted n && (not (in_set admitted o) || moved))
+      (test row k) ∙ with-any (not (in_set admitted o) || moved) (in_set (test row k)) (in_set admitted) all_cats)
       ∙ news-members (list_any (λ c. in_set (test row k) c && in_set admitted c) all_cats)
 
 -- The same, of the values that the code has computed.

@@ -1,16 +1,8 @@
 -- The productions of the code, joined row by row, are those of the definition.
-use Rattle.std.proofs.Common.{◌≡◌, ◌<◌, ◌≤◌, ◌+◌, ◌++◌, ◌∙◌, sym, ap, ℕ, zero, suc, List, [], ◌∷◌, length, get_or, set}
-use Rattle.std.proofs.Common.{take, Some, Bool, true, refl, arith, take_all}
-use Rattle.std.proofs.lemmas.List.{take_more, take_more_set}
-use Rattle.std.specs.Prelude.{slice_get}
-use Rattle.std.proofs.lemmas.Option.{get_or_from_slice_get}
-use Rattle.std.proofs.lemmas.Bool.Decides.{nat_tests}
-use Rattle.cw_table.specs.declared.types.Row.{Row}
-use Rattle.cw_base.specs.declared.category.CatSet.{CatSet}
-use Rattle.cw_table.specs.declared.productions.Head.{Head}
-use Rattle.cw_table.specs.declared.productions.TheConstants.{TESTS, USUAL, OTHER, HEADS, ROW_COUNT}
-use Rattle.cw_table.specs.declared.types.Piece.{Piece}
-use Rattle.cw_table.specs.Joined.{joined, zipped}
+use Rattle.cw_table.proofs.Terms.{◌≡◌, ◌<◌, ◌≤◌, ◌+◌, ◌++◌, ◌∙◌, sym, ap, ℕ, zero, suc, List, [], ◌∷◌, length, get_or}
+use Rattle.cw_table.proofs.Terms.{set, take, Some, Bool, true, refl, arith, take_all, take_more, take_more_set}
+use Rattle.cw_table.proofs.Terms.{slice_get, get_or_from_slice_get, nat_tests, Row, CatSet, Head, TESTS, USUAL, OTHER}
+use Rattle.cw_table.proofs.Terms.{HEADS, ROW_COUNT, Piece, joined, zipped}
 use Rattle.cw_table.specs.Productions.{productions}
 
 pub zipped-is : zipped TESTS USUAL OTHER HEADS ≡ productions
@@ -35,9 +27,7 @@ productions-length = refl
 -- one row more is as in the definition
 pub joins-more : (rows : List Row) (i : ℕ) (r : Row) → length rows ≡ ROW_COUNT → i < ROW_COUNT → take i rows
     ≡ take i productions → slice_get productions i ≡ Some r → take (i + 1) (set rows i r) ≡ take (i + 1) productions
-joins-more rows i r len below same at =
-    take_more_set rows i r (omega arith)
-    ∙ ap (λ xs. xs ++ r ∷ []) same
+joins-more rows i r len below same at = take_more_set rows i r (omega arith) ∙ ap (λ xs. xs ++ r ∷ []) same
     ∙ ap (λ x. take i productions ++ x ∷ []) (sym (get_or_from_slice_get productions i r r at))
     ∙ sym (take_more productions i r (omega (arith, productions-length)))
 

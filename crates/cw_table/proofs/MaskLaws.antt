@@ -1,46 +1,23 @@
 -- The masks of the code are those of the productions, and their meeting is the first row that fits.
-use Rattle.std.proofs.Common.{◌≡◌, ◌<◌, ◌≤◌, ◌+◌, ◌*◌, ◌∙◌, sym, ap, subst, ℕ, suc, Bool, true, false, not, cond, eqb}
-use Rattle.std.proofs.Common.{eq-eqb, List, [], ◌∷◌, length, map, get_or, Some, None, refl, arith, add-zero, ◌&&◌, ◌||◌}
-use Rattle.std.proofs.Common.{drop, leb, length-drop, Option, take, zero, zero-add}
-use Rattle.std.specs.Int.Bits.{and_zero_l}
-use Rattle.std.specs.Int.Count.{count_trailing_zeros}
-use Rattle.std.specs.List.{list_all, list_any, prefix_len}
-use Rattle.std.specs.Option.{option_map}
-use Rattle.std.specs.Prelude.{bit_and}
-use Rattle.std.specs.Simd.Lanes.{mask_l}
-use Rattle.std.proofs.lemmas.Bool.{eqb-false, eqb-true, ne_eqb}
-use Rattle.std.proofs.lemmas.List.{get_or-map, length-take}
-use Rattle.std.proofs.lemmas.Nat.{and_block}
-use Rattle.std.proofs.lemmas.Option.{get_or_from_slice_get, slice_get_within}
-use Rattle.cw_base.specs.declared.category.Cat.{Cat}
-use Rattle.cw_base.specs.declared.category.CatSet.{CatSet}
-use Rattle.cw_base.specs.Category.{all_cats, in_set, number_of}
-use Rattle.cw_base.proofs.CategoryLaws.{place-of}
-use Rattle.cw_base.proofs.TestLaws.{both, both-left, both-right, not-false}
-use Rattle.cw_table.specs.declared.productions.TheConstants.{ROW_COUNT}
+use Rattle.cw_table.proofs.Terms.{◌≡◌, ◌<◌, ◌≤◌, ◌+◌, ◌*◌, ◌∙◌, sym, ap, subst, ℕ, suc, Bool, true, false, not, cond}
+use Rattle.cw_table.proofs.Terms.{eqb, eq-eqb, List, [], ◌∷◌, length, map, get_or, Some, None, refl, arith, add-zero}
+use Rattle.cw_table.proofs.Terms.{◌&&◌, ◌||◌, drop, leb, length-drop, Option, take, zero, zero-add, list_all, list_any}
+use Rattle.cw_table.proofs.Terms.{prefix_len, bit_and, eqb-false, eqb-true, ne_eqb, get_or-map, length-take}
+use Rattle.cw_table.proofs.Terms.{get_or_from_slice_get, slice_get_within, Cat, CatSet, all_cats, in_set, number_of}
+use Rattle.cw_table.proofs.Terms.{place-of, both, both-left, both-right, not-false, ROW_COUNT, RowSet, Row, all_hold}
+use Rattle.cw_table.proofs.Terms.{first_of, row_fits, empty, IsSound, are_numbered, row_is_sound, nat_tests}
+use Rattle.cw_table.proofs.Terms.{common_steps}
+use Rattle.std.specs.{Int.Bits.and_zero_l, Int.Count.count_trailing_zeros, Option.option_map, Simd.Lanes.mask_l}
+use Rattle.std.proofs.{lemmas.Nat.and_block, lemmas.Simd.trailing_mask_l}
+use Rattle.cw_table.specs.{declared.types.RowNo.RowNo, Masks.admits, Masks.mask_of, Productions.productions}
 use Rattle.cw_table.specs.declared.masks.TheConstants.{EARLY, MASKS}
-use Rattle.cw_table.specs.declared.masks.RowSet.{RowSet}
-use Rattle.cw_table.specs.declared.types.Row.{Row}
-use Rattle.cw_table.specs.declared.types.RowNo.{RowNo}
-use Rattle.cw_table.specs.Fitting.{all_hold, first_of, row_fits}
-use Rattle.cw_table.specs.Masks.{admits, mask_of}
-use Rattle.cw_table.specs.Productions.{productions}
-use Rattle.cw_table.specs.Rows.{empty}
-use Rattle.cw_table.specs.Sound.{IsSound, are_numbered, row_is_sound}
-use Rattle.std.proofs.lemmas.Simd.{trailing_mask_l}
-use Rattle.std.proofs.lemmas.Bool.Decides.{nat_tests}
-use Rattle.std.proofs.lemmas.Grind.{common_steps}
-use Rattle.cw_table.proofs.Examples.{productions-numbered, productions-sound}
-use Rattle.cw_table.proofs.Joining.{productions-length}
+use Rattle.cw_table.proofs.{Examples.productions-numbered, Examples.productions-sound, Joining.productions-length}
+use Rattle.cw_table.proofs.{Soundness.sound-row}
 use Rattle.cw_table.proofs.FirstLaws.{first-behind, first-here, length-tests_of}
-use Rattle.cw_table.proofs.Soundness.{sound-row}
 
 -- the two words of a set
 abbrev set_at : Cat → ℕ → RowSet
-set_at cat q = record {
-  early = mask_of (take EARLY productions) q cat;
-  late = mask_of (drop EARLY productions) q cat;
-}
+set_at cat q = record { early = mask_of (take EARLY productions) q cat; late = mask_of (drop EARLY productions) q cat }
 
 abbrev sets_at : Cat → List RowSet
 sets_at cat = map (set_at cat) (0 ∷ 1 ∷ 2 ∷ 3 ∷ [])
@@ -54,13 +31,10 @@ four-get f x2 d h = grind (arith, nat_tests)
 
 pub mask-is : (cat : Cat) (n q : ℕ) (d : List RowSet) (e : RowSet) → n ≡ number_of cat → q < 4
     → get_or (get_or MASKS n d) q e ≡ set_at cat q
-mask-is cat n q d e is h =
-    ap (λ sets. get_or (get_or sets n d) q e) masks-are
-    ∙ ap (λ k. get_or (get_or (map sets_at all_cats) k d) q e) is
-    ∙ ap (λ four. get_or four q e) (get_or-map sets_at all_cats (number_of cat) cat d
-    (slice_get_within all_cats (number_of cat) cat (place-of cat)))
-    ∙ ap (λ c. get_or (sets_at c) q e) (get_or_from_slice_get all_cats (number_of cat) cat cat (place-of cat))
-    ∙ four-get (set_at cat) q e h
+mask-is cat n q d e is h = ap (λ sets. get_or (get_or sets n d) q e) masks-are ∙ ap
+    (λ k. get_or (get_or (map sets_at all_cats) k d) q e) is ∙ ap (λ four. get_or four q e) (get_or-map sets_at all_cats
+    (number_of cat) cat d (slice_get_within all_cats (number_of cat) cat (place-of cat))) ∙ ap (λ c. get_or (sets_at c)
+    q e) (get_or_from_slice_get all_cats (number_of cat) cat cat (place-of cat)) ∙ four-get (set_at cat) q e h
 
 -- the meeting of two numbers, bit by bit
 and-step : (r s m n : ℕ) → r < 2 → s < 2 → bit_and (r + 2 * m) (s + 2 * n) ≡ bit_and r s + 2 * bit_and m n
@@ -76,10 +50,9 @@ and-masks p q [] = refl
 and-masks p q (r ∷ rows) = grind (arith, nat_tests, and-masks p q rows, and-bits)
 
 -- what one row's bits in the four masks say together
-four-tests : (tests : List CatSet) (a b c e : Cat) → length tests ≤ 4 → all_hold tests (a ∷ b ∷ c ∷ e ∷ [])
-    ≡ ((((leb (length tests) 0 || in_set (get_or tests 0 empty) a)
-    && (leb (length tests) 1 || in_set (get_or tests 1 empty) b))
-    && (leb (length tests) 2 || in_set (get_or tests 2 empty) c))
+four-tests : (tests : List CatSet) (a b c e : Cat) → length tests ≤ 4
+    → all_hold tests (a ∷ b ∷ c ∷ e ∷ []) ≡ ((((leb (length tests) 0 || in_set (get_or tests 0 empty) a) && (leb
+    (length tests) 1 || in_set (get_or tests 1 empty) b)) && (leb (length tests) 2 || in_set (get_or tests 2 empty) c))
     && (leb (length tests) 3 || in_set (get_or tests 3 empty) e))
 four-tests [] a b c e h = refl
 four-tests (t ∷ []) a b c e h = grind (arith, nat_tests)
@@ -106,11 +79,10 @@ map-fits (row ∷ rows) a b c e h =
 masks-fit : (rows : List Row) (a b c e : Cat) → list_all row_is_sound rows ≡ true
     → bit_and (bit_and (bit_and (mask_of rows 0 a) (mask_of rows 1 b)) (mask_of rows 2 c)) (mask_of rows 3 e)
     ≡ mask_l (map (λ row. row_fits row (a ∷ b ∷ c ∷ e ∷ [])) rows)
-masks-fit rows a b c e h =
-    ap (λ m. bit_and (bit_and m (mask_of rows 2 c)) (mask_of rows 3 e)) (and-masks (admits 0 a) (admits 1 b) rows)
-    ∙ ap (λ m. bit_and m (mask_of rows 3 e)) (and-masks (λ r. admits 0 a r && admits 1 b r) (admits 2 c) rows)
-    ∙ and-masks (λ r. (admits 0 a r && admits 1 b r) && admits 2 c r) (admits 3 e) rows
-    ∙ ap mask_l (map-fits rows a b c e h)
+masks-fit rows a b c e h = ap (λ m. bit_and (bit_and m (mask_of rows 2 c)) (mask_of rows 3 e))
+    (and-masks (admits 0 a) (admits 1 b) rows) ∙ ap (λ m. bit_and m (mask_of rows 3 e))
+    (and-masks (λ r. admits 0 a r && admits 1 b r) (admits 2 c) rows) ∙ and-masks
+    (λ r. (admits 0 a r && admits 1 b r) && admits 2 c r) (admits 3 e) rows ∙ ap mask_l (map-fits rows a b c e h)
 
 -- no bit: no row fits; and the lowest bit is the first row that fits
 no-mask : (rows : List Row) (cats : List Cat) → mask_l (map (λ row. row_fits row cats) rows) ≡ 0 → first_of rows cats
@@ -130,12 +102,10 @@ lowest-mask [] first cats numbered h = absurd (omega arith)
 lowest-mask (row ∷ rows) first cats numbered h = go (row_fits row cats) refl
     (lowest-mask rows (suc first) cats (both-right _ _ numbered))
   where
-    go : (b : Bool) → row_fits row cats ≡ b → (0 < fit_mask rows cats → option_map (λ r. r.number) (first_of rows cats)
-        ≡ Some (record { number = suc first + misfits rows cats }))
-        → option_map (λ r. r.number) (first_of (row ∷ rows) cats)
-        ≡ Some (record { number = first + misfits (row ∷ rows) cats })
-    go true e rest =
-        ap (option_map (λ r. r.number)) (first-here row rows cats e)
+    go : (b : Bool) → row_fits row cats ≡ b → (0 < fit_mask rows cats → option_map (λ r. r.number)
+        (first_of rows cats) ≡ Some (record { number = suc first + misfits rows cats })) → option_map (λ r. r.number)
+        (first_of (row ∷ rows) cats) ≡ Some (record { number = first + misfits (row ∷ rows) cats })
+    go true e rest = ap (option_map (λ r. r.number)) (first-here row rows cats e)
         ∙ ap (λ n. Some (record { number = n })) (eqb-true _ _ (both-left _ _ numbered) ∙ sym (add-zero first)
         ∙ ap (λ b. first + cond (not b) (1 + misfits rows cats) 0) (sym e))
     go false e rest =
@@ -176,7 +146,8 @@ numbered-take (suc n) first [] h = refl
 numbered-take (suc n) first (row ∷ rows) h =
     both _ _ (both-left _ _ h) (numbered-take n (suc first) rows (both-right _ _ h))
 
-numbered-drop : (n first : ℕ) (rows : List Row) → are_numbered first rows ≡ true → are_numbered (n + first) (drop n rows)
+numbered-drop : (n first : ℕ) (rows : List Row) → are_numbered first rows ≡ true → are_numbered (n + first)
+    (drop n rows)
     ≡ true
 numbered-drop zero first rows h = ap (λ k. are_numbered k rows) (zero-add first) ∙ h
 numbered-drop (suc n) first [] h = refl
@@ -250,9 +221,8 @@ found-number n rows cats number h = go (first_of (take n rows) cats) refl h
 module _ (a b c e : Cat) (m0 m1 m2 m3 : ℕ) (e0 : m0 ≡ mask_of (take EARLY productions) 0 a) (e1 : m1
     ≡ mask_of (take EARLY productions) 1 b) (e2 : m2 ≡ mask_of (take EARLY productions) 2 c) (e3 : m3
     ≡ mask_of (take EARLY productions) 3 e) where
-  pub early-none : bit_and (bit_and (bit_and m0 m1) m2) m3 ≡ 0
-      → option_map (λ row. row.number) (first_of (drop EARLY productions) (a ∷ b ∷ c ∷ e ∷ []))
-      ≡ option_map (λ row. row.number) (first_of productions (a ∷ b ∷ c ∷ e ∷ []))
+  pub early-none : bit_and (bit_and (bit_and m0 m1) m2) m3 ≡ 0 → option_map (λ row. row.number) (first_of (drop EARLY
+      productions) (a ∷ b ∷ c ∷ e ∷ [])) ≡ option_map (λ row. row.number) (first_of productions (a ∷ b ∷ c ∷ e ∷ []))
   early-none none = sym (ap (option_map (λ r. r.number)) (found-late EARLY productions (a ∷ b ∷ c ∷ e ∷ [])
       (none-met (take EARLY productions) 128 1 early-word a b c e m0 m1 m2 m3 e0 e1 e2 e3 none)))
 
@@ -262,8 +232,7 @@ module _ (a b c e : Cat) (m0 m1 m2 m3 : ℕ) (e0 : m0 ≡ mask_of (take EARLY pr
   early-first some =
       let number : count_trailing_zeros 128 (bit_and (bit_and (bit_and m0 m1) m2) m3) + 1
       ≡ 1 + count_trailing_zeros 128 (bit_and (bit_and (bit_and m0 m1) m2) m3) = omega arith in
-      ap (λ n. Some (record { number = n })) number
-      ∙ sym (found-number EARLY productions (a ∷ b ∷ c ∷ e ∷ []) _
+      ap (λ n. Some (record { number = n })) number ∙ sym (found-number EARLY productions (a ∷ b ∷ c ∷ e ∷ []) _
       (first-met (take EARLY productions) 128 1 early-word a b c e m0 m1 m2 m3 e0 e1 e2 e3 some))
 
   pub early-bound : (bit_and (bit_and (bit_and m0 m1) m2) m3 ≡ 0 → ⊥)
@@ -314,23 +283,19 @@ two-in : (rows : List Row) (a b : Cat) (m0 m1 : ℕ) → m0 ≡ mask_of rows 0 a
     → not (eqb (bit_and m0 m1) 0) ≡ list_any (two_admit a b) rows
 two-in rows a b m0 m1 e0 e1 = grind (arith, nat_tests, and-masks, any-mask)
 
-pub two-met : (a b : Cat) (m0 m1 n0 n1 : ℕ) → m0 ≡ mask_of (take EARLY productions) 0 a
-    → m1 ≡ mask_of (take EARLY productions) 1 b → n0 ≡ mask_of (drop EARLY productions) 0 a
-    → n1 ≡ mask_of (drop EARLY productions) 1 b
+pub two-met : (a b : Cat) (m0 m1 n0 n1 : ℕ) → m0 ≡ mask_of (take EARLY productions) 0 a → m1 ≡ mask_of
+    (take EARLY productions) 1 b → n0 ≡ mask_of (drop EARLY productions) 0 a → n1 ≡ mask_of (drop EARLY productions) 1 b
     → (not (eqb (bit_and m0 m1) 0) || not (eqb (bit_and n0 n1) 0)) ≡ list_any (two_admit a b) productions
-two-met a b m0 m1 n0 n1 e0 e1 f0 f1 =
-    ap (λ x. x || not (eqb (bit_and n0 n1) 0)) (two-in (take EARLY productions) a b m0 m1 e0 e1)
-    ∙ ap (λ x. list_any (two_admit a b) (take EARLY productions) || x)
-    (two-in (drop EARLY productions) a b n0 n1 f0 f1)
-    ∙ any-parts (two_admit a b) EARLY productions
+two-met a b m0 m1 n0 n1 e0 e1 f0 f1 = ap (λ x. x || not (eqb (bit_and n0 n1) 0))
+    (two-in (take EARLY productions) a b m0 m1 e0 e1) ∙ ap (λ x. list_any (two_admit a b) (take EARLY productions) || x)
+    (two-in (drop EARLY productions) a b n0 n1 f0 f1) ∙ any-parts (two_admit a b) EARLY productions
 
 -- no row admits the two: none fits
 pub two-none : (a b : Cat) → list_any (two_admit a b) productions ≡ false → (c e : Cat)
     → first_of productions (a ∷ b ∷ c ∷ e ∷ []) ≡ None
 two-none a b none c e = no-mask productions (a ∷ b ∷ c ∷ e ∷ []) (sym (masks-fit productions a b c e productions-sound)
-    ∙ ap (λ m. bit_and (bit_and m (mask_of productions 2 c)) (mask_of productions 3 e)) zero-two
-    ∙ ap (λ m. bit_and m (mask_of productions 3 e)) (and_zero_l (mask_of productions 2 c))
-    ∙ and_zero_l (mask_of productions 3 e))
+    ∙ ap (λ m. bit_and (bit_and m (mask_of productions 2 c)) (mask_of productions 3 e)) zero-two ∙ ap (λ m. bit_and m
+    (mask_of productions 3 e)) (and_zero_l (mask_of productions 2 c)) ∙ and_zero_l (mask_of productions 3 e))
   where
     zero-two : bit_and (mask_of productions 0 a) (mask_of productions 1 b) ≡ 0
     zero-two =

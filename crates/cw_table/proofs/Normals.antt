@@ -1,20 +1,12 @@
 -- Laws of the normal form, its log and its count.
-use Rattle.std.proofs.Common.{◌≡◌, ℕ, zero, suc, ◌+◌, ◌*◌, ◌<◌, ◌≤◌, Bool, true, false, Option, Some, None, List, []}
-use Rattle.std.proofs.Common.{◌∷◌, length, drop, refl, sym, ◌∙◌, ap, arith, if◌then◌else◌}
-use Rattle.std.specs.List.{list_all}
-use Rattle.std.proofs.lemmas.Bool.Decides.{nat_tests}
-use Rattle.cw_base.proofs.TestLaws.{both-left, both-right}
-use Rattle.cw_base.specs.declared.category.Cat.{Cat}
-use Rattle.cw_base.specs.declared.flags.Flags.{Flags}
-use Rattle.cw_table.specs.declared.types.Row.{Row}
-use Rattle.cw_table.specs.Fitting.{row_fits, first_of}
-use Rattle.cw_table.specs.Sound.{row_is_sound, IsSound}
-use Rattle.cw_table.specs.Rewriting.{cats_of, State, rewrite}
-use Rattle.cw_table.specs.Normal.{Place, Nowhere, At, least_place, next_place, weight, is_fine, steps, normal}
-use Rattle.cw_table.specs.Normal.{Production, log_of, log, count}
-use Rattle.cw_table.proofs.ScrapFacts.{weight-most, cats-length}
-use Rattle.cw_table.proofs.Falling.{Falls, falls}
-use Rattle.cw_table.proofs.Soundness.{sound-row}
+use Rattle.cw_table.proofs.Terms.{◌≡◌, ℕ, zero, suc, ◌+◌, ◌*◌, ◌<◌, ◌≤◌, Bool, true, false, Option, Some, None, List}
+use Rattle.cw_table.proofs.Terms.{[], ◌∷◌, length, drop, refl, sym, ◌∙◌, ap, arith, if◌then◌else◌, list_all, nat_tests}
+use Rattle.cw_table.proofs.Terms.{both-left, both-right, Cat, Flags, Row, row_fits, first_of, row_is_sound, IsSound}
+use Rattle.cw_table.proofs.Terms.{cats_of, State, rewrite, Place, Nowhere, At, least_place, next_place, weight, is_fine}
+use Rattle.cw_table.proofs.Terms.{steps, Production, log_of}
+use Rattle.cw_table.specs.Normal.{normal, log, count}
+use Rattle.cw_table.proofs.{ScrapFacts.weight-most, ScrapFacts.cats-length, Falling.Falls, Falling.falls}
+use Rattle.cw_table.proofs.{Soundness.sound-row}
 
 -- the first row that fits is one of the table, and fits
 pub record Found (rows : List Row) (cs : List Cat) (r : Row) : Type 0 where
@@ -33,8 +25,7 @@ first-found (x ∷ rows) cs r all h = go (λ k. first-found rows cs r (both-righ
         let same : x ≡ r = cc in
         record {
           fits = ap (λ y. row_fits y cs) (sym same) ∙ e;
-          sound = ap row_is_sound (sym same)
-              ∙ both-left (row_is_sound x) _ all;
+          sound = ap row_is_sound (sym same) ∙ both-left (row_is_sound x) _ all;
         }
     go rec false e h = let k = rec h in record { fits = k.fits; sound = k.sound }
 
@@ -62,8 +53,7 @@ least-at rows first (c ∷ cs) place row h = go (λ k. least-at rows (suc first)
           gone = 0;
           place_is = omega arith;
           inside = omega arith;
-          found = e
-              ∙ ap Some same;
+          found = e ∙ ap Some same;
           none = λ k less. absurd (omega arith);
         }
     go rec None e h =
@@ -129,11 +119,9 @@ pub log-turn-of : (rows : List Row) (f : Flags) (n i : ℕ) (r : Row) (st : Stat
 log-turn-of rows f n i r st e = grind (arith, nat_tests)
 
 -- a function of a number of productions that counts them down: more than the weight change nothing
-pub more-same : (A : Type 0) (rows : List Row) (f : Flags) (g : ℕ → State → A) (next : State → ℕ → Row → A
-    → A) (still : State → A)
-    → ((n : ℕ) (st : State) → next_place rows st ≡ Nowhere → g n st ≡ still st)
-    → ((n i : ℕ) (r : Row) (st : State) → next_place rows st ≡ At i r → g (suc n) st
-    ≡ next st i r (g n (rewrite f r i st)))
+pub more-same : (A : Type 0) (rows : List Row) (f : Flags) (g : ℕ → State → A) (next : State → ℕ → Row → A → A)
+    (still : State → A) → ((n : ℕ) (st : State) → next_place rows st ≡ Nowhere → g n st ≡ still st) → ((n i : ℕ)
+    (r : Row) (st : State) → next_place rows st ≡ At i r → g (suc n) st ≡ next st i r (g n (rewrite f r i st)))
     → (n m : ℕ) (st : State) → list_all row_is_sound rows ≡ true → list_all is_fine st.scraps ≡ true
     → weight st.scraps ≤ n → weight st.scraps ≤ m → g n st ≡ g m st
 more-same A rows f g next still none turn zero m st all fine a b = go (next_place rows st) refl
@@ -153,15 +141,13 @@ more-same A rows f g next still none turn (suc n) m st all fine a b =
         turn n i r st e ∙ ap (λ x. next st i r x) (rec k (rewrite f r i st) t.fine (omega (arith, t.lighter))
         (omega (arith, t.lighter))) ∙ sym (turn k i r st e)
 
-pub steps-same : (rows : List Row) (f : Flags) (n m : ℕ) (st : State) → list_all row_is_sound rows ≡ true
-    → list_all is_fine st.scraps ≡ true → weight st.scraps ≤ n → weight st.scraps ≤ m → steps rows f n st
-    ≡ steps rows f m st
+pub steps-same : (rows : List Row) (f : Flags) (n m : ℕ) (st : State) → list_all row_is_sound rows ≡ true → list_all
+    is_fine st.scraps ≡ true → weight st.scraps ≤ n → weight st.scraps ≤ m → steps rows f n st ≡ steps rows f m st
 steps-same rows f = more-same State rows f (steps rows f) (λ s i r x. x) (λ st. st) (steps-none rows f)
     (steps-turn rows f)
 
-log-same : (rows : List Row) (f : Flags) (n m : ℕ) (st : State) → list_all row_is_sound rows ≡ true
-    → list_all is_fine st.scraps ≡ true → weight st.scraps ≤ n → weight st.scraps ≤ m → log_of rows f n st
-    ≡ log_of rows f m st
+log-same : (rows : List Row) (f : Flags) (n m : ℕ) (st : State) → list_all row_is_sound rows ≡ true → list_all is_fine
+    st.scraps ≡ true → weight st.scraps ≤ n → weight st.scraps ≤ m → log_of rows f n st ≡ log_of rows f m st
 log-same rows f = more-same (List Production) rows f (log_of rows f)
     (λ s i r x. record { number = r.number.number; place = i } ∷ x) (λ st. []) (log-none-of rows f) (log-turn-of rows f)
 
@@ -177,9 +163,8 @@ unfolding normal
 normal-step rows f st i r all fine e =
     let t = (takes rows f st i r all fine e).falls in
     steps-same rows f (weight st.scraps) (suc (weight st.scraps)) st all fine (omega arith) (omega arith)
-    ∙ steps-turn rows f (weight st.scraps) i r st e
-    ∙ steps-same rows f (weight st.scraps) (weight (rewrite f r i st).scraps) (rewrite f r i st) all t.fine
-    (omega (arith, t.lighter)) (omega arith)
+    ∙ steps-turn rows f (weight st.scraps) i r st e ∙ steps-same rows f (weight st.scraps)
+    (weight (rewrite f r i st).scraps) (rewrite f r i st) all t.fine (omega (arith, t.lighter)) (omega arith)
 
 pub log-none : (rows : List Row) (f : Flags) (st : State) → next_place rows st ≡ Nowhere → log rows f st ≡ []
 unfolding log
@@ -193,9 +178,8 @@ log-step rows f st i r all fine e =
     let t = (takes rows f st i r all fine e).falls in
     log-same rows f (weight st.scraps) (suc (weight st.scraps)) st all fine (omega arith) (omega arith)
     ∙ log-turn-of rows f (weight st.scraps) i r st e
-    ∙ ap (λ ps. record { number = r.number.number; place = i } ∷ ps)
-    (log-same rows f (weight st.scraps) (weight (rewrite f r i st).scraps) (rewrite f r i st) all t.fine
-    (omega (arith, t.lighter)) (omega arith))
+    ∙ ap (λ ps. record { number = r.number.number; place = i } ∷ ps) (log-same rows f (weight st.scraps)
+    (weight (rewrite f r i st).scraps) (rewrite f r i st) all t.fine (omega (arith, t.lighter)) (omega arith))
 
 pub count-none : (rows : List Row) (f : Flags) (st : State) → next_place rows st ≡ Nowhere → count rows f st ≡ 0
 unfolding count

@@ -1,26 +1,17 @@
 -- Productions keep the numbers of the source tokens, in order.
-use Rattle.std.proofs.Common.{◌≡◌, ℕ, zero, suc, ◌+◌, true, Option, List, [], ◌∷◌, ◌++◌, map, get_or, take, drop, set}
-use Rattle.std.proofs.Common.{refl, sym, ◌∙◌, ap, drop-drop, arith}
-use Rattle.std.proofs.lemmas.List.{append_assoc, take-append-drop}
-use Rattle.std.specs.List.{list_all}
-use Rattle.std.proofs.lemmas.Bool.Decides.{nat_tests}
-use Rattle.cw_base.specs.declared.category.Cat.{Cat}
-use Rattle.cw_base.specs.declared.flags.Flags.{Flags}
-use Rattle.cw_base.specs.declared.mode.MathMode.{MathMode}
-use Rattle.cw_trees.specs.Tree.{Leaf, Tree, Empty, Then, Sub, Inner, Search, reserved_leaf, reserve_first}
-use Rattle.cw_trees.specs.Joining.{Scrap, no_scrap, Joined, Whole, Mark, needs, after, toggled, joined_tree}
+use Rattle.cw_table.proofs.Terms.{◌≡◌, ℕ, zero, suc, ◌+◌, true, Option, List, [], ◌∷◌, ◌++◌, map, get_or, take, drop}
+use Rattle.cw_table.proofs.Terms.{set, refl, sym, ◌∙◌, ap, drop-drop, arith, append_assoc, take-append-drop, list_all}
+use Rattle.cw_table.proofs.Terms.{nat_tests, Cat, Flags, MathMode, Leaf, Tree, Empty, Then, Sub, Inner, Search}
+use Rattle.cw_table.proofs.Terms.{reserved_leaf, reserve_first, Scrap, no_scrap, Joined, Whole, Mark, needs, after}
+use Rattle.cw_table.proofs.Terms.{toggled, joined_tree, Piece, Row, result_at, scraps_in, numbers_from, row_is_sound}
+use Rattle.cw_table.proofs.Terms.{IsSound, cats_of, row_pieces, math_piece, joined_of, new_from, new_scrap, search_in}
+use Rattle.cw_table.proofs.Terms.{reserved_in, reserved_at, named_scrap, named_right, rewrite_from, State, rewrite}
+use Rattle.cw_table.proofs.Terms.{Place, Nowhere, At, next_place, weight, is_fine, steps}
 use Rattle.cw_trees.specs.Flat.{leaf_numbers, is_name_text, continues_name, struck}
-use Rattle.cw_table.specs.declared.types.Piece.{Piece}
-use Rattle.cw_table.specs.declared.types.Piece.TheVariants as piece
-use Rattle.cw_table.specs.declared.types.Row.{Row}
-use Rattle.cw_table.specs.Rows.{result_at}
-use Rattle.cw_table.specs.Sound.{scraps_in, numbers_from, row_is_sound, IsSound}
-use Rattle.cw_table.specs.Rewriting.{cats_of, row_pieces, math_piece, joined_of, new_from, new_scrap, search_in}
-use Rattle.cw_table.specs.Rewriting.{reserved_in, reserved_at, named_scrap, named_right, rewrite_from, State, rewrite}
-use Rattle.cw_table.specs.Normal.{Place, Nowhere, At, next_place, weight, is_fine, steps, normal}
-use Rattle.cw_table.specs.SourceNumbers.{numbers_of}
+use Rattle.cw_table.specs.{Normal.normal, SourceNumbers.numbers_of}
 use Rattle.cw_table.proofs.Falling.{pieces-whole, alone-is}
 use Rattle.cw_table.proofs.Normals.{takes, steps-none, steps-turn}
+use Rattle.cw_table.specs.declared.types.Piece.TheVariants as piece
 
 pub numbers-append : (xs ys : List Scrap) → numbers_of (xs ++ ys) ≡ numbers_of xs ++ numbers_of ys
 numbers-append [] ys = refl
@@ -125,12 +116,16 @@ from-numbers : (flags : Flags) (row : Row) (xs : List Scrap) → IsSound row →
 from-numbers flags row xs s = grind (
   arith,
   nat_tests,
-  numbers-append (take row.offset (reserved_at row.action.reserve xs)) (new_scrap flags row (reserved_at row.action.reserve xs) ∷ named_right (search_in row.action.reserve xs) (drop (row.offset + row.replaced) (reserved_at row.action.reserve xs))),
-  new-numbers (result_at row.result (cats_of (reserved_at row.action.reserve xs))) row.replaced (row_pieces flags row (cats_of (reserved_at row.action.reserve xs))) (reserved_at row.action.reserve xs),
+  numbers-append (take row.offset (reserved_at row.action.reserve xs))
+      (new_scrap flags row (reserved_at row.action.reserve xs) ∷ named_right (search_in row.action.reserve xs)
+      (drop (row.offset + row.replaced) (reserved_at row.action.reserve xs))),
+  new-numbers (result_at row.result (cats_of (reserved_at row.action.reserve xs))) row.replaced
+      (row_pieces flags row (cats_of (reserved_at row.action.reserve xs))) (reserved_at row.action.reserve xs),
   numbers_at (reserved_at row.action.reserve xs),
   pieces-whole flags row (cats_of (reserved_at row.action.reserve xs)) s,
   run-numbers (reserved_at row.action.reserve xs) row.offset row.replaced,
-  numbers-right (search_in row.action.reserve xs) (drop (row.offset + row.replaced) (reserved_at row.action.reserve xs)),
+  numbers-right (search_in row.action.reserve xs)
+      (drop (row.offset + row.replaced) (reserved_at row.action.reserve xs)),
   drop-drop row.replaced row.offset (reserved_at row.action.reserve xs),
   numbers-split row.replaced (drop row.offset (reserved_at row.action.reserve xs)),
   numbers-split row.offset (reserved_at row.action.reserve xs),

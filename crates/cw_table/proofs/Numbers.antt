@@ -1,19 +1,9 @@
 -- Rows that are numbered one after the other.
-use Rattle.std.proofs.Common.{◌≡◌, ◌<◌, ◌≤◌, ◌+◌, ◌-◌, ◌∙◌, sym, ap, ℕ, zero, suc, List, [], ◌∷◌, length, get_or, Some}
-use Rattle.std.proofs.Common.{Bool, true, false, eqb, refl, arith, eq-eqb}
-use Rattle.std.proofs.lemmas.Bool.{eqb-true, ne_eqb}
-use Rattle.std.specs.Prelude.{slice_get}
-use Rattle.cw_base.proofs.CategoryLaws.{each-of}
-use Rattle.cw_base.proofs.TestLaws.{both-left, both-right}
-use Rattle.cw_base.specs.declared.category.Cat.{Cat}
-use Rattle.cw_table.specs.declared.types.Row.{Row}
-use Rattle.cw_table.specs.Fitting.{first_of, row_fits}
+use Rattle.cw_table.proofs.Terms.{◌≡◌, ◌<◌, ◌≤◌, ◌+◌, ◌-◌, ◌∙◌, sym, ap, ℕ, zero, suc, List, [], ◌∷◌, length, get_or}
+use Rattle.cw_table.proofs.Terms.{Some, Bool, true, false, eqb, refl, arith, eq-eqb, eqb-true, ne_eqb, slice_get}
+use Rattle.cw_table.proofs.Terms.{each-of, both-left, both-right, Cat, Row, first_of, row_fits, productions}
+use Rattle.cw_table.proofs.Terms.{row_numbered, are_numbered, row_is_sound, slice_get-get_or, nat_tests}
 use Rattle.cw_table.proofs.FirstLaws.{first-behind, first-here}
-use Rattle.cw_table.specs.Productions.{productions}
-use Rattle.cw_table.specs.Rows.{row_numbered}
-use Rattle.cw_table.specs.Sound.{are_numbered, row_is_sound}
-use Rattle.std.proofs.lemmas.Option.{slice_get-get_or}
-use Rattle.std.proofs.lemmas.Bool.Decides.{nat_tests}
 use Rattle.cw_table.proofs.Examples.{productions-numbered, productions-sound}
 
 here : (r : Row) (rows : List Row) (n : ℕ) → eqb r.number.number n ≡ true → row_numbered (r ∷ rows) n ≡ Some r

@@ -1,14 +1,7 @@
 -- The categories after a production.
-use Rattle.std.proofs.Common.{◌≡◌, ℕ, ◌+◌, false, Option, List, ◌∷◌, ◌++◌, take, drop, arith}
-use Rattle.cw_base.specs.declared.flags.Flags.{Flags}
-use Rattle.cw_trees.specs.Joining.{Scrap}
-use Rattle.cw_table.specs.declared.types.Row.{Row}
-use Rattle.cw_table.specs.Rows.{result_at}
-use Rattle.cw_table.specs.Safe.{reserves, rewritten}
-use Rattle.std.specs.Prelude.{is_some}
-use Rattle.std.proofs.lemmas.Bool.Decides.{nat_tests}
-use Rattle.cw_table.specs.Rewriting.{cats_of, new_scrap, search_in, reserved_at, named_right, rewrite_from, State}
-use Rattle.cw_table.specs.Rewriting.{rewrite}
+use Rattle.cw_table.proofs.Terms.{◌≡◌, ℕ, ◌+◌, false, Option, List, ◌∷◌, ◌++◌, take, drop, arith, Flags, Scrap, Row}
+use Rattle.cw_table.proofs.Terms.{result_at, reserves, rewritten, is_some, nat_tests, cats_of, new_scrap, search_in}
+use Rattle.cw_table.proofs.Terms.{reserved_at, named_right, rewrite_from, State, rewrite}
 use Rattle.cw_table.proofs.ScrapFacts.{cats-append, cats-take, cats-drop, at-cats}
 
 new-cat : (f : Flags) (r : Row) (xs : List Scrap) → (new_scrap f r xs).cat ≡ result_at r.result (cats_of xs)

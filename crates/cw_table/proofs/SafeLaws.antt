@@ -1,31 +1,18 @@
 -- A safe distance is safe.
-use Rattle.std.proofs.Common.{◌≡◌, ◌<◌, ◌≤◌, ◌+◌, ◌-◌, ◌∙◌, sym, ap, ℕ, zero, suc, Bool, true, false, not, List, []}
-use Rattle.std.proofs.Common.{◌∷◌, ◌++◌, length, map, get_or, take, drop, Some, None, refl, arith, ◌&&◌, ◌||◌, inl, inr}
-use Rattle.std.proofs.Common.{eqb, leb, ltb, length-take-le, length-drop, take-append-drop, add-zero}
-use Rattle.std.specs.List.{flat_map, list_all, list_any}
-use Rattle.std.specs.Prelude.{filter}
-use Rattle.std.proofs.lemmas.Bool.{eqb-true, ltb-true, lt-ltb}
-use Rattle.std.proofs.lemmas.Bool.Decides.{eqb_tells, leb_tells, nat_tests}
-use Rattle.std.proofs.lemmas.List.{drop-append-le, get_or_past, get_or-append-add, get_or-append_right, get_or-drop}
-use Rattle.std.proofs.lemmas.List.{get_or-take, get_or_append_left}
+use Rattle.cw_table.proofs.Terms.{◌≡◌, ◌<◌, ◌≤◌, ◌+◌, ◌-◌, ◌∙◌, sym, ap, ℕ, zero, suc, Bool, true, false, not, List, []}
+use Rattle.cw_table.proofs.Terms.{◌∷◌, ◌++◌, length, map, get_or, take, drop, Some, None, refl, arith, ◌&&◌, ◌||◌, inl}
+use Rattle.cw_table.proofs.Terms.{inr, eqb, leb, ltb, length-take-le, length-drop, take-append-drop, add-zero, flat_map}
+use Rattle.cw_table.proofs.Terms.{list_all, list_any, filter, eqb-true, ltb-true, lt-ltb, eqb_tells, leb_tells}
+use Rattle.cw_table.proofs.Terms.{nat_tests, drop-append-le, get_or_past, get_or-append-add, get_or-append_right}
+use Rattle.cw_table.proofs.Terms.{get_or-drop, get_or-take, get_or_append_left, common_steps, Cat, End, CatSet}
+use Rattle.cw_table.proofs.Terms.{all_cats, in_set, meet, number_of, each-of, place-of, any-at, meet-by, both}
+use Rattle.cw_table.proofs.Terms.{both-failed, both-left, both-right, not-false, not-true, other-one, one-failed-left}
+use Rattle.cw_table.proofs.Terms.{one-failed-right, one-left, one-right, RowResult, Is, SameAs, Row, all_hold, first_of}
+use Rattle.cw_table.proofs.Terms.{row_fits, empty, result_at, test, tests_of, Pair, SafeIsSound, brings, is_hazard}
+use Rattle.cw_table.proofs.Terms.{least, members, pairs_by, pairs_of, reserves, safe, sees_moved, suits_after}
+use Rattle.cw_table.proofs.Terms.{suits_before, IsSound, numbers_from, row_is_sound}
 use Rattle.std.proofs.Math.Seq.{get_or-append_seam}
-use Rattle.std.proofs.lemmas.Grind.{common_steps}
-use Rattle.cw_base.specs.declared.category.Cat.{Cat}
-use Rattle.cw_base.specs.declared.category.Cat.TheVariants.{End}
-use Rattle.cw_base.specs.declared.category.CatSet.{CatSet}
-use Rattle.cw_base.specs.Category.{all_cats, in_set, meet, number_of}
-use Rattle.cw_base.proofs.CategoryLaws.{each-of, place-of}
-use Rattle.cw_base.proofs.SetLaws.{any-at, meet-by}
-use Rattle.cw_base.proofs.TestLaws.{both, both-failed, both-left, both-right, not-false, not-true, other-one}
-use Rattle.cw_base.proofs.TestLaws.{one-failed-left, one-failed-right, one-left, one-right}
-use Rattle.cw_table.specs.declared.types.RowResult.{RowResult}
-use Rattle.cw_table.specs.declared.types.RowResult.TheVariants.{Is, SameAs}
-use Rattle.cw_table.specs.declared.types.Row.{Row}
-use Rattle.cw_table.specs.Fitting.{all_hold, first_of, row_fits}
-use Rattle.cw_table.specs.Rows.{empty, result_at, test, tests_of}
-use Rattle.cw_table.specs.Safe.{Pair, SafeIsSound, brings, endangers, is_hazard, least, members, pairs_by, pairs_of}
-use Rattle.cw_table.specs.Safe.{reserves, safe, sees_moved, suits_after, suits_before}
-use Rattle.cw_table.specs.Sound.{IsSound, numbers_from, row_is_sound}
+use Rattle.cw_table.specs.Safe.{endangers}
 use Rattle.cw_table.proofs.FirstLaws.{first-behind, first-here, length-tests_of}
 use Rattle.cw_table.proofs.Soundness.{sound-row}
 
@@ -34,10 +21,8 @@ use Rattle.cw_table.proofs.Soundness.{sound-row}
 pub all-numbers : (p : ℕ → Bool) (first n : ℕ) → ((i : ℕ) → i < n → p (first + i) ≡ true)
     → list_all p (numbers_from first n) ≡ true
 all-numbers p first zero h = refl
-all-numbers p first (suc n) h =
-    both _ _ (ap p (sym (add-zero first)) ∙ h 0 (omega arith))
-    (all-numbers p (suc first) n (λ i lt. let e : suc first + i ≡ first + suc i = omega arith in ap p e
-    ∙ h (suc i) (omega arith)))
+all-numbers p first (suc n) h = both _ _ (ap p (sym (add-zero first)) ∙ h 0 (omega arith)) (all-numbers p (suc first) n
+    (λ i lt. let e : suc first + i ≡ first + suc i = omega arith in ap p e ∙ h (suc i) (omega arith)))
 
 pub any-map : {X Y : Type 0} (p : Y → Bool) (f : X → Y) (xs : List X) → list_any p (map f xs)
     ≡ list_any (λ x. p (f x)) xs
@@ -70,9 +55,8 @@ any-filter p q [] h = h
 any-filter p q (x ∷ xs) h = grind (arith, nat_tests, any-filter p q xs, filter-yes, one-left, one-right, filter-no)
 
 any-member : (p : Cat → Bool) (s : CatSet) (c : Cat) → in_set s c ≡ true → p c ≡ true → list_any p (members s) ≡ true
-any-member p s c h k =
-    any-filter p (in_set s) all_cats (any-at (λ x. in_set s x && p x) all_cats (number_of c) c (place-of c)
-    (both _ _ h k))
+any-member p s c h k = any-filter p (in_set s) all_cats
+    (any-at (λ x. in_set s x && p x) all_cats (number_of c) c (place-of c) (both _ _ h k))
 
 -- A row that fits holds at each place, and the other way round.
 
@@ -84,9 +68,8 @@ hold-at (test ∷ tests) [] (suc k) h lt = hold-at tests [] k (both-right _ _ h)
 hold-at (test ∷ tests) (cat ∷ cats) zero h lt = both-left _ _ h
 hold-at (test ∷ tests) (cat ∷ cats) (suc k) h lt = hold-at tests cats k (both-right _ _ h) (omega arith)
 
-pub hold-from : (tests : List CatSet) (cats : List Cat)
-    → ((k : ℕ) → k < length tests → in_set (get_or tests k empty) (get_or cats k End) ≡ true) → all_hold tests cats
-    ≡ true
+pub hold-from : (tests : List CatSet) (cats : List Cat) → ((k : ℕ) → k < length tests → in_set (get_or tests k empty)
+    (get_or cats k End) ≡ true) → all_hold tests cats ≡ true
 hold-from [] cats h = refl
 hold-from (test ∷ tests) [] h = both _ _ (h 0 (omega arith)) (hold-from tests [] (λ k lt. h (suc k) (omega arith)))
 hold-from (test ∷ tests) (cat ∷ cats) h =
@@ -113,22 +96,17 @@ any-pair row w p sound fits h = by_result row.result refl h
 
     by_same : (k : ℕ) (b : Bool) → row.result ≡ SameAs k → eqb k row.offset ≡ b
         → p (get_or w row.offset End, get_or w k End) ≡ true → list_any p (pairs_by (SameAs k) row) ≡ true
-    by_same k true r e q =
-        ap (list_any p) (same-pairs row k e)
-        ∙ any-map p (λ c. (c, c)) (members (test row row.offset))
-        ∙ any-member (λ c. p (c, c)) _ (get_or w row.offset End) old
-        (ap (λ n. p (get_or w row.offset End, get_or w n End)) (sym (eqb-true _ _ e)) ∙ q)
-    by_same k false r e q =
-        ap (list_any p) (other-pairs row k e)
-        ∙ any-flat p (λ o. map (λ n. (o, n)) (members (test row k))) (members (test row row.offset))
-        (any-member (λ o. list_any p (map (λ n. (o, n)) (members (test row k)))) _ (get_or w row.offset End) old
-        (any-map p (λ n. (get_or w row.offset End, n)) (members (test row k))
+    by_same k true r e q = ap (list_any p) (same-pairs row k e)
+        ∙ any-map p (λ c. (c, c)) (members (test row row.offset)) ∙ any-member (λ c. p (c, c)) _
+        (get_or w row.offset End) old (ap (λ n. p (get_or w row.offset End, get_or w n End)) (sym (eqb-true _ _ e)) ∙ q)
+    by_same k false r e q = ap (list_any p) (other-pairs row k e) ∙ any-flat p (λ o. map (λ n. (o, n)) (members
+        (test row k))) (members (test row row.offset)) (any-member (λ o. list_any p (map (λ n. (o, n)) (members (test
+        row k)))) _ (get_or w row.offset End) old (any-map p (λ n. (get_or w row.offset End, n)) (members (test row k))
         ∙ any-member (λ n. p (get_or w row.offset End, n)) _ (get_or w k End) (fit k (sound.same_as_tested k r)) q))
 
     by_result : (result : RowResult) → row.result ≡ result → p (get_or w row.offset End, result_at result w) ≡ true
         → list_any p (pairs_by result row) ≡ true
-    by_result (Is new) r q =
-        any-map p (λ c. (c, new)) (members (test row row.offset))
+    by_result (Is new) r q = any-map p (λ c. (c, new)) (members (test row row.offset))
         ∙ any-member (λ c. p (c, new)) _ (get_or w row.offset End) old q
     by_result (SameAs k) r q = by_same k (eqb k row.offset) r refl q
 
@@ -170,9 +148,8 @@ module _ (r t : Row) (pre w rest : List Cat) (sr : IsSound r) (st : IsSound t) (
   at-before k lt = elim (leb_tells (length pre) k) [
     | inl right ↦ (
         let here : k - length pre < r.offset = omega (arith, right.1) in
-        get_or-append_right pre after (length pre) k End refl right.1
-        ∙ get_or_append_left (take r.offset w) _ End (k - length pre) (omega (arith, length-front))
-        ∙ get_or-take r.offset w (k - length pre) End here
+        get_or-append_right pre after (length pre) k End refl right.1 ∙ get_or_append_left (take r.offset w) _ End
+        (k - length pre) (omega (arith, length-front)) ∙ get_or-take r.offset w (k - length pre) End here
         ∙ sym (get_or-append_right pre w (length pre) k End refl right.1))
     | inr left ↦ get_or_append_left pre after End k left.1 ∙ sym (get_or_append_left pre w End k left.1)
   ]
@@ -187,10 +164,8 @@ module _ (r t : Row) (pre w rest : List Cat) (sr : IsSound r) (st : IsSound t) (
   at-after j =
       let split : q + suc j ≡ length pre + (r.offset + suc j) = omega arith in
       let front : r.offset + suc j ≡ length (take r.offset w) + suc j = omega (arith, length-front) in
-      ap (λ n. get_or (pre ++ after) n End) split
-      ∙ get_or-append-add pre after (r.offset + suc j) End
-      ∙ ap (λ n. get_or after n End) front
-      ∙ get_or-append-add (take r.offset w) (result_at r.result w ∷ rest) (suc j) End
+      ap (λ n. get_or (pre ++ after) n End) split ∙ get_or-append-add pre after (r.offset + suc j) End ∙ ap
+      (λ n. get_or after n End) front ∙ get_or-append-add (take r.offset w) (result_at r.result w ∷ rest) (suc j) End
 
   at-kept : (j : ℕ) → reserves r ≡ false → get_or (pre ++ after) (q + suc j) End
       ≡ get_or w (r.offset + r.replaced + j) End
@@ -203,11 +178,9 @@ module _ (r t : Row) (pre w rest : List Cat) (sr : IsSound r) (st : IsSound t) (
     before-suits : q < t.test_count → suits_before r t (length pre) ≡ true
     before-suits lt = all-numbers _ 0 r.offset (λ i below.
         let zero-i : 0 + i ≡ i = omega arith in
-        ap (λ n. meet (test t (length pre + n)) (test r n)) zero-i
-        ∙ meet-by _ _ (get_or w i End)
-        (ap (in_set (test t (length pre + i))) (sym (at-before (length pre + i) (omega arith)
-        ∙ get_or-append-add pre w i End)) ∙ fit-new (length pre + i) (omega arith))
-        (fit i (omega (arith, sr.replaced_tested))))
+        ap (λ n. meet (test t (length pre + n)) (test r n)) zero-i ∙ meet-by _ _ (get_or w i End) (ap (in_set
+        (test t (length pre + i))) (sym (at-before (length pre + i) (omega arith) ∙ get_or-append-add pre w i End))
+        ∙ fit-new (length pre + i) (omega arith)) (fit i (omega (arith, sr.replaced_tested))))
 
     after-suits : reserves r ≡ false → suits_after r t (length pre) ≡ true
     after-suits none = all-numbers _ (suc q) (t.test_count - suc q) (λ i below.
@@ -217,8 +190,7 @@ module _ (r t : Row) (pre w rest : List Cat) (sr : IsSound r) (st : IsSound t) (
           | inl none ↦ one-left _ _ none.0
           | inr some ↦ one-right _ _ (meet-by _ _ (get_or w (suc q + i + r.replaced - (length pre + 1)) End)
               (ap (in_set (test t (suc q + i))) (sym (ap (λ n. get_or (pre ++ after) n End) split ∙ at-kept i none
-              ∙ ap (λ n. get_or w n End) there)) ∙ fit-new (suc q + i) (omega arith))
-              (fit _ some.1))
+              ∙ ap (λ n. get_or w n End) there)) ∙ fit-new (suc q + i) (omega arith)) (fit _ some.1))
         ])
 
     hazard-is : q < t.test_count → list_any (brings r t q) (pairs_of r) ≡ true → is_hazard r t (length pre)
@@ -264,9 +236,8 @@ module _ (r t : Row) (pre w rest : List Cat) (sr : IsSound r) (st : IsSound t) (
             (one-failed-right (not (in_set (test t q) (get_or w r.offset End))) (sees_moved r t q)
             (left (omega arith))) more in
             let one : r.replaced ≡ 1 = elim (leb_tells 2 r.replaced) [
-              | inl two ↦ absurd (let no_two : leb 2 r.replaced
-                  ≡ false = one-failed-left (leb 2 r.replaced) (reserves r) neither in let two_yes : leb 2 r.replaced
-                  ≡ true = two.0 in cc)
+              | inl two ↦ absurd (let no_two : leb 2 r.replaced ≡ false = one-failed-left (leb 2 r.replaced)
+                  (reserves r) neither in let two_yes : leb 2 r.replaced ≡ true = two.0 in cc)
               | inr few ↦ omega (arith, few.1, sr.some_replaced)
             ] in
             let split : k ≡ q + suc (k - suc q) = omega arith in
@@ -316,10 +287,9 @@ none-after : (rows : List Row) (r : Row) (pre w rest : List Cat) → IsSound r �
     → (length pre ≤ 3 → list_any (λ t. is_hazard r t (length pre)) rows ≡ false) → first_of rows (pre ++ w) ≡ None
     → first_of rows (pre ++ (take r.offset w ++ result_at r.result w ∷ rest)) ≡ None
 none-after [] r pre w rest sr fr keep h safe_from none = refl
-none-after (t ∷ rows) r pre w rest sr fr keep h safe_from none =
-    go (row_fits t (pre ++ (take r.offset w ++ result_at r.result w ∷ rest))) refl
-    (none-after rows r pre w rest sr fr keep (both-right _ _ h) (λ near. one-failed-right _ _ (safe_from near))
-    before.1)
+none-after (t ∷ rows) r pre w rest sr fr keep h safe_from none = go
+    (row_fits t (pre ++ (take r.offset w ++ result_at r.result w ∷ rest))) refl (none-after rows r pre w rest sr fr keep
+    (both-right _ _ h) (λ near. one-failed-right _ _ (safe_from near)) before.1)
   where
     before : (row_fits t (pre ++ w) ≡ false) × (first_of rows (pre ++ w) ≡ None)
     before = none-fits t rows (pre ++ w) none
@@ -365,9 +335,8 @@ safe-beyond rows r d (suc (suc (suc zero))) h lt near = grind (arith, nat_tests,
 safe-beyond rows r d (suc (suc (suc (suc e)))) h lt near = absurd (omega arith)
 
 pub safe-sound : (rows : List Row) (r : Row) → list_all row_is_sound rows ≡ true → SafeIsSound rows r
-safe-sound rows r sound d place lower cats rest h least keep lt =
-    ap (first_of rows) (drop-front lower place cats _ inside (omega arith))
-    ∙ none-after rows r (drop lower (take place cats)) (drop place cats) rest sr fits.0 keep sound
+safe-sound rows r sound d place lower cats rest h least keep lt = ap (first_of rows) (drop-front lower place cats _
+    inside (omega arith)) ∙ none-after rows r (drop lower (take place cats)) (drop place cats) rest sr fits.0 keep sound
     (λ near. safe-beyond rows r d (length (drop lower (take place cats))) h (omega (arith, length-pre)) near)
     (ap (first_of rows) (whole-front lower place cats inside (omega arith)) ∙ least.none_below lower (omega arith))
   where

@@ -1,20 +1,11 @@
 -- Facts on lists of scraps: their weights, their categories, and whether each is fine.
-use Rattle.std.proofs.Common.{◌≡◌, ℕ, zero, suc, ◌+◌, ◌*◌, ◌<◌, ◌≤◌, Bool, true, ◌&&◌, Option, None, List, [], ◌∷◌}
-use Rattle.std.proofs.Common.{◌++◌, map, length, get_or, take, drop, set, refl, sym, ◌∙◌, ap, arith, add_assoc}
-use Rattle.std.proofs.Common.{zero-add, take-append-drop}
-use Rattle.std.specs.List.{list_all}
-use Rattle.std.proofs.lemmas.Bool.Decides.{nat_tests}
-use Rattle.cw_base.proofs.TestLaws.{both, both-left, both-right}
-use Rattle.cw_base.specs.declared.category.Cat.{Cat}
-use Rattle.cw_base.specs.declared.category.Cat.TheVariants.{End}
-use Rattle.cw_base.specs.Category.{rank}
-use Rattle.cw_base.specs.declared.mode.MathMode.{MathMode}
-use Rattle.cw_trees.specs.Tree.{Source, Ident, Reserved, Sign, Tree, Empty, Then, Sub, Inner, bare_name, Search}
-use Rattle.cw_trees.specs.Tree.{reserve_first}
-use Rattle.cw_trees.specs.Joining.{Scrap, no_scrap, Joined, Whole, Mark, toggled, joined_tree, needs}
-use Rattle.cw_table.specs.Sound.{is_exp}
-use Rattle.cw_table.specs.Rewriting.{cats_of, reserved_in, reserved_at, is_bare_name, named_scrap, named_right}
-use Rattle.cw_table.specs.Normal.{rank_with, weight_of, weight, fine_with, is_fine}
+use Rattle.cw_table.proofs.Terms.{◌≡◌, ℕ, zero, suc, ◌+◌, ◌*◌, ◌<◌, ◌≤◌, Bool, true, ◌&&◌, Option, None, List, [], ◌∷◌}
+use Rattle.cw_table.proofs.Terms.{◌++◌, map, length, get_or, take, drop, set, refl, sym, ◌∙◌, ap, arith, add_assoc}
+use Rattle.cw_table.proofs.Terms.{zero-add, take-append-drop, list_all, nat_tests, both, both-left, both-right, Cat}
+use Rattle.cw_table.proofs.Terms.{End, rank, MathMode, Source, Ident, Reserved, Sign, Tree, Empty, Then, Sub, Inner}
+use Rattle.cw_table.proofs.Terms.{bare_name, Search, reserve_first, Scrap, no_scrap, Joined, Whole, Mark, toggled}
+use Rattle.cw_table.proofs.Terms.{joined_tree, needs, is_exp, cats_of, reserved_in, reserved_at, is_bare_name}
+use Rattle.cw_table.proofs.Terms.{named_scrap, named_right, rank_with, weight_of, weight, fine_with, is_fine}
 
 -- tests of lists
 

@@ -1,13 +1,7 @@
 -- The states on the way to the normal form: each is lighter than those before it.
-use Rattle.std.proofs.Common.{◌≡◌, ℕ, zero, suc, ◌+◌, ◌-◌, ◌<◌, ◌≤◌, true, List, refl, sym, ◌∙◌, ap, arith, ltb-true}
-use Rattle.std.proofs.Common.{ltb-false}
-use Rattle.std.specs.List.{list_all}
-use Rattle.std.proofs.lemmas.Bool.Decides.{nat_tests}
-use Rattle.cw_base.specs.declared.flags.Flags.{Flags}
-use Rattle.cw_table.specs.declared.types.Row.{Row}
-use Rattle.cw_table.specs.Sound.{row_is_sound}
-use Rattle.cw_table.specs.Rewriting.{State, rewrite}
-use Rattle.cw_table.specs.Normal.{Place, Nowhere, At, next_place, weight, is_fine, steps, normal, count}
+use Rattle.cw_table.proofs.Terms.{◌≡◌, ℕ, zero, suc, ◌+◌, ◌-◌, ◌<◌, ◌≤◌, true, List, refl, sym, ◌∙◌, ap, arith}
+use Rattle.cw_table.proofs.Terms.{ltb-true, ltb-false, list_all, nat_tests, Flags, Row, row_is_sound, State, rewrite}
+use Rattle.cw_table.proofs.Terms.{Place, Nowhere, At, next_place, weight, is_fine, steps, normal, count}
 use Rattle.cw_table.specs.Reaching.{IsAfter}
 use Rattle.cw_table.proofs.Normals.{takes, steps-none, steps-turn, count-none, count-step, normal-step}
 

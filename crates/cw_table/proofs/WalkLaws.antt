@@ -1,19 +1,10 @@
 -- The walk with a pointer makes the productions of the leftmost-first rewriting.
-use Rattle.std.proofs.Common.{◌≡◌, ℕ, zero, suc, ◌+◌, ◌-◌, ◌<◌, ◌≤◌, ◌⊎◌, inl, inr, Bool, true, false, ltb, Option}
-use Rattle.std.proofs.Common.{Some, None, List, [], ◌∷◌, length, drop, refl, sym, ◌∙◌, ap, arith, ltb-true, ltb-false}
-use Rattle.std.proofs.Common.{if◌then◌else◌}
-use Rattle.std.specs.List.{list_all}
-use Rattle.std.proofs.lemmas.Bool.Decides.{nat_tests}
-use Rattle.cw_base.specs.declared.category.Cat.{Cat}
-use Rattle.cw_base.specs.declared.flags.Flags.{Flags}
-use Rattle.cw_table.specs.declared.types.Row.{Row}
-use Rattle.cw_table.specs.Fitting.{first_of}
-use Rattle.cw_table.specs.Safe.{least}
-use Rattle.cw_table.specs.Sound.{row_is_sound}
-use Rattle.cw_table.specs.Rewriting.{cats_of, State, rewrite}
-use Rattle.cw_table.specs.NormalLaws.{SafeReachesFar}
-use Rattle.cw_table.specs.Normal.{Nowhere, At, least_place, next_place, is_fine, normal, Production, log}
-use Rattle.cw_table.specs.NormalWalk.{walk_left, walk_of, walk_log, walked_of, walked}
+use Rattle.cw_table.proofs.Terms.{◌≡◌, ℕ, zero, suc, ◌+◌, ◌-◌, ◌<◌, ◌≤◌, ◌⊎◌, inl, inr, Bool, true, false, ltb, Option}
+use Rattle.cw_table.proofs.Terms.{Some, None, List, [], ◌∷◌, length, drop, refl, sym, ◌∙◌, ap, arith, ltb-true}
+use Rattle.cw_table.proofs.Terms.{ltb-false, if◌then◌else◌, list_all, nat_tests, Cat, Flags, Row, first_of, least}
+use Rattle.cw_table.proofs.Terms.{row_is_sound, cats_of, State, rewrite, SafeReachesFar, Nowhere, At, least_place}
+use Rattle.cw_table.proofs.Terms.{next_place, is_fine, normal, Production, log, walk_left, walk_of, walked_of}
+use Rattle.cw_table.specs.NormalWalk.{walk_log, walked}
 use Rattle.cw_table.proofs.Normals.{Takes, takes, normal-none, normal-step, log-none, log-step}
 use Rattle.cw_table.proofs.RewrittenCats.{rewritten-cats, right-kept, right_after}
 use Rattle.cw_table.proofs.SafeLaws.{safe-sound, least-safe, least-at-most}
@@ -29,19 +20,18 @@ next-here : (rows : List Row) (first : ℕ) (cs : List Cat) (place : ℕ) (r : R
     → least_place rows first cs ≡ At (first + place) r
 next-here rows first [] place r h below found = absurd (omega arith)
 next-here rows first (c ∷ cs) zero r h below found = grind (arith, nat_tests)
-next-here rows first (c ∷ cs) (suc place) r h below found =
-    ap (λ (o : Option Row). elim o [ Some q ↦ At first q | None ↦ least_place rows (suc first) cs ])
-    (below 0 (omega arith))
-    ∙ next-here rows (suc first) cs place r (omega arith) (λ k less. below (suc k) (omega arith)) found
-    ∙ ap (λ n. At n r) (omega arith)
+next-here rows first (c ∷ cs) (suc place) r h below found = ap (λ (o : Option Row). elim o
+    [ Some q ↦ At first q | None ↦ least_place rows (suc first) cs ]) (below 0 (omega arith)) ∙ next-here rows
+    (suc first) cs place r (omega arith) (λ k less. below (suc k) (omega arith)) found ∙ ap (λ n. At n r) (omega arith)
 
 pub next-nowhere : (rows : List Row) (first : ℕ) (cs : List Cat)
     → ((k : ℕ) → k < length cs → first_of rows (drop k cs) ≡ None) → least_place rows first cs ≡ Nowhere
 next-nowhere rows first [] below = refl
-next-nowhere rows first (c ∷ cs) below =
-    ap (λ (o : Option Row). elim o [ Some q ↦ At first q | None ↦ least_place rows (suc first) cs ])
-    (below 0 (omega arith))
-    ∙ next-nowhere rows (suc first) cs (λ k less. below (suc k) (omega arith))
+next-nowhere rows first (c ∷ cs) below = ap (λ (o : Option Row). elim o [
+  | Some q ↦ At first q
+  | None ↦ least_place rows
+      (suc first) cs
+]) (below 0 (omega arith)) ∙ next-nowhere rows (suc first) cs (λ k less. below (suc k) (omega arith))
 
 -- a safe distance is safe for scraps, with what a row reserves to the right
 pub safe-far : SafeReachesFar
@@ -81,23 +71,18 @@ abbrev pub step_of : {A : Type 0} → Bool → Option Row → A → A → (Row �
 step_of inside found ended passed turned = if inside then elim found [ None ↦ passed | Some row ↦ turned row ]
     else ended
 
-pub step-is : {A : Type 0} (inside : Bool) (found : Option Row) (b : Bool) (o : Option Row) (ended passed : A)
-    (turned : Row → A) → inside ≡ b → found ≡ o → step_of inside found ended passed turned
-    ≡ step_of b o ended passed turned
+pub step-is : {A : Type 0} (inside : Bool) (found : Option Row) (b : Bool) (o : Option Row) (ended passed : A) (turned
+    : Row → A) → inside ≡ b → found ≡ o → step_of inside found ended passed turned ≡ step_of b o ended passed turned
 step-is inside found b o ended passed turned e g = grind (arith, nat_tests)
 
 -- what a walk gives, seen from the productions
 walk-gives : (A : Type 0) (rows : List Row) (f : Flags) (g : ℕ → ℕ → State → A) (still : State → A) (more : ℕ → Row → A
-    → A) (goal : State → A)
-    → ((n place : ℕ) (st : State) → g (suc n) place st
-    ≡ step_of (ltb place (length st.scraps)) (first_of rows (drop place (cats_of st.scraps))) (still st)
-    (g n (suc place) st) (λ r. more place r (g n (place - least rows r) (rewrite f r place st))))
-    → ((st : State) → next_place rows st ≡ Nowhere → goal st ≡ still st)
-    → ((st : State) (place : ℕ) (r : Row) → list_all is_fine st.scraps ≡ true → next_place rows st ≡ At place r
-    → goal st ≡ more place r (goal (rewrite f r place st)))
-    → list_all row_is_sound rows ≡ true
-    → (n place : ℕ) (st : State) → list_all is_fine st.scraps ≡ true → NoneBelow rows st place → walk_left place st < n
-    → g n place st ≡ goal st
+    → A) (goal : State → A) → ((n place : ℕ) (st : State) → g (suc n) place st ≡ step_of (ltb place (length st.scraps))
+    (first_of rows (drop place (cats_of st.scraps))) (still st) (g n (suc place) st) (λ r. more place r (g n (place -
+    least rows r) (rewrite f r place st)))) → ((st : State) → next_place rows st ≡ Nowhere → goal st ≡ still st)
+    → ((st : State) (place : ℕ) (r : Row) → list_all is_fine st.scraps ≡ true → next_place rows st ≡ At place r → goal
+    st ≡ more place r (goal (rewrite f r place st))) → list_all row_is_sound rows ≡ true → (n place : ℕ) (st : State)
+    → list_all is_fine st.scraps ≡ true → NoneBelow rows st place → walk_left place st < n → g n place st ≡ goal st
 walk-gives A rows f g still more goal unfolds ends turns_to all zero place st fine below left = absurd (omega arith)
 walk-gives A rows f g still more goal unfolds ends turns_to all (suc n) place st fine below left =
     go (ltb place (length st.scraps)) (first_of rows (drop place (cats_of st.scraps))) refl refl

@@ -1,4 +1,5 @@
 -- Laws of the pieces of TeX parts, of what is there, of texts one behind another, and of those still to come.
+mod Terms
 pub mod PieceLaws
 mod PrintedLaws
 mod RefLaws

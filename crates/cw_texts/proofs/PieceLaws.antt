@@ -1,9 +1,6 @@
 -- The pieces of a TeX part, answer by answer.
-use Rattle.std.proofs.Common.{◌≡◌, subst, List, [], ◌∷◌}
-use Rattle.std.specs.Prelude.{Option, Some, None}
+use Rattle.cw_texts.proofs.Terms.{◌≡◌, subst, List, [], ◌∷◌, Option, Some, None, GivesPiece, piece_is, TexPiece}
 use Rattle.cw_texts.specs.declared.pieces.Piece.{Piece}
-use Rattle.cw_texts.specs.PieceForms.{GivesPiece, piece_is}
-use Rattle.cw_texts.specs.TexPieces.{TexPiece}
 
 -- what the next piece tells of the pieces that were to come
 pub gave : (old new : List TexPiece) (next : Option Piece) (piece : Piece) → GivesPiece old next new → next ≡ Some piece

@@ -1,6 +1,6 @@
 -- Whether something is there, said in two ways.
-use Rattle.std.proofs.Common.{◌≡◌, Bool, true, false, ◌↔◌, IsTrue, Option, Some, None, refl, sym}
-use Rattle.std.specs.Prelude.{is_some, option_map}
+use Rattle.cw_texts.proofs.Terms.{◌≡◌, Bool, true, false, ◌↔◌, IsTrue, Option, Some, None, refl, sym, is_some}
+use Rattle.cw_texts.proofs.Terms.{option_map}
 
 pub alike : (a b : Bool) → (IsTrue a ↔ IsTrue b) → a ≡ b
 alike true b same = sym (same.0 refl)

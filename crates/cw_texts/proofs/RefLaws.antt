@@ -1,13 +1,8 @@
 -- Texts are added one behind another.
-use Rattle.std.proofs.Common.{◌≡◌, ℕ, suc, ◌+◌, ◌-◌, Bool, List, [], ◌∷◌, ◌++◌, drop, sym, ap, ◌∙◌, append_assoc, arith}
-use Rattle.std.specs.Prelude.{Some, slice_get}
-use Rattle.std.proofs.lemmas.List.{append-nil, drop_more}
-use Rattle.std.proofs.lemmas.Option.{get_or_from_slice_get, slice_get_within}
+use Rattle.cw_texts.proofs.Terms.{◌≡◌, ℕ, suc, ◌+◌, ◌-◌, Bool, List, [], ◌∷◌, ◌++◌, drop, sym, ap, ◌∙◌, append_assoc}
+use Rattle.cw_texts.proofs.Terms.{arith, Some, slice_get, append-nil, drop_more, get_or_from_slice_get}
+use Rattle.cw_texts.proofs.Terms.{slice_get_within, Section, NameUse, TextRef, part_refs, refs_from, section_refs}
 use Rattle.cw_base.specs.declared.span.Span.{Span}
-use Rattle.cw_phase1.specs.declared.sections.Section.{Section}
-use Rattle.cw_secnames.specs.Uses.{NameUse}
-use Rattle.cw_texts.specs.declared.text_list.TextRef.{TextRef}
-use Rattle.cw_texts.specs.Texts.{part_refs, refs_from, section_refs}
 
 -- the first of what was left goes behind what was there
 pub added : {X : Type 0} (now first rest : List X) {new left all : List X} → new ≡ now ++ first → left ≡ first ++ rest
@@ -22,9 +17,8 @@ all-added {now = now} none all = sym (append-nil now) ∙ ap (λ xs. now ++ xs) 
 -- three lists one behind another
 pub all-three : {X : Type 0} (old first second third : List X) {a b new : List X} → a ≡ old ++ first → b ≡ a ++ second
     → new ≡ b ++ third → new ≡ old ++ (first ++ (second ++ third))
-all-three old first second third p q r =
-    r ∙ ap (λ xs. xs ++ third) (q ∙ ap (λ xs. xs ++ second) p) ∙ append_assoc (old ++ first) second third
-    ∙ append_assoc old first (second ++ third)
+all-three old first second third p q r = r ∙ ap (λ xs. xs ++ third) (q ∙ ap (λ xs. xs ++ second) p)
+    ∙ append_assoc (old ++ first) second third ∙ append_assoc old first (second ++ third)
 
 -- a C part that is a text where a test says so
 pub part-added : {printed test : Bool} (number : ℕ) (part : Span) (old : List TextRef) {new : List TextRef}
@@ -42,11 +36,9 @@ drop-section sections before section there =
 -- its texts come before those of the sections behind it
 pub section-first : (test : Section → Bool) (text : List ℕ) (uses : List NameUse) (sections : List Section) (before : ℕ)
     (section : Section) → slice_get sections (before + 1 - 1) ≡ Some section
-    → refs_from test text uses (before + 1) (drop before sections)
-    ≡ section_refs (test section) text uses (before + 1) section
-    ++ refs_from test text uses (before + 1 + 1) (drop (before + 1) sections)
+    → refs_from test text uses (before + 1) (drop before sections) ≡ section_refs (test section) text uses (before + 1)
+    section ++ refs_from test text uses (before + 1 + 1) (drop (before + 1) sections)
 section-first test text uses sections before section there =
     let next : suc (before + 1) ≡ before + 1 + 1 = omega arith in
-    ap (refs_from test text uses (before + 1)) (drop-section sections before section there)
-    ∙ ap (λ n. section_refs (test section) text uses (before + 1) section
-    ++ refs_from test text uses n (drop (before + 1) sections)) next
+    ap (refs_from test text uses (before + 1)) (drop-section sections before section there) ∙ ap (λ n. section_refs
+    (test section) text uses (before + 1) section ++ refs_from test text uses n (drop (before + 1) sections)) next

@@ -26,9 +26,8 @@ known-after : (k : TokKind) (token : Seen) (p : Progress)
     → (after_token k token p).known ≡ with_names (names_with k token.text p.known.names) p.known
 known-after k token p = grind arith
 
-token-names : (flags : Flags) (token : Seen) (p : Progress) (new : List Entry)
-    → (new ≡ p.known.names) ⊎ (new ≡ names_with token.kind token.text p.known.names)
-    → NamesAmong flags (Token token ∷ []) p new
+token-names : (flags : Flags) (token : Seen) (p : Progress) (new : List Entry) → (new ≡ p.known.names)
+    ⊎ (new ≡ names_with token.kind token.text p.known.names) → NamesAmong flags (Token token ∷ []) p new
 token-names flags token p new h = grind (arith, here, later, after_token, known-after)
 
 all-ok : {T E : Type 0} (r : Result T E) (A B C : Type 0) → OnOk r A → OnOk r B → OnOk r C → OnOk r (A × B × C)
@@ -44,8 +43,7 @@ pub token-advances : {L R T : Type 0} {told : R → Option Told} (flags : Flags)
     → new.store.now.building ≡ None → Advances told (over flags (Token token ∷ []) (progress_over old t)) t old t' new
     result
 token-advances flags token {t = t} {old = old} {new = new} {result = result} translating progress counts keeps names
-    marks steps recorder same idle =
-    advances-quiet (on_ok_weaker result (λ q. record {
+    marks steps recorder same idle = advances-quiet (on_ok_weaker result (λ q. record {
       steps = record { translating = q.0; keeps = q.2 };
       counts = counts;
       is = rw marks (q.1 old.marks.now []);

@@ -118,9 +118,8 @@ module _ {L R : Type 0} {flags : Flags} {line : List LineEntry} {outer : List Op
       (frames_of old.store.now.lists outer) new.names.now (ap (frames_of old.store.now.lists) open_is) r
 
   pub text-refused : {T : Type 0} {told : R → Option Told} {t' : Translator} {first : Result Translated Memory}
-      {result : Result T Memory} {error : Memory} → Reduced told flags line old new first
-      → IsErrAnd result (λ found. found ≡ error)
-      → Advances told (over flags (Finish token ∷ []) (progress_over old t)) t old t' new result
+      {result : Result T Memory} {error : Memory} → Reduced told flags line old new first → IsErrAnd result (λ found.
+      found ≡ error) → Advances told (over flags (Finish token ∷ []) (progress_over old t)) t old t' new result
   text-refused r is = rw (finished-as flags token old t open_is) (advances-refused is (text-names r.retypes)
       (recorded-error flags (state_over old line ∷ []) is r.recorded) (line-bound r) r.same r.idle)
 
@@ -132,10 +131,9 @@ module _ {L R : Type 0} {flags : Flags} {line : List LineEntry} {outer : List Op
 
   pub text-advances : {T : Type 0} {told : R → Option Told} {t' : Translator} {result : Result T Memory}
       (done : Translated) → Reduced told flags line old new (Ok done) → DoneIn flags old new line done
-      → IsTranslating old.store.now old.names.now t → IsTied old.store.now.lists
-      → t'.scraps ≡ t.scraps + done.scraps → t'.productions ≡ t.productions + done.productions
-      → OnOk result (t'.nesting ≡ with_part (part.InnerText done.list) outer)
-      → Advances told (over flags (Finish token ∷ []) (progress_over old t)) t old t' new result
+      → IsTranslating old.store.now old.names.now t → IsTied old.store.now.lists → t'.scraps ≡ t.scraps + done.scraps
+      → t'.productions ≡ t.productions + done.productions → OnOk result (t'.nesting ≡ with_part (part.InnerText
+      done.list) outer) → Advances told (over flags (Finish token ∷ []) (progress_over old t)) t old t' new result
   text-advances {t' = t'} {result = result} done r d is tied scraps applied made =
       let item : CommentItem = InnerText (unfolded new.store.now.lists done.list.index) in
       let now : OnOk result (Placed old.store.now new.store.now old.names.now new.names.now t t'
@@ -254,17 +252,15 @@ pub line-refused : {L R : Type 0} {told : R → Option Told} {flags : Flags} {t 
     {old new : Work L R} {first result : Result Translated Memory} {error : Memory} → line ≡ last_line t.nesting
     → Reduced told flags line old new first → IsErrAnd result (λ found. found ≡ error)
     → EndsIn told (to_end flags [] (progress_over old t)) t old new result
-line-refused {told = told} {flags} {t} {line} {old} {new} {result = result} line_is r is =
-    subst (λ s. EndsIn told (ends_from flags t old s) t old new result) (left-is old t line line_is) (ends-refused is
-    (at_end (progress_over old t) new.names.now (subst (λ s. Retypes flags s old.names.now new.names.now)
-    (left-is old t line line_is) r.retypes)) (recorded-error flags (state_over old line ∷ []) is r.recorded)
-    (line-bound r) r.same r.idle)
+line-refused {told = told} {flags} {t} {line} {old} {new} {result = result} line_is r is = subst (λ s. EndsIn told
+    (ends_from flags t old s) t old new result) (left-is old t line line_is) (ends-refused is (at_end (progress_over old
+    t) new.names.now (subst (λ s. Retypes flags s old.names.now new.names.now) (left-is old t line line_is) r.retypes))
+    (recorded-error flags (state_over old line ∷ []) is r.recorded) (line-bound r) r.same r.idle)
 
 pub line-ends : {L R : Type 0} {told : R → Option Told} {flags : Flags} {t : Translator} {line : List LineEntry}
-    {old new : Work L R} → line ≡ last_line t.nesting → (done : Translated) (scraps applied : ℕ)
-    → Reduced told flags line old new (Ok done) → DoneIn flags old new line done
-    → IsTranslating old.store.now old.names.now t → scraps ≡ t.scraps + done.scraps
-    → applied ≡ t.productions + done.productions → EndsIn told (to_end flags [] (progress_over old t)) t old new
-    (Ok (record { list = done.list; scraps = scraps; productions = applied }))
+    {old new : Work L R} → line ≡ last_line t.nesting → (done : Translated) (scraps applied : ℕ) → Reduced told flags
+    line old new (Ok done) → DoneIn flags old new line done → IsTranslating old.store.now old.names.now t
+    → scraps ≡ t.scraps + done.scraps → applied ≡ t.productions + done.productions → EndsIn told (to_end flags []
+    (progress_over old t)) t old new (Ok (record { list = done.list; scraps = scraps; productions = applied }))
 line-ends {told = told} {flags} {t} {line} {old} {new} line_is done scraps applied r d is scraps_are applied_are =
     grind (arith, length-map, last-keeps)

@@ -50,9 +50,8 @@ pub stay-steps : (store : StoredLists) (names : List Entry) (t t' : Translator) 
     → Same t t' → Steps store store names names t t'
 stay-steps store names t t' is same sound counts = grind (arith, keeps-itself, all_roots)
 
-pub piece-steps : (store : StoredLists) (names : List Entry) (t t' : Translator) (number : ℕ)
-    → IsTranslating store names t → t'.nesting ≡ with_part (part.Piece number) t.nesting → Same t t'
-    → Steps store store names names t t'
+pub piece-steps : (store : StoredLists) (names : List Entry) (t t' : Translator) (number : ℕ) → IsTranslating store
+    names t → t'.nesting ≡ with_part (part.Piece number) t.nesting → Same t t' → Steps store store names names t t'
 piece-steps store names t t' number is made counts =
     let put : Put store.lists [] t.nesting t'.nesting (with_item (Piece number) (frames_of store.lists t.nesting)) =
     rw made (put-part store.lists (part.Piece number) t.nesting) in
@@ -70,9 +69,8 @@ Placed old new names names' t t' frames = (frames_of new.lists t'.nesting ≡ fr
 
 pub placed : {old new : StoredLists} {names names' : List Entry} {t t' : Translator} (outer : List Open) (rs : List ℕ)
     (list : ℕ) → IsTranslating old names t → IsTied old.lists → all_roots t.nesting ≡ all_roots outer ++ rs
-    → Ends old new rs list → (among : List Frame → List Frame)
-    → Put new.lists (list ∷ []) outer t'.nesting (among (frames_of new.lists outer))
-    → Placed old new names names' t t' (among (frames_of old.lists outer))
+    → Ends old new rs list → (among : List Frame → List Frame) → Put new.lists (list ∷ []) outer t'.nesting
+    (among (frames_of new.lists outer)) → Placed old new names names' t t' (among (frames_of old.lists outer))
 placed {old = old} {new = new} {t = t} {t' = t'} outer rs list is tied roots_are ends among put =
     let roots : AreRoots old.lists (all_roots outer ++ rs) = rw roots_are at is.roots in
     let frames : frames_of new.lists t'.nesting ≡ among (frames_of old.lists outer) = put.is
@@ -115,15 +113,13 @@ module _ (k : TokKind) (token : Seen) (old new : StoredLists) (names names' : Li
   form = formed.0
 
   plain : (p x : ℕ) → token_ref (slice_get form.tokens p) ≡ Some x → ⊥
-  plain = (subst (λ o. IfSome o (IsGood (place_of ident_kind token.text names + 1))) formed.1
-      (token-good (place_of ident_kind token.text names + 1) k token.text token.hash_line token.span.start names
-      (λ e. omega arith))).plain
+  plain = (subst (λ o. IfSome o (IsGood (place_of ident_kind token.text names + 1))) formed.1 (token-good (place_of
+      ident_kind token.text names + 1) k token.text token.hash_line token.span.start names (λ e. omega arith))).plain
 
   ends : Ends old new [] leaf.list.index
   ends = record {
     root = rw (formed.2.list, formed.2.lists) (plain-roots old.lists form.tokens [] tied (no-roots old.lists) plain);
-    keeps = rw (formed.2.list, formed.2.lists) (plain-keeps old.lists form.tokens [] tied (no-roots old.lists)
-        plain);
+    keeps = rw (formed.2.list, formed.2.lists) (plain-keeps old.lists form.tokens [] tied (no-roots old.lists) plain);
     idle = idle;
   }
 
@@ -141,9 +137,8 @@ module _ (k : TokKind) (token : Seen) (old new : StoredLists) (names names' : Li
 
   pub leaf-step : LeafStep k token old new names names' t t'
   leaf-step =
-      let now : Placed old new names names' t t' (with_scrap (leaf_scrap form) (frames_of old.lists t.nesting)) =
-      placed t.nesting [] leaf.list.index is tied (sym (append-nil (all_roots t.nesting))) ends
-      (with_scrap (leaf_scrap form))
+      let now : Placed old new names names' t t' (with_scrap (leaf_scrap form) (frames_of old.lists t.nesting)) = placed
+      t.nesting [] leaf.list.index is tied (sym (append-nil (all_roots t.nesting))) ends (with_scrap (leaf_scrap form))
       (entry-put new.lists (entry_of leaf) t.nesting t'.nesting (leaf_scrap form) scrap made) in
       record {
         steps = now.1 (scrap-sound (length names') (leaf_scrap form) (frames_of old.lists t.nesting) sound-alone

@@ -201,9 +201,8 @@ module _ (old : List (List Token)) (ts : List Token) (rs : List ℕ) (tied : IsT
   plain-keeps = record {
     lists = λ k o. get_or_append_left old (ts ∷ []) [] k o.there;
     trees = λ k o. unfolded-old old ts k o.there;
-    outside = λ k o. subst (λ xs. IsOutside (old ++ ts ∷ []) xs k) behind
-        (grown-outside old ts rs (length rs) (length rs) (omega arith) (omega arith) tied roots
-        (λ p x e. absurd (plain p x e)) k o);
+    outside = λ k o. subst (λ xs. IsOutside (old ++ ts ∷ []) xs k) behind (grown-outside old ts rs (length rs)
+        (length rs) (omega arith) (omega arith) tied roots (λ p x e. absurd (plain p x e)) k o);
     free = λ k o f l p e. elim (refers-more old ts l p k e) [ inl a ↦ f l p a | inr b ↦ plain p k b.1 ];
   }
 
@@ -249,9 +248,8 @@ inner-append [] ys = refl
 inner-append (part.Piece number ∷ xs) ys = inner-append xs ys
 inner-append (part.InnerText list ∷ xs) ys = ap (λ ls. list.index ∷ ls) (inner-append xs ys)
 
-pub put-part : (lists : List (List Token)) (part : CommentPart) (all : List Open)
-    → Put lists (inner_lists (part ∷ [])) all (with_part part all)
-    (with_item (part_seen lists part) (frames_of lists all))
+pub put-part : (lists : List (List Token)) (part : CommentPart) (all : List Open) → Put lists (inner_lists (part ∷ []))
+    all (with_part part all) (with_item (part_seen lists part) (frames_of lists all))
 put-part lists part all =
     grind (arith, all_roots, inner-append, append_assoc, inner_lists, frames_of, map-append, part_seen)
 
@@ -297,8 +295,7 @@ scrap-sound _ _ _ _ all = all
 
 pub item-sound : (count : ℕ) (item : CommentItem) (frames : List Frame) → IsNamedItem count item
     → All (IsSoundFrame count) frames → All (IsSoundFrame count) (with_item item frames)
-item-sound count item (CommentFrame number items ∷ frames) new all =
-    sound-inner count (CommentFrame number items) (CommentFrame number (items ++ item ∷ [])) frames
-    (λ h. All-append (IsNamedItem count) items (item ∷ []) h (All-cons (IsNamedItem count) item [] new
-    (λ k d h. absurd (omega arith)))) all
+item-sound count item (CommentFrame number items ∷ frames) new all = sound-inner count (CommentFrame number items)
+    (CommentFrame number (items ++ item ∷ [])) frames (λ h. All-append (IsNamedItem count) items (item ∷ []) h
+    (All-cons (IsNamedItem count) item [] new (λ k d h. absurd (omega arith)))) all
 item-sound _ _ _ _ all = all

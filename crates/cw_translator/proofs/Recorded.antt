@@ -38,9 +38,8 @@ pub recorded-unended : {T : Type 0} (flags : Flags) (states : List State) {befor
     → IsErrAnd result (λ found. found ≡ error) → HasRecorded flags states before told result
 recorded-unended flags states {result = result} {error} same is = grind (arith, recorded-none, err-ok)
 
-pub recorded-refused : {T : Type 0} (flags : Flags) (states : List State) {before : Option Told}
-    {result : Result T Memory} {error : Memory} → IsErrAnd result (λ found. found ≡ error)
-    → HasRecorded flags states before before result
+pub recorded-refused : {T : Type 0} (flags : Flags) (states : List State) {before : Option Told} {result : Result T
+    Memory} {error : Memory} → IsErrAnd result (λ found. found ≡ error) → HasRecorded flags states before before result
 recorded-refused flags states is = recorded-unended flags states refl is
 
 -- whatever a call answers that goes on behind one that wasn't refused, and one that was
@@ -92,15 +91,13 @@ begun-told scraps items before b g = ap texts_told (g ∙ ap (grown_by items) b)
 pub grown-none : (told : Option Told) → grown_by [] told ≡ told
 grown-none told = grind (arith, append-nil)
 
-ended-texts : (flags : Flags) (state : State) (told : Option Told)
-    → texts_told (ended_now (grown_by (log productions flags state) (begun_over state.scraps told)))
-    ≡ longer_by (logged flags state ∷ []) (texts_told told)
+ended-texts : (flags : Flags) (state : State) (told : Option Told) → texts_told (ended_now (grown_by (log productions
+    flags state) (begun_over state.scraps told))) ≡ longer_by (logged flags state ∷ []) (texts_told told)
 ended-texts flags state told = grind arith
 
 -- it ended, with its whole log
 pub recorded-one : {T : Type 0} (flags : Flags) (state : State) {before begun told ended : Option Told}
-    (result : Result T Memory) → begun ≡ begun_over state.scraps before
-    → told ≡ grown_by (log productions flags state) begun → ended ≡ ended_now told
-    → HasRecorded flags (state ∷ []) before ended result
+    (result : Result T Memory) → begun ≡ begun_over state.scraps before → told ≡ grown_by (log productions flags state)
+    begun → ended ≡ ended_now told → HasRecorded flags (state ∷ []) before ended result
 recorded-one flags state {before = before} result b g e =
     grind (arith, texts_told, ended_now, grown_by, log, productions, ended-texts, on-ok)

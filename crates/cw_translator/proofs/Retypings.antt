@@ -5,8 +5,7 @@ use Rattle.cw_translator.proofs.Terms.{categories, words_of, Retypes, with_categ
 use Rattle.cw_table.specs.Reaching.{IsAfter}
 
 -- names are their words with their categories
-with-categories-is : (new old : List Entry) → words_of new ≡ words_of old
-    → new ≡ with_categories (categories new) old
+with-categories-is : (new old : List Entry) → words_of new ≡ words_of old → new ≡ with_categories (categories new) old
 with-categories-is [] [] e = refl
 with-categories-is [] (o ∷ old) e = absurd (cc e)
 with-categories-is (n ∷ new) [] e = absurd (cc e)

@@ -31,9 +31,8 @@ behind-token : (done : List State) (k : TokKind) (token : Seen) (p : Progress)
     → after_token k token (behind done p) ≡ behind done (after_token k token p)
 behind-token done k token p = grind arith
 
-behind-finish : (flags : Flags) (done : List State) (frames : List Frame) (known : Known)
-    → after_finish flags frames (behind done (record { frames = frames; known = known })).known
-    ≡ behind done (after_finish flags frames known)
+behind-finish : (flags : Flags) (done : List State) (frames : List Frame) (known : Known) → after_finish flags frames
+    (behind done (record { frames = frames; known = known })).known ≡ behind done (after_finish flags frames known)
 behind-finish flags done frames known = grind (arith, append_assoc, state_in)
 
 behind-answer : (flags : Flags) (done : List State) (answer : Answer) (p : Progress)
@@ -151,18 +150,16 @@ module _ {L R : Type 0} {told : R → Option Told} {t : Translator} {old : Work 
 
   -- before anything is changed
   pub advances-unread : {T : Type 0} (flags : Flags) (answers : List Answer) (p : Progress) {t' : Translator}
-      {error : Memory} {result : Result T Memory} → IsErrAnd result (λ found. found ≡ error)
-      → old.names.now ≡ p.known.names → old.store.now.building ≡ None
-      → Advances told (over flags answers p) t old t' old result
+      {error : Memory} {result : Result T Memory} → IsErrAnd result (λ found. found ≡ error) → old.names.now
+      ≡ p.known.names → old.store.now.building ≡ None → Advances told (over flags answers p) t old t' old result
   advances-unread flags answers p is names idle =
       grind (arith, advances-refused, here, recorded-refused, after_answers, unchanged)
 
   -- the same route and result, said otherwise
   advances-named : {T U : Type 0} {c : Route} {ends : Progress} {leaves : List Entry → Type 0} {t' : Translator}
       {new : Work L R} {result : Result T Memory} {other : Result U Memory} → c.ends ≡ ends
-      → ((P : Type 0) → OnOk result P → OnOk other P) → OnErr other (leaves new.names.now)
-      → Advances told c t old t' new result
-      → Advances told (record { flags = c.flags; ends = ends; leaves = leaves }) t old t' new other
+      → ((P : Type 0) → OnOk result P → OnOk other P) → OnErr other (leaves new.names.now) → Advances told c t old t'
+      new result → Advances told (record { flags = c.flags; ends = ends; leaves = leaves }) t old t' new other
   advances-named {c = c} {leaves = leaves} {t' = t'} {new = new} {other = other} is on named r = grind arith
 
   pub advances-as : {T : Type 0} {c : Route} {ends : Progress} {leaves : List Entry → Type 0} {t' : Translator}
@@ -179,11 +176,9 @@ module _ {L R : Type 0} {told : R → Option Told} {t : Translator} {old : Work 
 
   -- one call, and then another
   pub advances-then : {T U : Type 0} {c : Route} (ys : List Answer) {t1 t2 : Translator} {mid new : Work L R}
-      {value : T} {result : Result U Memory} → Advances told c t old t1 mid (Ok value)
-      → Advances told (over c.flags ys (progress_over mid t1)) t1 mid t2 new result
-      → Advances told (prolonged c ys) t old t2 new result
-  advances-then {c = c} ys {t1 = t1} {t2 = t2} {mid = mid} {new = new}
-      {result = result} a b =
+      {value : T} {result : Result U Memory} → Advances told c t old t1 mid (Ok value) → Advances told
+      (over c.flags ys (progress_over mid t1)) t1 mid t2 new result → Advances told (prolonged c ys) t old t2 new result
+  advances-then {c = c} ys {t1 = t1} {t2 = t2} {mid = mid} {new = new} {result = result} a b =
       let done = c.ends.known.ended in
       let fresh = progress_over mid t1 in
       let more = (after_answers c.flags ys fresh).known.ended in
@@ -221,9 +216,8 @@ module _ {L R : Type 0} {told : R → Option Told} {t : Translator} {old : Work 
   joined flags xs ys p r = advances-as (sym (after-append flags xs ys p)) (λ new. among-joined flags xs ys p new) r
 
   pub answers-then : {T U : Type 0} (flags : Flags) (xs ys : List Answer) (p : Progress) {t1 t2 : Translator}
-      {mid new : Work L R} {value : T} {result : Result U Memory}
-      → Advances told (over flags xs p) t old t1 mid (Ok value)
-      → Advances told (over flags ys (progress_over mid t1)) t1 mid t2 new result
+      {mid new : Work L R} {value : T} {result : Result U Memory} → Advances told (over flags xs p) t old t1 mid
+      (Ok value) → Advances told (over flags ys (progress_over mid t1)) t1 mid t2 new result
       → Advances told (over flags (xs ++ ys) p) t old t2 new result
   answers-then flags xs ys p a b = joined flags xs ys p (advances-then {c = over flags xs p} ys a b)
 
@@ -258,9 +252,8 @@ advancing-begun flags all is = record { done = []; reads = advances-none flags i
 module _ {L R : Type 0} {told : R → Option Told} {flags : Flags} {all rest : List Answer} {p : Progress}
     {t t1 : Translator} {old mid : Work L R} where
   pub advancing-next : {T : Type 0} {t2 : Translator} {new : Work L R} (xs next : List Answer) {value : T}
-      → Advancing told flags all rest p t old t1 mid → rest ≡ xs ++ next
-      → Advances told (over flags xs (progress_over mid t1)) t1 mid t2 new (Ok value)
-      → Advancing told flags all next p t old t2 new
+      → Advancing told flags all rest p t old t1 mid → rest ≡ xs ++ next → Advances told
+      (over flags xs (progress_over mid t1)) t1 mid t2 new (Ok value) → Advancing told flags all next p t old t2 new
   advancing-next xs next r cut b = record {
     done = r.done ++ xs;
     reads = valued tt (answers-then flags r.done xs p r.reads b);
@@ -271,14 +264,12 @@ module _ {L R : Type 0} {told : R → Option Told} {flags : Flags} {all rest : L
       {result : Result U Memory} → Advancing told flags all rest p t old t1 mid → rest ≡ xs ++ next
       → Advances {T = T} told (over flags xs (progress_over mid t1)) t1 mid t2 new (Err error)
       → IsErrAnd result (λ found. found ≡ error) → Advances told (over flags all p) t old t3 new result
-  advancing-stopped xs next r cut b is =
-      answers-as flags p (append_assoc r.done xs next ∙ (ap (λ list. r.done ++ list) (sym cut) ∙ r.goes))
-      (answers-stopped flags (r.done ++ xs) next p (answers-then flags r.done xs p r.reads b) is)
+  advancing-stopped xs next r cut b is = answers-as flags p (append_assoc r.done xs next ∙ (ap (λ list. r.done ++ list)
+      (sym cut) ∙ r.goes)) (answers-stopped flags (r.done ++ xs) next p (answers-then flags r.done xs p r.reads b) is)
 
   -- the last of several calls
-  pub advancing-last : {T : Type 0} {t2 : Translator} {new : Work L R} {result : Result T Memory}
-      → Advancing told flags all rest p t old t1 mid
-      → Advances told (over flags rest (progress_over mid t1)) t1 mid t2 new result
+  pub advancing-last : {T : Type 0} {t2 : Translator} {new : Work L R} {result : Result T Memory} → Advancing told flags
+      all rest p t old t1 mid → Advances told (over flags rest (progress_over mid t1)) t1 mid t2 new result
       → Advances told (over flags all p) t old t2 new result
   advancing-last r b = answers-as flags p r.goes (answers-then flags r.done rest p r.reads b)
 
@@ -291,9 +282,8 @@ module _ {L R : Type 0} {told : R → Option Told} {flags : Flags} {all rest : L
 module _ {L R : Type 0} {told : R → Option Told} {t0 : Translator} {old : Work L R} where
   -- answers are read, and then a text ends
   pub ends-then : {T : Type 0} {c : Route} (ys : List Answer) {t : Translator} {mid new : Work L R} {value : T}
-      {result : Result Translated Memory} → Advances told c t0 old t mid (Ok value)
-      → EndsIn told (to_end c.flags ys (progress_over mid t)) t mid new result
-      → EndsIn told (to_end c.flags ys c.ends) t0 old new result
+      {result : Result Translated Memory} → Advances told c t0 old t mid (Ok value) → EndsIn told (to_end c.flags ys
+      (progress_over mid t)) t mid new result → EndsIn told (to_end c.flags ys c.ends) t0 old new result
   ends-then {c = c} ys {t = t} {mid = mid} {new = new} {result = result} a b =
       let done = c.ends.known.ended in
       let fresh = after_answers c.flags ys (progress_over mid t) in
@@ -325,17 +315,15 @@ module _ {L R : Type 0} {told : R → Option Told} {t0 : Translator} {old : Work
 
   -- memory is wanting
   pub ends-refused : {o : Target} {new : Work L R} {error : Memory} {result : Result Translated Memory}
-      → IsErrAnd result (λ found. found ≡ error) → o.leaves new.names.now
-      → HasRecorded o.flags o.text.known.ended (told old.recorder) (told new.recorder) result
-      → new.steps.now ≤ old.steps.now + limit_in o.flags o.text.known.ended → IsSameWork old new
-      → new.store.now.building ≡ None → EndsIn told o t0 old new result
+      → IsErrAnd result (λ found. found ≡ error) → o.leaves new.names.now → HasRecorded o.flags o.text.known.ended (told
+      old.recorder) (told new.recorder) result → new.steps.now ≤ old.steps.now + limit_in o.flags o.text.known.ended
+      → IsSameWork old new → new.store.now.building ≡ None → EndsIn told o t0 old new result
   ends-refused {error = error} {result = result} is names recorded bound same idle = grind (arith, err-if, on-err)
 
   -- a call that reads is refused, before the text ends
   pub ends-stopped : {T : Type 0} {c : Route} (ys : List Answer) {leaves : List Entry → Type 0} {t : Translator}
-      {new : Work L R} {error : Memory} {result : Result Translated Memory}
-      → Advances {T = T} told c t0 old t new (Err error) → IsErrAnd result (λ found. found ≡ error)
-      → ((names : List Entry) → c.leaves names → leaves names)
+      {new : Work L R} {error : Memory} {result : Result Translated Memory} → Advances {T = T} told c t0 old t new
+      (Err error) → IsErrAnd result (λ found. found ≡ error) → ((names : List Entry) → c.leaves names → leaves names)
       → EndsIn told (record (to_end c.flags ys c.ends) { leaves = leaves }) t0 old new result
   ends-stopped {c = c} ys {new = new} r is among =
       let p = after_answers c.flags ys c.ends in
@@ -344,33 +332,28 @@ module _ {L R : Type 0} {told : R → Option Told} {t0 : Translator} {old : Work
       (omega (arith, limit-more c.flags ys c.ends, sum_by-append {X = State})) r.same r.idle
 
   -- the same outcome, said otherwise
-  pub ends-as : {o : Target} {text : Ended} {leaves : List Entry → Type 0} {new : Work L R}
-      {result : Result Translated Memory} → o.text ≡ text → ((names : List Entry) → o.leaves names → leaves names)
-      → EndsIn told o t0 old new result
+  pub ends-as : {o : Target} {text : Ended} {leaves : List Entry → Type 0} {new : Work L R} {result : Result Translated
+      Memory} → o.text ≡ text → ((names : List Entry) → o.leaves names → leaves names) → EndsIn told o t0 old new result
       → EndsIn told (record { flags = o.flags; text = text; leaves = leaves }) t0 old new result
   ends-as {o = o} {leaves = leaves} {new = new} {result = result} is among r = grind (arith, on_err_weaker)
 
   -- answers to the end of a text
   pub ends-answers : {T : Type 0} (flags : Flags) (xs : List Answer) (p : Progress) {t : Translator}
-      {mid new : Work L R} {value : T} {result : Result Translated Memory}
-      → Advances told (over flags xs p) t0 old t mid (Ok value)
-      → EndsIn told (to_end flags [] (progress_over mid t)) t mid new result
+      {mid new : Work L R} {value : T} {result : Result Translated Memory} → Advances told (over flags xs p) t0 old t
+      mid (Ok value) → EndsIn told (to_end flags [] (progress_over mid t)) t mid new result
       → EndsIn told (to_end flags xs p) t0 old new result
   ends-answers flags xs p a b = ends-as refl (λ names h. way-end flags xs p (after_answers flags xs p) names refl h)
       (ends-then {c = over flags xs p} [] a b)
 
-  pub ends-answers-stopped : {T : Type 0} (flags : Flags) (xs : List Answer) (p : Progress) {t : Translator}
-      {new : Work L R} {error : Memory} {result : Result Translated Memory}
-      → Advances {T = T} told (over flags xs p) t0 old t new (Err error) → IsErrAnd result (λ found. found ≡ error)
-      → EndsIn told (to_end flags xs p) t0 old new result
-  ends-answers-stopped flags xs p a is = ends-stopped {c = over flags xs p} [] a is
-      (λ names h. rw append-nil at (h []))
+  pub ends-answers-stopped : {T : Type 0} (flags : Flags) (xs : List Answer) (p : Progress) {t : Translator} {new : Work
+      L R} {error : Memory} {result : Result Translated Memory} → Advances {T = T} told (over flags xs p) t0 old t new
+      (Err error) → IsErrAnd result (λ found. found ≡ error) → EndsIn told (to_end flags xs p) t0 old new result
+  ends-answers-stopped flags xs p a is = ends-stopped {c = over flags xs p} [] a is (λ names h. rw append-nil at (h []))
 
   -- a call that counts no step goes before: what it made stands in place of what was open
   pub ends-behind : {o : Target} {t : Translator} {mid new : Work L R} {result : Result Translated Memory}
-      → Keeps old.store.now.lists mid.store.now.lists (all_roots t0.nesting) (all_roots t.nesting)
-      → t0.scraps ≡ t.scraps → t0.productions ≡ t.productions → mid.steps.now ≡ old.steps.now
-      → mid.recorder ≡ old.recorder → IsSameWork old mid → EndsIn told o t mid new result
-      → EndsIn told o t0 old new result
+      → Keeps old.store.now.lists mid.store.now.lists (all_roots t0.nesting) (all_roots t.nesting) → t0.scraps
+      ≡ t.scraps → t0.productions ≡ t.productions → mid.steps.now ≡ old.steps.now → mid.recorder ≡ old.recorder
+      → IsSameWork old mid → EndsIn told o t mid new result → EndsIn told o t0 old new result
   ends-behind {o = o} {t = t} {mid = mid} {new = new} {result = result} keeps
       scraps productions_are steps recorder same r = grind (arith, keeps-trans, all_roots, same-work)

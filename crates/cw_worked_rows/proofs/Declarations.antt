@@ -1,10 +1,7 @@
 -- Worked declarations: attributes, boxes before types, names before declarations, and heads of functions.
-use Rattle.std.proofs.Common.{[], ◌∷◌, ◌++◌, codes, refl}
-use Rattle.cw_base.specs.declared.category.Cat.TheVariants.{RawInt, ConstLike, Exp, Semi, Binop, Lpar, Rpar, Lbrace}
-use Rattle.cw_base.specs.declared.category.Cat.TheVariants.{Rbrace, Comma, AttrHead, AlignasLike}
-use Rattle.cw_base.specs.declared.mode.MathMode.TheVariants.{Math, Maybe}
-use Rattle.cw_table.specs.Productions.{productions}
-use Rattle.cw_table.specs.Normal.{normal, log}
+use Rattle.cw_worked_rows.proofs.Terms.{[], ◌∷◌, ◌++◌, codes, refl, RawInt, ConstLike, Exp, Semi, Binop, Lpar, Rpar}
+use Rattle.cw_worked_rows.proofs.Terms.{Lbrace, Rbrace, Comma, AttrHead, AlignasLike, Math, Maybe}
+use Rattle.cw_table.specs.{Productions.productions, Normal.normal, Normal.log}
 use Rattle.cw_worked_rows.proofs.Worked.{sign, ident, word, section_name, tex_box, comment, AreWorked, inner, part}
 
 declarations : AreWorked (

@@ -1,11 +1,7 @@
 -- Worked expressions: operators, casts, constants, strings, and ends of inner texts.
-use Rattle.std.proofs.Common.{◌≡◌, [], ◌∷◌, codes, refl}
-use Rattle.cw_base.specs.declared.category.Cat.TheVariants.{RawInt, Exp, Semi, Binop, Ubinop, Lpar, Rpar, Comma, Colon}
-use Rattle.cw_base.specs.declared.category.Cat.TheVariants.{CaseLike, SizeofLike, Colcol}
-use Rattle.cw_base.specs.declared.mode.MathMode.TheVariants.{Math, Maybe}
-use Rattle.cw_base.specs.Flags.{start_flags}
-use Rattle.cw_table.specs.Productions.{productions}
-use Rattle.cw_table.specs.Normal.{normal, log}
+use Rattle.cw_worked_rows.proofs.Terms.{◌≡◌, [], ◌∷◌, codes, refl, RawInt, Exp, Semi, Binop, Ubinop, Lpar, Rpar, Comma}
+use Rattle.cw_worked_rows.proofs.Terms.{Colon, CaseLike, SizeofLike, Colcol, Math, Maybe, start_flags}
+use Rattle.cw_table.specs.{Productions.productions, Normal.normal, Normal.log}
 use Rattle.cw_worked_rows.proofs.Worked.{sign, ident, word, tex_macro, tex_box, no_break, start, numbers, AreWorked}
 use Rattle.cw_worked_rows.proofs.Worked.{inner, part}
 

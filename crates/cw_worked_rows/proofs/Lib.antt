@@ -1,4 +1,5 @@
 -- Worked texts: their productions and what they print.
+mod Terms
 mod Worked
 mod Declarations
 mod Statements

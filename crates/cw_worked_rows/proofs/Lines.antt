@@ -1,10 +1,7 @@
 -- Worked comments and `#` lines.
-use Rattle.std.proofs.Common.{[], ◌∷◌, ◌++◌, codes, refl}
-use Rattle.cw_base.specs.declared.category.Cat.TheVariants.{RawInt, Exp, Semi, RawUbin, Binop, Lpar, Rpar, Lbrace}
-use Rattle.cw_base.specs.declared.category.Cat.TheVariants.{Rbrace, IfLike, DefineLike}
-use Rattle.cw_base.specs.declared.mode.MathMode.TheVariants.{Math, Maybe}
-use Rattle.cw_table.specs.Productions.{productions}
-use Rattle.cw_table.specs.Normal.{normal, log}
+use Rattle.cw_worked_rows.proofs.Terms.{[], ◌∷◌, ◌++◌, codes, refl, RawInt, Exp, Semi, RawUbin, Binop, Lpar, Rpar}
+use Rattle.cw_worked_rows.proofs.Terms.{Lbrace, Rbrace, IfLike, DefineLike, Math, Maybe}
+use Rattle.cw_table.specs.{Productions.productions, Normal.normal, Normal.log}
 use Rattle.cw_worked_rows.proofs.Worked.{sign, ident, word, comment, hash_line, line_end, AreWorked, part}
 
 lines : AreWorked (

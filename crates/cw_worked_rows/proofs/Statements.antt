@@ -1,10 +1,8 @@
 -- Worked statements: labels, conditions, loops, and what stands before them.
-use Rattle.std.proofs.Common.{[], ◌∷◌, ◌++◌, codes, refl}
-use Rattle.cw_base.specs.declared.category.Cat.TheVariants.{RawInt, Exp, Semi, Binop, Lpar, Rpar, Lbrace, Rbrace, Colon}
-use Rattle.cw_base.specs.declared.category.Cat.TheVariants.{CaseLike, ForLike, DoLike, IfLike, ElseLike, AttrHead}
-use Rattle.cw_base.specs.declared.mode.MathMode.TheVariants.{Math, Maybe}
-use Rattle.cw_table.specs.Productions.{productions}
-use Rattle.cw_table.specs.Normal.{normal, log}
+use Rattle.cw_worked_rows.proofs.Terms.{[], ◌∷◌, ◌++◌, codes, refl, RawInt, Exp, Semi, Binop, Lpar, Rpar, Lbrace}
+use Rattle.cw_worked_rows.proofs.Terms.{Rbrace, Colon, CaseLike, ForLike, DoLike, IfLike, ElseLike, AttrHead, Math}
+use Rattle.cw_worked_rows.proofs.Terms.{Maybe}
+use Rattle.cw_table.specs.{Productions.productions, Normal.normal, Normal.log}
 use Rattle.cw_worked_rows.proofs.Worked.{sign, ident, word, section_name, tex_box, invisible_semicolon, no_break}
 use Rattle.cw_worked_rows.proofs.Worked.{macro_head, AreWorked, part}
 

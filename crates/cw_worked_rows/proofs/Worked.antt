@@ -1,21 +1,16 @@
 -- Of what worked texts are made, and what of them is shown.
-use Rattle.std.proofs.Common.{◌≡◌, ℕ, suc, ◌==◌, Bool, true, false, List, [], ◌∷◌, codes, map, get_or}
-use Rattle.std.proofs.Common.{replicate}
-use Rattle.cw_base.specs.declared.category.Cat.{Cat}
-use Rattle.cw_base.specs.declared.category.Cat.TheVariants as cat
-use Rattle.cw_base.specs.declared.mode.MathMode.{MathMode}
-use Rattle.cw_base.specs.declared.mode.MathMode.TheVariants.{Text, Math, Maybe}
+use Rattle.cw_worked_rows.proofs.Terms.{◌≡◌, ℕ, suc, ◌==◌, Bool, true, false, List, [], ◌∷◌, codes, map, get_or}
+use Rattle.cw_worked_rows.proofs.Terms.{replicate, Text, Math, Maybe, start_flags}
+use Rattle.cw_base.specs.{declared.category.Cat.Cat, declared.mode.MathMode.MathMode}
 use Rattle.cw_trees.specs.declared.Control.TheVariants.{Backup, Break, Cancel, CommentEnd, Dollar, NameEnd}
 use Rattle.cw_trees.specs.declared.Control.TheVariants.{OptionalBreak, Wall}
 use Rattle.cw_trees.specs.Tree.{Tree, Source, Ident, Reserved, Sign, Empty, Then}
 use Rattle.cw_trees.specs.Joining.{Scrap, whole}
 use Rattle.cw_trees.specs.Flat.{Item, SourceItem, IdentItem, ReservedItem, SignItem, flat, trimmed_items}
 use Rattle.cw_trees.specs.Printing.{Printable, printed, sign_bytes, ident_bytes, reserved_bytes}
-use Rattle.cw_table.specs.Rewriting.{State}
-use Rattle.cw_table.specs.Normal.{Production, log, normal}
-use Rattle.cw_table.specs.Productions.{productions}
-use Rattle.cw_base.specs.Flags.{start_flags}
+use Rattle.cw_table.specs.{Rewriting.State, Normal.Production, Normal.log, Normal.normal, Productions.productions}
 use Prim.Native.String.{String}
+use Rattle.cw_base.specs.declared.category.Cat.TheVariants as cat
 
 -- Leaves. A number is the position of a token in the list of what the tokens print, and so is a name in the names.
 abbrev scrap : Cat → MathMode → Tree → Scrap

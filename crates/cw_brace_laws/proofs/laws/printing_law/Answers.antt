@@ -1,12 +1,8 @@
 -- What a braced tree prints is braced, and so is what a translation prints.
-use Rattle.cw_brace_laws.proofs.Prints.{prints-braced}
-use Rattle.cw_brace_laws.proofs.Translations.{translation-braced}
-use Rattle.cw_brace_laws.proofs.laws.printing_law.Goals as goal
+use Rattle.cw_brace_laws.proofs.Terms.{HasCleanOperators, rows-braced, productions-sound, translated}
+use Rattle.cw_brace_laws.proofs.{Prints.prints-braced, Translations.translation-braced}
 use Rattle.cw_brace_laws.specs.BraceLaws.{TranslationsPrintBraced}
-use Rattle.cw_brace_laws.specs.Operators.{HasCleanOperators}
-use Rattle.cw_table.proofs.BraceRows.{rows-braced}
-use Rattle.cw_table.proofs.Examples.{productions-sound}
-use Rattle.cw_translator.specs.Translating.{translated}
+use Rattle.cw_brace_laws.proofs.laws.printing_law.Goals as goal
 
 translations : TranslationsPrintBraced
 translations flags named answers names marks clean = prints-braced (translated flags named answers names marks).tree

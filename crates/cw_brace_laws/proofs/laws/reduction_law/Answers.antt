@@ -1,6 +1,5 @@
 -- The tree to which the scraps are joined is braced.
-use Rattle.cw_table.proofs.BraceRows.{rows-braced}
-use Rattle.cw_table.proofs.Examples.{productions-sound}
+use Rattle.cw_brace_laws.proofs.Terms.{rows-braced, productions-sound}
 use Rattle.cw_brace_laws.proofs.Wholes.{reduction-braced}
 use Rattle.cw_brace_laws.proofs.laws.reduction_law.Goals as goal
 

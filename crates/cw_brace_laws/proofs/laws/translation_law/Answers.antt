@@ -1,9 +1,7 @@
 -- The tree of a translation is braced.
+use Rattle.cw_brace_laws.proofs.Terms.{HasCleanOperators, rows-braced, productions-sound}
 use Rattle.cw_brace_laws.proofs.Translations.{translation-braced}
 use Rattle.cw_brace_laws.proofs.laws.translation_law.Goals as goal
-use Rattle.cw_brace_laws.specs.Operators.{HasCleanOperators}
-use Rattle.cw_table.proofs.BraceRows.{rows-braced}
-use Rattle.cw_table.proofs.Examples.{productions-sound}
 
 pub returns : goal.returns
 returns c = λ flags. translation-braced productions-sound rows-braced flags (HasCleanOperators flags)

@@ -1,9 +1,8 @@
 -- What the walk found is the verdict.
-use Rattle.std.proofs.Common.{ap, map, ◌∙◌}
+use Rattle.cw_check.proofs.Terms.{ap, map, ◌∙◌, Compared, verdict_of}
 use Rattle.cw_scraps.specs.Applying.{state_of}
 use Rattle.cw_rewrite.proofs.LogSteps.{on-err}
 use Rattle.cw_leaves.specs.Spelling.{production_of}
-use Rattle.cw_check.specs.Judging.{Compared, verdict_of}
 use Rattle.cw_check.proofs.Prefixes.{ended-within, found, settled}
 use Rattle.cw_check.proofs.checking.check_line.Goals as goal
 
@@ -37,11 +36,9 @@ returns-clause-stands g c =
 
 -- for want of memory no more was done than was told
 pub returns-in_err-reduced-clause-memory : goal.returns-in_err-reduced-clause-memory
-returns-in_err-reduced-clause-memory g c =
-    on-err c.from_residual.result _ (ended-within c.args.flags.now
-    (state_of c.args.store.now.lists c.args.line.now c.args.marks.now c.args.names.now)
-    (state_of c.reduce_watched.new.store.lists c.reduce_watched.new.line c.reduce_watched.new.marks
-    c.reduce_watched.new.names) c.reduce_watched.new.watch.log (map production_of c.args.log.now)
-    c.reduce_watched.new.watch.at c.reduce_watched.ensures.after
-    (rw c.over-against.ensures at c.in_err-reduced.ensures.memory)
-    (c.reduce_watched.ensures.basis ∙ ap (λ (x : Compared). x.log) c.over-against.ensures))
+returns-in_err-reduced-clause-memory g c = on-err c.from_residual.result _ (ended-within c.args.flags.now (state_of
+    c.args.store.now.lists c.args.line.now c.args.marks.now c.args.names.now) (state_of c.reduce_watched.new.store.lists
+    c.reduce_watched.new.line c.reduce_watched.new.marks c.reduce_watched.new.names) c.reduce_watched.new.watch.log
+    (map production_of c.args.log.now) c.reduce_watched.new.watch.at c.reduce_watched.ensures.after
+    (rw c.over-against.ensures at c.in_err-reduced.ensures.memory) (c.reduce_watched.ensures.basis
+    ∙ ap (λ (x : Compared). x.log) c.over-against.ensures))

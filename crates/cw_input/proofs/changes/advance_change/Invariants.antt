@@ -1,11 +1,8 @@
 -- The lines that are left, in the phase so far, give from the state so far what all give from the first state; and the
 -- room that was enough at first is enough for what is left.
-use Rattle.std.proofs.Common.{◌≡◌, ◌+◌, ◌-◌, ◌*◌, ◌<◌, ◌≤◌, length}
-use Rattle.std.specs.FinMap.{get}
-use Rattle.cw_base.specs.{declared.limits.TheConstants.INPUT_LIMIT, Web.text_of}
-use Rattle.cw_desk.specs.{Meaning.Files, Told.OnlyReads}
-use Rattle.cw_input.specs.{Fold.advance, Reading.ReadsOn}
-use Rattle.cw_input.specs.State.{IsPhase, lines_from, rest_of, state_of}
+use Rattle.cw_input.proofs.Terms.{◌≡◌, ◌+◌, ◌-◌, ◌*◌, ◌<◌, ◌≤◌, length, get, declared.limits.TheConstants.INPUT_LIMIT}
+use Rattle.cw_input.proofs.Terms.{Web.text_of, Meaning.Files, Told.OnlyReads, Fold.advance, Reading.ReadsOn, IsPhase}
+use Rattle.cw_input.proofs.Terms.{lines_from, rest_of, state_of}
 use Rattle.cw_input.proofs.changes.advance_change.Given as goal
 
 abbrev pub invariant-lines : goal.invariant-lines
@@ -20,11 +17,9 @@ invariant-lines g l = let told = g.D.Desk.told in record {
       + (length l.change - l.fn.rest.at) + (INPUT_LIMIT - l.fn.m.sum);
   sum : l.m.sum ≤ INPUT_LIMIT;
   more_files : length l.fn.m.web.files ≤ length l.m.web.files;
-  gives : (files : Files) → (told l.desk).agrees files →
-      advance (get files) l.fn.from (record { file = 1; line = l.fn.rest.line }) (rest_of l.change l.fn.rest)
-      (state_of l.change l.fn.m)
-      ≡ advance (get files) l.phase (record { file = 1; line = l.line }) (lines_from 1 l.line l.at l.change)
-      (state_of l.change l.m);
+  gives : (files : Files) → (told l.desk).agrees files → advance (get files) l.fn.from (record
+      { file = 1; line = l.fn.rest.line }) (rest_of l.change l.fn.rest) (state_of l.change l.fn.m) ≡ advance (get files)
+      l.phase (record { file = 1; line = l.line }) (lines_from 1 l.line l.at l.change) (state_of l.change l.m);
   same : OnlyReads (told l.fn.desk) (told l.desk);
   most : ReadsOn l.fn.m.sum l.m.sum (told l.fn.desk) (told l.desk);
 }

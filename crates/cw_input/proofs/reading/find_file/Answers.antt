@@ -1,7 +1,6 @@
 -- What reading the opened file answers is what looking for it answers, and what was read of it is read.
-use Rattle.std.proofs.Common.{ℕ, ◌+◌, List, length, option_map, sym, ap, ◌∙◌, arith}
-use Rattle.std.specs.FinMap.{get}
-use Rattle.cw_input.specs.{declared.found.Found.Found, Merged.found_file}
+use Rattle.cw_input.proofs.Terms.{ℕ, ◌+◌, List, length, option_map, sym, ap, ◌∙◌, arith, get}
+use Rattle.cw_input.proofs.Terms.{declared.found.Found.Found, Merged.found_file}
 use Rattle.cw_input.proofs.AnswerLaws.{Finds-err}
 use Rattle.cw_input.proofs.ReadLaws.{reads_on-file, reads_on-more, reads_on-same}
 use Rattle.cw_input.proofs.reading.find_file.Goals as goal
@@ -11,10 +10,8 @@ returns-in-Err-clause-finds g c = λ files is.
     let made : List ℕ → Found = λ bytes. record { name = c.args.name; bytes = bytes } in
     let before = c.in-Err.ensures.same.narrows files is in
     Finds-err (made ((g.D.Desk.told c.open.new.self).rest files c.in-File.id.index))
-    (found_file (get files) c.args.name)
-    c.args.room c.in-Err.error
-    (ap (option_map made) (ap (get files) (sym c.as_slice.ensures) ∙ c.in-File.ensures.named files before))
-    (c.in-Err.ensures.reads files is)
+    (found_file (get files) c.args.name) c.args.room c.in-Err.error (ap (option_map made)
+    (ap (get files) (sym c.as_slice.ensures) ∙ c.in-File.ensures.named files before)) (c.in-Err.ensures.reads files is)
 
 pub returns-in-Missing-clause-finds : goal.returns-in-Missing-clause-finds
 returns-in-Missing-clause-finds g c = grind (arith, option_map)
@@ -31,11 +28,9 @@ pub returns-in-Missing-clause-most : goal.returns-in-Missing-clause-most
 returns-in-Missing-clause-most g c sum = grind (arith, reads_on-same)
 
 pub returns-in-Failed-clause-most : goal.returns-in-Failed-clause-most
-returns-in-Failed-clause-most g c sum =
-    reads_on-more {b = sum} (omega arith)
+returns-in-Failed-clause-most g c sum = reads_on-more {b = sum} (omega arith)
     (reads_on-same sum c.in-Failed.ensures.next c.in-Failed.ensures.same_rests)
 
 pub returns-in-Memory-clause-most : goal.returns-in-Memory-clause-most
-returns-in-Memory-clause-most g c sum =
-    reads_on-more {b = sum} (omega arith)
+returns-in-Memory-clause-most g c sum = reads_on-more {b = sum} (omega arith)
     (reads_on-same sum c.in-Memory.ensures.next c.in-Memory.ensures.same_rests)

@@ -6,5 +6,4 @@ pub returns-clause-every : goal.returns-clause-every
 returns-clause-every c = every-text-is-woven
 
 pub returns-clause-printed : goal.returns-clause-printed
-returns-clause-printed c =
-    texts-are-woven c.nest_law.ensures.well c.nesting_law.ensures.c_texts c.whole_law.ensures
+returns-clause-printed c = texts-are-woven c.nest_law.ensures.well c.nesting_law.ensures.c_texts c.whole_law.ensures

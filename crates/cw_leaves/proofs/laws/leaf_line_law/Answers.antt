@@ -1,6 +1,5 @@
 -- What is seen of scraps, and their leaf lines, tell their log.
-use Rattle.cw_leaves.proofs.LineFacts.{lines-have-log, same-lines-same-log}
-use Rattle.cw_leaves.proofs.SightSteps.{log-seen}
+use Rattle.cw_leaves.proofs.{LineFacts.lines-have-log, LineFacts.same-lines-same-log, SightSteps.log-seen}
 use Rattle.cw_leaves.proofs.laws.leaf_line_law.Goals as goal
 
 pub returns-clause-sights : goal.returns-clause-sights

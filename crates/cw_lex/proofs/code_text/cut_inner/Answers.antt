@@ -1,11 +1,9 @@
 -- A line's end finishes inner C text of a short comment, with a note that its bar is missing, and takes no byte.
-use Rattle.std.proofs.Common.{ℕ, List, [], ◌∷◌, ◌++◌, None, drop, refl, sym, ap, ◌∙◌}
-use Rattle.cw_lex.specs.{declared.state.State.State, Lexing.last_at, Coming.found_at}
-use Rattle.cw_rules.specs.declared.tokens.TokKind.TheVariants as kinds
-use Rattle.cw_rules.specs.Answers.{before, Finish, note_answers, token_of}
-use Rattle.cw_rules.specs.Pending.{pending_notes}
+use Rattle.cw_lex.proofs.Terms.{ℕ, List, [], ◌∷◌, ◌++◌, None, drop, refl, sym, ap, ◌∙◌, declared.state.State.State}
+use Rattle.cw_lex.proofs.Terms.{Lexing.last_at, Coming.found_at, before, Finish, note_answers, token_of, pending_notes}
 use Rattle.cw_rules.specs.Tokens.{passed, in_hash_line, inner_cut, comment_end, line_end}
 use Rattle.cw_lex.proofs.{Steps.zero-gives, Lines.found-comment-line, Lines.in_hash_line-passed}
+use Rattle.cw_rules.specs.declared.tokens.TokKind.TheVariants as kinds
 use Rattle.cw_lex.proofs.code_text.cut_inner.Goals as goal
 
 pub returns-clause-gives : goal.returns-clause-gives
@@ -23,17 +21,12 @@ returns-clause-gives c =
     } in
     let hash_line = in_hash_line s.part in
     let token = (λ i. token_of (sym c.in_hash_line.ensures i) kinds.InnerText s.at 0 []) ∙ sym c.token-token.ensures in
-    let note = ap
-    (λ n. note_answers (pending_notes text (record { first = n; second = None; body = None; last = None })))
-    (sym c.note_unless.ensures) in
-    zero-gives text s new _ c.requires.step.quiet c.requires.step.place refl
-    (c.requires.found
+    let note = ap (λ n. note_answers
+    (pending_notes text (record { first = n; second = None; body = None; last = None }))) (sym c.note_unless.ensures) in
+    zero-gives text s new _ c.requires.step.quiet c.requires.step.place refl (c.requires.found
     ∙ (λ i. before (inner_cut hash_line s.at s.at ++ comment_end (sym (in_hash_line-passed s.part) i) comment s.at 0 [])
     (line_end (passed s.part) rest (last_at text s.at) s.at))
-    ∙ ap (before (inner_cut hash_line s.at s.at))
-    (sym (found-comment-line text (passed s.part) comment.start comment.braces s.at comment.long rest c.requires.newline
-    c.requires.short)
-    ∙ (λ i. found_at text (record { part = sym c.passed-state.ensures.value i; comments = sym c.set_top.ensures i })
-    s.at))
-    ∙ (λ i. before (Finish (token i) ∷ note i) (found_at text
-    (record { part = c.passed-state.result; comments = c.set_top.new.self }) s.at)))
+    ∙ ap (before (inner_cut hash_line s.at s.at)) (sym (found-comment-line text (passed s.part) comment.start
+    comment.braces s.at comment.long rest c.requires.newline c.requires.short) ∙ (λ i. found_at text (record
+    { part = sym c.passed-state.ensures.value i; comments = sym c.set_top.ensures i }) s.at)) ∙ (λ i. before (Finish
+    (token i) ∷ note i) (found_at text (record { part = c.passed-state.result; comments = c.set_top.new.self }) s.at)))

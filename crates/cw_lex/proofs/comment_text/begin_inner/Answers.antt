@@ -1,9 +1,8 @@
 -- A bar in a comment's text is answered as the beginning of inner C text of that comment.
-use Rattle.std.proofs.Common.{ℕ, ◌+◌, List, true, drop, refl, sym, ap, ◌∙◌, arith}
-use Rattle.cw_lex.specs.declared.state.State.{State}
-use Rattle.cw_rules.specs.declared.tokens.TokKind.TheVariants as kinds
+use Rattle.cw_lex.proofs.Terms.{ℕ, ◌+◌, List, true, drop, refl, sym, ap, ◌∙◌, arith, State}
 use Rattle.cw_rules.specs.{Answers.Begin, Answers.token_of, Cuttings.bytes_at}
 use Rattle.cw_lex.proofs.{Steps.one-gives, Steps.token-here, States.ready-top, States.top-within}
+use Rattle.cw_rules.specs.declared.tokens.TokKind.TheVariants as kinds
 use Rattle.cw_lex.proofs.comment_text.begin_inner.Goals as goal
 
 pub returns-clause-gives : goal.returns-clause-gives
@@ -25,17 +24,12 @@ returns-clause-gives c =
 pub returns-clause-ready : goal.returns-clause-ready
 returns-clause-ready c =
     let s = c.args.state.now in
-    ready-top c.args.text.now s s.part c.args.comment
-    (record {
+    ready-top c.args.text.now s s.part c.args.comment (record {
       start = c.args.comment.start;
       long = c.args.comment.long;
       braces = c.args.comment.braces;
       inner = true;
-    })
-    c.set_top.new.self s.pending (s.at + 1) c.requires.step.ready c.requires.top refl
-    (omega (
+    }) c.set_top.new.self s.pending (s.at + 1) c.requires.step.ready c.requires.top refl (omega (
       arith,
-      top-within s.at s.comments c.args.comment (drop 1 s.comments) c.requires.step.ready.braces
-          c.requires.top,
-    ))
-    (omega (arith, c.requires.depth)) c.set_top.ensures (omega arith) (omega arith) c.requires.step.ready.notes
+      top-within s.at s.comments c.args.comment (drop 1 s.comments) c.requires.step.ready.braces c.requires.top,
+    )) (omega (arith, c.requires.depth)) c.set_top.ensures (omega arith) (omega arith) c.requires.step.ready.notes

@@ -1,11 +1,9 @@
 -- A piece of a comment takes the bytes up to where it stops; its notes follow, and the open braces are kept.
-use Rattle.std.proofs.Common.{ℕ, ◌≡◌, ◌≤◌, ◌<◌, ◌-◌, List, ◌∷◌, false, drop, refl, sym, ◌∙◌, arith}
-use Rattle.cw_lex.specs.declared.state.State.{State}
-use Rattle.cw_rules.specs.Answers.{Token, note_answers, token_of}
+use Rattle.cw_lex.proofs.Terms.{ℕ, ◌≡◌, ◌≤◌, ◌<◌, ◌-◌, List, ◌∷◌, false, drop, refl, sym, ◌∙◌, arith, State, Token}
+use Rattle.cw_lex.proofs.Terms.{note_answers, token_of, nat_tests}
 use Rattle.cw_rules.specs.{Pending.no_notes, Pending.body_notes, Bodies.ended, declared.bodies.Inside.Inside}
 use Rattle.cw_lex.proofs.{Steps.step-gives, States.ready-top, States.top-within}
 use Rattle.cw_lex.proofs.Pieces.{piece_found, piece-found, piece-some}
-use Rattle.std.proofs.lemmas.Bool.Decides.{nat_tests}
 use Rattle.cw_rules.specs.declared.tokens.TokKind.TheVariants as kinds
 use Rattle.cw_rules.specs.declared.bodies.Body.TheVariants as bodies
 use Rattle.cw_lex.proofs.comment_text.piece.Goals as goal
@@ -34,11 +32,10 @@ returns-clause-gives c =
       clear = s.clear;
     } in
     let f = piece_found s.part rest comment s.at inside end (drop s.at text) in
-    step-gives text s new _ f c.requires.step.quiet c.requires.step.place
-    (c.requires.found ∙ piece-found text s.part s.comments rest comment s.at c.args.deep end c.requires.step.place
-    c.requires.top c.requires.deep c.requires.text is_end)
-    ((λ i. Token (token_of (sym c.in_hash_line.ensures i) kinds.Text s.at (end.place - s.at) (drop s.at text))
-    ∷ note_answers (sym c.walk-walked.ensures.notes i))
+    step-gives text s new _ f c.requires.step.quiet c.requires.step.place (c.requires.found
+    ∙ piece-found text s.part s.comments rest comment s.at c.args.deep end c.requires.step.place c.requires.top
+    c.requires.deep c.requires.text is_end) ((λ i. Token (token_of (sym c.in_hash_line.ensures i) kinds.Text s.at
+    (end.place - s.at) (drop s.at text)) ∷ note_answers (sym c.walk-walked.ensures.notes i))
     ∙ (λ i. Token (sym c.token-token.ensures i) ∷ note_answers (body_notes text c.walk-walked.result.notes)))
     (omega arith) c.walk-walked.ensures.within (λ i. record { part = s.part; comments = c.set_top.ensures i })
 
@@ -53,7 +50,6 @@ returns-clause-ready c =
       long = comment.long;
       braces = end.braces;
       inner = false;
-    })
-    c.set_top.new.self _ end.place c.requires.step.ready c.requires.top refl c.walk-walked.ensures.braces
+    }) c.set_top.new.self _ end.place c.requires.step.ready c.requires.top refl c.walk-walked.ensures.braces
     (omega (arith, c.requires.step.ready.depth)) c.set_top.ensures c.walk-walked.ensures.from
     c.walk-walked.ensures.within c.walk-walked.ensures.inside

@@ -1,13 +1,11 @@
 -- A string takes its bytes; its notes follow, and then the C text goes on as it did.
-use Rattle.std.proofs.Common.{◌≡◌, ℕ, ◌+◌, ◌<◌, List, ◌∷◌, length, drop, sym, ap, ◌∙◌, arith}
-use Rattle.cw_rules.specs.Answers.{Token, note_answers, token_of}
+use Rattle.cw_lex.proofs.Terms.{◌≡◌, ℕ, ◌+◌, ◌<◌, List, ◌∷◌, length, drop, sym, ap, ◌∙◌, arith, Token, note_answers}
+use Rattle.cw_lex.proofs.Terms.{token_of, Coming.where_of, declared.state.State.State, nat_tests}
 use Rattle.cw_rules.specs.{Pending.pending_notes, Prefixes.prefix_size, Cuttings.bytes_at, Cuttings.cut_of}
 use Rattle.cw_rules.specs.declared.tokens.TokKind.TheVariants.{Quoted}
 use Rattle.cw_rules.specs.Tokens.{one, moved, passed, string, in_hash_line}
-use Rattle.cw_lex.specs.{Coming.where_of, declared.state.State.State}
 use Rattle.cw_lex.proofs.Steps.{bytes-here, step-gives, token-here, AllWithin-more}
 use Rattle.cw_lex.proofs.States.{depth-part, nested-part}
-use Rattle.std.proofs.lemmas.Bool.Decides.{nat_tests}
 use Rattle.cw_lex.proofs.giving.give_string.Goals as goal
 
 pub returns-clause-gives : goal.returns-clause-gives
@@ -32,10 +30,9 @@ returns-clause-gives c =
     let token = c.token-token.ensures ∙ (λ i. token_of (c.in_hash_line.ensures i) cut.kind s.at cut.size
     (drop s.at text)) in
     step-gives text s new _ (one (in_hash_line s.part) next s.at bytes (cut_of text cut)) c.requires.quiet place found
-    (ap (λ t. Token t ∷ note_answers (pending_notes text cut.pending))
-    (token-here text s.at cut.size cut.kind (in_hash_line s.part) _ place token))
-    (omega (arith, c.string-cut.ensures.fits.some)) c.string-cut.ensures.fits.within
-    (λ i. moved (where_of s) (c.pass.ensures.value i))
+    (ap (λ t. Token t ∷ note_answers (pending_notes text cut.pending)) (token-here text s.at cut.size cut.kind
+    (in_hash_line s.part) _ place token)) (omega (arith, c.string-cut.ensures.fits.some))
+    c.string-cut.ensures.fits.within (λ i. moved (where_of s) (c.pass.ensures.value i))
 
 pub returns-clause-ready : goal.returns-clause-ready
 returns-clause-ready c =

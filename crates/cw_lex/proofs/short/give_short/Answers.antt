@@ -1,6 +1,6 @@
 -- An identifier, constant or sign takes its bytes, and calm C text goes on as it did.
-use Rattle.std.proofs.Common.{ℕ, ◌+◌, ◌-◌, ◌<◌, List, length, drop, sym, ap, ◌∙◌, arith}
-use Rattle.cw_lex.specs.{declared.state.State.State, Coming.where_of}
+use Rattle.cw_lex.proofs.Terms.{ℕ, ◌+◌, ◌-◌, ◌<◌, List, length, drop, sym, ap, ◌∙◌, arith, declared.state.State.State}
+use Rattle.cw_lex.proofs.Terms.{Coming.where_of}
 use Rattle.cw_rules.specs.{Answers.Token, Answers.token_of, Tokens.moved, Tokens.passed, Tokens.in_hash_line}
 use Rattle.cw_lex.proofs.{Calm.calm-part, Steps.one-gives, Steps.token-here, Steps.AllWithin-more}
 use Rattle.cw_lex.proofs.short.give_short.Goals as goal
@@ -21,11 +21,10 @@ returns-clause-gives c =
     let place : s.at < length text = omega (arith, c.requires.short.some, c.requires.short.within) in
     let token = c.token-token.ensures ∙ (λ i. token_of (sym settled.hash_line i) short.kind s.at short.size
     (drop s.at text)) in
-    one-gives text s new _ _ (short.size - 1) (moved (where_of s) (passed s.part)) c.requires.calm.quiet place
-    c.requires.short.found
-    (ap Token (token-here text s.at short.size short.kind (in_hash_line s.part) _ place token))
-    c.requires.calm.quiet (omega (arith, c.requires.short.some)) c.requires.short.within
-    (λ i. moved (where_of s) (sym settled.same i))
+    one-gives text s new _ _ (short.size - 1)
+    (moved (where_of s) (passed s.part)) c.requires.calm.quiet place c.requires.short.found
+    (ap Token (token-here text s.at short.size short.kind (in_hash_line s.part) _ place token)) c.requires.calm.quiet
+    (omega (arith, c.requires.short.some)) c.requires.short.within (λ i. moved (where_of s) (sym settled.same i))
 
 pub returns-clause-ready : goal.returns-clause-ready
 returns-clause-ready c =

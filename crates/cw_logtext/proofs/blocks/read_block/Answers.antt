@@ -1,7 +1,5 @@
 -- The first line is a head, and behind it come its leaf lines and productions.
-use Rattle.std.proofs.Common.{rules}
-use Rattle.cw_logtext.specs.Blocks.{HasItems, HasLeaves}
-use Rattle.cw_logtext.specs.Lines.{HasHead, NoHead}
+use Rattle.cw_logtext.proofs.Terms.{rules, HasItems, HasLeaves, HasHead, NoHead}
 use Rattle.cw_logtext.proofs.BlockSteps.{behind-head, head-read, head-there, whole-block}
 use Rattle.cw_logtext.proofs.blocks.read_block.Goals as goal
 

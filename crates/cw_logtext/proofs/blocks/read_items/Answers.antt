@@ -1,8 +1,6 @@
 -- A line that is no production is the block's end.
-use Rattle.std.proofs.Common.{◌≡◌, [], ◌∷◌, ◌++◌, ◌∙◌, ap, map, rules, subst, sym}
-use Rattle.std.proofs.lemmas.List.{map-append}
-use Rattle.cw_logtext.specs.Blocks.{HasItems}
-use Rattle.cw_logtext.specs.Lines.{HasItem, NoItem}
+use Rattle.cw_logtext.proofs.Terms.{◌≡◌, [], ◌∷◌, ◌++◌, ◌∙◌, ap, map, rules, subst, sym, map-append, HasItems, HasItem}
+use Rattle.cw_logtext.proofs.Terms.{NoItem}
 use Rattle.cw_logtext.proofs.BlockSteps.{ItemsSoFar, items-go-on, one-item, all-items}
 use Rattle.cw_logtext.proofs.blocks.read_items.Goals as goal
 

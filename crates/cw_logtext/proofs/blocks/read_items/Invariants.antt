@@ -1,6 +1,5 @@
 -- The productions before this line are read.
-use Rattle.std.proofs.Common.{length, map}
-use Rattle.cw_leaves.specs.Spelling.{production_of}
+use Rattle.cw_logtext.proofs.Terms.{length, map, production_of}
 use Rattle.cw_logtext.proofs.BlockSteps.{ItemsSoFar}
 use Rattle.cw_logtext.proofs.blocks.read_items.Given as goal
 

@@ -1,8 +1,6 @@
 -- While leaf lines are to come, the next line is one.
-use Rattle.std.proofs.Common.{◌≡◌, [], ◌∷◌, ◌++◌, ◌+◌, ◌-◌, ◌∙◌, suc, List, ap, length, length-append, rules, arith}
-use Rattle.std.proofs.Common.{subst, sym}
-use Rattle.cw_leaves.specs.declared.lines.LeafLine.{LeafLine}
-use Rattle.cw_logtext.specs.Blocks.{HasLeafLine}
+use Rattle.cw_logtext.proofs.Terms.{◌≡◌, [], ◌∷◌, ◌++◌, ◌+◌, ◌-◌, ◌∙◌, suc, List, ap, length, length-append, rules}
+use Rattle.cw_logtext.proofs.Terms.{arith, subst, sym, LeafLine, HasLeafLine}
 use Rattle.cw_logtext.proofs.Adding.{both-added, none-added}
 use Rattle.cw_logtext.proofs.BlockSteps.{LeavesSoFar, block-goes-on, leaf-there, no-leaves, one-leaf, read-cut}
 use Rattle.cw_logtext.proofs.blocks.read_leaves.Goals as goal
@@ -33,9 +31,8 @@ loop-preserved c =
     let left : c.args.count - c.loop.counter ≡ suc (c.args.count - (c.loop.counter + 1)) =
     omega (arith, c.loop-test.true) in
     let so_far : LeavesSoFar c.args.names.now c.loop.names c.args.text.now c.loop.leaves.items c.loop.rest.now
-    (suc (c.args.count - (c.loop.counter + 1))) =
-    subst (λ n. LeavesSoFar c.args.names.now c.loop.names c.args.text.now c.loop.leaves.items c.loop.rest.now n) left
-    c.loop.invariant.read in
+    (suc (c.args.count - (c.loop.counter + 1))) = subst (λ n. LeavesSoFar c.args.names.now c.loop.names c.args.text.now
+    c.loop.leaves.items c.loop.rest.now n) left c.loop.invariant.read in
     let pushed : c.push.new.self.items ≡ c.loop.leaves.items ++ c.in_ok-leaf.leaf ∷ [] = search rules in
     let found : HasLeafLine c.loop.names c.read_leaf.new.names c.cut_line-cut.result.word.now c.in_ok-leaf.leaf =
     search rules in

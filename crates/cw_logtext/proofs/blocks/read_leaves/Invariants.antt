@@ -1,6 +1,5 @@
 -- So many leaf lines are read, and the others are to come.
-use Rattle.std.proofs.Common.{◌≡◌, ◌-◌, length}
-use Rattle.cw_logtext.specs.Blocks.{IsExtended}
+use Rattle.cw_logtext.proofs.Terms.{◌≡◌, ◌-◌, length, IsExtended}
 use Rattle.cw_logtext.proofs.BlockSteps.{LeavesSoFar}
 use Rattle.cw_logtext.proofs.blocks.read_leaves.Given as goal
 

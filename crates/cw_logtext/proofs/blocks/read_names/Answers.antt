@@ -1,11 +1,7 @@
 -- Each name is added behind those before it.
-use Rattle.std.proofs.Common.{◌≡◌, [], ◌∷◌, ◌++◌, rules, subst, sym, arith}
-use Rattle.cw_names.specs.declared.entry.EntryKind.TheVariants.{Ident}
-use Rattle.cw_names.specs.Names.{place_of, with_entry}
-use Rattle.cw_logtext.specs.Blocks.{HasNames}
-use Rattle.cw_logtext.specs.LinePieces.{HasName, NoName}
-use Rattle.cw_logtext.proofs.Adding.{one-added}
-use Rattle.cw_logtext.proofs.NameSteps.{NamesSoFar, one-name, all-names}
+use Rattle.cw_logtext.proofs.Terms.{◌≡◌, [], ◌∷◌, ◌++◌, rules, subst, sym, arith, Ident, place_of, with_entry, HasNames}
+use Rattle.cw_logtext.proofs.Terms.{HasName, NoName}
+use Rattle.cw_logtext.proofs.{Adding.one-added, NameSteps.NamesSoFar, NameSteps.one-name, NameSteps.all-names}
 use Rattle.cw_logtext.proofs.blocks.read_names.Goals as goal
 
 pub returns-in_err-push-clause-kept : goal.returns-in_err-push-clause-kept

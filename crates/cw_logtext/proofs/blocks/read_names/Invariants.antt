@@ -1,6 +1,5 @@
 -- The names before the rest are added.
-use Rattle.std.proofs.Common.{length}
-use Rattle.cw_logtext.specs.Blocks.{IsExtended}
+use Rattle.cw_logtext.proofs.Terms.{length, IsExtended}
 use Rattle.cw_logtext.proofs.NameSteps.{NamesSoFar}
 use Rattle.cw_logtext.proofs.blocks.read_names.Given as goal
 

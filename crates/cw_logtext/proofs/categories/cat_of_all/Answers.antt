@@ -1,8 +1,5 @@
 -- No category has the name where none of those looked at has it.
-use Rattle.std.proofs.Common.{arith}
-use Rattle.std.proofs.lemmas.List.{get_or_default}
-use Rattle.cw_base.specs.declared.category.Cat.TheVariants.{End}
-use Rattle.cw_base.specs.Category.{all_cats}
+use Rattle.cw_logtext.proofs.Terms.{arith, get_or_default, End, all_cats}
 use Rattle.cw_logtext.proofs.CatNames.{no-cat, one-more-cat}
 use Rattle.cw_logtext.proofs.categories.cat_of_all.Goals as goal
 

@@ -1,7 +1,5 @@
 -- A line without one of its numbers is no production.
-use Rattle.std.proofs.Common.{◌≡◌, ◌∷◌, None, MatchOption, sym, subst, rules, arith}
-use Rattle.std.specs.Fmt.{decimal}
-use Rattle.cw_logtext.specs.Lines.{HasItem, NoItem}
+use Rattle.cw_logtext.proofs.Terms.{◌≡◌, ◌∷◌, None, MatchOption, sym, subst, rules, arith, decimal, HasItem, NoItem}
 use Rattle.cw_logtext.proofs.LineKinds.{item-of, no-zero}
 use Rattle.cw_logtext.proofs.items.item_in.Goals as goal
 

@@ -1,8 +1,7 @@
 -- Reading finds the logs, and their first fault; a log's text tells its blocks.
+use Rattle.cw_logtext.proofs.{Cutting.text-has-lines, Telling.blocks-are-told, Written.text-is-log}
+use Rattle.cw_logtext.proofs.{Written.text-tells-blocks}
 use Rattle.cw_logtext.proofs.StepLaws.{read-is-log, log-is-read, stuck-is-fault, inside-is-fault}
-use Rattle.cw_logtext.proofs.Cutting.{text-has-lines}
-use Rattle.cw_logtext.proofs.Telling.{blocks-are-told}
-use Rattle.cw_logtext.proofs.Written.{text-is-log, text-tells-blocks}
 use Rattle.cw_logtext.proofs.laws.log_laws.Goals as goal
 
 pub returns-clause-read : goal.returns-clause-read

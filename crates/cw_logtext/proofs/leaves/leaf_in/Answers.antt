@@ -1,10 +1,7 @@
 -- A line without a category's name, with other things than names, or whose kind asks for others is no leaf line.
-use Rattle.std.proofs.Common.{◌≡◌, ◌∷◌, ◌∙◌, false, None, MatchOption, sym, subst, rules}
-use Rattle.cw_logtext.specs.LogText.{cat_text, fits_kind, letter}
-use Rattle.cw_logtext.specs.Lines.{HasLeaf, NoLeaf}
-use Rattle.cw_logtext.specs.LinePieces.{AreNames}
-use Rattle.cw_logtext.proofs.LineKinds.{leaf-of, leaf-unfit}
-use Rattle.cw_logtext.proofs.Telling.{cat-injective, letter-injective}
+use Rattle.cw_logtext.proofs.Terms.{◌≡◌, ◌∷◌, ◌∙◌, false, None, MatchOption, sym, subst, rules, cat_text, fits_kind}
+use Rattle.cw_logtext.proofs.Terms.{letter, HasLeaf, NoLeaf, AreNames}
+use Rattle.cw_logtext.proofs.{LineKinds.leaf-of, LineKinds.leaf-unfit, Telling.cat-injective, Telling.letter-injective}
 use Rattle.cw_logtext.proofs.leaves.leaf_in.Goals as goal
 
 pub returns-in_err-cat : goal.returns-in_err-cat

@@ -1,6 +1,5 @@
 -- Digits that are none, or that write a number that is too great, are those of no number that is asked for.
-use Rattle.std.proofs.Common.{ℕ, ◌+◌, ◌*◌, arith, subst, sym, ◌∙◌}
-use Rattle.std.proofs.lemmas.Grind.{common_steps}
+use Rattle.cw_logtext.proofs.Terms.{ℕ, ◌+◌, ◌*◌, arith, subst, sym, ◌∙◌, common_steps}
 use Rattle.cw_logtext.proofs.DigitLaws.{IsRead, all-read, has-digits, is-some, lone-zero, needless, no-digit, none-read}
 use Rattle.cw_logtext.proofs.DigitLaws.{one-read, some-digits, too-great}
 use Rattle.cw_logtext.proofs.numbers.number_in.Goals as goal

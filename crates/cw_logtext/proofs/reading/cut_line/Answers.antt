@@ -1,6 +1,5 @@
 -- A line ends at the first byte 10.
-use Rattle.std.proofs.Common.{arith}
-use Rattle.std.proofs.lemmas.List.{take_rest}
+use Rattle.cw_logtext.proofs.Terms.{arith, take_rest}
 use Rattle.cw_logtext.proofs.WordLaws.{line-at, line-nowhere}
 use Rattle.cw_logtext.proofs.reading.cut_line.Goals as goal
 

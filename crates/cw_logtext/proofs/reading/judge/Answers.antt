@@ -1,7 +1,5 @@
 -- The file is judged as far as it is read.
-use Rattle.std.proofs.Common.{◌≡◌, [], subst, rules, arith}
-use Rattle.std.proofs.lemmas.Grind.{common_steps}
-use Rattle.cw_logtext.specs.declared.reading.Spot.TheVariants.{Outside, Inside}
+use Rattle.cw_logtext.proofs.Terms.{◌≡◌, [], subst, rules, arith, common_steps, Outside, Inside}
 use Rattle.cw_logtext.proofs.Judging.{ReadSoFar, nothing-read, one-more, stuck-here, whole-read, cut-inside}
 use Rattle.cw_logtext.proofs.reading.judge.Goals as goal
 

@@ -1,5 +1,5 @@
 -- The lines before the rest are read.
-use Rattle.std.proofs.Common.{◌+◌, ◌≤◌, length}
+use Rattle.cw_logtext.proofs.Terms.{◌+◌, ◌≤◌, length}
 use Rattle.cw_logtext.proofs.Judging.{ReadSoFar}
 use Rattle.cw_logtext.proofs.reading.judge.Given as goal
 

@@ -1,8 +1,6 @@
 -- Each kind of line leads on.
-use Rattle.std.proofs.Common.{◌≡◌, ◌-◌, suc, sym, subst, rules, arith, codes}
-use Rattle.cw_logtext.specs.declared.reading.Spot.TheVariants.{Outside, Inside}
-use Rattle.cw_logtext.specs.Lines.{HasHead, HasItem, HasLeaf, with_names}
-use Rattle.cw_logtext.specs.LogReading.{Step, opens, leaf, item, closes}
+use Rattle.cw_logtext.proofs.Terms.{◌≡◌, ◌-◌, suc, sym, subst, rules, arith, codes, Outside, Inside, HasHead, HasItem}
+use Rattle.cw_logtext.proofs.Terms.{HasLeaf, with_names, Step, opens, leaf, item, closes}
 use Rattle.cw_logtext.proofs.reading.step.Goals as goal
 
 pub returns-then-eq : goal.returns-then-eq

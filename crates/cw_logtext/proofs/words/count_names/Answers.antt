@@ -1,6 +1,5 @@
 -- A name is counted, or there is none where one has to be.
-use Rattle.std.proofs.Common.{arith}
-use Rattle.std.proofs.lemmas.Grind.{common_steps}
+use Rattle.cw_logtext.proofs.Terms.{arith, common_steps}
 use Rattle.cw_logtext.proofs.Names.{one-counted, one-later, none-later, name-shorter}
 use Rattle.cw_logtext.proofs.words.count_names.Goals as goal
 

@@ -1,8 +1,5 @@
 -- The names before the rest are counted, and whatever names the text is, the rest is those behind them.
-use Rattle.std.proofs.Common.{◌≡◌, ◌+◌, ◌≤◌, List, ℕ, length}
-use Rattle.std.specs.List.{flat_map}
-use Rattle.cw_logtext.specs.LogText.{blank_and}
-use Rattle.cw_logtext.specs.LinePieces.{AreIdentifiers}
+use Rattle.cw_logtext.proofs.Terms.{◌≡◌, ◌+◌, ◌≤◌, List, ℕ, length, flat_map, blank_and, AreIdentifiers}
 use Rattle.cw_logtext.proofs.Names.{Counted, Later}
 use Rattle.cw_logtext.proofs.words.count_names.Given as goal
 

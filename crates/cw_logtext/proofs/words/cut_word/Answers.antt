@@ -1,7 +1,5 @@
 -- A word ends at the first blank.
-use Rattle.std.proofs.Common.{take, sym, subst, arith}
-use Rattle.cw_logtext.specs.LinePieces.{IsCut}
-use Rattle.std.proofs.lemmas.List.{take_rest}
+use Rattle.cw_logtext.proofs.Terms.{take, sym, subst, arith, IsCut, take_rest}
 use Rattle.cw_logtext.proofs.WordLaws.{cut-at, cut-nowhere}
 use Rattle.cw_logtext.proofs.words.cut_word.Goals as goal
 

@@ -1,6 +1,5 @@
 -- A name ends where its letters and digits do.
-use Rattle.std.proofs.Common.{◌≡◌, ◌∷◌, true, rules}
-use Rattle.cw_rules.specs.Bytes.{is_letter}
+use Rattle.cw_logtext.proofs.Terms.{◌≡◌, ◌∷◌, true, rules, is_letter}
 use Rattle.cw_logtext.proofs.WordLaws.{name-cut}
 use Rattle.cw_logtext.proofs.words.next_name.Goals as goal
 

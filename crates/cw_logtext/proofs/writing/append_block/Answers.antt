@@ -1,7 +1,5 @@
 -- After Memory a beginning of the block is appended.
-use Rattle.std.proofs.Common.{◌≡◌, ◌++◌, IsErr, rules}
-use Rattle.cw_leaves.specs.Spelling.{spelled}
-use Rattle.cw_logtext.specs.Appending.{HasGrown, block_of}
+use Rattle.cw_logtext.proofs.Terms.{◌≡◌, ◌++◌, IsErr, rules, spelled, HasGrown, block_of}
 use Rattle.cw_logtext.proofs.AppendLaws.{head_of, leaves_of, items_of, head-refused, leaves-refused, items-refused}
 use Rattle.cw_logtext.proofs.AppendLaws.{same-count}
 use Rattle.cw_logtext.proofs.writing.append_block.Goals as goal

@@ -1,5 +1,5 @@
 -- After Memory a beginning of the lines is appended.
-use Rattle.std.proofs.Common.{IsErr, rules}
+use Rattle.cw_logtext.proofs.Terms.{IsErr, rules}
 use Rattle.cw_logtext.proofs.AppendLaws.{line-refused}
 use Rattle.cw_logtext.proofs.writing.append_items.Goals as goal
 

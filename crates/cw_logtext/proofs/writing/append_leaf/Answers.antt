@@ -1,9 +1,6 @@
 -- After Memory a beginning of the line is appended.
-use Rattle.std.proofs.Common.{◌≡◌, [], ◌∷◌, ◌++◌, IsErr, rules}
-use Rattle.std.specs.List.{flat_map}
-use Rattle.cw_leaves.specs.Spelling.{spelled}
-use Rattle.cw_logtext.specs.Appending.{HasGrown}
-use Rattle.cw_logtext.specs.LogText.{blank_and, cat_text, letter}
+use Rattle.cw_logtext.proofs.Terms.{◌≡◌, [], ◌∷◌, ◌++◌, IsErr, rules, flat_map, spelled, HasGrown, blank_and, cat_text}
+use Rattle.cw_logtext.proofs.Terms.{letter}
 use Rattle.cw_logtext.proofs.AppendLaws.{names-refused}
 use Rattle.cw_logtext.proofs.writing.append_leaf.Goals as goal
 

@@ -1,7 +1,5 @@
 -- After Memory a beginning of the lines is appended.
-use Rattle.std.proofs.Common.{IsErr, rules, arith}
-use Rattle.cw_leaves.specs.Spelling.{spelled}
-use Rattle.cw_logtext.specs.LogText.{line_text}
+use Rattle.cw_logtext.proofs.Terms.{IsErr, rules, arith, spelled, line_text}
 use Rattle.cw_logtext.proofs.AppendLaws.{line-refused}
 use Rattle.cw_logtext.proofs.writing.append_leaves.Goals as goal
 

@@ -1,8 +1,5 @@
 -- The leaf lines before this one are appended.
-use Rattle.std.proofs.Common.{◌≡◌, ◌++◌, map, take}
-use Rattle.std.specs.List.{flat_map}
-use Rattle.cw_leaves.specs.Spelling.{spelled}
-use Rattle.cw_logtext.specs.LogText.{ended, line_text}
+use Rattle.cw_logtext.proofs.Terms.{◌≡◌, ◌++◌, map, take, flat_map, spelled, ended, line_text}
 use Rattle.cw_logtext.proofs.writing.append_leaves.Given as goal
 
 abbrev pub invariant-loop-leaf : goal.invariant-loop-leaf

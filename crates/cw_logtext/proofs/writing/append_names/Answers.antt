@@ -1,8 +1,5 @@
 -- After Memory a beginning of the names is appended.
-use Rattle.std.proofs.Common.{◌≡◌, [], ◌∷◌, ◌++◌, IsErr, rules}
-use Rattle.cw_names.specs.declared.entry.NameId.{NameId}
-use Rattle.cw_leaves.specs.LeafLines.{text_at}
-use Rattle.cw_logtext.specs.LogText.{blank_and}
+use Rattle.cw_logtext.proofs.Terms.{◌≡◌, [], ◌∷◌, ◌++◌, IsErr, rules, NameId, text_at, blank_and}
 use Rattle.cw_logtext.proofs.AppendLaws.{nothing-grown, next-refused, blank-grown}
 use Rattle.cw_logtext.proofs.writing.append_names.Goals as goal
 

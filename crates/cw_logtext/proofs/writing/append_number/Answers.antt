@@ -1,6 +1,5 @@
 -- One digit, or two.
-use Rattle.std.proofs.Common.{ℕ, ◌+◌, ◌%◌, [], ◌∷◌, ◌++◌, List, ap, arith, ◌∙◌}
-use Rattle.std.proofs.lemmas.Fmt.{decimal_digit, decimal_step}
+use Rattle.cw_logtext.proofs.Terms.{ℕ, ◌+◌, ◌%◌, [], ◌∷◌, ◌++◌, List, ap, arith, ◌∙◌, decimal_digit, decimal_step}
 use Rattle.cw_logtext.proofs.writing.append_number.Goals as goal
 
 pub returns-then-number-lt10-clause-ok : goal.returns-then-number-lt10-clause-ok

@@ -1,6 +1,5 @@
 -- `are_same`: that its loop begins with what it says; said here, so that a wrong one fails at once.
-use Rattle.std.proofs.Common.{arith}
-use Rattle.std.proofs.lemmas.Grind.{common_steps}
+use Rattle.cw_names.proofs.Terms.{arith, common_steps}
 use Rattle.cw_names.proofs.names.are_same.Goals as goal
 
 pub loop-k-init : goal.loop-k-init

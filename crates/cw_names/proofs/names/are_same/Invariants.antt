@@ -1,5 +1,5 @@
 -- The bytes so far are the same.
-use Rattle.std.proofs.Common.{◌≡◌, ◌≤◌, ◌-◌, length, take}
+use Rattle.cw_names.proofs.Terms.{◌≡◌, ◌≤◌, ◌-◌, length, take}
 use Rattle.cw_names.proofs.names.are_same.Given as goal
 
 abbrev pub invariant-loop-k : goal.invariant-loop-k

@@ -1,7 +1,5 @@
 -- The words that are left, added to what lies in the hash table, give what all words give.
-use Rattle.std.proofs.Common.{◌≡◌, [], drop, map}
-use Rattle.cw_names.specs.Inside.{entry_of}
-use Rattle.cw_names.specs.Table.{row, with_table}
+use Rattle.cw_names.proofs.Terms.{◌≡◌, [], drop, map, entry_of, row, with_table}
 use Rattle.cw_names.proofs.words.table_of.Given as goal
 
 abbrev pub invariant-loop-word : goal.invariant-loop-word

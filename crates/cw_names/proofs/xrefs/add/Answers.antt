@@ -1,9 +1,7 @@
 -- A section goes before the first that isn't less, or is joined to the same section where that stands there.
-use Rattle.std.proofs.Common.{arith}
-use Rattle.std.proofs.lemmas.Result.{on_ok_weaker}
+use Rattle.cw_names.proofs.Terms.{arith, on_ok_weaker, nat_tests}
 use Rattle.cw_names.proofs.Mentions.{any-default, section-inserted, section-joined}
 use Rattle.cw_names.proofs.xrefs.add.Goals.{else-place-len-via-else-place-len}
-use Rattle.std.proofs.lemmas.Bool.Decides.{nat_tests}
 use Rattle.cw_names.proofs.xrefs.add.Goals as goal
 
 pub returns-then-index-section-clause-ok : goal.returns-then-index-section-clause-ok

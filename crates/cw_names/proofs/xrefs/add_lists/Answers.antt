@@ -1,7 +1,6 @@
 -- One empty list more changes the sections of no name.
-use Rattle.std.proofs.Common.{arith}
+use Rattle.cw_names.proofs.Terms.{arith, nat_tests}
 use Rattle.cw_names.proofs.Mentions.{at-pushed}
-use Rattle.std.proofs.lemmas.Bool.Decides.{nat_tests}
 use Rattle.cw_names.proofs.xrefs.add_lists.Goals as goal
 
 pub names-preserved : goal.names-preserved

@@ -1,6 +1,5 @@
 -- Each name has the sections that it had, and at each turn fewer lists are wanting.
-use Rattle.std.proofs.Common.{◌≡◌, ℕ, ◌+◌, ◌-◌, length}
-use Rattle.cw_names.specs.Noted.{sections_at}
+use Rattle.cw_names.proofs.Terms.{◌≡◌, ℕ, ◌+◌, ◌-◌, length, sections_at}
 use Rattle.cw_names.proofs.xrefs.add_lists.Given as goal
 
 abbrev pub invariant-names : goal.invariant-names

@@ -1,8 +1,6 @@
 -- The list of this name gets the section, or stays where memory is wanting; those of other names stay.
-use Rattle.std.proofs.Common.{arith}
-use Rattle.std.proofs.lemmas.Result.{on_ok_weaker, on_err_weaker}
+use Rattle.cw_names.proofs.Terms.{arith, on_ok_weaker, on_err_weaker, nat_tests}
 use Rattle.cw_names.proofs.Mentions.{at-set, at-other, at-read}
-use Rattle.std.proofs.lemmas.Bool.Decides.{nat_tests}
 use Rattle.cw_names.proofs.xrefs.mention.Goals as goal
 
 pub add-requires : goal.add-requires

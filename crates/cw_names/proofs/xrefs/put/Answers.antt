@@ -1,6 +1,5 @@
 -- `put`: clause `ok`; said here, so that a wrong one fails at once.
-use Rattle.std.proofs.Common.{arith}
-use Rattle.std.proofs.lemmas.Grind.{common_steps}
+use Rattle.cw_names.proofs.Terms.{arith, common_steps}
 use Rattle.cw_names.proofs.xrefs.put.Goals as goal
 
 pub returns-clause-ok : goal.returns-clause-ok

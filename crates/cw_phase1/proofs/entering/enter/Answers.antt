@@ -1,5 +1,5 @@
 -- Whether a name is ignored is seen by its reduced text.
-use Rattle.std.proofs.Common.{arith}
+use Rattle.cw_phase1.proofs.Terms.{arith}
 use Rattle.cw_phase1.proofs.Ignored.{naming-reduced}
 use Rattle.cw_phase1.proofs.entering.enter.Goals as goal
 

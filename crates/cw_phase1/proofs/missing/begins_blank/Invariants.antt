@@ -1,6 +1,5 @@
 -- Blanks alone came, so what is left decides.
-use Rattle.std.proofs.Common.{◌≡◌, drop}
-use Rattle.cw_phase1.specs.Missing.{begins_blank}
+use Rattle.cw_phase1.proofs.Terms.{◌≡◌, drop, begins_blank}
 use Rattle.cw_phase1.proofs.missing.begins_blank.Given as goal
 
 abbrev pub invariant-loop-byte : goal.invariant-loop-byte

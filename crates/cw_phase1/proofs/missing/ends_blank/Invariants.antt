@@ -1,6 +1,5 @@
 -- Blanks alone stand from here on, so what is before them decides.
-use Rattle.std.proofs.Common.{◌≡◌, ◌≤◌, length, take, reverse}
-use Rattle.cw_phase1.specs.Missing.{begins_blank}
+use Rattle.cw_phase1.proofs.Terms.{◌≡◌, ◌≤◌, length, take, reverse, begins_blank}
 use Rattle.cw_phase1.proofs.missing.ends_blank.Given as goal
 
 abbrev pub invariant-loop-end : goal.invariant-loop-end

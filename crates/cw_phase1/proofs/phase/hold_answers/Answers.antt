@@ -1,7 +1,5 @@
 -- Each answer keeps what holds while the answers come.
-use Rattle.std.proofs.Common.{refl, subst, arith}
-use Rattle.cw_rules.specs.Answers.{seen}
-use Rattle.cw_phase1.specs.Holding.{held_of}
+use Rattle.cw_phase1.proofs.Terms.{refl, subst, arith, seen, held_of}
 use Rattle.cw_phase1.proofs.Underway.{Underway, start, is-token, section-fits, ready-settles, token-step, begin-step}
 use Rattle.cw_phase1.proofs.Underway.{finish-step, note-step, scanned, waiting-kept}
 use Rattle.cw_phase1.proofs.phase.hold_answers.Goals as goal

@@ -1,7 +1,5 @@
 -- What is told at the end of all answers stays the same, and each answer leaves one less to come.
-use Rattle.std.proofs.Common.{length}
-use Rattle.cw_base.specs.Web.{text_of}
-use Rattle.cw_phase1.specs.Holding.{held_of}
+use Rattle.cw_phase1.proofs.Terms.{length, text_of, held_of}
 use Rattle.cw_phase1.proofs.Underway.{Underway}
 use Rattle.cw_phase1.proofs.phase.hold_answers.Given as goal
 

@@ -1,6 +1,5 @@
 -- `note_name`: answer behind `push`; said here, so that a wrong one fails at once.
-use Rattle.std.proofs.Common.{arith}
-use Rattle.std.proofs.lemmas.Grind.{common_steps}
+use Rattle.cw_phase1.proofs.Terms.{arith, common_steps}
 use Rattle.cw_phase1.proofs.phase.note_name.Goals as goal
 
 pub returns-in_ok-push-2 : goal.returns-in_ok-push-2

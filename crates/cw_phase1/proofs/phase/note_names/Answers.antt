@@ -1,5 +1,5 @@
 -- The notes on one name more.
-use Rattle.std.proofs.Common.{append_assoc, arith}
+use Rattle.cw_phase1.proofs.Terms.{append_assoc, arith}
 use Rattle.cw_phase1.proofs.Referred.{names-step}
 use Rattle.cw_phase1.proofs.phase.note_names.Goals as goal
 

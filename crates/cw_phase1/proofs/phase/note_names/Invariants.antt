@@ -1,6 +1,5 @@
 -- The notes so far, with those on the names that are left, are those on all names.
-use Rattle.std.proofs.Common.{◌≡◌, ◌++◌, drop}
-use Rattle.cw_phase1.specs.Notes.{name_notes, name_notes_from}
+use Rattle.cw_phase1.proofs.Terms.{◌≡◌, ◌++◌, drop, name_notes, name_notes_from}
 use Rattle.cw_phase1.proofs.phase.note_names.Given as goal
 
 abbrev pub invariant-loop-k : goal.invariant-loop-k

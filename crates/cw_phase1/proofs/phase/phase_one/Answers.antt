@@ -1,36 +1,20 @@
 -- The book of what is held when all answers came is that of the whole list of answers.
-use Rattle.std.proofs.Common.{◌≡◌, ◌<◌, ◌≤◌, ◌∙◌, ap, sym, subst, List, [], All, length, arith}
-use Rattle.cw_base.specs.Web.{text_of}
-use Rattle.cw_base.specs.declared.span.Span.{Span}
-use Rattle.std.proofs.lemmas.List.Elements.{All-nil}
-use Rattle.cw_secnames.specs.Kept.{SecName}
-use Rattle.cw_secnames.specs.Uses.{NameUse}
-use Rattle.cw_phase1.specs.declared.sections.Section.{Section}
-use Rattle.cw_phase1.specs.Book.{answers_of, book}
-use Rattle.cw_phase1.specs.Entering.{kept_after}
-use Rattle.cw_phase1.specs.Roles.{Placed, at_limbo, placed}
-use Rattle.cw_phase1.specs.Sections.{span, sections_of}
-use Rattle.cw_phase1.specs.Sound.{IsNamedBy, LiesIn, RefersUpTo}
-use Rattle.std.specs.Prelude.{unwrap_or}
-use Rattle.cw_phase1.specs.Ending.{with_references}
-use Rattle.cw_phase1.specs.Uses.{references_of, section_names}
-use Rattle.cw_phase1.specs.declared.told.Told.{Told}
-use Rattle.cw_phase1.proofs.Outlines.{all-sections, all-limbo}
+use Rattle.cw_phase1.proofs.Terms.{◌≡◌, ◌<◌, ◌≤◌, ◌∙◌, ap, sym, subst, List, [], All, length, arith, text_of, Span}
+use Rattle.cw_phase1.proofs.Terms.{All-nil, SecName, NameUse, Section, answers_of, book, kept_after, Placed, at_limbo}
+use Rattle.cw_phase1.proofs.Terms.{placed, span, sections_of, IsNamedBy, LiesIn, RefersUpTo, unwrap_or, with_references}
+use Rattle.cw_phase1.proofs.Terms.{references_of, section_names, Told}
+use Rattle.cw_phase1.proofs.{Outlines.all-sections, Outlines.all-limbo, Referred.all-referred, LimboRoles.all-rise}
+use Rattle.cw_phase1.proofs.{LimboRoles.unnamed, NameSizes.all-short}
 use Rattle.cw_phase1.proofs.WordLaws.{all-names, all-occurrences, all-uses, all-references}
-use Rattle.cw_phase1.proofs.Referred.{all-referred}
 use Rattle.cw_phase1.proofs.RoleLaws.{fits, numbered, all-refer, uses-below}
-use Rattle.cw_phase1.proofs.LimboRoles.{all-rise, unnamed}
 use Rattle.cw_phase1.proofs.SpanLaws.{follows, all-lie, all-named, limbo-lies, named-below}
-use Rattle.cw_phase1.proofs.NameSizes.{all-short}
 use Rattle.cw_phase1.proofs.phase.phase_one.Goals as goal
 
 kept : (c : goal.In_ok-book) → with_references c.in_ok-held.held.told.named.references c.in_ok-held.held.kept
     ≡ section_names (kept_after [] (answers_of c.args.web.now.lines)) (placed (answers_of c.args.web.now.lines))
-kept c =
-    (λ i. with_references ((ap (λ (t : Told). t.named.references) c.in_ok-held.ensures.told
-    ∙ all-references c.args.web.now.lines (placed (answers_of c.args.web.now.lines))) i)
-    (c.in_ok-held.ensures.kept i)) ∙
-    all-referred (references_of (placed (answers_of c.args.web.now.lines))) (answers_of c.args.web.now.lines)
+kept c = (λ i. with_references ((ap (λ (t : Told). t.named.references) c.in_ok-held.ensures.told
+    ∙ all-references c.args.web.now.lines (placed (answers_of c.args.web.now.lines))) i) (c.in_ok-held.ensures.kept i))
+    ∙ all-referred (references_of (placed (answers_of c.args.web.now.lines))) (answers_of c.args.web.now.lines)
 
 sec_names-are : (c : goal.In_ok-book) → c.in_ok-book.book.sec_names ≡ (book c.args.web.now.lines).sec_names
 sec_names-are c = c.in_ok-book.ensures.sec_names ∙ kept c
@@ -42,8 +26,7 @@ limbo-is : (c : goal.In_ok-book) → c.in_ok-book.book.outline.limbo ≡ (book c
 limbo-is c = c.in_ok-book.ensures.limbo ∙ (ap (λ (t : Told). span 0 (unwrap_or t.sections.limbo_end
     (length (text_of c.args.web.now.lines)))) c.in_ok-held.ensures.told ∙ ap (span 0) (grind (arith, all-limbo)))
 
-sections-are : (c : goal.In_ok-book)
-    → c.in_ok-book.book.outline.sections ≡ (book c.args.web.now.lines).outline.sections
+sections-are : (c : goal.In_ok-book) → c.in_ok-book.book.outline.sections ≡ (book c.args.web.now.lines).outline.sections
 sections-are c = c.in_ok-book.ensures.sections ∙ (grind (arith, all-sections))
 
 notes-are : (c : goal.In_ok-book) → c.in_ok-book.book.outline.notes ≡ (book c.args.web.now.lines).outline.notes
@@ -71,18 +54,17 @@ returns-clause-references c =
     (unnamed _ [] (answers_of c.args.web.now.lines) (c.limbo_law.ensures (text_of c.args.web.now.lines) 0 _)))))
 
 pub returns-clause-use_ids : goal.returns-clause-use_ids
-returns-clause-use_ids c =
-    subst (λ n. All (λ (u : NameUse). u.name < n) c.in_ok-book.book.name_uses) (sym c.in_ok-book.ensures.count) (subst
+returns-clause-use_ids c = subst (λ n. All (λ (u : NameUse). u.name < n) c.in_ok-book.book.name_uses)
+    (sym c.in_ok-book.ensures.count) (subst
     (λ (us : List NameUse). All (λ (u : NameUse). u.name < length c.in_ok-held.held.kept) us) (sym (name_uses-are c))
     (uses-below _ _ (fits _ [] (answers_of c.args.web.now.lines)) (grind (arith, all-references))))
 
 pub returns-clause-section_names : goal.returns-clause-section_names
-returns-clause-section_names c = subst (λ (sections : List Section).
-    All (IsNamedBy c.in_ok-book.book.name_uses) sections) (sym (sections-are c)) (subst (λ (us : List NameUse).
-    All (IsNamedBy us) (sections_of c.args.web.now.lines (length (text_of c.args.web.now.lines)) (tokens c)))
-    (sym (name_uses-are c)) (all-named c.args.web.now.lines
-    [] 0 (length (text_of c.args.web.now.lines)) (tokens c) (All-nil (λ (u : NameUse). u.place < 0))
-    (grind (arith, follows)) (fits at_limbo [] (answers_of c.args.web.now.lines))))
+returns-clause-section_names c = subst (λ (sections : List Section). All (IsNamedBy c.in_ok-book.book.name_uses)
+    sections) (sym (sections-are c)) (subst (λ (us : List NameUse). All (IsNamedBy us)
+    (sections_of c.args.web.now.lines (length (text_of c.args.web.now.lines)) (tokens c))) (sym (name_uses-are c))
+    (all-named c.args.web.now.lines [] 0 (length (text_of c.args.web.now.lines)) (tokens c) (All-nil
+    (λ (u : NameUse). u.place < 0)) (grind (arith, follows)) (fits at_limbo [] (answers_of c.args.web.now.lines))))
 
 pub returns-clause-section_ids : goal.returns-clause-section_ids
 returns-clause-section_ids c = named-below _ _ _ (returns-clause-use_ids c) (returns-clause-section_names c)

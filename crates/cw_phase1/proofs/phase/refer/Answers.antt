@@ -1,5 +1,5 @@
 -- Each reference is to a name that is kept.
-use Rattle.std.proofs.Common.{slice_index_or, arith}
+use Rattle.cw_phase1.proofs.Terms.{slice_index_or, arith}
 use Rattle.cw_phase1.proofs.Referred.{of-kept}
 use Rattle.cw_phase1.proofs.phase.refer.Goals as goal
 

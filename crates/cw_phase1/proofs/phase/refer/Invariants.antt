@@ -1,7 +1,5 @@
 -- The references that are left, added to the names so far, give what all references give.
-use Rattle.std.proofs.Common.{◌≡◌, length, drop, map}
-use Rattle.cw_phase1.specs.Ending.{with_references}
-use Rattle.cw_phase1.specs.Referring.{referring_of}
+use Rattle.cw_phase1.proofs.Terms.{◌≡◌, length, drop, map, with_references, referring_of}
 use Rattle.cw_phase1.proofs.phase.refer.Given as goal
 
 abbrev pub invariant-loop-reference : goal.invariant-loop-reference

@@ -1,12 +1,10 @@
 -- A line behind the part ends the search, a changed one that reaches into it decides, and any other is passed.
-use Rattle.std.proofs.Common.{◌≡◌, ◌+◌, ◌<◌, ◌∙◌, sym, ap, arith, false, [], length, drop, zero-add}
-use Rattle.cw_base.specs.Web.{MergedLine}
-use Rattle.cw_phase1.specs.Places.{nowhere, holds_changed}
-use Rattle.cw_phase1.specs.LinePlaces.{offset}
+use Rattle.cw_phase1.proofs.Terms.{◌≡◌, ◌+◌, ◌<◌, ◌∙◌, sym, ap, arith, false, [], length, drop, zero-add, MergedLine}
+use Rattle.cw_phase1.proofs.Terms.{nowhere, holds_changed, offset}
 use Rattle.cw_phase1.proofs.PlaceLaws.{changed-skip, changed-behind, changed-hit, changed-plain, changed-before}
-use Rattle.cw_phase1.proofs.places.holds_changed.Goals as goal
 use Rattle.cw_phase1.proofs.places.holds_changed.Goals.{else-line-via-then-line+else-start-line}
 use Rattle.cw_phase1.proofs.places.holds_changed.Goals.{else-line-via-else-line}
+use Rattle.cw_phase1.proofs.places.holds_changed.Goals as goal
 
 abbrev blank : MergedLine
 blank = record { text = []; place = nowhere; changed = false }

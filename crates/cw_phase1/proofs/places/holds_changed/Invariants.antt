@@ -1,7 +1,5 @@
 -- No line so far is a changed one in the part: whether one is there is told by the lines that are left.
-use Rattle.std.proofs.Common.{◌≡◌, ◌-◌, ◌≤◌, length, drop}
-use Rattle.cw_phase1.specs.LinePlaces.{offset}
-use Rattle.cw_phase1.specs.Places.{holds_changed}
+use Rattle.cw_phase1.proofs.Terms.{◌≡◌, ◌-◌, ◌≤◌, length, drop, offset, holds_changed}
 use Rattle.cw_phase1.proofs.places.holds_changed.Given as goal
 
 abbrev pub invariant-loop-i : goal.invariant-loop-i

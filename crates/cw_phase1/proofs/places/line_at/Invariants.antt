@@ -1,6 +1,5 @@
 -- The low line begins at the byte or before it; the high one begins behind it, or is past the last line.
-use Rattle.std.proofs.Common.{◌-◌, ◌<◌, ◌≤◌, length}
-use Rattle.cw_phase1.specs.LinePlaces.{offset}
+use Rattle.cw_phase1.proofs.Terms.{◌-◌, ◌<◌, ◌≤◌, length, offset}
 use Rattle.cw_phase1.proofs.places.line_at.Given as goal
 
 abbrev pub invariant-loop-low : goal.invariant-loop-low

@@ -1,8 +1,6 @@
 -- What the table says of a line is where its text begins and ends, its place, and whether it was changed.
-use Rattle.std.proofs.Common.{◌≡◌, ◌+◌, ap, ◌∙◌, false, [], get_or, zero-add, arith}
-use Rattle.cw_base.specs.Web.{MergedLine, info_from}
-use Rattle.cw_base.specs.declared.web.LineInfo.{LineInfo}
-use Rattle.cw_phase1.specs.LinePlaces.{offset}
+use Rattle.cw_phase1.proofs.Terms.{◌≡◌, ◌+◌, ap, ◌∙◌, false, [], get_or, zero-add, arith, MergedLine, info_from}
+use Rattle.cw_phase1.proofs.Terms.{LineInfo, offset}
 use Rattle.cw_phase1.proofs.PlaceLaws.{info-at}
 use Rattle.cw_phase1.proofs.places.line_of.Goals as goal
 

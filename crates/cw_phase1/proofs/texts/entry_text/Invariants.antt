@@ -1,6 +1,5 @@
 -- The bytes so far, and what the rest of the control text stands for, are the text of the entry.
-use Rattle.std.proofs.Common.{◌≡◌, ◌-◌, ◌++◌, length, drop}
-use Rattle.cw_rules.specs.ControlTexts.{text_to_end}
+use Rattle.cw_phase1.proofs.Terms.{◌≡◌, ◌-◌, ◌++◌, length, drop, text_to_end}
 use Rattle.cw_phase1.proofs.texts.entry_text.Given as goal
 
 abbrev pub invariant-loop-at : goal.invariant-loop-at

@@ -1,7 +1,5 @@
 -- The bytes so far, and what the rest gives behind the white space that waits, are the text of the name.
-use Rattle.std.proofs.Common.{◌≡◌, ◌-◌, ◌++◌, length, drop}
-use Rattle.cw_rules.specs.Names.{uncoded}
-use Rattle.cw_phase1.specs.Texts.{reduced, rest_of, is_begun}
+use Rattle.cw_phase1.proofs.Terms.{◌≡◌, ◌-◌, ◌++◌, length, drop, uncoded, reduced, rest_of, is_begun}
 use Rattle.cw_phase1.proofs.texts.name_text.Given as goal
 
 abbrev pub invariant-loop-at : goal.invariant-loop-at

@@ -13,12 +13,11 @@ returns-in_err-record_alone g c = λ flags. ends-refused c.from_residual.ensures
     (omega arith) (record { names = refl; store = refl; marks = refl; steps = refl }) c.requires.sound.idle
 
 pub returns-in_err-list : goal.returns-in_err-list
-returns-in_err-list g c = λ flags. ends-refused c.from_residual-in_err-list.ensures.1
-    (alone-fails flags _ _ c.args.work.now.marks.now c.args.leaf c.args.work.now.steps.now c.requires.sound
-    c.requires.alone) (alone-recorded flags _ _ c.args.work.now.marks.now c.args.leaf c.args.work.now.steps.now
-    c.requires.sound c.requires.alone c.from_residual-in_err-list.result refl c.in_ok-record_alone.ensures.told)
-    (alone-spent flags _ _ c.args.work.now.marks.now c.args.leaf c.args.work.now.steps.now c.requires.sound
-    c.requires.alone c.tick-4.new.self
+returns-in_err-list g c = λ flags. ends-refused c.from_residual-in_err-list.ensures.1 (alone-fails flags _ _
+    c.args.work.now.marks.now c.args.leaf c.args.work.now.steps.now c.requires.sound c.requires.alone)
+    (alone-recorded flags _ _ c.args.work.now.marks.now c.args.leaf c.args.work.now.steps.now c.requires.sound
+    c.requires.alone c.from_residual-in_err-list.result refl c.in_ok-record_alone.ensures.told) (alone-spent flags _ _
+    c.args.work.now.marks.now c.args.leaf c.args.work.now.steps.now c.requires.sound c.requires.alone c.tick-4.new.self
     (omega (arith, c.tick.ensures, c.tick-2.ensures, c.tick-3.ensures, c.tick-4.ensures)))
     (record { names = refl; store = refl; marks = refl; steps = refl }) c.in_err-list.ensures.idle
 

@@ -20,11 +20,10 @@ pub returns-in_err-name_ahead-clause-reads : goal.returns-in_err-name_ahead-clau
 returns-in_err-name_ahead-clause-reads g c =
     let named = texts_in c.args.context.now in
     let next = answers_in c.args.begun.now.next in
-    advancing-stopped (with_texts named (name_ahead c.args.begun.now.name))
-    (with_texts named (next ++ c.args.reader.now.coming)) (advancing-begun c.args.context.now.flags.now
-    (with_texts named ((name_ahead c.args.begun.now.name ++ next) ++ c.args.reader.now.coming)) c.requires.translating)
-    (cut-first named (name_ahead c.args.begun.now.name) next c.args.reader.now.coming) c.in_err-name_ahead.ensures
-    c.from_residual.ensures.1
+    advancing-stopped (with_texts named (name_ahead c.args.begun.now.name)) (with_texts named
+    (next ++ c.args.reader.now.coming)) (advancing-begun c.args.context.now.flags.now (with_texts named ((name_ahead
+    c.args.begun.now.name ++ next) ++ c.args.reader.now.coming)) c.requires.translating) (cut-first named (name_ahead
+    c.args.begun.now.name) next c.args.reader.now.coming) c.in_err-name_ahead.ensures c.from_residual.ensures.1
 
 pub returns-in_err-named_answer-clause-reads : goal.returns-in_err-named_answer-clause-reads
 returns-in_err-named_answer-clause-reads g c =
@@ -38,9 +37,8 @@ returns-in_err-named_answer-clause-reads g c =
 pub returns-clause-reads : goal.returns-clause-reads
 returns-clause-reads g c =
     let named = texts_in c.args.context.now in
-    advancing-last (advancing-next (with_texts named (answers_in c.args.begun.now.next))
-    (with_texts named c.args.reader.now.coming)
-    (ahead-advancing c.args.context.now.flags.now named (name_ahead c.args.begun.now.name)
+    advancing-last (advancing-next (with_texts named (answers_in c.args.begun.now.next)) (with_texts named
+    c.args.reader.now.coming) (ahead-advancing c.args.context.now.flags.now named (name_ahead c.args.begun.now.name)
     (answers_in c.args.begun.now.next) c.args.reader.now.coming c.requires.translating c.in_ok-name_ahead.ensures)
-    (with-texts-append named (answers_in c.args.begun.now.next) c.args.reader.now.coming)
-    c.in_ok-named_answer.ensures) c.read_named.ensures.reads
+    (with-texts-append named (answers_in c.args.begun.now.next) c.args.reader.now.coming) c.in_ok-named_answer.ensures)
+    c.read_named.ensures.reads

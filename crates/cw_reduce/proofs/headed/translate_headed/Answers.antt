@@ -11,19 +11,15 @@ read_headed-requires-clause-translating g c = head-translating c.args.work.now.s
     c.in_ok-translator.translator (head_line c.args.begun.now.head) c.in_ok-translator.ensures c.requires.sound
 
 pub returns-in_err-translator-clause-text : goal.returns-in_err-translator-clause-text
-returns-in_err-translator-clause-text g c = ends-refused c.from_residual.ensures.1
-    (whole-start _ _ _ _ _) (recorded-refused _ _ c.from_residual.ensures.1) (omega arith) unchanged
-    c.requires.sound.idle
+returns-in_err-translator-clause-text g c = ends-refused c.from_residual.ensures.1 (whole-start _ _ _ _ _)
+    (recorded-refused _ _ c.from_residual.ensures.1) (omega arith) unchanged c.requires.sound.idle
 
 pub returns-in_err-read_headed-clause-text : goal.returns-in_err-read_headed-clause-text
-returns-in_err-read_headed-clause-text g c = headed-as _ _
-    (texts-nested c.args.context.now.sec_names.now c.args.context.now.uses.now) _ _ c.requires.nested
-    c.in_ok-translator.ensures
+returns-in_err-read_headed-clause-text g c = headed-as _ _ (texts-nested c.args.context.now.sec_names.now
+    c.args.context.now.uses.now) _ _ c.requires.nested c.in_ok-translator.ensures
     (ends-stopped [] c.in_err-read_headed.ensures.reads c.from_residual-in_err-read_headed.ensures.1 (λ names h. h))
 
 pub returns-clause-text : goal.returns-clause-text
-returns-clause-text g c = headed-as _ _
-    (texts-nested c.args.context.now.sec_names.now c.args.context.now.uses.now) _ _ c.requires.nested
-    c.in_ok-translator.ensures
-    (ends-as refl (λ names h. behind (way-end _ _ _ _ names refl h))
+returns-clause-text g c = headed-as _ _ (texts-nested c.args.context.now.sec_names.now c.args.context.now.uses.now) _ _
+    c.requires.nested c.in_ok-translator.ensures (ends-as refl (λ names h. behind (way-end _ _ _ _ names refl h))
     (ends-then [] c.in_ok-read_headed.ensures.reads c.end.ensures))

@@ -12,13 +12,12 @@ returns-in_err-begun-clause-text g c = ends-refused c.from_residual.ensures.1
     (record { names = refl; store = refl; marks = refl; steps = refl }) c.in_err-begun.ensures.head.idle
 
 pub returns-clause-text : goal.returns-clause-text
-returns-clause-text g c = ends-behind c.in_ok-begun.ensures.head.keeps refl refl refl refl
-    (record { names = refl; store = refl; marks = refl; steps = refl })
-    (ends-as (headed-translated c.args.context.now.flags.now (texts_in c.args.context.now)
-    (texts-nested c.args.context.now.sec_names.now c.args.context.now.uses.now) c.read_head.new.store.lists
-    c.in_ok-begun.begun.head (answers_ahead c.in_ok-begun.begun ++ c.read_head.new.reader.coming)
-    (answers_in c.args.first ++ c.args.reader.now.coming) c.args.work.now.names.now c.read_head.new.names
-    (marked_names c.args.work.now.marks.now) c.in_ok-begun.ensures.head.made c.in_ok-begun.ensures.head.rest)
-    (λ names h. behind_head c.read_head.new.store.lists c.in_ok-begun.begun.head _ c.read_head.new.names
-    c.in_ok-begun.ensures.head.rest (c.in_ok-begun.ensures.head.made _ _
+returns-clause-text g c = ends-behind c.in_ok-begun.ensures.head.keeps refl refl refl refl (record
+    { names = refl; store = refl; marks = refl; steps = refl }) (ends-as (headed-translated c.args.context.now.flags.now
+    (texts_in c.args.context.now) (texts-nested c.args.context.now.sec_names.now c.args.context.now.uses.now)
+    c.read_head.new.store.lists c.in_ok-begun.begun.head (answers_ahead c.in_ok-begun.begun
+    ++ c.read_head.new.reader.coming) (answers_in c.args.first ++ c.args.reader.now.coming) c.args.work.now.names.now
+    c.read_head.new.names (marked_names c.args.work.now.marks.now) c.in_ok-begun.ensures.head.made
+    c.in_ok-begun.ensures.head.rest) (λ names h. behind_head c.read_head.new.store.lists c.in_ok-begun.begun.head _
+    c.read_head.new.names c.in_ok-begun.ensures.head.rest (c.in_ok-begun.ensures.head.made _ _
     (begin c.args.work.now.names.now (marked_names c.args.work.now.marks.now))) h) c.translate_headed.ensures.text)

@@ -6,10 +6,9 @@ use Rattle.cw_reduce.proofs.heads.definition_head.Goals as goal
 use Rattle.cw_translator.proofs.Terms.{◌++◌, refl, sym, ap, ◌∙◌, tied-idle, answers_in}
 
 pub returns-in_err-next-clause-head : goal.returns-in_err-next-clause-head
-returns-in_err-next-clause-head c = head-refused c.from_residual.ensures.1
-    (definition-within c.args.code.kind (seen c.args.code) c.args.reader.now.coming c.args.names.now
-    c.read_words.new.names c.requires.code c.requires.nested
-    (rw c.wanted_by-wanted.ensures at c.in_err-next.ensures.no_names)) refl c.requires.idle
+returns-in_err-next-clause-head c = head-refused c.from_residual.ensures.1 (definition-within c.args.code.kind
+    (seen c.args.code) c.args.reader.now.coming c.args.names.now c.read_words.new.names c.requires.code
+    c.requires.nested (rw c.wanted_by-wanted.ensures at c.in_err-next.ensures.no_names)) refl c.requires.idle
 
 pub words_head-requires-clause-plain : goal.words_head-requires-clause-plain
 words_head-requires-clause-plain c = words-plain c.wanted_by-wanted.result c.args.reader.now.coming c.args.names.now
@@ -18,13 +17,11 @@ words_head-requires-clause-plain c = words-plain c.wanted_by-wanted.result c.arg
     c.new-words.ensures.items c.deref.ensures.value
 
 pub returns-in_err-head-clause-head : goal.returns-in_err-head-clause-head
-returns-in_err-head-clause-head c = head-refused c.from_residual-in_err-head.ensures.1
-    (definition-within c.args.code.kind (seen c.args.code) c.args.reader.now.coming c.args.names.now
-    c.read_words.new.names c.requires.code c.requires.nested
-    (all-within (answer_words (wanted_by c.args.code.kind) c.args.reader.now.coming) c.args.names.now
-    c.read_words.new.names
-    (rw c.wanted_by-wanted.ensures at c.in_ok-next.ensures.names))) c.in_err-head.ensures.no_lists
-    c.in_err-head.ensures.idle
+returns-in_err-head-clause-head c = head-refused c.from_residual-in_err-head.ensures.1 (definition-within
+    c.args.code.kind (seen c.args.code) c.args.reader.now.coming c.args.names.now c.read_words.new.names c.requires.code
+    c.requires.nested (all-within (answer_words (wanted_by c.args.code.kind) c.args.reader.now.coming) c.args.names.now
+    c.read_words.new.names (rw c.wanted_by-wanted.ensures at c.in_ok-next.ensures.names)))
+    c.in_err-head.ensures.no_lists c.in_err-head.ensures.idle
 
 pub returns-clause-head : goal.returns-clause-head
 returns-clause-head c =

@@ -5,9 +5,8 @@ use Rattle.cw_reduce.proofs.Terms.{name_in_text, names_in_text, names-append}
 use Rattle.cw_reduce.proofs.HeadMakes.{word-plain}
 use Rattle.cw_reduce.proofs.heads.push_names.Goals as goal
 
-more-names : (o now new : Option (List Token)) (ws : List Token) (i : ℕ) (d : Token) → i < length ws
-    → now ≡ option_map (λ ts. ts ++ names_in_text (take i ws)) o
-    → new ≡ option_map (λ ts. ts ++ name_in_text (get_or ws i d)) now
+more-names : (o now new : Option (List Token)) (ws : List Token) (i : ℕ) (d : Token) → i < length ws → now ≡ option_map
+    (λ ts. ts ++ names_in_text (take i ws)) o → new ≡ option_map (λ ts. ts ++ name_in_text (get_or ws i d)) now
     → new ≡ option_map (λ ts. ts ++ names_in_text (take (i + 1) ws)) o
 more-names None now new ws i d h e f = rw (f, e)
 more-names (Some ts) now new ws i d h e f =

@@ -27,9 +27,8 @@ returns-then-not-is_head_sign c =
     c.unsigned-then-not-is_head_sign.ensures.name c.unsigned-then-not-is_head_sign.ensures.next
     c.next_answer-next.ensures.gives c.requires.nested c.requires.start
     (unsigned-token c.args.reader.now.coming c.next_answer-next.new.reader.coming c.in-Token.sign
-    c.in-Token.ensures.gives
-    (nested-behind (seen c.args.name) c.args.reader.now.coming c.requires.nested) (seen c.args.name)
-    (sym c.is_head_sign.ensures ∙ c.if-not-is_head_sign.true)) in
+    c.in-Token.ensures.gives (nested-behind (seen c.args.name) c.args.reader.now.coming c.requires.nested)
+    (seen c.args.name) (sym c.is_head_sign.ensures ∙ c.if-not-is_head_sign.true)) in
     record {
       head = s.head;
       line = s.line;
@@ -51,10 +50,9 @@ returns c =
     let sign = signed c.args.reader.now.coming c.next_answer-next.new.reader.coming c.in-Token.sign
     c.in-Token.ensures.gives behind (seen c.args.name) (sym c.is_head_sign.ensures ∙ c.if-not-is_head_sign.false) in
     let ahead = ahead-of c.next_answer-next.new.reader.coming c.next_answer.new.reader.coming c.next_answer.result
-    c.next_answer.ensures.gives (nested-behind (seen c.in-Token.sign) c.next_answer-next.new.reader.coming
-    (token-nested c.args.reader.now.coming c.next_answer-next.new.reader.coming c.in-Token.sign c.in-Token.ensures.gives
-    behind)) (rw c.in-Token.ensures.gives at
-    ((bare c.args.reader.now.coming).starts (2 ^ 32) c.requires.start.1)).1 in
+    c.next_answer.ensures.gives (nested-behind (seen c.in-Token.sign) c.next_answer-next.new.reader.coming (token-nested
+    c.args.reader.now.coming c.next_answer-next.new.reader.coming c.in-Token.sign c.in-Token.ensures.gives behind))
+    (rw c.in-Token.ensures.gives at ((bare c.args.reader.now.coming).starts (2 ^ 32) c.requires.start.1)).1 in
     record {
       head = ap (λ x. x.head) sign;
       line = refl;

@@ -28,8 +28,7 @@ returns-in_default-behind c =
     record {
       words = reads-tokens read e;
       names = reads-names read e;
-      rest = ap (λ l. answers_in l ++ c.next_answer-answer.new.reader.coming) c.in-Token.is
-          ∙ reads-left read e;
+      rest = ap (λ l. answers_in l ++ c.next_answer-answer.new.reader.coming) c.in-Token.is ∙ reads-left read e;
       start = reads-starts read c.next_answer-answer.result c.next_answer-answer.new.reader.coming
           c.next_answer-answer.ensures.gives;
       all = stays-trans _ _ _ c.loop-word.invariant.1 c.next_answer-answer.ensures.all;
@@ -46,16 +45,14 @@ loop-word-smaller c = token-shorter c.loop-word.reader.coming c.next_answer-answ
 
 pub loop-word-preserved : goal.loop-word-preserved
 loop-word-preserved c = (
-  reads-word c.loop-word.invariant.0 c.in-Token.word c.next_answer-answer.new.reader.coming
-      c.in-Token.ensures.gives c.in-Some.next (sym c.behind.ensures ∙ c.in-Some.is) c.word_token.new.names
-      c.in_ok-word_token.ensures.names c.in_ok-word_token.field-0 c.push.new.self.items
-      c.in_ok-word_token.ensures.token c.in_ok-push.ensures.items,
+  reads-word c.loop-word.invariant.0 c.in-Token.word c.next_answer-answer.new.reader.coming c.in-Token.ensures.gives
+      c.in-Some.next (sym c.behind.ensures ∙ c.in-Some.is) c.word_token.new.names c.in_ok-word_token.ensures.names
+      c.in_ok-word_token.field-0 c.push.new.self.items c.in_ok-word_token.ensures.token c.in_ok-push.ensures.items,
   stays-trans _ _ _ c.loop-word.invariant.1 c.next_answer-answer.ensures.all,
 )
 
 pub returns-in_err-push-clause-no_names : goal.returns-in_err-push-clause-no_names
 returns-in_err-push-clause-no_names c = on-err c.from_residual-in_err-push.result
     (NamesWithin (answer_words c.args.wanted c.args.reader.now.coming) c.args.names.now c.word_token.new.names)
-    (word-within c.loop-word.invariant.0 c.in-Token.word c.next_answer-answer.new.reader.coming
-    c.in-Token.ensures.gives c.in-Some.next (sym c.behind.ensures ∙ c.in-Some.is) c.word_token.new.names
-    c.in_ok-word_token.ensures.names)
+    (word-within c.loop-word.invariant.0 c.in-Token.word c.next_answer-answer.new.reader.coming c.in-Token.ensures.gives
+    c.in-Some.next (sym c.behind.ensures ∙ c.in-Some.is) c.word_token.new.names c.in_ok-word_token.ensures.names)

@@ -22,12 +22,10 @@ returns-in_err-open_text g c = advances-unread c.args.context.now.flags.now
 
 pub returns-in_err-read_until_section : goal.returns-in_err-read_until_section
 returns-in_err-read_until_section g c = advancing-stopped (part_answers c.args.text.now c.args.span)
-    (Finish text_token ∷ [])
-    (text-begun c.args.context.now.flags.now (part_answers c.args.text.now c.args.span) c.requires.translating
-    c.in_ok-open_text.ensures.begins) refl
-    (answers-as c.args.context.now.flags.now (progress_over c.args.work.now c.open_text.new.self)
-    (ap until_section c.over-lexer.ensures.tokens) c.in_err-read_until_section.ensures)
-    c.from_residual-in_err-read_until_section.ensures.1
+    (Finish text_token ∷ []) (text-begun c.args.context.now.flags.now (part_answers c.args.text.now c.args.span)
+    c.requires.translating c.in_ok-open_text.ensures.begins) refl (answers-as c.args.context.now.flags.now
+    (progress_over c.args.work.now c.open_text.new.self) (ap until_section c.over-lexer.ensures.tokens)
+    c.in_err-read_until_section.ensures) c.from_residual-in_err-read_until_section.ensures.1
 
 pub returns : goal.returns
 returns g c = advancing-last (advancing-next (part_answers c.args.text.now c.args.span) (Finish text_token ∷ [])

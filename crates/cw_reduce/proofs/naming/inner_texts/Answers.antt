@@ -12,10 +12,9 @@ loop-span-init g c = (
 
 pub loop-span-preserved : goal.loop-span-preserved
 loop-span-preserved g c = (
-  advancing-next (text_answers (part_answers c.args.text.now c.in-Some.span))
-      (all_part_answers c.args.text.now (parts_at c.args.text.now (c.in-Some.span.end + 1))) c.loop-span.invariant.0
-      (part-next c.args.text.now c.loop-span.from c.in-Some.span c.in-Some.ensures.some)
-      c.in_ok-inner_text-in-Some.ensures,
+  advancing-next (text_answers (part_answers c.args.text.now c.in-Some.span)) (all_part_answers c.args.text.now
+      (parts_at c.args.text.now (c.in-Some.span.end + 1))) c.loop-span.invariant.0 (part-next c.args.text.now
+      c.loop-span.from c.in-Some.span c.in-Some.ensures.some) c.in_ok-inner_text-in-Some.ensures,
   omega (arith, c.in-Some.ensures.some.within),
 )
 

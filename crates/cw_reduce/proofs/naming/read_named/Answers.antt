@@ -23,11 +23,10 @@ named_answer-requires g c = record {
 
 pub loop-translator-preserved : goal.loop-translator-preserved
 loop-translator-preserved g c = (
-  advancing-next (with_texts (texts_in c.args.context.now) (answers_in c.next-answer.result)) (with_texts
-      (texts_in c.args.context.now) c.next-answer.new.self.coming) c.loop-translator.invariant.0
-      (with-texts-next (texts_in c.args.context.now)
-      c.loop-translator.reader.coming c.next-answer.new.self.coming c.next-answer.result c.next-answer.ensures.gives)
-      c.in_ok-named_answer.ensures,
+  advancing-next (with_texts (texts_in c.args.context.now) (answers_in c.next-answer.result))
+      (with_texts (texts_in c.args.context.now) c.next-answer.new.self.coming) c.loop-translator.invariant.0
+      (with-texts-next (texts_in c.args.context.now) c.loop-translator.reader.coming c.next-answer.new.self.coming
+      c.next-answer.result c.next-answer.ensures.gives) c.in_ok-named_answer.ensures,
   (starts-next 4294967296 c.loop-translator.reader.coming c.next-answer.new.self.coming c.next-answer.result
       c.next-answer.ensures.gives c.loop-translator.invariant.1).1,
   stays-trans _ _ _ c.loop-translator.invariant.2 c.next-answer.ensures.all,

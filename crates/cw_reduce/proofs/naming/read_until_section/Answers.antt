@@ -33,6 +33,5 @@ returns-in_err-answer g c = advancing-stopped (answers_in c.next-answer.result) 
     (sym c.ends_text.ensures ∙ c.if-ends_text.false)) c.in_err-answer.ensures c.from_residual.ensures.1
 
 pub returns-then-ends_text : goal.returns-then-ends_text
-returns-then-ends_text g c = advancing-ended tt c.loop-answer.invariant.0
-    (until-ends c.loop-answer.lexer c.next-answer.new.self c.next-answer.result c.next-answer.ensures
-    (sym c.ends_text.ensures ∙ c.if-ends_text.true))
+returns-then-ends_text g c = advancing-ended tt c.loop-answer.invariant.0 (until-ends c.loop-answer.lexer
+    c.next-answer.new.self c.next-answer.result c.next-answer.ensures (sym c.ends_text.ensures ∙ c.if-ends_text.true))

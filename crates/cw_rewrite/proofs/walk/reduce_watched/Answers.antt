@@ -1,9 +1,6 @@
 -- Each turn rewrites at the next place where a row fits and goes back, and less of the walk is left; behind the last
 -- production no row fits up to the end of the line. Each production is told before it is done.
-use Rattle.std.proofs.Common.{◌∙◌, ap, arith}
-use Rattle.cw_scraps.proofs.Applied.{keeps-trans}
-use Rattle.cw_scraps.specs.Applying.{state_of}
-use Rattle.cw_scraps.specs.Lines.{roots_of}
+use Rattle.cw_rewrite.proofs.Terms.{◌∙◌, ap, arith, keeps-trans, state_of, roots_of}
 use Rattle.cw_rewrite.proofs.LogSteps.{ends-before, ends-behind, stops-before, told-next, told-whole}
 use Rattle.cw_rewrite.proofs.WalkLoop.{turn-next, at-end, not-done, stops, ends, light, few}
 use Rattle.cw_rewrite.proofs.walk.reduce_watched.Goals as goal
@@ -60,10 +57,9 @@ returns-in_err-produce-clause-tokens g c =
     s.tokens
 
 pub returns-in_err-produce-clause-others : goal.returns-in_err-produce-clause-others
-returns-in_err-produce-clause-others g c =
-    keeps-trans c.args.store.now.lists c.loop-found.store.lists c.produce.new.store.lists (roots_of c.args.line.now)
-    (roots_of c.loop-found.line) (roots_of c.produce.new.line) c.loop-found.invariant.0.keeps
-    (rw c.next_row.ensures.same at c.in_err-produce.ensures.others)
+returns-in_err-produce-clause-others g c = keeps-trans c.args.store.now.lists c.loop-found.store.lists
+    c.produce.new.store.lists (roots_of c.args.line.now) (roots_of c.loop-found.line) (roots_of c.produce.new.line)
+    c.loop-found.invariant.0.keeps (rw c.next_row.ensures.same at c.in_err-produce.ensures.others)
 
 pub overflow_add-productions : goal.overflow_add-productions
 overflow_add-productions g c =
@@ -79,9 +75,8 @@ loop-found-smaller g c =
       arith,
       next.passed.on,
       t.less (state_of c.produce.new.store.lists c.produce.new.line c.produce.new.marks c.produce.new.names)
-          c.distance.result c.saturating_sub-place.result
-          (rw c.next_row.ensures.same at c.in_ok-produce.ensures.state) c.distance.ensures
-          c.saturating_sub-place.ensures,
+          c.distance.result c.saturating_sub-place.result (rw c.next_row.ensures.same at c.in_ok-produce.ensures.state)
+          c.distance.ensures c.saturating_sub-place.ensures,
     )
 
 pub loop-found-preserved : goal.loop-found-preserved
@@ -90,10 +85,13 @@ loop-found-preserved g c =
     let t = turn-next c.loop-found.invariant.0 next in (
       t.next c.distance.result c.saturating_sub-place.result c.distance.ensures c.saturating_sub-place.ensures
           c.produce.new.line c.produce.new.store c.produce.new.names c.produce.new.marks c.produce.new.steps
-          (rw c.next_row.ensures.same at c.in_ok-produce.ensures.state)
-          (omega (arith, (rw c.next_row.ensures.same at c.in_ok-produce.ensures.steps), next.counted))
-          c.in_ok-produce.ensures.sound (rw c.next_row.ensures.same at c.in_ok-produce.ensures.others)
-          c.in_ok-produce.ensures.words c.in_ok-produce.ensures.tokens,
+          (rw c.next_row.ensures.same at c.in_ok-produce.ensures.state) (omega (
+            arith,
+            (rw c.next_row.ensures.same at
+                c.in_ok-produce.ensures.steps),
+            next.counted,
+          )) c.in_ok-produce.ensures.sound (rw c.next_row.ensures.same at
+          c.in_ok-produce.ensures.others) c.in_ok-produce.ensures.words c.in_ok-produce.ensures.tokens,
       (
         told-next _ _ _ (g.W.Watch.told c.args.watch.now) t.heard c.loop-found.invariant.1.0
             (c.in_ok-hear.ensures.goes c.if-not-branch.false),

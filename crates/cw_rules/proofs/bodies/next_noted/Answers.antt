@@ -1,5 +1,5 @@
 -- The note that is met is the first of those that were left; a byte without one leaves them all.
-use Rattle.std.proofs.Common.{◌≡◌, ◌∷◌, true, None, Some, slice_index, drop, ap, sym, ◌∙◌}
+use Rattle.cw_rules.proofs.Terms.{◌≡◌, ◌∷◌, true, None, Some, slice_index, drop, ap, sym, ◌∙◌}
 use Rattle.cw_rules.specs.{declared.bodies.Noted.Noted, Bodies.goes_on, Bodies.note_here, Bodies.stepped}
 use Rattle.cw_rules.proofs.Inside.{noted-at}
 use Rattle.cw_rules.proofs.bodies.next_noted.Goals as goal
@@ -11,9 +11,8 @@ returns-in-Some-clause-value c =
     let goes : goes_on c.loop-place.i bytes ≡ true = cc in
     let here : note_here c.loop-place.i (slice_index bytes 0) (drop 1 bytes) ≡ Some c.in-Some.kind = cc in
     let next : c.step-next.result ≡ stepped c.loop-place.i (slice_index bytes 0) (drop 1 bytes) = cc in
-    sym c.loop-place.invariant.value
-    ∙ noted-at c.args.text.now c.loop-place.i c.step-next.result (Some c.in-Some.kind) goes here next
-    ∙ ap (λ notes. n ∷ notes) (sym c.behind_idle-i-in-loop-place.ensures.notes)
+    sym c.loop-place.invariant.value ∙ noted-at c.args.text.now c.loop-place.i c.step-next.result
+    (Some c.in-Some.kind) goes here next ∙ ap (λ notes. n ∷ notes) (sym c.behind_idle-i-in-loop-place.ensures.notes)
 
 pub loop-place-preserved : goal.loop-place-preserved
 loop-place-preserved c =

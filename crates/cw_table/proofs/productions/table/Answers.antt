@@ -1,9 +1,7 @@
 -- The rows that are put in are all productions, sound ones, numbered one after another.
-use Rattle.std.proofs.Common.{length-set, arith}
-use Rattle.std.proofs.lemmas.Bool.Decides.{nat_tests}
-use Rattle.cw_table.proofs.CheckLaws.{all-sound}
-use Rattle.cw_table.proofs.Examples.{productions-numbered, productions-sound}
-use Rattle.cw_table.proofs.Joining.{joins-more, joins-all, joined-test}
+use Rattle.cw_table.proofs.Terms.{length-set, arith, nat_tests}
+use Rattle.cw_table.proofs.{CheckLaws.all-sound, Examples.productions-numbered, Examples.productions-sound}
+use Rattle.cw_table.proofs.{Joining.joins-more, Joining.joins-all, Joining.joined-test}
 use Rattle.cw_table.proofs.productions.table.Goals as goal
 
 pub loop-i-preserved : goal.loop-i-preserved

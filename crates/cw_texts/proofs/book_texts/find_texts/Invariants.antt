@@ -1,6 +1,5 @@
 -- The texts that are left stay the same.
-use Rattle.std.proofs.Common.{◌≡◌, ◌-◌, drop, length}
-use Rattle.cw_texts.specs.Coming.{left_in}
+use Rattle.cw_texts.proofs.Terms.{◌≡◌, ◌-◌, drop, length, left_in}
 use Rattle.cw_texts.proofs.book_texts.find_texts.Given as goal
 
 abbrev pub invariant-sections : goal.invariant-sections

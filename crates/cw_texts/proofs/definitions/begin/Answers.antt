@@ -1,6 +1,5 @@
 -- `begin`: clause `ended`; said here, so that a wrong one fails at once.
-use Rattle.std.proofs.Common.{arith}
-use Rattle.std.proofs.lemmas.Grind.{common_steps}
+use Rattle.cw_texts.proofs.Terms.{arith, common_steps}
 use Rattle.cw_texts.proofs.definitions.begin.Goals as goal
 
 pub returns-clause-ended : goal.returns-clause-ended

@@ -1,6 +1,5 @@
 -- The answers so far have made no piece.
-use Rattle.std.proofs.Common.{◌≡◌, length}
-use Rattle.cw_texts.specs.TexPieces.{tex_pieces}
+use Rattle.cw_texts.proofs.Terms.{◌≡◌, length, tex_pieces}
 use Rattle.cw_texts.proofs.pieces.next_piece.Given as goal
 
 abbrev pub invariant-answers : goal.invariant-answers

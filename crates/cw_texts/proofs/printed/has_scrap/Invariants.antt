@@ -1,7 +1,6 @@
 -- No answer so far makes a scrap: those behind them decide.
-use Rattle.std.proofs.Common.{◌≡◌, length}
+use Rattle.cw_texts.proofs.Terms.{◌≡◌, length, has_scrap}
 use Rattle.cw_rules.specs.declared.tokens.Mode.TheVariants.{CPart}
-use Rattle.cw_texts.specs.Printed.{has_scrap}
 use Rattle.cw_texts.specs.Scans.{scanned}
 use Rattle.cw_texts.proofs.printed.has_scrap.Given as goal
 

@@ -1,8 +1,6 @@
 -- A name is there where its pair is.
-use Rattle.std.proofs.Common.{ap, ◌∙◌}
-use Rattle.std.specs.Prelude.{is_some}
+use Rattle.cw_texts.proofs.Terms.{ap, ◌∙◌, is_some, name_at}
 use Rattle.cw_secnames.specs.Kept.{id}
-use Rattle.cw_secnames.specs.Uses.{name_at}
 use Rattle.cw_texts.proofs.PrintedLaws.{mapped}
 use Rattle.cw_texts.proofs.printed.is_kept.Goals as goal
 

@@ -37,8 +37,7 @@ returns c =
     c.loop-part.store c.loop-part.invariant.0 (omega (arith, c.loop-part-test.false))) c.push-3.ensures.building
     c.push-3.ensures.lists) c.push-4.ensures.building c.push-4.ensures.lists in
     let list = built c.args.store.now.lists (comment_tokens c.args.number c.args.parts.now) c.push-4.new.self
-    c.finish.new.self.lists c.finish.result.index c.args.parts.now _
-    (ap (λ t. Then (Sign control.Cancel) (Then (Source c.args.number Text) t))
-    (comment-rest c.args.store.now.lists c.args.parts.now)) (comment-refs c.args.parts.now) b
-    c.finish.ensures.lists c.finish.ensures.id in
+    c.finish.new.self.lists c.finish.result.index c.args.parts.now _ (ap (λ t. Then (Sign control.Cancel)
+    (Then (Source c.args.number Text) t)) (comment-rest c.args.store.now.lists c.args.parts.now))
+    (comment-refs c.args.parts.now) b c.finish.ensures.lists c.finish.ensures.id in
     record { tree = list.0; gathers = list.1; idle = search rules; refused = search rules }

@@ -21,11 +21,10 @@ returns-clause-retypes g c = retypes _ _ _ _ _ c.in_ok-reduced.ensures.after ref
 
 -- nothing was done yet, or the line was reduced
 pub returns-in_err-begin-clause-retypes : goal.returns-in_err-begin-clause-retypes
-returns-in_err-begin-clause-retypes g c = retypes _ _
-    (state_of c.args.work.now.store.now.lists c.args.line.now c.args.work.now.marks.now c.args.work.now.names.now) _ _
-    (is-after productions c.args.context.now.flags.now 0 (state_of c.args.work.now.store.now.lists c.args.line.now
-    c.args.work.now.marks.now c.args.work.now.names.now) productions-sound c.requires.sound.fine (omega arith))
-    refl refl
+returns-in_err-begin-clause-retypes g c = retypes _ _ (state_of c.args.work.now.store.now.lists c.args.line.now
+    c.args.work.now.marks.now c.args.work.now.names.now) _ _ (is-after productions c.args.context.now.flags.now 0
+    (state_of c.args.work.now.store.now.lists c.args.line.now c.args.work.now.marks.now c.args.work.now.names.now)
+    productions-sound c.requires.sound.fine (omega arith)) refl refl
 
 pub returns-in_err-end-clause-retypes : goal.returns-in_err-end-clause-retypes
 returns-in_err-end-clause-retypes g c = retypes _ _ _ _ _ c.in_ok-reduced.ensures.after refl

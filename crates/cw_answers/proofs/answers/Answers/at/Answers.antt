@@ -1,8 +1,6 @@
 -- The kept answer behind so many stands for theirs.
-use Rattle.std.proofs.Common.{◌≡◌, ◌<◌, ap, subst, sym, ◌∙◌, drop, ◌∷◌, ◌+◌, length}
-use Rattle.std.proofs.lemmas.List.{drop-map, length-map}
-use Rattle.cw_rules.specs.Answers.{Gives}
-use Rattle.cw_answers.specs.Kept.{answer_at, answers_at}
+use Rattle.cw_answers.proofs.Terms.{◌≡◌, ◌<◌, ap, subst, sym, ◌∙◌, drop, ◌∷◌, ◌+◌, length, drop-map, length-map, Gives}
+use Rattle.cw_answers.proofs.Terms.{answer_at, answers_at}
 use Rattle.cw_answers.proofs.Standing.{ahead}
 use Rattle.cw_answers.proofs.answers.Answers.at.Goals as goal
 
@@ -16,10 +14,8 @@ returns c =
     subst (λ n. place < n) (sym (ap length c.self.view_is) ∙ length-map kept (answer_at text)) c.requires in
     let behind : answers_at text (drop (place + 1) kept) ≡ drop (place + 1) all =
     sym (drop-map (answer_at text) (place + 1) kept) ∙ ap (drop (place + 1)) c.self.view_is in
-    let front : drop place all ≡ answer_at text c.index.result.now ∷ drop (place + 1) all =
-    ap (drop place) (sym c.self.view_is)
-    ∙ drop-map (answer_at text) place kept
-    ∙ ap (answers_at text) (ahead kept place c.index.result.now within)
-    ∙ (λ i. answer_at text (sym c.index.ensures i) ∷ behind i) in
+    let front : drop place all ≡ answer_at text c.index.result.now ∷ drop (place + 1) all = ap (drop place)
+    (sym c.self.view_is) ∙ drop-map (answer_at text) place kept ∙ ap (answers_at text)
+    (ahead kept place c.index.result.now within) ∙ (λ i. answer_at text (sym c.index.ensures i) ∷ behind i) in
     subst (λ answers. Gives answers c.answer.result (drop (place + 1) all)) (sym front)
     (c.answer.ensures (drop (place + 1) all))

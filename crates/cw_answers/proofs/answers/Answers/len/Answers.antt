@@ -1,6 +1,5 @@
 -- `len`: answer; said here, so that a wrong one fails at once.
-use Rattle.std.proofs.Common.{arith}
-use Rattle.std.proofs.lemmas.Grind.{common_steps}
+use Rattle.cw_answers.proofs.Terms.{arith, common_steps}
 use Rattle.cw_answers.proofs.answers.Answers.len.Goals as goal
 
 pub returns : goal.returns

@@ -1,19 +1,15 @@
 -- Each answer is kept behind those before it.
-use Rattle.std.proofs.Common.{refl, subst, sym, ◌∙◌, ap, length, arith, rules}
-use Rattle.std.proofs.lemmas.Grind.{common_steps}
+use Rattle.cw_answers.proofs.Terms.{refl, subst, sym, ◌∙◌, ap, length, arith, rules, common_steps, Token, Begin, Finish}
+use Rattle.cw_answers.proofs.Terms.{Note, seen, answer_at, IsWithin}
 use Rattle.cw_lex.specs.Lexing.{tokens_of}
-use Rattle.cw_rules.specs.Answers.{Token, Begin, Finish, Note, seen}
-use Rattle.cw_answers.specs.Kept.{answer_at, IsWithin}
 use Rattle.cw_answers.proofs.Standing.{Keeping, begin, pushed}
 use Rattle.cw_answers.proofs.answers.Answers.scan.Goals.{in-Token, in-Begin, in-Finish, in-Note+in_ok-of-in-Note}
 use Rattle.cw_answers.proofs.answers.Answers.scan.Goals as goal
 
 pub loop-token-init : goal.loop-token-init
-loop-token-init c =
-    subst (λ l. Keeping c.args.text.now c.args.text.now c.over-lexer.result l c.over-lexer.result)
-    (sym c.clear.ensures.items)
-    (begin c.args.text.now c.args.text.now c.args.span.start c.args.span.end c.over-lexer.result refl c.requires.within
-    c.over-lexer.ensures.covers c.over-lexer.ensures.within)
+loop-token-init c = subst (λ l. Keeping c.args.text.now c.args.text.now c.over-lexer.result l c.over-lexer.result)
+    (sym c.clear.ensures.items) (begin c.args.text.now c.args.text.now c.args.span.start c.args.span.end
+    c.over-lexer.result refl c.requires.within c.over-lexer.ensures.covers c.over-lexer.ensures.within)
 
 pub loop-token-preserved : goal.loop-token-preserved
 loop-token-preserved c =
@@ -33,17 +29,14 @@ loop-token-preserved c =
           w.in-Finish.ensures (ap (answer_at text) w.kept-is ∙ ap Finish w.of-in-Finish.ensures.same)
           (subst (IsWithin (length text)) (sym w.kept-is) w.of-in-Finish.ensures.within) c.loop-token.invariant
       | in-Note+in_ok-of-in-Note w ↦ step (Note w.in-Note.kind w.in-Note.place) c.loop-token.lexer c.next.new.self
-          c.in_ok-push.ensures.items
-          w.in-Note.ensures
-          (ap (answer_at text) w.kept-is
+          c.in_ok-push.ensures.items w.in-Note.ensures (ap (answer_at text) w.kept-is
           ∙ (λ i. Note (w.in_ok-of-in-Note.ensures.0 i) (w.in_ok-of-in-Note.ensures.1 i)))
           (subst (IsWithin (length text)) (sym w.kept-is) tt) c.loop-token.invariant
     ]
 
 -- nothing is kept yet
 pub returns-then-text-clause-err : goal.returns-then-text-clause-err
-returns-then-text-clause-err c =
-    (tokens_of c.args.text.now c.args.span.start c.args.span.end c.args.mode, search rules)
+returns-then-text-clause-err c = (tokens_of c.args.text.now c.args.span.start c.args.span.end c.args.mode, search rules)
 
 pub returns-in-End-clause-ok : goal.returns-in-End-clause-ok
 returns-in-End-clause-ok c = grind (arith, common_steps)

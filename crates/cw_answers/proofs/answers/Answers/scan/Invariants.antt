@@ -1,5 +1,5 @@
 -- What is kept and what is still to come are all answers, and each answer leaves one less to come.
-use Rattle.std.proofs.Common.{length}
+use Rattle.cw_answers.proofs.Terms.{length}
 use Rattle.cw_answers.proofs.Standing.{Keeping}
 use Rattle.cw_answers.proofs.answers.Answers.scan.Given as goal
 

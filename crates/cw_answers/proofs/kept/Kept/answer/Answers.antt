@@ -1,6 +1,5 @@
 -- `answer`: answer at `Note`; said here, so that a wrong one fails at once.
-use Rattle.std.proofs.Common.{arith}
-use Rattle.std.proofs.lemmas.Grind.{common_steps}
+use Rattle.cw_answers.proofs.Terms.{arith, common_steps}
 use Rattle.cw_answers.proofs.kept.Kept.answer.Goals as goal
 
 pub returns-in-Note : goal.returns-in-Note

@@ -1,6 +1,5 @@
 -- `of`: clause `same`; said here, so that a wrong one fails at once.
-use Rattle.std.proofs.Common.{arith}
-use Rattle.std.proofs.lemmas.Grind.{common_steps}
+use Rattle.cw_answers.proofs.Terms.{arith, common_steps}
 use Rattle.cw_answers.proofs.kept.Stretch.of.Goals as goal
 
 pub returns-clause-same : goal.returns-clause-same

@@ -1,5 +1,5 @@
 -- The tokens of a scan stand in its text.
-use Rattle.std.proofs.Common.{◌≡◌, true, false}
+use Rattle.cw_answers.proofs.Terms.{◌≡◌, true, false}
 use Rattle.cw_answers.proofs.Standing.{all-stand}
 use Rattle.cw_answers.proofs.reader.Reader.over.Goals as goal
 

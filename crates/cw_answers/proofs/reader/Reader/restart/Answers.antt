@@ -1,8 +1,5 @@
 -- The tokens of a scan stand in its text, and nothing is kept yet.
-use Rattle.std.proofs.Common.{All, length, subst, sym, ◌∙◌, arith}
-use Rattle.std.proofs.lemmas.Grind.{common_steps}
-use Rattle.std.proofs.lemmas.List.Elements.{All-nil}
-use Rattle.cw_answers.specs.Kept.{IsWithin}
+use Rattle.cw_answers.proofs.Terms.{All, length, subst, sym, ◌∙◌, arith, common_steps, All-nil, IsWithin}
 use Rattle.cw_answers.proofs.Standing.{all-stand}
 use Rattle.cw_answers.proofs.reader.Reader.restart.Goals as goal
 

@@ -1,6 +1,5 @@
 -- `take_answers`: clause `all`; said here, so that a wrong one fails at once.
-use Rattle.std.proofs.Common.{arith}
-use Rattle.std.proofs.lemmas.Grind.{common_steps}
+use Rattle.cw_answers.proofs.Terms.{arith, common_steps}
 use Rattle.cw_answers.proofs.reader.Reader.take_answers.Goals as goal
 
 pub returns-clause-all : goal.returns-clause-all

@@ -1,6 +1,5 @@
 -- `push`: answer on one of its ways; said here, so that a wrong one fails at once.
-use Rattle.std.proofs.Common.{arith}
-use Rattle.std.proofs.lemmas.Grind.{common_steps}
+use Rattle.cw_answers.proofs.Terms.{arith, common_steps}
 use Rattle.cw_answers.proofs.reader.Room.push.Goals as goal
 
 pub returns-then-self : goal.returns-then-self

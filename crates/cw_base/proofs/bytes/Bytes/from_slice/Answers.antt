@@ -1,6 +1,5 @@
 -- `from_slice`: answer; said here, so that a wrong one fails at once.
-use Rattle.std.proofs.Common.{arith}
-use Rattle.std.proofs.lemmas.Grind.{common_steps}
+use Rattle.cw_base.proofs.Terms.{arith, common_steps}
 use Rattle.cw_base.proofs.bytes.Bytes.from_slice.Goals as goal
 
 pub returns : goal.returns

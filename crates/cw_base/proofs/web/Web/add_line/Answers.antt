@@ -1,8 +1,7 @@
 -- The new line lies behind all others.
-use Rattle.std.proofs.Common.{◌≡◌, ◌+◌, ◌<◌, ◌∷◌, [], ◌++◌, length, ap, ◌∙◌, arith, length-append}
+use Rattle.cw_base.proofs.Terms.{◌≡◌, ◌+◌, ◌<◌, ◌∷◌, [], ◌++◌, length, ap, ◌∙◌, arith, length-append, LineInfo}
+use Rattle.cw_base.proofs.Terms.{WebState, text_of}
 use Rattle.std.proofs.lemmas.List.Elements.{All-push}
-use Rattle.cw_base.specs.declared.web.LineInfo.{LineInfo}
-use Rattle.cw_base.specs.Web.{WebState, text_of}
 use Rattle.cw_base.proofs.WebLayoutLaws.{Covers-more, read_lines-push, text_of-read_lines}
 use Rattle.cw_base.proofs.web.Web.add_line.Goals as goal
 
@@ -27,8 +26,7 @@ invariant_of-self-in-Ok c =
         ap (λ (w : WebState). length (text_of w.lines)) c.self.view_is,
         c.requires.room,
         length-append (i.text.items ++ c.args.line.now) (10 ∷ []),
-        length-append i.text.items
-            c.args.line.now,
+        length-append i.text.items c.args.line.now,
       );
       line_places = All-push (λ (info : LineInfo). info.place.file < length i.files.items) i.lines.items info
           c.self.invariant.line_places (omega (arith, files, c.requires.place));
@@ -46,6 +44,5 @@ returns-in-Ok-clause-ok c =
     } in
     let size : c.len-start.result ≡ length i.text.items = c.len-start.ensures ∙ i.text.ok.0 in
     rw (← c.self.view_is, c.in-Ok.ensures.ok, c.in_ok-push.ensures.items)
-    (ap (λ lines. record { lines = lines; files = i.files.items; notes = i.notes.items })
-    (read_lines-push i.text.items c.args.line.now i.lines.items info size (ap (λ n. n + length c.args.line.now) size)
-    c.self.invariant.covers))
+    (ap (λ lines. record { lines = lines; files = i.files.items; notes = i.notes.items }) (read_lines-push i.text.items
+    c.args.line.now i.lines.items info size (ap (λ n. n + length c.args.line.now) size) c.self.invariant.covers))

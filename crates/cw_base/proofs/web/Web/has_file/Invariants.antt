@@ -1,6 +1,5 @@
 -- None of the files so far has the name, so one of those that are left has it exactly where one of all has.
-use Rattle.std.proofs.Common.{◌≡◌, drop, bytes_eq}
-use Rattle.std.specs.List.{list_any}
+use Rattle.cw_base.proofs.Terms.{◌≡◌, drop, bytes_eq, list_any}
 use Rattle.cw_base.proofs.web.Web.has_file.Given as goal
 
 abbrev pub invariant-loop-file : goal.invariant-loop-file

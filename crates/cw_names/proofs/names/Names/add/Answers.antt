@@ -1,10 +1,6 @@
 -- A new name is last, and the built-in words stay first.
-use Rattle.std.proofs.Common.{arith}
-use Rattle.std.proofs.lemmas.List.{length-map}
-use Rattle.cw_names.proofs.Ends.{inserted}
-use Rattle.cw_names.proofs.First.{words-entered}
-use Rattle.cw_names.proofs.Lookup.{key_eq, with_entry-new, length-new}
-use Rattle.std.proofs.lemmas.Bool.Decides.{nat_tests}
+use Rattle.cw_names.proofs.Terms.{arith, length-map, nat_tests}
+use Rattle.cw_names.proofs.{Ends.inserted, First.words-entered, Lookup.key_eq, Lookup.with_entry-new, Lookup.length-new}
 use Rattle.cw_names.proofs.names.Names.add.Goals as goal
 
 pub returns-clause-within : goal.returns-clause-within

@@ -1,8 +1,7 @@
 -- The category that is read is that of the entry at this place, and it isn't the one of tests.
-use Rattle.std.proofs.Common.{slice_get, arith}
+use Rattle.cw_names.proofs.Terms.{slice_get, arith, nat_tests}
 use Rattle.std.proofs.lemmas.Option.{slice_get-map}
 use Rattle.cw_names.proofs.Ends.{found}
-use Rattle.std.proofs.lemmas.Bool.Decides.{nat_tests}
 use Rattle.cw_names.proofs.names.Names.category.Goals as goal
 
 pub returns-clause-value : goal.returns-clause-value

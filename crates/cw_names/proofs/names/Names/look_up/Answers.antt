@@ -1,8 +1,6 @@
 -- A present name keeps its place, and a new one is behind all others.
-use Rattle.std.proofs.Common.{arith}
-use Rattle.std.proofs.lemmas.List.{length-map}
+use Rattle.cw_names.proofs.Terms.{arith, length-map, nat_tests}
 use Rattle.cw_names.proofs.Lookup.{found-place, new-last, with_entry-present}
-use Rattle.std.proofs.lemmas.Bool.Decides.{nat_tests}
 use Rattle.cw_names.proofs.names.Names.look_up.Goals as goal
 
 pub returns-in-Some-clause-id : goal.returns-in-Some-clause-id

@@ -1,9 +1,6 @@
 -- The entry at this place has the new category, and the built-in words still stand first.
-use Rattle.std.proofs.Common.{arith}
-use Rattle.cw_names.proofs.Ends.{changed}
-use Rattle.cw_names.proofs.First.{words-changed}
-use Rattle.cw_names.proofs.Lookup.{with_category-map}
-use Rattle.std.proofs.lemmas.Bool.Decides.{nat_tests}
+use Rattle.cw_names.proofs.Terms.{arith, nat_tests}
+use Rattle.cw_names.proofs.{Ends.changed, First.words-changed, Lookup.with_category-map}
 use Rattle.cw_names.proofs.names.Names.set_category.Goals as goal
 
 pub returns : goal.returns

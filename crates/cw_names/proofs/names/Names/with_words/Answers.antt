@@ -1,12 +1,7 @@
 -- The table of the built-in words gives their entries, in order, and no others.
-use Rattle.std.proofs.Common.{◌≡◌, not, map, sym, ap, subst, ◌∙◌}
-use Rattle.std.specs.List.{list_all}
-use Rattle.cw_names.specs.Names.{Entry}
-use Rattle.cw_names.specs.Inside.{entry_of}
-use Rattle.cw_base.specs.Category.{is_end}
-use Rattle.cw_names.specs.Words.{built_in_words, BeginsWithWords}
-use Rattle.cw_names.proofs.Ends.{of-view}
-use Rattle.cw_names.proofs.First.{words-first}
+use Rattle.cw_names.proofs.Terms.{◌≡◌, not, map, sym, ap, subst, ◌∙◌, list_all, Entry, entry_of, is_end, built_in_words}
+use Rattle.cw_names.proofs.Terms.{BeginsWithWords}
+use Rattle.cw_names.proofs.{Ends.of-view, First.words-first}
 use Rattle.cw_names.proofs.names.Names.with_words.Goals as goal
 
 pub returns : goal.returns

@@ -1,12 +1,8 @@
 -- The list in which a section is noted is ascending, since it has the sections that mention the name. An occurrence
 -- more is a section more in the list of its name.
-use Rattle.std.proofs.Common.{◌≡◌, [], ◌∷◌, ◌++◌, sym, subst, ◌∙◌, arith}
-use Rattle.std.proofs.lemmas.Grind.{common_steps}
-use Rattle.cw_names.specs.declared.xrefs.Occurrence.{Occurrence}
-use Rattle.cw_names.specs.Mentions.{mentions}
-use Rattle.cw_names.specs.Noted.{sections_at}
+use Rattle.cw_names.proofs.Terms.{◌≡◌, [], ◌∷◌, ◌++◌, sym, subst, ◌∙◌, arith, common_steps, Occurrence, mentions}
+use Rattle.cw_names.proofs.Terms.{sections_at, nat_tests}
 use Rattle.cw_names.proofs.Mentions.{mentions-ascending, noted-more}
-use Rattle.std.proofs.lemmas.Bool.Decides.{nat_tests}
 use Rattle.cw_names.proofs.xrefs.Xrefs.note.Goals as goal
 
 pub mention-requires-clause-ascending : goal.mention-requires-clause-ascending
@@ -16,7 +12,6 @@ pub invariant_of-self-2 : goal.invariant_of-self-2
 invariant_of-self-2 c =
     let o : Occurrence = record { name = c.args.id; section = c.args.section; underlined = c.args.underlined } in
     let noted : c.push.new.self.items ≡ c.self.inside.noted.items ++ o ∷ [] = grind (arith, common_steps) in
-    λ name. subst (λ os. sections_at name c.mention.new.lists.items ≡ mentions name os) (sym noted)
-    (noted-more name c.self.inside.noted.items o c.grow.new.lists.items c.mention.new.lists.items
-    (λ other. c.grow.ensures.same other ∙ c.self.invariant other) c.in_ok-mention.ensures.here
-    c.mention.ensures.elsewhere)
+    λ name. subst (λ os. sections_at name c.mention.new.lists.items ≡ mentions name os) (sym noted) (noted-more name
+    c.self.inside.noted.items o c.grow.new.lists.items c.mention.new.lists.items (λ other. c.grow.ensures.same other
+    ∙ c.self.invariant other) c.in_ok-mention.ensures.here c.mention.ensures.elsewhere)

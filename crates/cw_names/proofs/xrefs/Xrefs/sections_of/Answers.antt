@@ -1,8 +1,6 @@
 -- The list that is lent has the sections that mention the name, ascending; where there is no list none do.
-use Rattle.std.proofs.Common.{sym, subst, arith}
-use Rattle.cw_names.specs.Mentions.{AreAscending}
+use Rattle.cw_names.proofs.Terms.{sym, subst, arith, AreAscending, nat_tests}
 use Rattle.cw_names.proofs.Mentions.{at-read, at-end, mentions-ascending}
-use Rattle.std.proofs.lemmas.Bool.Decides.{nat_tests}
 use Rattle.cw_names.proofs.xrefs.Xrefs.sections_of.Goals as goal
 
 pub returns-in-Some-clause-value : goal.returns-in-Some-clause-value

@@ -1,5 +1,5 @@
 -- There are as many sections as before.
-use Rattle.std.proofs.Common.{ap, arith, length}
+use Rattle.cw_phase1.proofs.Terms.{ap, arith, length}
 use Rattle.cw_phase1.proofs.ChangedLaws.{length-marked}
 use Rattle.cw_phase1.proofs.book.Outline.mark_last.Goals as goal
 

@@ -1,8 +1,7 @@
 -- A sign tells nothing of words and names.
-use Rattle.std.proofs.Common.{arith}
-use Rattle.cw_rules.specs.Answers.{seen}
-use Rattle.cw_phase1.specs.declared.roles.Role.TheVariants as roles
+use Rattle.cw_phase1.proofs.Terms.{arith, seen}
 use Rattle.cw_phase1.proofs.FreeTokens.{silent-step, stays-held}
+use Rattle.cw_phase1.specs.declared.roles.Role.TheVariants as roles
 use Rattle.cw_phase1.proofs.held.Held.free_sign.Goals as goal
 
 pub returns-clause-held : goal.returns-clause-held

@@ -1,6 +1,6 @@
 -- A word in no head is told as it is.
+use Rattle.cw_phase1.proofs.Terms.{arith}
 use Rattle.std.proofs.lemmas.Result.{on_ok_weaker}
-use Rattle.std.proofs.Common.{arith}
 use Rattle.cw_phase1.proofs.FreeTokens.{word-step, stays-held}
 use Rattle.cw_phase1.proofs.held.Held.free_word.Goals as goal
 

@@ -1,12 +1,8 @@
 -- What a name that is entered leaves, by what entering it answers.
-use Rattle.std.proofs.Common.{◌≡◌, List, Option, Some, None, sym, ap, ◌∙◌}
-use Rattle.cw_rules.specs.Answers.{Answer, Seen, seen}
+use Rattle.cw_phase1.proofs.Terms.{◌≡◌, List, Option, Some, None, sym, ap, ◌∙◌, Answer, Seen, seen, SecId, Entering}
+use Rattle.cw_phase1.proofs.Terms.{SecName, answer_of, kept_by, kept_id, name_of_entering, note_by, note_on_name}
+use Rattle.cw_phase1.proofs.Terms.{HeldState, held_of, behind_begin}
 use Rattle.cw_secnames.specs.declared.kinds.Entered.{Entered}
-use Rattle.cw_secnames.specs.declared.kinds.SecId.{SecId}
-use Rattle.cw_secnames.specs.Kept.{Entering, SecName}
-use Rattle.cw_phase1.specs.Entering.{answer_of, kept_by, kept_id, name_of_entering, note_by, note_on_name}
-use Rattle.cw_phase1.specs.Holding.{HeldState, held_of}
-use Rattle.cw_phase1.specs.Roles.{behind_begin}
 use Rattle.cw_phase1.proofs.held.Held.name.Goals as goal
 
 abbrev waits : Option SecId → List SecName → Option Answer → Seen → HeldState → HeldState

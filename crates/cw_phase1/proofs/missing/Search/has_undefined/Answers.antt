@@ -1,5 +1,5 @@
 -- The name at hand is the first of those that are left.
-use Rattle.std.proofs.Common.{arith}
+use Rattle.cw_phase1.proofs.Terms.{arith}
 use Rattle.cw_phase1.proofs.MissingLaws.{any-more}
 use Rattle.cw_phase1.proofs.missing.Search.has_undefined.Goals as goal
 

@@ -1,7 +1,5 @@
 -- None of the names so far lacks a definition.
-use Rattle.std.proofs.Common.{◌≡◌, drop}
-use Rattle.std.specs.List.{list_any}
-use Rattle.cw_phase1.specs.Missing.{has_no_definition}
+use Rattle.cw_phase1.proofs.Terms.{◌≡◌, drop, list_any, has_no_definition}
 use Rattle.cw_phase1.proofs.missing.Search.has_undefined.Given as goal
 
 abbrev pub invariant-loop-k : goal.invariant-loop-k

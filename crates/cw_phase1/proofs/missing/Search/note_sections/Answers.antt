@@ -1,7 +1,5 @@
 -- The notes on one section more.
-use Rattle.std.proofs.Common.{sym, arith}
-use Rattle.std.proofs.lemmas.List.{append-nil}
-use Rattle.std.proofs.lemmas.Option.{get_or_from_slice_get, slice_get_within}
+use Rattle.cw_phase1.proofs.Terms.{sym, arith, append-nil, get_or_from_slice_get, slice_get_within}
 use Rattle.cw_phase1.proofs.MissingLaws.{equals-more, none_missing}
 use Rattle.cw_phase1.proofs.missing.Search.note_sections.Goals as goal
 

@@ -1,6 +1,5 @@
 -- `section`: answer; said here, so that a wrong one fails at once.
-use Rattle.std.proofs.Common.{arith}
-use Rattle.std.proofs.lemmas.Grind.{common_steps}
+use Rattle.cw_phase1.proofs.Terms.{arith, common_steps}
 use Rattle.cw_phase1.proofs.packed.Row.section.Goals as goal
 
 pub returns : goal.returns

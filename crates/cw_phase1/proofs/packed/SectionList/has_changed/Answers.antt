@@ -1,5 +1,5 @@
 -- The rows are the sections, one by one.
-use Rattle.std.proofs.Common.{arith}
+use Rattle.cw_phase1.proofs.Terms.{arith}
 use Rattle.cw_phase1.proofs.ChangedLaws.{changed-found, unchanged-passed}
 use Rattle.cw_phase1.proofs.packed.SectionList.has_changed.Goals as goal
 

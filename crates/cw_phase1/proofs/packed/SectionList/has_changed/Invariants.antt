@@ -1,6 +1,5 @@
 -- None of the sections so far is changed, so those that are left decide.
-use Rattle.std.proofs.Common.{◌≡◌, drop}
-use Rattle.cw_phase1.specs.Changed.{has_changed}
+use Rattle.cw_phase1.proofs.Terms.{◌≡◌, drop, has_changed}
 use Rattle.cw_phase1.proofs.packed.SectionList.has_changed.Given as goal
 
 abbrev pub invariant-loop-row : goal.invariant-loop-row

@@ -1,6 +1,5 @@
 -- `reference`: answer at `Limbo`; said here, so that a wrong one fails at once.
-use Rattle.std.proofs.Common.{arith}
-use Rattle.std.proofs.lemmas.Grind.{common_steps}
+use Rattle.cw_phase1.proofs.Terms.{arith, common_steps}
 use Rattle.cw_phase1.proofs.roles.Part.reference.Goals as goal
 
 pub returns-in-Limbo : goal.returns-in-Limbo

@@ -1,6 +1,5 @@
 -- `meet`: answer on one of its ways; said here, so that a wrong one fails at once.
-use Rattle.std.proofs.Common.{arith}
-use Rattle.std.proofs.lemmas.Grind.{common_steps}
+use Rattle.cw_phase1.proofs.Terms.{arith, common_steps}
 use Rattle.cw_phase1.proofs.sections.Open.meet.Goals as goal
 
 pub returns-then-ends_definitions : goal.returns-then-ends_definitions

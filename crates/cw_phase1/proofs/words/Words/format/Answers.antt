@@ -1,5 +1,5 @@
 -- A category that changes leaves as many names.
-use Rattle.std.proofs.Common.{◌<◌, length, sym, ap, subst, ◌∙◌, IfSome}
+use Rattle.cw_phase1.proofs.Terms.{◌<◌, length, sym, ap, subst, ◌∙◌, IfSome}
 use Rattle.cw_phase1.proofs.NameLaws.{category-length}
 use Rattle.cw_phase1.proofs.words.Words.format.Goals as goal
 

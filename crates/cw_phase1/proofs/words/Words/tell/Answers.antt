@@ -1,6 +1,5 @@
 -- The second name of a format definition.
-use Rattle.std.proofs.Common.{arith}
-use Rattle.std.proofs.lemmas.Grind.{common_steps}
+use Rattle.cw_phase1.proofs.Terms.{arith, common_steps}
 use Rattle.cw_phase1.proofs.NameLaws.{second-told}
 use Rattle.cw_phase1.proofs.words.Words.tell.Goals as goal
 

@@ -1,5 +1,5 @@
 -- A name's marks, of one byte more at a time.
-use Rattle.std.proofs.Common.{arith, refl}
+use Rattle.cw_secnames.proofs.Terms.{arith, refl}
 use Rattle.cw_secnames.proofs.Marked.{keeps-all, enter-first, enter-more, enter-last, no-more}
 use Rattle.cw_secnames.proofs.marks.Marks.mark.Goals as goal
 
@@ -10,10 +10,8 @@ pub loop-count-init : goal.loop-count-init
 loop-count-init c = grind (arith, enter-first)
 
 pub loop-count-preserved : goal.loop-count-preserved
-loop-count-preserved c =
-    enter-more _ _ _ _ _ _ _ _ _ 0 c.loop-count.invariant c.loop-count-test.true c.next_mark-mark.ensures refl
-    (λ mark k h. h) c.put_start-in-loop-count.ensures.keeps
-    c.in_ok-put_start-2.ensures.ok
+loop-count-preserved c = enter-more _ _ _ _ _ _ _ _ _ 0 c.loop-count.invariant c.loop-count-test.true
+    c.next_mark-mark.ensures refl (λ mark k h. h) c.put_start-in-loop-count.ensures.keeps c.in_ok-put_start-2.ensures.ok
 
 pub returns-in_err-put_start-2-clause-keeps : goal.returns-in_err-put_start-2-clause-keeps
 returns-in_err-put_start-2-clause-keeps c = grind (arith, keeps-all, no-more)

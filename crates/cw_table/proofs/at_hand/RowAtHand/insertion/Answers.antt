@@ -1,6 +1,5 @@
 -- What is read in the program's data, of either translation, is what the row's piece at that place inserts.
-use Rattle.std.proofs.Common.{arith}
-use Rattle.std.proofs.lemmas.Bool.Decides.{nat_tests}
+use Rattle.cw_table.proofs.Terms.{arith, nat_tests}
 use Rattle.cw_table.proofs.HandLaws.{other-insertion, other-pieces, usual-insertion, usual-pieces}
 use Rattle.cw_table.proofs.at_hand.RowAtHand.insertion.Goals as goal
 

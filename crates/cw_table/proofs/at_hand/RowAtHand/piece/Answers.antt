@@ -1,6 +1,5 @@
 -- A piece that is read in the program's data, of either translation, is the row's piece at that place.
-use Rattle.std.proofs.Common.{arith}
-use Rattle.std.proofs.lemmas.Bool.Decides.{nat_tests}
+use Rattle.cw_table.proofs.Terms.{arith, nat_tests}
 use Rattle.cw_table.proofs.HandLaws.{other-pieces, usual-pieces}
 use Rattle.cw_table.proofs.at_hand.RowAtHand.piece.Goals as goal
 

@@ -1,6 +1,5 @@
 -- Either translation has as many pieces as the program's data says, and at most twelve.
-use Rattle.std.proofs.lemmas.Bool.Decides.{nat_tests}
-use Rattle.std.proofs.Common.{arith}
+use Rattle.cw_table.proofs.Terms.{nat_tests, arith}
 use Rattle.cw_table.proofs.HandLaws.{other-pieces, usual-pieces}
 use Rattle.cw_table.proofs.at_hand.RowAtHand.piece_count.Goals as goal
 

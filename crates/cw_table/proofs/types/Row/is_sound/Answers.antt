@@ -1,8 +1,6 @@
 -- The five checks together are the test of a sound row, and a row that passes it keeps the rule.
-use Rattle.std.proofs.Common.{arith}
-use Rattle.std.proofs.lemmas.Bool.Decides.{nat_tests}
-use Rattle.cw_table.proofs.CheckLaws.{parts-joined}
-use Rattle.cw_table.proofs.Soundness.{sound-row}
+use Rattle.cw_table.proofs.Terms.{arith, nat_tests}
+use Rattle.cw_table.proofs.{CheckLaws.parts-joined, Soundness.sound-row}
 use Rattle.cw_table.proofs.types.Row.is_sound.Goals as goal
 
 pub returns-clause-test : goal.returns-clause-test

@@ -1,6 +1,5 @@
 -- One replaced scrap whose test admits the end decides; behind the last of them, none does.
-use Rattle.std.proofs.Common.{arith}
-use Rattle.std.proofs.lemmas.Bool.Decides.{nat_tests}
+use Rattle.cw_table.proofs.Terms.{arith, nat_tests}
 use Rattle.cw_table.proofs.CheckLaws.{ends-none, ends-whole}
 use Rattle.cw_table.proofs.types.Row.replaces_no_end.Goals as goal
 

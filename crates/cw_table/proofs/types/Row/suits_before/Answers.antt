@@ -1,10 +1,6 @@
 -- One scrap before the new one that doesn't suit both rows decides; at the new one, all before it suit.
-use Rattle.std.proofs.Common.{◌≡◌, ◌+◌, ap, sym, ◌∙◌, arith, false, zero-add}
-use Rattle.std.proofs.lemmas.Bool.Decides.{nat_tests}
-use Rattle.cw_base.specs.Category.{meet}
-use Rattle.cw_table.specs.Rows.{test}
-use Rattle.cw_table.proofs.HazardLaws.{not-all-numbers}
-use Rattle.cw_table.proofs.SafeLaws.{all-numbers}
+use Rattle.cw_table.proofs.Terms.{◌≡◌, ◌+◌, ap, sym, ◌∙◌, arith, false, zero-add, nat_tests, meet, test}
+use Rattle.cw_table.proofs.{HazardLaws.not-all-numbers, SafeLaws.all-numbers}
 use Rattle.cw_table.proofs.types.Row.suits_before.Goals as goal
 
 pub returns : goal.returns

@@ -1,6 +1,5 @@
 -- The first production that fits is the first row of the table that fits, since its rows are the productions.
-use Rattle.std.proofs.Common.{arith}
-use Rattle.std.proofs.lemmas.Bool.Decides.{nat_tests}
+use Rattle.cw_table.proofs.Terms.{arith, nat_tests}
 use Rattle.cw_table.proofs.Joining.{productions-length}
 use Rattle.cw_table.proofs.types.Table.first_at.Goals as goal
 

@@ -1,6 +1,5 @@
 -- The row one place before its number is the production of that number, and a sound one.
-use Rattle.std.proofs.Common.{arith}
-use Rattle.std.proofs.lemmas.Bool.Decides.{nat_tests}
+use Rattle.cw_table.proofs.Terms.{arith, nat_tests}
 use Rattle.cw_table.proofs.Numbers.{numbered-row, numbered-sound}
 use Rattle.cw_table.proofs.types.Table.row.Goals as goal
 

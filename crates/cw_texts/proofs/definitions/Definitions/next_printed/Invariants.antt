@@ -1,6 +1,5 @@
 -- The definitions so far print nothing.
-use Rattle.std.proofs.Common.{◌≡◌, length}
-use Rattle.cw_texts.specs.Definitions.{not_silent}
+use Rattle.cw_texts.proofs.Terms.{◌≡◌, length, not_silent}
 use Rattle.cw_texts.proofs.definitions.Definitions.next_printed.Given as goal
 
 abbrev pub invariant-silent : goal.invariant-silent

@@ -39,8 +39,7 @@ returns-in_ok-count-in-Some-CText g c = λ token.
     text-advances _ _ _ (c.in-Some-CText.ensures ∙ ap (λ x. x ∷ c.end.new.self) c.in-Some-CText.field-0-is) token _
     (record { retypes = e.retypes; bound = e.bound; same = e.same; idle = e.idle; recorded = e.recorded }) e.done
     c.requires.translating (tied-idle c.args.work.now.store.now c.requires.translating.idle c.tied_law.ensures)
-    (ap (λ t. t.scraps) counted) (ap (λ t. t.productions) counted)
-    (on_ok_weaker c.add_part.result (λ made. made
+    (ap (λ t. t.scraps) counted) (ap (λ t. t.productions) counted) (on_ok_weaker c.add_part.result (λ made. made
     ∙ ap (λ t. with_part (part.InnerText c.in_ok-done-in-Some-CText.done.list) t.nesting) counted) c.add_part.ensures)
 
 pub returns-in_err-list-in-Some-Comment : goal.returns-in_err-list-in-Some-Comment
@@ -50,16 +49,13 @@ returns-in_err-list-in-Some-Comment g c = λ token.
     (record { names = refl; store = refl; marks = refl; steps = refl }) c.in_err-list-in-Some-Comment.ensures.idle
 
 pub returns-in_ok-list-in-Some-Comment : goal.returns-in_ok-list-in-Some-Comment
-returns-in_ok-list-in-Some-Comment g c = λ token. advances-quiet
-    (on_ok_weaker c.add_scrap.result (λ made. comment-quiet _ token _ _ _ _
-    (record { scraps = refl; productions = refl }) c.in_ok-list-in-Some-Comment.list
-    (rw c.parts.ensures at c.in_ok-list-in-Some-Comment.ensures.tree)
-    (rw c.parts.ensures at c.in_ok-list-in-Some-Comment.ensures.gathers) c.in_ok-list-in-Some-Comment.ensures.idle refl
-    refl c.requires.translating
-    (tied-idle c.args.work.now.store.now c.requires.translating.idle c.tied_law.ensures)
-    (c.in-Some-Comment.ensures ∙ ap (λ x. x ∷ c.end.new.self) c.in-Some-Comment.field-0-is) (made
-    ∙ ap (λ l. with_entry (entry_of l) c.end.new.self) c.leaf.ensures.value)) c.add_scrap.ensures)
-    (on-err c.add_scrap.result _ (same-names _ (Finish token ∷ []) _)) refl refl
+returns-in_ok-list-in-Some-Comment g c = λ token. advances-quiet (on_ok_weaker c.add_scrap.result (λ made. comment-quiet
+    _ token _ _ _ _ (record { scraps = refl; productions = refl }) c.in_ok-list-in-Some-Comment.list (rw c.parts.ensures
+    at c.in_ok-list-in-Some-Comment.ensures.tree) (rw c.parts.ensures at c.in_ok-list-in-Some-Comment.ensures.gathers)
+    c.in_ok-list-in-Some-Comment.ensures.idle refl refl c.requires.translating (tied-idle c.args.work.now.store.now
+    c.requires.translating.idle c.tied_law.ensures) (c.in-Some-Comment.ensures ∙ ap (λ x. x ∷ c.end.new.self)
+    c.in-Some-Comment.field-0-is) (made ∙ ap (λ l. with_entry (entry_of l) c.end.new.self) c.leaf.ensures.value))
+    c.add_scrap.ensures) (on-err c.add_scrap.result _ (same-names _ (Finish token ∷ []) _)) refl refl
     (record { names = refl; store = refl; marks = refl; steps = refl }) c.in_ok-list-in-Some-Comment.ensures.idle
 
 pub returns-in-None : goal.returns-in-None

@@ -1,0 +1,24 @@
+-- The words in which these proofs speak, from where they are defined.
+pub use Rattle.std.proofs.{Math.Dec.ltb, lemmas.Bool.Decides.nat_tests, lemmas.Grind.common_steps}
+pub use Rattle.std.proofs.{lemmas.Result.on_ok_weaker, lemmas.Result.on_err_weaker}
+pub use Rattle.std.proofs.Common.{◌≡◌, ℕ, zero, suc, Bool, List, [], ◌∷◌, ◌++◌, refl, sym, ap, ◌∙◌, append_assoc}
+pub use Rattle.std.proofs.Common.{if◌then◌else◌, arith, false, map, ◌<◌, ◌≤◌, ◌≢◌, ◌==◌, ◌||◌, ◌&&◌, true, ◌+◌, ◌-◌}
+pub use Rattle.std.proofs.Common.{max, length, get_or, set, insert, filter, Vec, Global, Some, None, length-append, not}
+pub use Rattle.std.proofs.Common.{cond, slice_get, subst, IsTrue, Bor, drop, drop-cons, nat_eq, take, rules}
+pub use Rattle.std.proofs.lemmas.List.{map-append, append-nil, length-map, drop_all}
+pub use Rattle.std.proofs.lemmas.List.Sorted.{IsPartitionedBy-ltb, IsPartitionPoint-from_clause}
+pub use Rattle.std.proofs.lemmas.List.Sums.{fold-append, prefix_len-le-length}
+pub use Rattle.std.specs.List.{AllByRecursion, position, position_or_len, list_all}
+pub use Rattle.std.specs.Map.{keys_of}
+pub use Rattle.cw_base.proofs.TestLaws.{both-left, both-right, both}
+pub use Rattle.cw_base.specs.{Category.is_end, declared.category.Cat.Cat}
+pub use Rattle.cw_base.specs.declared.category.Cat.TheVariants.{Exp, End, RawInt}
+pub use Rattle.cw_names.specs.{Inside.entry_of, Inside.is_wanted, Inside.has_no_end_entry, Noted.sections_at}
+pub use Rattle.cw_names.specs.{Noted.with_mention, Table.with_word, Table.row, Table.with_table, Words.built_in_words}
+pub use Rattle.cw_names.specs.{Words.words_of, Words.BeginsWithWords, declared.entry.EntryKind.EntryKind}
+pub use Rattle.cw_names.specs.{declared.entry.Key.Key, declared.xrefs.Occurrence.Occurrence}
+pub use Rattle.cw_names.specs.{declared.xrefs.SectionRef.SectionRef}
+pub use Rattle.cw_names.specs.Mentions.{AreAscending, above_all, any_in, any_underlined_in, is_of_section}
+pub use Rattle.cw_names.specs.Mentions.{is_underlined_in, mentions, sections_in}
+pub use Rattle.cw_names.specs.Names.{Entry, with_entry, with_category, is_entry, AreDistinct, place_of}
+pub use Rattle.indexmap.specs.IndexMap.{insert_entry, set_value_at}
