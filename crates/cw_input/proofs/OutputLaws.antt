@@ -1,7 +1,9 @@
 -- The first output that overwrites something, where the outputs are looked at one after another.
-use Rattle.cw_input.proofs.Terms.{◌≡◌, ℕ, zero, suc, ◌+◌, ◌<◌, ◌||◌, Bool, true, false, List, [], ◌∷◌, Option, Some}
-use Rattle.cw_input.proofs.Terms.{refl, ap, sym, ◌∙◌, subst, length, take, drop, slice_index_or, arith, cond}
-use Rattle.cw_input.proofs.Terms.{common_steps, first_overwriting, is_among}
+use Rattle.std.proofs.Common.{◌≡◌, ℕ, zero, suc, ◌+◌, ◌<◌, ◌||◌, Bool, true, false, List, [], ◌∷◌, Option, Some, refl}
+use Rattle.std.proofs.Common.{ap, sym, ◌∙◌, subst}
+use Rattle.std.proofs.Common.{length, take, drop, slice_index_or, arith, cond}
+use Rattle.std.proofs.lemmas.Grind.{common_steps}
+use Rattle.cw_input.specs.Overwriting.{first_overwriting, is_among}
 
 -- what is taken when so many outputs were looked at
 abbrev pub taken_after : ℕ → List (List ℕ) → List (List ℕ) → List (List ℕ)

@@ -1,10 +1,14 @@
 -- How much is read of the files that are opened: one call after another, and one file after another.
-use Rattle.cw_input.proofs.Terms.{◌≡◌, ◌≢◌, ℕ, ◌+◌, ◌<◌, ◌≤◌, List, [], ◌∷◌, ◌++◌, length, sum_by, ◌∙◌, arith, Some}
-use Rattle.cw_input.proofs.Terms.{Result, OnOk, lemmas.List.Sums.sum_by-append, lemmas.Bool.Decides.nat_tests, get}
-use Rattle.cw_input.proofs.Terms.{INPUT_LIMIT, Meaning.Files, Told.Told, Told.Narrows, Told.Opens, AreRead, HasRead}
-use Rattle.cw_input.proofs.Terms.{ReadsAtMost, ReadsFirst, ReadsOn, ReadsOnly, ReadsTo, Moves}
-use Rattle.cw_input.proofs.Terms.{error.LoadError.LoadError, found.Found.Found, merger.Merger.Merger}
+use Rattle.std.proofs.Common.{◌≡◌, ◌≢◌, ℕ, ◌+◌, ◌<◌, ◌≤◌, List, [], ◌∷◌, ◌++◌, length, sum_by, ◌∙◌, arith, Some, Result}
+use Rattle.std.proofs.Common.{OnOk}
+use Rattle.std.proofs.{lemmas.List.Sums.sum_by-append, lemmas.Bool.Decides.nat_tests}
+use Rattle.std.specs.FinMap.{get}
+use Rattle.cw_base.specs.declared.limits.TheConstants.{INPUT_LIMIT}
+use Rattle.cw_desk.specs.{Meaning.Files, Told.Told, Told.Narrows, Told.Opens}
 use Rattle.cw_desk.specs.declared.{desk.FileId.FileId, desk.Opened.TheVariants.File}
+use Rattle.cw_input.specs.Reading.{AreRead, HasRead, ReadsAtMost, ReadsFirst, ReadsOn, ReadsOnly, ReadsTo}
+use Rattle.cw_input.specs.State.{Moves}
+use Rattle.cw_input.specs.declared.{error.LoadError.LoadError, found.Found.Found, merger.Merger.Merger}
 
 -- all files from the first on have been read
 are_read-count : (files : Files) (told : Told) (first : ℕ) (read : List (List ℕ)) → AreRead files told first read

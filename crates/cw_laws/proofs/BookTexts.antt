@@ -1,22 +1,42 @@
 -- Sections leave what their texts leave, one after another.
-use Rattle.cw_laws.proofs.Terms.{◌≡◌, ℕ, suc, Bool, true, false, ◌||◌, List, [], ◌∷◌, ◌++◌, Option, Some, None, All}
-use Rattle.cw_laws.proofs.Terms.{refl, sym, ap, ◌∙◌, append_assoc, arith, is_some, append-nil, All-head, All-tail}
-use Rattle.cw_laws.proofs.Terms.{filter-append, nat_tests, list_if, text_of, Span, CTextsAreNested, Entry}
-use Rattle.cw_laws.proofs.Terms.{definition_done, definitions_done, first_opening, later_opening, paragraph_if}
-use Rattle.cw_laws.proofs.Terms.{part_done, at_section, ending, rest_done, section_done, sections_done, Section, book}
-use Rattle.cw_laws.proofs.Terms.{name_at, first_code, has_definition, has_prose, is_nothing, Done, as_it_is, reprinted}
-use Rattle.cw_laws.proofs.Terms.{done_then, head, prints, beside_in, piece_done, pieces_done, head_and_tex, tex_done}
-use Rattle.cw_laws.proofs.Terms.{Setting, name_done_by, setting, printed_definitions, has_scrap, is_printed, scanned}
-use Rattle.cw_laws.proofs.Terms.{TexPiece, Copied, InnerText, Cited, tex_pieces_of}
+use Rattle.std.proofs.Common.{◌≡◌, ℕ, suc, Bool, true, false, ◌||◌, List, [], ◌∷◌, ◌++◌, Option, Some, None, All, refl}
+use Rattle.std.proofs.Common.{sym, ap, ◌∙◌, append_assoc, arith}
+use Rattle.std.specs.Prelude.{is_some}
+use Rattle.std.proofs.lemmas.List.{append-nil}
+use Rattle.std.proofs.lemmas.List.Elements.{All-head, All-tail, filter-append}
+use Rattle.std.proofs.lemmas.Bool.Decides.{nat_tests}
+use Rattle.cw_base.specs.Conditions.{list_if}
+use Rattle.cw_base.specs.Web.{text_of}
+use Rattle.cw_base.specs.declared.span.Span.{Span}
 use Rattle.cw_lex.specs.NestLaws.{NestsAreWell}
+use Rattle.cw_lex.specs.Nested.{CTextsAreNested}
+use Rattle.cw_names.specs.Names.{Entry}
+use Rattle.cw_part.specs.Parts.{definition_done, definitions_done, first_opening, later_opening, paragraph_if}
+use Rattle.cw_part.specs.Parts.{part_done}
+use Rattle.cw_part.specs.Sections.{at_section, ending, rest_done, section_done, sections_done}
+use Rattle.cw_phase1.specs.declared.sections.Section.{Section}
+use Rattle.cw_phase1.specs.Book.{book}
 use Rattle.cw_phase1.specs.Whole.{IsWholeSection, SectionsAreWhole}
+use Rattle.cw_rules.specs.declared.tokens.Mode.TheVariants as modes
+use Rattle.cw_secnames.specs.Uses.{name_at}
 use Rattle.cw_table.specs.Rewriting.{State}
-use Rattle.cw_texts.specs.{declared.definitions.Definition.Definition, declared.text_list.TextRef.TextRef}
+use Rattle.cw_texpart.specs.Beside.{first_code, has_definition, has_prose, is_nothing}
+use Rattle.cw_texpart.specs.Done.{Done, as_it_is, reprinted, done_then}
+use Rattle.cw_texpart.specs.Heads.{head}
+use Rattle.cw_texpart.specs.Inks.{prints}
+use Rattle.cw_texpart.specs.TexParts.{beside_in, piece_done, pieces_done, head_and_tex, tex_done}
+use Rattle.cw_texpart.specs.Texts.{Setting, name_done_by, setting}
+use Rattle.cw_texts.specs.declared.definitions.Definition.{Definition}
+use Rattle.cw_texts.specs.declared.text_list.TextRef.{TextRef}
+use Rattle.cw_texts.specs.Definitions.{printed_definitions}
+use Rattle.cw_texts.specs.Printed.{has_scrap, is_printed}
+use Rattle.cw_texts.specs.Scans.{scanned}
+use Rattle.cw_texts.specs.TexPieces.{TexPiece, Copied, InnerText, Cited, tex_pieces_of}
 use Rattle.cw_texts.specs.Texts.{definition_refs, part_refs, piece_refs, refs_from, section_refs, tex_refs, text_ref}
 use Rattle.cw_laws.specs.BookTexts.{EveryTextIsWoven, LeaveTheSame, TextsAreWoven, is_any, ref_done, refs_done}
 use Rattle.cw_laws.specs.BookTexts.{with_scraps}
-use Rattle.cw_laws.proofs.{ProseLaws.no-prose, ProseLaws.no-refs, QuietParts.quiet-text}
-use Rattle.cw_rules.specs.declared.tokens.Mode.TheVariants as modes
+use Rattle.cw_laws.proofs.ProseLaws.{no-prose, no-refs}
+use Rattle.cw_laws.proofs.QuietParts.{quiet-text}
 
 -- a piece that leaves nothing that is looked at
 record LeavesNothing (looked_at : List State → List State) (before : List Entry) (d : Done ℕ) : Type 0 where

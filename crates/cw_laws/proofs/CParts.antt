@@ -1,26 +1,30 @@
 -- In a C part an identifier begins no string; outside its comments a `#` that is the first byte of its line but for
 -- blanks begins a `#` line; the tokens of these lines are marked, and include names stand behind their word `include`.
-use Rattle.cw_laws.proofs.Terms.{◌≡◌, ℕ, zero, suc, ◌+◌, ◌-◌, ◌≤◌, Bool, true, false, ◌&&◌, ◌||◌, not, ◌==◌, nat_lt}
-use Rattle.cw_laws.proofs.Terms.{List, [], ◌∷◌, ◌++◌, if◌then◌else◌, drop, take, length, refl, sym, ap, subst, ◌∙◌}
-use Rattle.cw_laws.proofs.Terms.{arith, append_assoc, lemmas.List.append-nil, lemmas.Bool.Decides.nat_tests}
-use Rattle.cw_laws.proofs.Terms.{both-failed, both-left, not-both, or-true, Bytes.backslash}
-use Rattle.cw_laws.proofs.Terms.{declared.notes.NoteKind.NoteKind, bodies.Noted.Noted, codes.Code.Code}
-use Rattle.cw_laws.proofs.Terms.{codes.Effect.Effect, parts.Part.Part, parts.Opened.Opened, signs.Sign.Sign}
-use Rattle.cw_laws.proofs.Terms.{tokens.TokKind.TokKind, Answer, Where, Cut, Found, note_answers, plain}
-use Rattle.cw_laws.proofs.Terms.{part_text_apart, in_text_apart, found_apart, ended, extent, noted, note_unless}
-use Rattle.cw_laws.proofs.Terms.{one_note, apostrophe, at_sign, equals, hash, less, begins, begins_with, is_in}
-use Rattle.cw_laws.proofs.Terms.{begins_section, code_at, effect_in_c, effect_at_begin, has_control_text, if-both}
-use Rattle.cw_laws.proofs.Terms.{still_fresh, answers, beginning, fresh_after, fresh_at, last_at, tokens_of}
-use Rattle.cw_laws.proofs.Terms.{is_section_kind}
+use Rattle.std.proofs.Common.{◌≡◌, ℕ, zero, suc, ◌+◌, ◌-◌, ◌≤◌, Bool, true, false, ◌&&◌, ◌||◌, not, ◌==◌, nat_lt, List}
+use Rattle.std.proofs.Common.{[], ◌∷◌, ◌++◌, if◌then◌else◌, drop, take, length, refl, sym, ap, subst, ◌∙◌, arith}
+use Rattle.std.proofs.Common.{append_assoc}
+use Rattle.std.proofs.{lemmas.List.append-nil, lemmas.Bool.Decides.nat_tests}
+use Rattle.cw_base.proofs.TestLaws.{both-failed, both-left, not-both, or-true}
+use Rattle.cw_base.specs.{Bytes.backslash, declared.notes.NoteKind.NoteKind}
+use Rattle.cw_rules.specs.declared.{bodies.Noted.Noted, codes.Code.Code, codes.Effect.Effect, parts.Part.Part}
+use Rattle.cw_rules.specs.declared.{parts.Opened.Opened, signs.Sign.Sign, tokens.TokKind.TokKind}
+use Rattle.cw_rules.specs.Answers.{Answer, Where, Cut, Found, note_answers, plain}
+use Rattle.cw_rules.specs.Apart.{part_text_apart, in_text_apart, found_apart}
+use Rattle.cw_rules.specs.Bodies.{ended, extent, noted, note_unless, one_note}
+use Rattle.cw_rules.specs.Bytes.{apostrophe, at_sign, equals, hash, less, begins, begins_with, is_in}
+use Rattle.cw_rules.specs.Codes.{begins_section, code_at, effect_in_c, effect_at_begin, has_control_text}
 use Rattle.cw_rules.specs.{Prefixes.prefix_size, Signs.all_signs, Signs.spelling}
 use Rattle.cw_rules.specs.Tokens.{all_cut, alone_size, behind_include, behind_word, closes_on_line, code_token}
 use Rattle.cw_rules.specs.Tokens.{comment_begin, control_or_plain, control_text, effect_in, ends_at_bar, identifier}
 use Rattle.cw_rules.specs.Tokens.{in_hash_line, include_name, inner_end, is_include, is_name, is_quote, line_end}
 use Rattle.cw_rules.specs.Tokens.{may_head, moved, one, passed, piece_start, section, section_code, section_name}
 use Rattle.cw_rules.specs.Tokens.{string, comment_cut, inner_or_none, part_cut, takes_hash_line}
+use Rattle.cw_rules.proofs.Choices.{if-both}
 use Rattle.cw_rules.proofs.Rules.{IsAlone, CPart, IsPassed, IncludeName, OfSign, Standing, CodeRule, LineEnd, Space}
 use Rattle.cw_rules.proofs.Rules.{HashLine, Word, Passed, Heading, Beginning, Comment, InnerEnd, CommentRule, Closed}
 use Rattle.cw_rules.proofs.Rules.{EndedLine, InnerBegin, Piece, within, code-rule, comment-rule}
+use Rattle.cw_lex.specs.Lexing.{still_fresh, answers, beginning, fresh_after, fresh_at, last_at, tokens_of}
+use Rattle.cw_lex.specs.Nested.{is_section_kind}
 use Rattle.cw_lex.proofs.{Covering.drop-on, Nesting.section-kind, Walk.fresh-more}
 use Rattle.cw_laws.specs.{Longest.AllFitC, Longest.FitsC, Longest.names_file, WhiteSpace.hash_line_by}
 use Rattle.cw_laws.proofs.LongestSigns.{Fits, longest-fits}

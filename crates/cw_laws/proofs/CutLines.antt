@@ -1,11 +1,14 @@
 -- Bytes are cut line by line, and lines that are short enough are left as they are.
-use Rattle.cw_laws.proofs.Terms.{arith, ◌≡◌, ℕ, ◌==◌, ◌≤◌, Bool, refl, sym, ap, ◌∙◌, subst, List, [], ◌∷◌, ◌++◌}
-use Rattle.cw_laws.proofs.Terms.{append_assoc, inl, inr, length, eqb-true, append-nil, AllByRecursion, flat_map}
-use Rattle.cw_laws.proofs.Terms.{nat_tests, EndInLine, HasLineEnd, HaveShortLines, written_of}
+use Rattle.std.proofs.Common.{arith, ◌≡◌, ℕ, ◌==◌, ◌≤◌, Bool, refl, sym, ap, ◌∙◌, subst, List, [], ◌∷◌, ◌++◌}
+use Rattle.std.proofs.Common.{append_assoc, inl, inr, length, eqb-true}
+use Rattle.std.proofs.lemmas.List.{append-nil}
 use Rattle.std.proofs.lemmas.List.Concat.{flat_map-append}
+use Rattle.std.specs.List.{AllByRecursion, flat_map}
+use Rattle.std.proofs.lemmas.Bool.Decides.{nat_tests}
 use Rattle.cw_lines.specs.Cut.{CutLine, CutText, TextPieces, before_pieces, behind_by, cut, cut_behind, cut_pieces}
 use Rattle.cw_lines.specs.Cut.{cut_piece, ended_lines, split, split_by, unbroken_line, written}
 use Rattle.cw_lines.specs.CutLaws.{cut_piece-short}
+use Rattle.cw_laws.specs.Files.{EndInLine, HasLineEnd, HaveShortLines, written_of}
 use Rattle.cw_laws.proofs.Endings.{AreEnded, behind-any, ends-then, lines-end, none-pending, split-ended}
 
 -- ## Line by line

@@ -1,13 +1,16 @@
 -- The notes of single tokens are about bytes of these tokens.
-use Rattle.cw_laws.proofs.Terms.{ℕ, ◌+◌, ◌<◌, ◌≤◌, Bool, List, [], ◌∷◌, ◌++◌, Option, length, drop, take, not, arith}
-use Rattle.cw_laws.proofs.Terms.{length-drop, if◌then◌else◌, lemmas.Bool.Decides.nat_tests, lemmas.Grind.common_steps}
-use Rattle.cw_laws.proofs.Terms.{NoteKind, bodies.Inside.Inside, bodies.Noted.Noted, codes.Code.Code}
-use Rattle.cw_laws.proofs.Terms.{tokens.TokKind.TokKind, at_start, goes_on, note_here, stepped, with_note, noted}
-use Rattle.cw_laws.proofs.Terms.{extent, note_unless, one_note, and_last, all_notes, NotesLie}
+use Rattle.std.proofs.Common.{ℕ, ◌+◌, ◌<◌, ◌≤◌, Bool, List, [], ◌∷◌, ◌++◌, Option, length, drop, take, not, arith}
+use Rattle.std.proofs.Common.{length-drop, if◌then◌else◌}
+use Rattle.std.proofs.{lemmas.Bool.Decides.nat_tests, lemmas.Grind.common_steps}
+use Rattle.cw_base.specs.declared.notes.NoteKind.{NoteKind}
+use Rattle.cw_rules.specs.declared.{bodies.Inside.Inside, bodies.Noted.Noted, codes.Code.Code, tokens.TokKind.TokKind}
 use Rattle.cw_rules.specs.{Answers.Cut, Answers.note_answers, Bytes.apostrophe, Names.is_void}
+use Rattle.cw_rules.specs.Bodies.{at_start, goes_on, note_here, stepped, with_note, noted, extent, note_unless}
+use Rattle.cw_rules.specs.Bodies.{one_note, and_last, all_notes}
 use Rattle.cw_rules.specs.Tokens.{string, include_name, control_text, section_name, is_name, is_quote, control_or_plain}
 use Rattle.cw_rules.specs.Tokens.{code_token, dropped_code, section_code}
 use Rattle.cw_rules.proofs.{Choices.if-both, Sizes.ended-most}
+use Rattle.cw_laws.specs.NotePlaces.{NotesLie}
 use Rattle.cw_base.specs.declared.notes.NoteKind.TheVariants as notes
 use Rattle.cw_rules.specs.declared.bodies.Body.TheVariants as bodies
 use Rattle.cw_rules.specs.declared.tokens.TokKind.TheVariants as kinds

@@ -1,14 +1,17 @@
 -- Each code goes up to its end.
-use Rattle.cw_laws.proofs.Terms.{◌≡◌, ℕ, ◌+◌, ◌-◌, Bool, true, false, ◌==◌, List, [], ◌∷◌, ◌++◌, drop, length, take}
-use Rattle.cw_laws.proofs.Terms.{if◌then◌else◌, refl, sym, ap, subst, ◌∙◌, arith, lemmas.Bool.eqb-true}
-use Rattle.cw_laws.proofs.Terms.{lemmas.Bool.Decides.nat_tests, NoteKind, codes.Code.Code, codes.Effect.Effect}
-use Rattle.cw_laws.proofs.Terms.{parts.Part.Part, parts.Opened.Opened, tokens.Mode.Mode, tokens.TokKind.TokKind, Answer}
-use Rattle.cw_laws.proofs.Terms.{Note, Cut, note_answers, plain, dropped, code_at, code_of, is_section, effect_in_limbo}
-use Rattle.cw_laws.proofs.Terms.{effect_in_tex, effect_in_c, effect_in_definition, effect_at_begin, has_control_text}
-use Rattle.cw_laws.proofs.Terms.{if-both}
+use Rattle.std.proofs.Common.{◌≡◌, ℕ, ◌+◌, ◌-◌, Bool, true, false, ◌==◌, List, [], ◌∷◌, ◌++◌, drop, length, take}
+use Rattle.std.proofs.Common.{if◌then◌else◌, refl, sym, ap, subst, ◌∙◌, arith}
+use Rattle.std.proofs.{lemmas.Bool.eqb-true, lemmas.Bool.Decides.nat_tests}
+use Rattle.cw_base.specs.declared.notes.NoteKind.{NoteKind}
+use Rattle.cw_rules.specs.declared.{codes.Code.Code, codes.Effect.Effect, parts.Part.Part, parts.Opened.Opened}
+use Rattle.cw_rules.specs.declared.{tokens.Mode.Mode, tokens.TokKind.TokKind}
+use Rattle.cw_rules.specs.Answers.{Answer, Note, Cut, note_answers, plain, dropped}
 use Rattle.cw_rules.specs.{Bodies.at_start, Bodies.extent, Bytes.apostrophe, Bytes.at_sign}
+use Rattle.cw_rules.specs.Codes.{code_at, code_of, is_section, effect_in_limbo, effect_in_tex, effect_in_c}
+use Rattle.cw_rules.specs.Codes.{effect_in_definition, effect_at_begin, has_control_text}
 use Rattle.cw_rules.specs.Tokens.{section_name, string, control_text, alone_size, is_quote, control_or_plain, effect_in}
 use Rattle.cw_rules.specs.Tokens.{code_token, is_name, may_head, dropped_code}
+use Rattle.cw_rules.proofs.Choices.{if-both}
 use Rattle.cw_lex.specs.{Nested.is_section_kind, Openings.is_limbo_mode}
 use Rattle.cw_laws.{specs.Strings.IsString, proofs.Insides.control-whole, proofs.Insides.name-whole}
 use Rattle.cw_laws.specs.Ends.{BeginsCode, CodeGoesToEnd, GoesToEnd, HasName, HasOwnText}

@@ -1,7 +1,10 @@
 -- Bytes that a line's end ends, and how they are cut.
-use Rattle.cw_laws.proofs.Terms.{◌≡◌, ℕ, ◌==◌, Bool, refl, ap, List, [], ◌∷◌, ◌++◌, append_assoc, inl, inr, arith}
-use Rattle.cw_laws.proofs.Terms.{append-nil, flat_map, nat_tests, EndInLine, HasLineEnd}
+use Rattle.std.proofs.Common.{◌≡◌, ℕ, ◌==◌, Bool, refl, ap, List, [], ◌∷◌, ◌++◌, append_assoc, inl, inr, arith}
+use Rattle.std.proofs.lemmas.List.{append-nil}
+use Rattle.std.specs.List.{flat_map}
+use Rattle.std.proofs.lemmas.Bool.Decides.{nat_tests}
 use Rattle.cw_lines.specs.Cut.{CutLine, TextPieces, cut, cut_behind, split, split_by, written}
+use Rattle.cw_laws.specs.Files.{EndInLine, HasLineEnd}
 
 -- ## How they are split
 

@@ -1,18 +1,20 @@
 -- Each text of a code, comment and inner text goes up to its end.
-use Rattle.cw_laws.proofs.Terms.{◌≡◌, ℕ, zero, suc, ◌+◌, ◌-◌, Bool, true, false, ◌&&◌, not, ◌==◌, List, [], ◌∷◌, ◌++◌}
-use Rattle.cw_laws.proofs.Terms.{if◌then◌else◌, drop, refl, sym, ap, subst, ◌∙◌, arith, append_assoc, inl, inr, length}
-use Rattle.cw_laws.proofs.Terms.{lemmas.Bool.eqb-true, lemmas.List.append-nil, lemmas.Bool.Decides.nat_tests}
-use Rattle.cw_laws.proofs.Terms.{declared.notes.NoteKind.NoteKind, Text.bar, Bytes.newline, both-left}
-use Rattle.cw_laws.proofs.Terms.{bodies.Noted.Noted, codes.Effect.Effect, parts.Part.Part, parts.Opened.Opened}
-use Rattle.cw_laws.proofs.Terms.{signs.Sign.Sign, tokens.Mode.Mode, tokens.TokKind.TokKind, Answer, Where, Cut, Found}
-use Rattle.cw_laws.proofs.Terms.{before, note_answers, plain, dropped, note_unless, one_note, noted, ended, extent}
-use Rattle.cw_laws.proofs.Terms.{slash, star, at_sign, equals, run, begins, comment_text_apart, in_text_apart}
-use Rattle.cw_laws.proofs.Terms.{found_apart}
+use Rattle.std.proofs.Common.{◌≡◌, ℕ, zero, suc, ◌+◌, ◌-◌, Bool, true, false, ◌&&◌, not, ◌==◌, List, [], ◌∷◌, ◌++◌}
+use Rattle.std.proofs.Common.{if◌then◌else◌, drop, refl, sym, ap, subst, ◌∙◌, arith, append_assoc, inl, inr, length}
+use Rattle.std.proofs.{lemmas.Bool.eqb-true, lemmas.List.append-nil, lemmas.Bool.Decides.nat_tests}
+use Rattle.cw_base.specs.{declared.notes.NoteKind.NoteKind, Text.bar, Bytes.newline}
+use Rattle.cw_base.proofs.TestLaws.{both-left}
+use Rattle.cw_rules.specs.declared.{bodies.Noted.Noted, codes.Effect.Effect, parts.Part.Part, parts.Opened.Opened}
+use Rattle.cw_rules.specs.declared.{signs.Sign.Sign, tokens.Mode.Mode, tokens.TokKind.TokKind}
+use Rattle.cw_rules.specs.Answers.{Answer, Where, Cut, Found, before, note_answers, plain, dropped}
+use Rattle.cw_rules.specs.Bodies.{note_unless, one_note, noted, ended, extent}
+use Rattle.cw_rules.specs.Bytes.{slash, star, at_sign, equals, run, begins}
 use Rattle.cw_rules.specs.{Codes.code_at, Codes.begins_section, Codes.is_section, Signs.spelling}
 use Rattle.cw_rules.specs.Tokens.{in_hash_line, takes_hash_line, is_deep, ends_at_bar, moved, passed, one, line_end}
 use Rattle.cw_rules.specs.Tokens.{skipped_byte, comment_kind, all_cut, comment_end, part_cut, section, inner_cut}
 use Rattle.cw_rules.specs.Tokens.{behind_word, comment_begin, inner_end, inner_begin, identifier, piece_start}
 use Rattle.cw_rules.specs.Tokens.{code_token, is_code_part, dropped_code, alone_size}
+use Rattle.cw_rules.specs.Apart.{comment_text_apart, in_text_apart, found_apart}
 use Rattle.cw_rules.proofs.{Choices.if-both, Rules.code-rule, Rules.comment-rule, Rules.part-rule}
 use Rattle.cw_rules.proofs.Rules.{BeginsPart, Macro, IsPassed, Standing, Dropping, CodeRule, LineEnd, Space, HashLine}
 use Rattle.cw_rules.proofs.Rules.{Word, Passed, Heading, Beginning, Comment, InnerEnd, CommentRule, Closed, EndedLine}

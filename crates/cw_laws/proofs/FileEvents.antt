@@ -1,21 +1,40 @@
 -- A run over files that are there already keeps them all.
-use Rattle.cw_laws.proofs.Terms.{◌≡◌, ℕ, Bool, true, false, refl, sym, ap, subst, ◌∙◌, List, [], ◌∷◌, ◌++◌, Option}
-use Rattle.cw_laws.proofs.Terms.{Some, map, arith, AllByRecursion, filter, flat_map, list_any, append-nil}
-use Rattle.cw_laws.proofs.Terms.{filter-append, nat_tests, list_if, WebState, text_of, Event, Flags, NamedFiles}
-use Rattle.cw_laws.proofs.Terms.{CommandLine, Book, Run, Broken, OutFile, broken_events, broken_in, file_events}
-use Rattle.cw_laws.proofs.Terms.{is_same, settled_if, SecName, Done, left_by, tex_file, end_of_run, index_events}
-use Rattle.cw_laws.proofs.Terms.{index_files, index_of, index_out, list_out, book_of, name_list, tex_out, weave_book}
-use Rattle.cw_laws.proofs.Terms.{with_banner, woven, AskFor, IsThere, KeepEach, files_of, is_of_file, kept_events}
-use Rattle.cw_laws.proofs.Terms.{rewrites, written_of}
-use Rattle.std.proofs.{lemmas.Cmp.nat_list_eq_equiv, lemmas.List.Folds.list_any-append, lemmas.Grind.common_steps}
-use Rattle.cw_base.specs.{declared.event.Out.Out, declared.notes.Note.Note}
+use Rattle.std.proofs.Common.{◌≡◌, ℕ, Bool, true, false, refl, sym, ap, subst, ◌∙◌, List, [], ◌∷◌, ◌++◌, Option, Some}
+use Rattle.std.proofs.Common.{map, arith}
+use Rattle.std.specs.List.{AllByRecursion, filter, flat_map, list_any}
+use Rattle.std.proofs.lemmas.Cmp.{nat_list_eq_equiv}
+use Rattle.std.proofs.lemmas.List.{append-nil}
+use Rattle.std.proofs.lemmas.List.Elements.{filter-append}
+use Rattle.std.proofs.lemmas.List.Folds.{list_any-append}
+use Rattle.std.proofs.lemmas.Bool.Decides.{nat_tests}
+use Rattle.std.proofs.lemmas.Grind.{common_steps}
+use Rattle.cw_base.specs.Conditions.{list_if}
+use Rattle.cw_base.specs.Web.{WebState, text_of}
+use Rattle.cw_base.specs.declared.event.Event.{Event}
 use Rattle.cw_base.specs.declared.event.Event.TheVariants.{Byte, Drafted, Kept, Made, Replaced}
+use Rattle.cw_base.specs.declared.event.Out.{Out}
 use Rattle.cw_base.specs.declared.event.Out.TheVariants.{Term, Tex, Idx, Scn}
+use Rattle.cw_base.specs.declared.flags.Flags.{Flags}
+use Rattle.cw_base.specs.declared.notes.Note.{Note}
 use Rattle.cw_desk.specs.Journal.{byte_events}
-use Rattle.cw_run.specs.{Closing.closing_by, Notes.note_events, Saying.says, Saying.says_if, Statistics.statistics_if}
-use Rattle.cw_run.specs.{declared.statistics.Totals.Totals}
+use Rattle.cw_desk.specs.Meaning.{NamedFiles}
+use Rattle.cw_input.specs.declared.words.CommandLine.{CommandLine}
+use Rattle.cw_phase1.specs.declared.book.Book.{Book}
+use Rattle.cw_run.specs.Closing.{closing_by}
+use Rattle.cw_run.specs.Emits.{Run}
+use Rattle.cw_run.specs.Files.{Broken, OutFile, broken_events, broken_in, file_events, is_same, settled_if}
+use Rattle.cw_run.specs.Notes.{note_events}
+use Rattle.cw_run.specs.Saying.{says, says_if}
+use Rattle.cw_run.specs.Statistics.{statistics_if}
+use Rattle.cw_run.specs.declared.statistics.Totals.{Totals}
+use Rattle.cw_secnames.specs.Kept.{SecName}
 use Rattle.cw_run.specs.Terminal.{banner_text, index_text, output_text}
+use Rattle.cw_texpart.specs.Done.{Done}
 use Rattle.cw_weave.specs.Statistics.{totals_of}
+use Rattle.cw_weave.specs.TexFile.{left_by, tex_file}
+use Rattle.cw_weave.specs.Woven.{end_of_run, index_events, index_files, index_of, index_out, list_out, book_of}
+use Rattle.cw_weave.specs.Woven.{name_list, tex_out, weave_book, with_banner, woven}
+use Rattle.cw_laws.specs.Files.{AskFor, IsThere, KeepEach, files_of, is_of_file, kept_events, rewrites, written_of}
 
 -- ## Events of the terminal
 

@@ -1,14 +1,26 @@
 -- Each file of a run ends in a line, so all its bytes are written; and files that are there already are kept.
-use Rattle.cw_laws.proofs.Terms.{arith, ℕ, Bool, true, false, refl, List, [], ◌∷◌, ◌++◌, Option, codes, inl, inr, map}
-use Rattle.cw_laws.proofs.Terms.{slice_get, AllByRecursion, flat_map, list_any, nat_tests, CommandLine, Entry, Book}
-use Rattle.cw_laws.proofs.Terms.{Section, SecName, footnote, footnote_numbers, number_in, of_kept, use_footnotes}
-use Rattle.cw_laws.proofs.Terms.{limbo_bytes, Setting, setting, text_done, changes_line, closing_lines, last_line}
-use Rattle.cw_laws.proofs.Terms.{last_lines, OutFile, all_sections, left_by, tex_file, index_files, index_of, index_out}
-use Rattle.cw_laws.proofs.Terms.{list_out, name_list, tex_out, EndInLine, FilesAreWhole, HasLineEnd, IsWritten}
-use Rattle.cw_laws.proofs.Terms.{files_of}
+use Rattle.std.proofs.Common.{arith, ℕ, Bool, true, false, refl, List, [], ◌∷◌, ◌++◌, Option, codes, inl, inr, map}
+use Rattle.std.proofs.Common.{slice_get}
+use Rattle.std.specs.List.{AllByRecursion, flat_map, list_any}
+use Rattle.std.proofs.lemmas.Bool.Decides.{nat_tests}
+use Rattle.cw_input.specs.declared.words.CommandLine.{CommandLine}
+use Rattle.cw_names.specs.Names.{Entry}
+use Rattle.cw_phase1.specs.declared.book.Book.{Book}
+use Rattle.cw_phase1.specs.declared.sections.Section.{Section}
+use Rattle.cw_secnames.specs.Kept.{SecName}
 use Rattle.cw_rules.specs.declared.tokens.Mode.TheVariants.{Inner}
-use Rattle.cw_index.specs.{Index.entry_bytes, Index.row_bytes, Index.section_bytes, Mentions.Row, Standing.listed_names}
+use Rattle.cw_part.specs.Footnotes.{footnote, footnote_numbers, number_in, of_kept, use_footnotes}
+use Rattle.cw_texpart.specs.Limbo.{limbo_bytes}
+use Rattle.cw_texpart.specs.Texts.{Setting, setting, text_done}
+use Rattle.cw_index.specs.Closing.{changes_line, closing_lines, last_line, last_lines}
+use Rattle.cw_index.specs.Index.{entry_bytes, row_bytes, section_bytes}
+use Rattle.cw_index.specs.Mentions.{Row}
 use Rattle.cw_index.specs.NameList.{all_listed, listed_done, name_ending, name_span, use_notes}
+use Rattle.cw_index.specs.Standing.{listed_names}
+use Rattle.cw_run.specs.Files.{OutFile}
+use Rattle.cw_weave.specs.TexFile.{all_sections, left_by, tex_file}
+use Rattle.cw_weave.specs.Woven.{index_files, index_of, index_out, list_out, name_list, tex_out}
+use Rattle.cw_laws.specs.Files.{EndInLine, FilesAreWhole, HasLineEnd, IsWritten, files_of}
 use Rattle.cw_laws.proofs.CutLines.{uncut, written-ends, written-short}
 use Rattle.cw_laws.proofs.Endings.{all-end, behind-any, both-end, ends-then, lines-end, none-pending}
 use Rattle.cw_laws.proofs.FileEvents.{keeps, keeps-by-run}

@@ -1,19 +1,26 @@
 -- The run of the greeting by computation, over the one file that gives its answers.
-use Rattle.cw_laws.proofs.Terms.{◌≡◌, ◌≢◌, ℕ, List, [], ◌∷◌, ◌++◌, Option, Some, drop, length, refl, sym, ap, subst}
-use Rattle.cw_laws.proofs.Terms.{Event, Files, NamedFiles, Run, woven}
-use Rattle.std.specs.{Fmt.digits, Ordering.nat_cmp}
+use Rattle.std.specs.Prelude.{◌≡◌, ◌≢◌, ℕ, List, [], ◌∷◌, ◌++◌, Option, Some, drop, length}
 use Rattle.std.specs.Cmp.Lexicographic.{slice_cmp, nat_list_cmp_total}
 use Rattle.std.specs.FinMap.{find, from_entries, get, get-from_entries}
+use Rattle.std.specs.Fmt.{digits}
+use Rattle.std.specs.Ordering.{nat_cmp}
+use Rattle.std.proofs.Common.{refl, sym, ap, subst}
+use Rattle.cw_base.specs.declared.event.Event.{Event}
 use Rattle.cw_base.specs.declared.exit.Exit.{Exit}
 use Rattle.cw_base.specs.declared.exit.Exit.TheVariants.{Clean, Errors, Fault, Memory}
 use Rattle.cw_desk.specs.Answer.{Agree, text_of}
+use Rattle.cw_desk.specs.Meaning.{Files, NamedFiles}
 use Rattle.cw_input.specs.Merge.{new_lines, web_lines}
 use Rattle.cw_lines.specs.Cut.{cut_behind, divide}
 use Rattle.cw_program.specs.Program.{Outcome}
+use Rattle.cw_run.specs.Emits.{Run}
 use Rattle.cw_run.specs.Saying.{says}
-use Rattle.cw_table.specs.{Normal.count, Normal.log, Normal.normal, NormalWalk.positions, Productions.productions}
-use Rattle.cw_table.specs.{WalkCounts.looks}
+use Rattle.cw_table.specs.Normal.{count, log, normal}
+use Rattle.cw_table.specs.NormalWalk.{positions}
+use Rattle.cw_table.specs.Productions.{productions}
+use Rattle.cw_table.specs.WalkCounts.{looks}
 use Rattle.cw_translator.specs.Translating.{translated}
+use Rattle.cw_weave.specs.Woven.{woven}
 use Rattle.cw_laws.specs.Greeting.{GreetingIsWoven, greeting, greeting_answers, greeting_events, greeting_name}
 use Rattle.cw_laws.specs.Greeting.{greeting_words}
 

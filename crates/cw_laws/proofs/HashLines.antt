@@ -1,18 +1,21 @@
 -- A `#` line goes on behind what begins at a place only as its tokens say, and a backslash is passed over only in one.
-use Rattle.cw_laws.proofs.Terms.{arith, ◌≡◌, ℕ, Bool, true, false, ◌==◌, List, [], ◌∷◌, ◌++◌, Option, Some, None, refl}
-use Rattle.cw_laws.proofs.Terms.{sym, ap, ◌∙◌, ◌⊎◌, nat_tests, both-left, both-right, not-both, bodies.Noted.Noted}
-use Rattle.cw_laws.proofs.Terms.{codes.Code.Code, codes.Effect.Effect, parts.Part.Part, parts.Opened.Opened}
-use Rattle.cw_laws.proofs.Terms.{tokens.TokKind.TokKind, Answer, Token, Begin, Finish, Note, Where, Cut, Found}
-use Rattle.cw_laws.proofs.Terms.{note_answers, code_text_apart, comment_text_apart, part_text_apart, in_text_apart}
-use Rattle.cw_laws.proofs.Terms.{found_apart, hash_line_by}
+use Rattle.std.proofs.Common.{arith, ◌≡◌, ℕ, Bool, true, false, ◌==◌, List, [], ◌∷◌, ◌++◌, Option, Some, None, refl}
+use Rattle.std.proofs.Common.{sym, ap, ◌∙◌, ◌⊎◌}
+use Rattle.std.proofs.lemmas.Bool.Decides.{nat_tests}
+use Rattle.cw_base.proofs.TestLaws.{both-left, both-right, not-both}
 use Rattle.cw_base.specs.declared.{notes.NoteKind.NoteKind, notes.NoteKind.TheVariants.MissingBrace}
+use Rattle.cw_rules.specs.declared.{bodies.Noted.Noted, codes.Code.Code, codes.Effect.Effect, parts.Part.Part}
+use Rattle.cw_rules.specs.declared.{parts.Opened.Opened, tokens.TokKind.TokKind}
+use Rattle.cw_rules.specs.Answers.{Answer, Token, Begin, Finish, Note, Where, Cut, Found, note_answers}
 use Rattle.cw_rules.specs.{Bodies.note_unless, Bodies.one_note, Codes.code_at}
 use Rattle.cw_rules.specs.Tokens.{in_hash_line, passed, line_end, code_by, code_token}
+use Rattle.cw_rules.specs.Apart.{code_text_apart, comment_text_apart, part_text_apart, in_text_apart, found_apart}
 use Rattle.cw_rules.proofs.{Choices.if-both, Rules.within, Rules.code-rule, Rules.comment-rule, Rules.part-rule}
 use Rattle.cw_rules.proofs.Rules.{BeginsPart, Macro, IsPassed, Standing, CodeRule, LineEnd, Space, HashLine, Word}
 use Rattle.cw_rules.proofs.Rules.{Passed, Heading, Beginning, Comment, InnerEnd, CommentRule, Closed, EndedLine}
 use Rattle.cw_rules.proofs.Rules.{LimboRule, LimboText, PartRule, OfCode, OfLimbo, TexBeginning, White, HeadWord}
 use Rattle.cw_rules.proofs.Rules.{LastOfMacro, ParameterSign, CommaStands, Improper, ImproperMacro, ImproperInLimbo}
+use Rattle.cw_laws.specs.WhiteSpace.{hash_line_by}
 use Rattle.cw_rules.specs.declared.codes.Effect.TheVariants as effects
 use Rattle.cw_rules.specs.declared.parts.Part.TheVariants as parts
 

@@ -1,12 +1,15 @@
 -- How many bytes come before the end of a control text, of a section name, and of a piece of a comment.
-use Rattle.cw_laws.proofs.Terms.{◌≡◌, ℕ, ◌+◌, ◌-◌, Bool, true, false, ◌&&◌, ◌||◌, not, ◌==◌, List, [], ◌∷◌, ◌++◌, drop}
-use Rattle.cw_laws.proofs.Terms.{if◌then◌else◌, refl, sym, subst, ap, ◌∙◌, ◌<◌, ◌⊎◌, arith, inl, inr, Option, Some}
-use Rattle.cw_laws.proofs.Terms.{None, length, nat_tests, NoteKind, bodies.Body.Body, bodies.Inside.Inside}
-use Rattle.cw_laws.proofs.Terms.{bodies.Noted.Noted, codes.Code.Code, tokens.Mode.Mode, tokens.TokKind.TokKind, stops}
-use Rattle.cw_laws.proofs.Terms.{takes_next, stepped, goes_on, ended, and_last, note_unless, at_start, extent, noted}
-use Rattle.cw_laws.proofs.Terms.{note_here, note_on, is_single, with_note, all_notes, closing_bytes, one_note}
+use Rattle.std.proofs.Common.{◌≡◌, ℕ, ◌+◌, ◌-◌, Bool, true, false, ◌&&◌, ◌||◌, not, ◌==◌, List, [], ◌∷◌, ◌++◌, drop}
+use Rattle.std.proofs.Common.{if◌then◌else◌, refl, sym, subst, ap, ◌∙◌, ◌<◌, ◌⊎◌, arith, inl, inr, Option, Some, None}
+use Rattle.std.proofs.Common.{length}
+use Rattle.std.proofs.lemmas.Bool.Decides.{nat_tests}
+use Rattle.cw_base.specs.declared.notes.NoteKind.{NoteKind}
+use Rattle.cw_rules.specs.declared.{bodies.Body.Body, bodies.Inside.Inside, bodies.Noted.Noted, codes.Code.Code}
+use Rattle.cw_rules.specs.declared.{tokens.Mode.Mode, tokens.TokKind.TokKind}
 use Rattle.cw_rules.specs.{Answers.Answer, Answers.note_answers, Bytes.at_sign, Bytes.greater, Bytes.begins}
 use Rattle.cw_rules.specs.{Bytes.begins_with, Codes.begins_section, Tokens.comment_kind, Tokens.section_name}
+use Rattle.cw_rules.specs.Bodies.{stops, takes_next, stepped, goes_on, ended, and_last, note_unless, at_start, extent}
+use Rattle.cw_rules.specs.Bodies.{noted, note_here, note_on, is_single, with_note, all_notes, closing_bytes, one_note}
 use Rattle.cw_laws.specs.Ends.{begins_two, before_end, ends_control, is_double_at, ends_piece, is_pair, ends_name}
 use Rattle.cw_laws.specs.Ends.{is_single_at, before_single, IsNoted, HasControlText, HasName, is_closed, closed_size}
 use Rattle.cw_laws.{specs.Ends.piece_size, specs.Ends.bars_begin, specs.Ends.IsPieceIn, proofs.Strings.step-size}

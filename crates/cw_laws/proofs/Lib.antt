@@ -1,5 +1,4 @@
 -- The laws of the book, of its C texts, of the scanner's answers and of TeX text.
-mod Terms
 mod Rows
 pub mod SectionCodes
 pub mod Openers

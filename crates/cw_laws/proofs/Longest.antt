@@ -1,21 +1,22 @@
 -- Each token is the longest that begins at its place.
-use Rattle.cw_laws.proofs.Terms.{◌≡◌, ℕ, zero, suc, ◌+◌, ◌-◌, ◌<◌, Bool, true, false, ◌&&◌, ◌||◌, not, ◌==◌, nat_lt}
-use Rattle.cw_laws.proofs.Terms.{List, [], ◌∷◌, ◌++◌, Some, None, if◌then◌else◌, length, slice_index, drop, take, refl}
-use Rattle.cw_laws.proofs.Terms.{sym, ap, subst, ◌∙◌, arith, lemmas.Bool.eqb-true, lemmas.Bool.Decides.nat_tests}
-use Rattle.cw_laws.proofs.Terms.{both-failed, both-left, both-right, not-both, not-true, other-one, bodies.Noted.Noted}
-use Rattle.cw_laws.proofs.Terms.{codes.Code.Code, parts.Part.Part, parts.Opened.Opened, signs.Sign.Sign}
-use Rattle.cw_laws.proofs.Terms.{tokens.TokKind.TokKind, Answer, Token, Finish, Note, Where, Cut, Found, note_answers}
-use Rattle.cw_laws.proofs.Terms.{plain, Bytes.newline, Bytes.backslash, declared.notes.NoteKind.NoteKind, apostrophe}
-use Rattle.cw_laws.proofs.Terms.{slash, star, at_sign, hash, comma, equals, plus, left_paren, right_paren, begins}
-use Rattle.cw_laws.proofs.Terms.{begins_by, begins_with, is_letter, is_in, run, is_section, code_at, begins_section}
-use Rattle.cw_laws.proofs.Terms.{has_control_text, one_note, note_unless, noted, still_fresh, answers, fresh_after}
-use Rattle.cw_laws.proofs.Terms.{last_after, fresh_at, last_at, beginning, NoneIsLonger, begins_comment, IsSign}
-use Rattle.cw_laws.proofs.Terms.{IsOtherByte, IsIncludeName, IsLongest}
+use Rattle.std.proofs.Common.{◌≡◌, ℕ, zero, suc, ◌+◌, ◌-◌, ◌<◌, Bool, true, false, ◌&&◌, ◌||◌, not, ◌==◌, nat_lt, List}
+use Rattle.std.proofs.Common.{[], ◌∷◌, ◌++◌, Some, None, if◌then◌else◌, length, slice_index, drop, take, refl, sym, ap}
+use Rattle.std.proofs.Common.{subst, ◌∙◌, arith}
+use Rattle.std.proofs.{lemmas.Bool.eqb-true, lemmas.Bool.Decides.nat_tests}
+use Rattle.cw_base.proofs.TestLaws.{both-failed, both-left, both-right, not-both, not-true, other-one}
+use Rattle.cw_rules.specs.declared.{bodies.Noted.Noted, codes.Code.Code, parts.Part.Part, parts.Opened.Opened}
+use Rattle.cw_rules.specs.declared.{signs.Sign.Sign, tokens.TokKind.TokKind}
+use Rattle.cw_rules.specs.Answers.{Answer, Token, Finish, Note, Where, Cut, Found, note_answers, plain}
+use Rattle.cw_base.specs.{Bytes.newline, Bytes.backslash, declared.notes.NoteKind.NoteKind}
+use Rattle.cw_rules.specs.Bytes.{apostrophe, slash, star, at_sign, hash, comma, equals, plus, left_paren, right_paren}
+use Rattle.cw_rules.specs.Bytes.{begins, begins_by, begins_with, is_letter, is_in, run}
+use Rattle.cw_rules.specs.Codes.{is_section, code_at, begins_section, has_control_text}
 use Rattle.cw_rules.specs.{Constants.constant, Prefixes.prefix_size, Signs.all_signs, Signs.longest, Signs.spelling}
 use Rattle.cw_rules.specs.{Tokens.head_sign_size, Tokens.is_parameter, Apart.in_text_apart, Apart.found_apart}
 use Rattle.cw_rules.specs.Tokens.{in_hash_line, moved, passed, one, comment_end, inner_cut, all_cut, section, is_quote}
 use Rattle.cw_rules.specs.Tokens.{section_code, section_name, string, control_text, alone_size, control_or_plain}
 use Rattle.cw_rules.specs.Tokens.{line_end, code_token, is_name, include_name, piece_start, identifier, behind_word}
+use Rattle.cw_rules.specs.Bodies.{one_note, note_unless, noted}
 use Rattle.cw_rules.proofs.{Choices.if-both, Taking.AreBare, Taking.bare-all-cut, StringPrefixes.no-prefix}
 use Rattle.cw_rules.proofs.Rules.{IsAlone, IsPassed, IncludeName, Prefixed, Quoted, Constant, Standing, Dropping}
 use Rattle.cw_rules.proofs.Rules.{OfSign, Other, CodeRule, LineEnd, HashLine, Word, Passed, Heading, Beginning}
@@ -23,6 +24,8 @@ use Rattle.cw_rules.proofs.Rules.{CommentRule, Closed, EndedLine, InnerBegin, Pi
 use Rattle.cw_rules.proofs.Rules.{PartRule, OfCode, OfLimbo, TexCode, TexHeading, TexDropped, TexBeginning, TexText}
 use Rattle.cw_rules.proofs.Rules.{HeadSign, HeadWord, Opening, ParameterSign, CommaStands, Closes, Dots, Improper}
 use Rattle.cw_rules.proofs.Rules.{ImproperInLimbo, within, code-rule, comment-rule, part-rule}
+use Rattle.cw_lex.specs.Lexing.{still_fresh, answers, fresh_after, last_after, fresh_at, last_at, beginning}
+use Rattle.cw_laws.specs.Longest.{NoneIsLonger, begins_comment, IsSign, IsOtherByte, IsIncludeName, IsLongest}
 use Rattle.cw_laws.specs.{Longest.AreLongest, Longest.TokensAreLongest, Strings.IsString}
 use Rattle.cw_lex.proofs.{Covering.drop-on, Walk.fresh-more, Walk.last-more}
 use Rattle.cw_laws.proofs.{CParts.c-parts, Strings.prefixed-is, Strings.unprefixed-is}

@@ -1,10 +1,12 @@
 -- The longest sign of the table is one with which the bytes begin, and none of those is longer.
-use Rattle.cw_laws.proofs.Terms.{◌≡◌, ℕ, ◌≤◌, Bool, true, false, ◌==◌, nat_lt, codes, List, [], ◌∷◌, ◌++◌, Option, Some}
-use Rattle.cw_laws.proofs.Terms.{None, if◌then◌else◌, length, drop, refl, sym, subst, arith, lemmas.Bool.eqb-true}
-use Rattle.cw_laws.proofs.Terms.{lemmas.Bool.Decides.nat_tests, both-left, both-right, if-both, NoneIsLonger}
-use Rattle.cw_laws.proofs.Terms.{begins_comment, IsSign}
+use Rattle.std.proofs.Common.{◌≡◌, ℕ, ◌≤◌, Bool, true, false, ◌==◌, nat_lt, codes, List, [], ◌∷◌, ◌++◌, Option, Some}
+use Rattle.std.proofs.Common.{None, if◌then◌else◌, length, drop, refl, sym, subst, arith}
+use Rattle.std.proofs.{lemmas.Bool.eqb-true, lemmas.Bool.Decides.nat_tests}
+use Rattle.cw_base.proofs.TestLaws.{both-left, both-right}
 use Rattle.cw_rules.specs.{declared.signs.Sign.Sign, Bytes.begins_with, Constants.constant}
 use Rattle.cw_rules.specs.Signs.{all_signs, longer, longest, spelling}
+use Rattle.cw_rules.proofs.Choices.{if-both}
+use Rattle.cw_laws.specs.Longest.{NoneIsLonger, begins_comment, IsSign}
 use Rattle.cw_rules.specs.declared.signs.Sign.TheVariants as signs
 
 longer-sizes : (more : List Sign) (bytes : List ℕ) (small large : ℕ) → small ≤ large → NoneIsLonger more bytes small

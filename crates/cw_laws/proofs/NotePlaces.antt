@@ -1,18 +1,18 @@
 -- Each note is about a byte of what was scanned: of the token that begins, or of what is open.
-use Rattle.cw_laws.proofs.Terms.{◌≡◌, ℕ, zero, suc, ◌+◌, ◌-◌, ◌<◌, ◌≤◌, Bool, true, false, ◌&&◌, not, ◌==◌, List, []}
-use Rattle.cw_laws.proofs.Terms.{◌∷◌, ◌++◌, length, drop, take, refl, sym, ap, ◌∙◌, arith, length-drop}
-use Rattle.cw_laws.proofs.Terms.{lemmas.List.length-take, lemmas.Bool.Decides.nat_tests}
-use Rattle.cw_laws.proofs.Terms.{declared.notes.NoteKind.NoteKind, Bytes.newline, Bytes.backslash, codes.Code.Code}
-use Rattle.cw_laws.proofs.Terms.{codes.Effect.Effect, parts.Part.Part, tokens.Mode.Mode, Answer, Note, Where, Cut}
-use Rattle.cw_laws.proofs.Terms.{Found, before, plain, code_at, begins_section, effect_in_limbo, effect_in_tex}
-use Rattle.cw_laws.proofs.Terms.{still_fresh, answers, fresh_at, last_at, beginning, tokens_of, NotesLie}
-use Rattle.cw_laws.proofs.Terms.{NotesLieInTheirText}
+use Rattle.std.proofs.Common.{◌≡◌, ℕ, zero, suc, ◌+◌, ◌-◌, ◌<◌, ◌≤◌, Bool, true, false, ◌&&◌, not, ◌==◌, List, [], ◌∷◌}
+use Rattle.std.proofs.Common.{◌++◌, length, drop, take, refl, sym, ap, ◌∙◌, arith, length-drop}
+use Rattle.std.proofs.{lemmas.List.length-take, lemmas.Bool.Decides.nat_tests}
+use Rattle.cw_base.specs.{declared.notes.NoteKind.NoteKind, Bytes.newline, Bytes.backslash}
+use Rattle.cw_rules.specs.declared.{codes.Code.Code, codes.Effect.Effect, parts.Part.Part, tokens.Mode.Mode}
 use Rattle.cw_rules.specs.{declared.parts.Opened.Opened, Bodies.note_unless, Bodies.one_note, Bodies.noted}
 use Rattle.cw_rules.specs.{Bytes.at_sign, Prefixes.prefix_size, Apart.in_text_apart, Apart.found_apart}
+use Rattle.cw_rules.specs.Answers.{Answer, Note, Where, Cut, Found, before, plain}
+use Rattle.cw_rules.specs.Codes.{code_at, begins_section, effect_in_limbo, effect_in_tex}
+use Rattle.cw_rules.proofs.{StringPrefixes.prefix-below, Choices.if-both}
 use Rattle.cw_rules.specs.Tokens.{in_hash_line, moved, passed, one, skipped_byte, missing_brace, comment_end, inner_cut}
 use Rattle.cw_rules.specs.Tokens.{comment_cut, part_cut, inner_or_none, all_cut, section, section_code, line_end}
 use Rattle.cw_rules.specs.Tokens.{is_include, behind_inner, effect_in, string, code_token, dropped_code, piece_start}
-use Rattle.cw_rules.proofs.{StringPrefixes.prefix-below, Choices.if-both}
+use Rattle.cw_lex.specs.Lexing.{still_fresh, answers, fresh_at, last_at, beginning, tokens_of}
 use Rattle.cw_rules.proofs.Rules.{BeginsPart, CPart, IsPassed, IncludeName, Prefixed, Quoted, Standing, Dropping}
 use Rattle.cw_rules.proofs.Rules.{CodeRule, LineEnd, Space, HashLine, Word, Passed, Heading, Beginning, Comment}
 use Rattle.cw_rules.proofs.Rules.{InnerEnd, CommentRule, Closed, EndedLine, InnerBegin, Piece, LimboRule, LimboCode}
@@ -20,6 +20,7 @@ use Rattle.cw_rules.proofs.Rules.{LimboFormat, LimboDropped, LimboText, PartRule
 use Rattle.cw_rules.proofs.Rules.{TexDropped, TexBeginning, TexInner, White, HeadWord, BeforeParameters, OfParameters}
 use Rattle.cw_rules.proofs.Rules.{FirstOfFormat, Opening, ParameterSign, Closes, Improper, ImproperMacro}
 use Rattle.cw_rules.proofs.Rules.{ImproperInLimbo, within, code-rule, comment-rule, part-rule}
+use Rattle.cw_laws.specs.NotePlaces.{NotesLie, NotesLieInTheirText}
 use Rattle.cw_laws.proofs.CutNotes.{NotedIn, answers-lie, one-in, noted-in, string-in, include-in, code-token-in}
 use Rattle.cw_laws.proofs.CutNotes.{dropped-in, section-in}
 use Rattle.cw_base.specs.declared.notes.NoteKind.TheVariants as notes

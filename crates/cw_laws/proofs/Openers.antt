@@ -1,13 +1,25 @@
 -- Each code with which definitions or a C part begin is the one that stands at its place.
-use Rattle.cw_laws.proofs.Terms.{◌≡◌, ℕ, zero, suc, ◌+◌, Bool, true, false, ◌&&◌, ◌||◌, ◌==◌, List, [], ◌∷◌, ◌++◌, drop}
-use Rattle.cw_laws.proofs.Terms.{Some, if◌then◌else◌, sym, ap, subst, ◌∙◌, arith, nat_tests, not-both, Code, TokKind}
-use Rattle.cw_laws.proofs.Terms.{Answer, Token, Begin, Finish, Note, Seen, Where, Found, note_answers, at_sign, begins}
-use Rattle.cw_laws.proofs.Terms.{code_at, begins_section, in_text_apart, found_apart, if-both, kind_code, code_in}
-use Rattle.cw_laws.proofs.Terms.{is_opener, in-text-tells, AreBare, AreNotes, TakesAll, Takes, bare-all-cut}
-use Rattle.cw_laws.proofs.Terms.{found-takes, answers, still_fresh, opened_by, opens_definitions, opens_c_part, drop-on}
-use Rattle.cw_rules.specs.{declared.bodies.Noted.Noted, Tokens.section, Tokens.section_code}
-use Rattle.cw_lex.proofs.FirstTokens.{bare-code}
+use Rattle.std.proofs.Common.{◌≡◌, ℕ, zero, suc, ◌+◌, Bool, true, false, ◌&&◌, ◌||◌, ◌==◌, List, [], ◌∷◌, ◌++◌}
+use Rattle.std.proofs.Common.{drop, Some, if◌then◌else◌, sym, ap, subst, ◌∙◌, arith}
+use Rattle.std.proofs.lemmas.Bool.Decides.{nat_tests}
+use Rattle.cw_base.proofs.TestLaws.{not-both}
+use Rattle.cw_rules.specs.declared.bodies.Noted.{Noted}
+use Rattle.cw_rules.specs.declared.codes.Code.{Code}
 use Rattle.cw_rules.specs.declared.tokens.Mode.TheVariants as modes
+use Rattle.cw_rules.specs.declared.tokens.TokKind.{TokKind}
+use Rattle.cw_rules.specs.Answers.{Answer, Token, Begin, Finish, Note, Seen, Where, Found, note_answers}
+use Rattle.cw_rules.specs.Bytes.{at_sign, begins}
+use Rattle.cw_rules.specs.Codes.{code_at, begins_section}
+use Rattle.cw_rules.specs.Tokens.{section, section_code}
+use Rattle.cw_rules.specs.Apart.{in_text_apart, found_apart}
+use Rattle.cw_rules.proofs.Choices.{if-both}
+use Rattle.cw_rules.proofs.CodeStarts.{kind_code, code_in, is_opener, in-text-tells}
+use Rattle.cw_rules.proofs.Taking.{AreBare, AreNotes, TakesAll, Takes, bare-all-cut, found-takes}
+use Rattle.cw_lex.specs.Lexing.{answers, still_fresh}
+use Rattle.cw_lex.specs.Openings.{opened_by}
+use Rattle.cw_lex.proofs.FirstTokens.{bare-code}
+use Rattle.cw_laws.specs.Pieces.{opens_definitions, opens_c_part}
+use Rattle.cw_lex.proofs.Covering.{drop-on}
 
 -- The code of a token stands at its place.
 pub record CodeStands (text : List ℕ) (t : Seen) : Type 0 where

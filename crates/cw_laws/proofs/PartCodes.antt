@@ -1,15 +1,24 @@
 -- The definitions and the C part of a section begin with codes of theirs, where they aren't empty.
-use Rattle.cw_laws.proofs.Terms.{◌≡◌, ℕ, Bool, true, false, ◌||◌, not, List, [], ◌∷◌, Some, None, refl, sym, ap, subst}
-use Rattle.cw_laws.proofs.Terms.{◌∙◌, inl, if◌then◌else◌, arith, nat_tests, both, Code, Answer, Token, Begin, Finish}
-use Rattle.cw_laws.proofs.Terms.{Note, Seen, has_sign, kind_code, SecName, kept_behind, defining, token_step}
-use Rattle.cw_laws.proofs.Terms.{behind_begin, placed_from, span, is_section_code, is_tex, is_program, ends_section}
-use Rattle.cw_laws.proofs.Terms.{ends_definitions, ends_tex, first_start, Ending, EndsBy, AtSection, AtDefinitions}
-use Rattle.cw_laws.proofs.Terms.{AtCPart, Nowhere, ends-so, section-role, plain-role, plain-part, BeginsBy}
-use Rattle.cw_laws.proofs.Terms.{opens_definitions, opens_c_part}
-use Rattle.cw_phase1.specs.{declared.roles.Part.Part, declared.roles.Standing.Standing}
-use Rattle.cw_laws.proofs.Openers.{CodeStands, AreOpeners, definition-code, program-code}
+use Rattle.std.proofs.Common.{◌≡◌, ℕ, Bool, true, false, ◌||◌, not, List, [], ◌∷◌, Some, None, refl, sym, ap, subst}
+use Rattle.std.proofs.Common.{◌∙◌, inl, if◌then◌else◌, arith}
+use Rattle.std.proofs.lemmas.Bool.Decides.{nat_tests}
+use Rattle.cw_base.proofs.TestLaws.{both}
+use Rattle.cw_rules.specs.declared.codes.Code.{Code}
 use Rattle.cw_rules.specs.declared.tokens.Mode.TheVariants as modes
+use Rattle.cw_rules.specs.Answers.{Answer, Token, Begin, Finish, Note, Seen, has_sign}
+use Rattle.cw_rules.proofs.CodeStarts.{kind_code}
+use Rattle.cw_secnames.specs.Kept.{SecName}
+use Rattle.cw_phase1.specs.declared.roles.Part.{Part}
 use Rattle.cw_phase1.specs.declared.roles.Part.TheVariants as parts
+use Rattle.cw_phase1.specs.declared.roles.Standing.{Standing}
+use Rattle.cw_phase1.specs.Entering.{kept_behind}
+use Rattle.cw_phase1.specs.Roles.{defining, token_step, behind_begin, placed_from}
+use Rattle.cw_phase1.specs.Sections.{span, is_section_code, is_tex, is_program, ends_section, ends_definitions}
+use Rattle.cw_phase1.specs.Sections.{ends_tex, first_start}
+use Rattle.cw_phase1.proofs.PartEnds.{Ending, EndsBy, AtSection, AtDefinitions, AtCPart, Nowhere, ends-so, section-role}
+use Rattle.cw_phase1.proofs.PartEnds.{plain-role, plain-part}
+use Rattle.cw_laws.specs.Pieces.{BeginsBy, opens_definitions, opens_c_part}
+use Rattle.cw_laws.proofs.Openers.{CodeStands, AreOpeners, definition-code, program-code}
 
 -- the code of a token of that kind stands where a part begins
 stands : (text : List ℕ) (opens : Code → Bool) (t : Seen) (end : ℕ) → CodeStands text t

@@ -1,24 +1,42 @@
 -- TeX text and limbo without an `@`, and TeX text without a bar, are one token, which is copied.
-use Rattle.cw_laws.proofs.Terms.{◌≡◌, ◌≢◌, ℕ, zero, suc, ◌+◌, ◌-◌, ◌==◌, Bool, true, false, ◌&&◌, ◌||◌, not, All, List}
-use Rattle.cw_laws.proofs.Terms.{[], ◌∷◌, ◌++◌, if◌then◌else◌, length, drop, take, slice_index, slice_range, codes}
-use Rattle.cw_laws.proofs.Terms.{refl, sym, ap, subst, ◌∙◌, arith, append_assoc, ne_eqb, eqb-true, drop-nil, append-nil}
-use Rattle.cw_laws.proofs.Terms.{length-take, take_min, All-cons, All-head, All-nil, All-tail, nat_tests, Span, Mode}
-use Rattle.cw_laws.proofs.Terms.{Answer, Token, Where, Found, plain as cut_plain, token_of, newline, MergedLine}
-use Rattle.cw_laws.proofs.Terms.{text_of, at_sign, is_in, run, begins_section, code_at, effect_in_limbo, effect_in_tex}
-use Rattle.cw_laws.proofs.Terms.{found_apart, answers, beginning, fresh_at, joined, last_after, last_at, still_fresh}
-use Rattle.cw_laws.proofs.Terms.{Entry, book, Section, Done, done_behind, as_it_is, reprinted, head, head_by}
-use Rattle.cw_laws.proofs.Terms.{printed_depth, Ink, bytes_of, copied, end_if, ends_empty_line, ink_by, inks, laid}
-use Rattle.cw_laws.proofs.Terms.{printed_limbo, scanned, pieces_done, head_and_tex, tex_done, Copied, tex_pieces_of}
-use Rattle.cw_laws.proofs.Terms.{tex_pieces, span as span_of, Setting, HasNo, IsPlain, behind_line_end, is_copied}
-use Rattle.cw_laws.proofs.Terms.{kept_bytes, last_line_ended, plain_tex, drop-on}
+use Rattle.std.proofs.Common.{◌≡◌, ◌≢◌, ℕ, zero, suc, ◌+◌, ◌-◌, ◌==◌, Bool, true, false, ◌&&◌, ◌||◌, not, All, List, []}
+use Rattle.std.proofs.Common.{◌∷◌, ◌++◌, if◌then◌else◌, length, drop, take, slice_index, slice_range, codes, refl, sym}
+use Rattle.std.proofs.Common.{ap, subst, ◌∙◌, arith, append_assoc, ne_eqb, eqb-true}
+use Rattle.std.proofs.Math.Seq.{drop-nil}
+use Rattle.std.proofs.lemmas.List.{append-nil, length-take, take_min}
+use Rattle.std.proofs.lemmas.List.Elements.{All-cons, All-head, All-nil, All-tail}
+use Rattle.std.proofs.lemmas.Bool.Decides.{nat_tests}
+use Rattle.cw_base.specs.declared.span.Span.{Span}
 use Rattle.cw_rules.specs.declared.classes.Class.{Class}
-use Rattle.cw_rules.specs.Tokens.{all_cut, inner_begin, limbo_by, moved, one, section, tex_by}
-use Rattle.cw_base.specs.Text.{bar}
-use Rattle.cw_print.specs.Walk.{section_number}
 use Rattle.cw_rules.specs.declared.classes.Class.TheVariants as classes
+use Rattle.cw_rules.specs.declared.tokens.Mode.{Mode}
 use Rattle.cw_rules.specs.declared.tokens.Mode.TheVariants as modes
 use Rattle.cw_rules.specs.declared.tokens.TokKind.TheVariants as kinds
 use Rattle.cw_rules.specs.declared.parts.Part.TheVariants as parts
+use Rattle.cw_rules.specs.Answers.{Answer, Token, Where, Found, plain as cut_plain, token_of}
+use Rattle.cw_base.specs.Bytes.{newline}
+use Rattle.cw_base.specs.Web.{MergedLine, text_of}
+use Rattle.cw_rules.specs.Bytes.{at_sign, is_in, run}
+use Rattle.cw_base.specs.Text.{bar}
+use Rattle.cw_rules.specs.Codes.{begins_section, code_at, effect_in_limbo, effect_in_tex}
+use Rattle.cw_rules.specs.Tokens.{all_cut, inner_begin, limbo_by, moved, one, section, tex_by}
+use Rattle.cw_rules.specs.Apart.{found_apart}
+use Rattle.cw_lex.specs.Lexing.{answers, beginning, fresh_at, joined, last_after, last_at, still_fresh}
+use Rattle.cw_names.specs.Names.{Entry}
+use Rattle.cw_phase1.specs.Book.{book}
+use Rattle.cw_phase1.specs.declared.sections.Section.{Section}
+use Rattle.cw_texpart.specs.Done.{Done, done_behind, as_it_is, reprinted}
+use Rattle.cw_texpart.specs.Heads.{head, head_by, printed_depth}
+use Rattle.cw_print.specs.Walk.{section_number}
+use Rattle.cw_texpart.specs.Inks.{Ink, bytes_of, copied, end_if, ends_empty_line, ink_by, inks, laid}
+use Rattle.cw_texpart.specs.Limbo.{printed_limbo}
+use Rattle.cw_texts.specs.Scans.{scanned}
+use Rattle.cw_texpart.specs.TexParts.{pieces_done, head_and_tex, tex_done}
+use Rattle.cw_texts.specs.TexPieces.{Copied, tex_pieces_of, tex_pieces}
+use Rattle.cw_phase1.specs.Sections.{span as span_of}
+use Rattle.cw_texpart.specs.Texts.{Setting}
+use Rattle.cw_laws.specs.TexText.{HasNo, IsPlain, behind_line_end, is_copied, kept_bytes, last_line_ended, plain_tex}
+use Rattle.cw_lex.proofs.Covering.{drop-on}
 
 -- ## What the scanner answers
 

@@ -1,10 +1,15 @@
 -- Code stands beside the number of a section only where its TeX part has no prose, and so no C text.
-use Rattle.cw_laws.proofs.Terms.{◌≡◌, ℕ, Bool, false, not, ◌&&◌, refl, List, [], ◌∷◌, arith, if◌then◌else◌, list_any}
-use Rattle.cw_laws.proofs.Terms.{nat_tests, NameUse, is_nothing, is_prose, TexPiece, Copied, InnerText, Cited}
+use Rattle.std.proofs.Common.{◌≡◌, ℕ, Bool, false, not, ◌&&◌, refl, List, [], ◌∷◌, arith}
+use Rattle.std.specs.Prelude.{if◌then◌else◌}
+use Rattle.std.specs.List.{list_any}
+use Rattle.std.proofs.lemmas.Bool.Decides.{nat_tests}
+use Rattle.cw_secnames.specs.Uses.{NameUse}
 use Rattle.cw_phase1.proofs.MissingLaws.{right-false}
+use Rattle.cw_texpart.specs.Beside.{is_nothing, is_prose}
 use Rattle.cw_texpart.specs.declared.beside.Beside.{Beside}
-use Rattle.cw_texts.specs.Texts.{tex_refs}
 use Rattle.cw_texpart.specs.declared.beside.Beside.TheVariants as besides
+use Rattle.cw_texts.specs.TexPieces.{TexPiece, Copied, InnerText, Cited}
+use Rattle.cw_texts.specs.Texts.{tex_refs}
 
 -- a TeX part without prose has no C text
 pub no-refs : (text : List ℕ) (uses : List NameUse) (n : ℕ) (ps : List TexPiece) → list_any (is_prose text) ps ≡ false

@@ -1,18 +1,27 @@
 -- A C part without a scrap leaves nothing.
-use Rattle.cw_laws.proofs.Terms.{◌≡◌, ℕ, Bool, false, ◌||◌, List, [], ◌∷◌, Option, None, refl, ap, ◌∙◌, if◌then◌else◌}
-use Rattle.cw_laws.proofs.Terms.{arith, is_some, nat_tests, Flags, Entry, Answer, Token, Begin, Finish, Note, Seen}
-use Rattle.cw_laws.proofs.Terms.{Code, TokKind, SecName, NameUse, group_makes, has_scrap, is_kept, token_makes}
+use Rattle.std.proofs.Common.{◌≡◌, ℕ, Bool, false, ◌||◌, List, [], ◌∷◌, Option, None, refl, ap, ◌∙◌, if◌then◌else◌}
+use Rattle.std.proofs.Common.{arith}
+use Rattle.std.specs.Prelude.{is_some}
+use Rattle.std.proofs.lemmas.Bool.Decides.{nat_tests}
+use Rattle.cw_base.specs.declared.flags.Flags.{Flags}
 use Rattle.cw_lex.specs.Heads.{Headed, Named, headed, headed_by, headless, named_headed}
 use Rattle.cw_lex.specs.Nest.{Nest, End, Leaf, Group, IsGroupOf, IsWell, first_nest, group, is_text_kind, leaf, nest}
 use Rattle.cw_lex.specs.Nest.{nests}
+use Rattle.cw_names.specs.Names.{Entry}
+use Rattle.cw_rules.specs.Answers.{Answer, Token, Begin, Finish, Note, Seen}
+use Rattle.cw_rules.specs.declared.codes.Code.{Code}
+use Rattle.cw_rules.specs.declared.tokens.TokKind.{TokKind}
+use Rattle.cw_rules.specs.declared.tokens.TokKind.TheVariants as kind
 use Rattle.cw_scraps.specs.Applying.{categories}
 use Rattle.cw_table.specs.Normal.{normal}
+use Rattle.cw_secnames.specs.Kept.{SecName}
+use Rattle.cw_secnames.specs.Uses.{NameUse}
+use Rattle.cw_texts.specs.Printed.{group_makes, has_scrap, is_kept, token_makes}
 use Rattle.cw_translator.specs.NameParts.{name_texts, texts_kept}
 use Rattle.cw_translator.specs.Translating.{Ended, Known, Made, made_before, begin, beside, end_of, headed_made}
 use Rattle.cw_translator.specs.Translating.{leaf_of_name, made, nothing, state_in, token_made, translated}
 use Rattle.cw_translator.specs.Translating.{with_categories}
 use Rattle.cw_trees.specs.Joining.{whole}
-use Rattle.cw_rules.specs.declared.tokens.TokKind.TheVariants as kind
 
 neither : (a b : Bool) → (a || b) ≡ false → (a ≡ false) × (b ≡ false)
 neither a b h = grind (arith, nat_tests)

@@ -1,6 +1,8 @@
 -- The byte behind the `@` of a string.
-use Rattle.cw_laws.proofs.Terms.{◌≡◌, ℕ, true, ◌==◌, arith, nat_tests, if-both}
+use Rattle.std.proofs.Common.{◌≡◌, ℕ, true, ◌==◌, arith}
+use Rattle.std.proofs.lemmas.Bool.Decides.{nat_tests}
 use Rattle.cw_rules.specs.{declared.codes.Code.Code, Bytes.apostrophe, Codes.code_of, Tokens.is_quote}
+use Rattle.cw_rules.proofs.Choices.{if-both}
 
 abbrev IsQuote : ℕ → Code → Type 0
 IsQuote byte code = is_quote code ≡ true → (byte == apostrophe) ≡ true

@@ -1,13 +1,24 @@
 -- A worked web with its pieces, worked C parts with their tokens, and worked limbo.
-use Rattle.cw_laws.proofs.Terms.{◌≡◌, ℕ, true, false, List, [], ◌∷◌, codes, length, refl, arith, Span, MergedLine}
-use Rattle.cw_laws.proofs.Terms.{text_of, Mode, TokKind, Answer, Token, Begin, Finish, Note, Seen, tokens_of, tokens_in}
-use Rattle.cw_laws.proofs.Terms.{book, span, printed_limbo, at_sign, begins, NotesLie, book_pieces, piece_bytes}
-use Rattle.cw_laws.proofs.Terms.{pieces_with, kept_bytes, last_line_ended}
-use Rattle.cw_laws.specs.Ends.{before_end, before_single, closed_size, control_size, ends_control, ends_name}
-use Rattle.cw_laws.specs.Ends.{ends_piece, is_double_at, is_pair}
+use Rattle.std.proofs.Common.{◌≡◌, ℕ, true, false, List, [], ◌∷◌, codes, length, refl, arith}
+use Rattle.cw_base.specs.declared.span.Span.{Span}
+use Rattle.cw_base.specs.Web.{MergedLine, text_of}
+use Rattle.cw_rules.specs.declared.tokens.Mode.{Mode}
 use Rattle.cw_rules.specs.declared.tokens.Mode.TheVariants as modes
 use Rattle.cw_rules.specs.declared.signs.Sign.TheVariants as signs
+use Rattle.cw_rules.specs.declared.tokens.TokKind.{TokKind}
 use Rattle.cw_rules.specs.declared.tokens.TokKind.TheVariants as kinds
+use Rattle.cw_rules.specs.Answers.{Answer, Token, Begin, Finish, Note, Seen}
+use Rattle.cw_lex.specs.Lexing.{tokens_of}
+use Rattle.cw_lex.specs.Openings.{tokens_in}
+use Rattle.cw_phase1.specs.Book.{book}
+use Rattle.cw_phase1.specs.Sections.{span}
+use Rattle.cw_texpart.specs.Limbo.{printed_limbo}
+use Rattle.cw_rules.specs.Bytes.{at_sign, begins}
+use Rattle.cw_laws.specs.Ends.{before_end, before_single, closed_size, control_size, ends_control, ends_name}
+use Rattle.cw_laws.specs.Ends.{ends_piece, is_double_at, is_pair}
+use Rattle.cw_laws.specs.NotePlaces.{NotesLie}
+use Rattle.cw_laws.specs.Pieces.{book_pieces, piece_bytes, pieces_with}
+use Rattle.cw_laws.specs.TexText.{kept_bytes, last_line_ended}
 
 abbrev line : List ℕ → ℕ → MergedLine
 line text n = record { text = text; place = record { file = 0; line = n }; changed = false }

@@ -1,9 +1,10 @@
 -- A section code that isn't `@*` is `@` before white space.
-use Rattle.cw_laws.proofs.Terms.{◌≡◌, ℕ, true, false, ◌==◌, List, arith, lemmas.Bool.eqb-true}
-use Rattle.cw_laws.proofs.Terms.{lemmas.Bool.Decides.nat_tests, begins_section, code_at, code_of, is_section}
+use Rattle.std.proofs.Common.{◌≡◌, ℕ, true, false, ◌==◌, List, arith}
+use Rattle.std.proofs.{lemmas.Bool.eqb-true, lemmas.Bool.Decides.nat_tests}
 use Rattle.cw_base.{proofs.TestLaws.not-both, specs.Bytes.byte_of}
-use Rattle.cw_rules.{specs.Bytes.begins, specs.Bytes.star, proofs.Choices.if-both}
 use Rattle.cw_rules.specs.declared.codes.Code.TheVariants as at
+use Rattle.cw_rules.{specs.Bytes.begins, specs.Bytes.star, proofs.Choices.if-both}
+use Rattle.cw_rules.specs.Codes.{begins_section, code_at, code_of, is_section}
 
 other-section : (b : ℕ) → (b == byte_of "*") ≡ false → is_section (code_of b) ≡ true → code_of b ≡ at.Section
 other-section b star = grind (arith, nat_tests, if-both, not-both)

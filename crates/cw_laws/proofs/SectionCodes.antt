@@ -1,13 +1,15 @@
 -- Each section code among the answers is the one that the bytes at its place make.
-use Rattle.cw_laws.proofs.Terms.{◌≡◌, ℕ, zero, suc, ◌+◌, Bool, true, false, ◌&&◌, ◌==◌, List, [], ◌∷◌, ◌++◌, drop, refl}
-use Rattle.cw_laws.proofs.Terms.{sym, ap, subst, ◌∙◌, arith, if◌then◌else◌, lemmas.Bool.eqb-true}
-use Rattle.cw_laws.proofs.Terms.{lemmas.Bool.Decides.nat_tests, both-left, both, not-both, Answer, Token, Begin, Finish}
-use Rattle.cw_laws.proofs.Terms.{Note, Seen, Where, Found, note_answers, token_of, AreBare, AreNotes, TakesAll, Takes}
-use Rattle.cw_laws.proofs.Terms.{bare-all-cut, found-takes}
+use Rattle.std.proofs.Common.{◌≡◌, ℕ, zero, suc, ◌+◌, Bool, true, false, ◌&&◌, ◌==◌, List, [], ◌∷◌, ◌++◌, drop, refl}
+use Rattle.std.proofs.Common.{sym, ap, subst, ◌∙◌, arith}
+use Rattle.std.specs.Prelude.{if◌then◌else◌}
+use Rattle.std.proofs.{lemmas.Bool.eqb-true, lemmas.Bool.Decides.nat_tests}
+use Rattle.cw_base.proofs.TestLaws.{both-left, both, not-both}
 use Rattle.cw_rules.specs.{declared.bodies.Noted.Noted, Bytes.at_sign, Bytes.begins, Codes.is_section}
 use Rattle.cw_rules.specs.{Codes.begins_section, Apart.in_text_apart, Apart.found_apart}
+use Rattle.cw_rules.specs.Answers.{Answer, Token, Begin, Finish, Note, Seen, Where, Found, note_answers, token_of}
 use Rattle.cw_rules.specs.Tokens.{all_cut, section, section_code}
 use Rattle.cw_rules.proofs.{Choices.if-both, CodeStarts.code_in, CodeStarts.in-text-tells}
+use Rattle.cw_rules.proofs.Taking.{AreBare, AreNotes, TakesAll, Takes, bare-all-cut, found-takes}
 use Rattle.cw_lex.specs.{Lexing.answers, Lexing.still_fresh, Nested.is_section_kind, Parts.is_section_at}
 use Rattle.cw_lex.proofs.{FirstTokens.bare-code, Openings.section-opens, Openings.section-kind-is, Covering.drop-on}
 

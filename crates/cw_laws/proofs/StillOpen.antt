@@ -1,10 +1,14 @@
 -- What is open among the answers, where the scanner stands so.
-use Rattle.cw_laws.proofs.Terms.{◌≡◌, ℕ, ◌+◌, Bool, true, false, not, ◌&&◌, List, [], ◌∷◌, refl, sym, ap, ◌∙◌, arith}
-use Rattle.cw_laws.proofs.Terms.{length, nat_lt, if◌then◌else◌, lemmas.List.Sums.sum_by-cons}
-use Rattle.cw_laws.proofs.Terms.{lemmas.Bool.Decides.nat_tests, count_by, cond, both-left, parts.Part.Part}
-use Rattle.cw_laws.proofs.Terms.{parts.Opened.Opened, tokens.Mode.Mode, tokens.TokKind.TokKind, if-both}
+use Rattle.std.proofs.Common.{◌≡◌, ℕ, ◌+◌, Bool, true, false, not, ◌&&◌, List, [], ◌∷◌, refl, sym, ap, ◌∙◌, arith}
+use Rattle.std.proofs.Common.{length, nat_lt, if◌then◌else◌}
+use Rattle.std.proofs.{lemmas.List.Sums.sum_by-cons, lemmas.Bool.Decides.nat_tests}
+use Rattle.std.specs.List.{count_by}
+use Rattle.std.specs.Prelude.{cond}
+use Rattle.cw_base.proofs.TestLaws.{both-left}
+use Rattle.cw_rules.specs.declared.{parts.Part.Part, parts.Opened.Opened, tokens.Mode.Mode, tokens.TokKind.TokKind}
 use Rattle.cw_rules.specs.{Answers.Where, Tokens.moved}
 use Rattle.cw_rules.specs.Tokens.{in_hash_line, is_deep, passed, first_depth, behind_word, is_include, comment_kind}
+use Rattle.cw_rules.proofs.Choices.{if-both}
 use Rattle.cw_lex.specs.{Lexing.beginning, Openings.is_limbo_mode}
 use Rattle.cw_laws.specs.Ends.{is_inner_text, inner_depth, bars_begin}
 use Rattle.cw_rules.specs.declared.parts.Part.TheVariants as parts

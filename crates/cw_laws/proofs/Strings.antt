@@ -1,13 +1,16 @@
 -- A string ends with its quote, before a line's end or with the text.
-use Rattle.cw_laws.proofs.Terms.{◌≡◌, ℕ, ◌+◌, ◌-◌, Bool, true, false, ◌&&◌, ◌||◌, not, ◌==◌, List, [], ◌∷◌, ◌++◌}
-use Rattle.cw_laws.proofs.Terms.{nat_lt, codes, true≢false, slice_index, if◌then◌else◌, length, drop, refl, sym, ap}
-use Rattle.cw_laws.proofs.Terms.{subst, ◌∙◌, arith, ◌⊎◌, lemmas.Bool.eqb-true, lemmas.Bool.Decides.nat_tests}
-use Rattle.cw_laws.proofs.Terms.{AllByRecursion, concat, drop-append_seam, drop-append-add, at_sign, quote, apostrophe}
-use Rattle.cw_laws.proofs.Terms.{begins, begins_by, begins_with, is_mark, stops, takes_next, stepped, goes_on, ended}
-use Rattle.cw_laws.proofs.Terms.{at_start, extent, last_after}
+use Rattle.std.proofs.Common.{◌≡◌, ℕ, ◌+◌, ◌-◌, Bool, true, false, ◌&&◌, ◌||◌, not, ◌==◌, List, [], ◌∷◌, ◌++◌, nat_lt}
+use Rattle.std.proofs.Common.{codes, true≢false, slice_index, if◌then◌else◌, length, drop, refl, sym, ap, subst, ◌∙◌}
+use Rattle.std.proofs.Common.{arith, ◌⊎◌}
+use Rattle.std.proofs.{lemmas.Bool.eqb-true, lemmas.Bool.Decides.nat_tests}
+use Rattle.std.specs.List.{AllByRecursion, concat}
 use Rattle.cw_base.{proofs.TestLaws.both-left, proofs.TestLaws.both-right, specs.Bytes.newline, specs.Bytes.backslash}
+use Rattle.std.proofs.Math.Seq.{drop-append_seam, drop-append-add}
 use Rattle.cw_rules.specs.{declared.bodies.Inside.Inside, Prefixes.is_prefix_letter, Prefixes.prefix_size}
+use Rattle.cw_rules.specs.Bytes.{at_sign, quote, apostrophe, begins, begins_by, begins_with, is_mark}
+use Rattle.cw_rules.specs.Bodies.{stops, takes_next, stepped, goes_on, ended, at_start, extent}
 use Rattle.cw_rules.proofs.Inside.{ended-le}
+use Rattle.cw_lex.specs.Lexing.{last_after}
 use Rattle.cw_laws.specs.Strings.{LinesGoOn, is_piece, is_prefix, StringEnds, IsString}
 use Rattle.cw_rules.specs.declared.bodies.Body.TheVariants as bodies
 

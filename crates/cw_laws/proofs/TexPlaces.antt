@@ -1,20 +1,38 @@
 -- Where limbo and plain TeX parts stand in the TeX file of a book, and in what is written of it.
-use Rattle.cw_laws.proofs.Terms.{◌≡◌, ℕ, zero, suc, ◌+◌, ◌==◌, Bool, true, false, ◌||◌, not, List, [], ◌∷◌, ◌++◌, Some}
-use Rattle.cw_laws.proofs.Terms.{codes, slice_get, take, inl, inr, refl, sym, ap, subst, ◌∙◌, arith, append_assoc}
-use Rattle.cw_laws.proofs.Terms.{eqb-true, nat_tests, newline, Flags, Span, closing_lines, last_after, Entry, footnotes}
-use Rattle.cw_laws.proofs.Terms.{definitions_done, first_opening, part_by, at_section, ending, rest_done, section_done}
-use Rattle.cw_laws.proofs.Terms.{sections_done, Book, Section, at_sign, Done, head, Ink, Print, bytes_of, end_if, inks}
-use Rattle.cw_laws.proofs.Terms.{laid, limbo_bytes, printed_limbo, beside_in, tex_done, Setting, setting}
-use Rattle.cw_laws.proofs.Terms.{printed_definitions, scanned, all_sections, tex_file, EndInLine, HasLineEnd}
-use Rattle.cw_laws.proofs.Terms.{HaveShortLines, written_of, BeginsWith, HasNo, IsPlain, PlainTextIsKept}
-use Rattle.cw_laws.proofs.Terms.{before_section, first_line, kept_bytes, last_line_ended, plain_limbo, plain_tex}
+use Rattle.std.proofs.Common.{◌≡◌, ℕ, zero, suc, ◌+◌, ◌==◌, Bool, true, false, ◌||◌, not, List, [], ◌∷◌, ◌++◌, Some}
+use Rattle.std.proofs.Common.{codes, slice_get, take, inl, inr, refl, sym, ap, subst, ◌∙◌, arith, append_assoc}
+use Rattle.std.proofs.Common.{eqb-true}
 use Rattle.std.proofs.lemmas.Option.{none-some}
+use Rattle.std.proofs.lemmas.Bool.Decides.{nat_tests}
+use Rattle.cw_base.specs.Bytes.{newline}
+use Rattle.cw_base.specs.declared.flags.Flags.{Flags}
+use Rattle.cw_base.specs.declared.span.Span.{Span}
+use Rattle.cw_index.specs.Closing.{closing_lines}
+use Rattle.cw_lex.specs.Lexing.{last_after}
 use Rattle.cw_lines.specs.Cut.{cut_behind}
-use Rattle.cw_texpart.specs.Inks.{LineEnd}
+use Rattle.cw_names.specs.Names.{Entry}
+use Rattle.cw_part.specs.Footnotes.{footnotes}
+use Rattle.cw_part.specs.Parts.{definitions_done, first_opening, part_by}
+use Rattle.cw_part.specs.Sections.{at_section, ending, rest_done, section_done, sections_done}
+use Rattle.cw_phase1.specs.declared.book.Book.{Book}
+use Rattle.cw_phase1.specs.declared.sections.Section.{Section}
+use Rattle.cw_rules.specs.Bytes.{at_sign}
+use Rattle.cw_rules.specs.declared.tokens.Mode.TheVariants as modes
+use Rattle.cw_texpart.specs.Done.{Done}
+use Rattle.cw_texpart.specs.Heads.{head}
+use Rattle.cw_texpart.specs.Inks.{Ink, Print, LineEnd, bytes_of, end_if, inks, laid}
+use Rattle.cw_texpart.specs.Limbo.{limbo_bytes, printed_limbo}
+use Rattle.cw_texpart.specs.TexParts.{beside_in, tex_done}
+use Rattle.cw_texpart.specs.Texts.{Setting, setting}
+use Rattle.cw_texts.specs.Definitions.{printed_definitions}
+use Rattle.cw_texts.specs.Scans.{scanned}
+use Rattle.cw_weave.specs.TexFile.{all_sections, tex_file}
+use Rattle.cw_laws.specs.Files.{EndInLine, HasLineEnd, HaveShortLines, written_of}
+use Rattle.cw_laws.specs.TexText.{BeginsWith, HasNo, IsPlain, PlainTextIsKept, before_section, first_line, kept_bytes}
+use Rattle.cw_laws.specs.TexText.{last_line_ended, plain_limbo, plain_tex}
 use Rattle.cw_laws.proofs.CutLines.{written-append, written-short}
 use Rattle.cw_laws.proofs.Endings.{behind-any, both-end, ends-then}
 use Rattle.cw_laws.proofs.PlainText.{limbo-kept, limbo-of-web, no-c-text, tex-kept}
-use Rattle.cw_rules.specs.declared.tokens.Mode.TheVariants as modes
 
 -- ## Limbo and sections end in lines
 

@@ -1,13 +1,14 @@
 -- Where a head is read, what it wants stands there: a `(` directly behind a macro's name, and a sign behind the name
 -- that begins a C part.
-use Rattle.cw_laws.proofs.Terms.{◌≡◌, ℕ, suc, ◌+◌, ◌-◌, Bool, true, false, ◌&&◌, not, ◌==◌, nat_lt, List, [], ◌∷◌}
-use Rattle.cw_laws.proofs.Terms.{if◌then◌else◌, drop, sym, ap, ◌∙◌, arith, lemmas.List.drop-drop}
-use Rattle.cw_laws.proofs.Terms.{lemmas.Bool.Decides.nat_tests, codes.Code.Code, codes.Effect.Effect, parts.Part.Part}
-use Rattle.cw_laws.proofs.Terms.{tokens.Mode.Mode, in_text_apart, found_apart, at_sign, apostrophe, left_paren, begins}
-use Rattle.cw_laws.proofs.Terms.{begins_by, is_in, is_letter, run, beginning}
+use Rattle.std.proofs.Common.{◌≡◌, ℕ, suc, ◌+◌, ◌-◌, Bool, true, false, ◌&&◌, not, ◌==◌, nat_lt, List, [], ◌∷◌}
+use Rattle.std.proofs.Common.{if◌then◌else◌, drop, sym, ap, ◌∙◌, arith}
+use Rattle.std.proofs.{lemmas.List.drop-drop, lemmas.Bool.Decides.nat_tests}
 use Rattle.cw_base.{proofs.TestLaws.both-right, specs.Bytes.backslash}
+use Rattle.cw_rules.specs.declared.{codes.Code.Code, codes.Effect.Effect, parts.Part.Part, tokens.Mode.Mode}
 use Rattle.cw_rules.specs.{declared.parts.Opened.Opened, Answers.Where, Answers.Found, Bodies.at_start, Bodies.extent}
 use Rattle.cw_rules.specs.{Codes.begins_section, Codes.code_at, Tokens.is_code_part}
+use Rattle.cw_rules.specs.Apart.{in_text_apart, found_apart}
+use Rattle.cw_rules.specs.Bytes.{at_sign, apostrophe, left_paren, begins, begins_by, is_in, is_letter, run}
 use Rattle.cw_rules.specs.Tokens.{behind_inner, code_token, control_or_plain, head_sign_size, in_hash_line, is_head}
 use Rattle.cw_rules.specs.Tokens.{is_include, is_name, is_quote, is_signed, line_end, may_head, name_follows}
 use Rattle.cw_rules.specs.Tokens.{parameter_follows, passed, section_name, string, is_parameter, behind_word, inner_end}
@@ -16,6 +17,7 @@ use Rattle.cw_rules.proofs.Rules.{BeginsPart, Macro, CodeRule, LineEnd, Space, H
 use Rattle.cw_rules.proofs.Rules.{Beginning, Comment, InnerEnd, CommentRule, Closed, EndedLine, LimboRule, LimboText}
 use Rattle.cw_rules.proofs.Rules.{PartRule, OfCode, OfLimbo, TexHeading, TexBeginning, Blank, White, MacroWanted}
 use Rattle.cw_rules.proofs.Rules.{HeadWord, BeforeParameters, ParameterSign, CommaStands, Improper, ImproperInLimbo}
+use Rattle.cw_lex.specs.Lexing.{beginning}
 use Rattle.cw_rules.specs.declared.bodies.Body.TheVariants as bodies
 use Rattle.cw_rules.specs.declared.classes.Class.TheVariants as classes
 use Rattle.cw_rules.specs.declared.parts.Part.TheVariants as parts

@@ -1,16 +1,21 @@
 -- Between the bytes of answers stands only white space, and a backslash only in a `#` line.
-use Rattle.cw_laws.proofs.Terms.{◌≡◌, ℕ, zero, suc, ◌+◌, ◌-◌, ◌≤◌, Bool, true, false, ◌&&◌, ◌||◌, ◌==◌, List, [], ◌∷◌}
-use Rattle.cw_laws.proofs.Terms.{◌++◌, Option, Some, None, length, take, drop, refl, sym, ap, subst, ◌∙◌, arith}
-use Rattle.cw_laws.proofs.Terms.{append_assoc, length-drop, append-nil, cases_lt, eqb-true, lemmas.List.length-take}
-use Rattle.cw_laws.proofs.Terms.{lemmas.Bool.Decides.nat_tests, both, not-both, tokens.Mode.Mode}
-use Rattle.cw_laws.proofs.Terms.{tokens.TokKind.TokKind, Answer, Token, Begin, Finish, Note, Where, Found, AreBare}
-use Rattle.cw_laws.proofs.Terms.{AreNotes, TakesAll, Takes, bare-all-cut, found-takes, still_fresh, answers, fresh_at}
-use Rattle.cw_laws.proofs.Terms.{last_at, beginning, tokens_of, is_section_kind, drop-part, begins-take, drop-on}
-use Rattle.cw_laws.proofs.Terms.{hash_line_by, hash_line_behind, begins_space_in, IsSpaceIn, LeavesSpace}
+use Rattle.std.proofs.Common.{◌≡◌, ℕ, zero, suc, ◌+◌, ◌-◌, ◌≤◌, Bool, true, false, ◌&&◌, ◌||◌, ◌==◌, List, [], ◌∷◌}
+use Rattle.std.proofs.Common.{◌++◌, Option, Some, None, length, take, drop, refl, sym, ap, subst, ◌∙◌, arith}
+use Rattle.std.proofs.Common.{append_assoc, length-drop, append-nil}
+use Rattle.std.proofs.lemmas.Bool.{cases_lt, eqb-true}
+use Rattle.std.proofs.{lemmas.List.length-take, lemmas.Bool.Decides.nat_tests}
+use Rattle.cw_base.proofs.TestLaws.{both, not-both}
+use Rattle.cw_rules.specs.declared.{tokens.Mode.Mode, tokens.TokKind.TokKind}
+use Rattle.cw_rules.specs.Answers.{Answer, Token, Begin, Finish, Note, Where, Found}
 use Rattle.cw_rules.specs.{Bytes.at_sign, Codes.is_section, Codes.begins_section, Order.begins_space, Order.AreWithin}
 use Rattle.cw_rules.specs.{Tokens.all_cut, Tokens.in_hash_line, Tokens.section, Apart.in_text_apart, Apart.found_apart}
 use Rattle.cw_rules.proofs.{Choices.if-both, CodeStarts.code_in, Within.found-fits}
+use Rattle.cw_rules.proofs.Taking.{AreBare, AreNotes, TakesAll, Takes, bare-all-cut, found-takes}
+use Rattle.cw_lex.specs.Lexing.{still_fresh, answers, fresh_at, last_at, beginning, tokens_of}
+use Rattle.cw_lex.specs.Nested.{is_section_kind}
+use Rattle.cw_lex.proofs.Covering.{drop-part, begins-take, drop-on}
 use Rattle.cw_lex.proofs.{TokensWithin.tokens-within, Openings.section-kind-is}
+use Rattle.cw_laws.specs.WhiteSpace.{hash_line_by, hash_line_behind, begins_space_in, IsSpaceIn, LeavesSpace}
 use Rattle.cw_laws.{specs.WhiteSpace.BackslashesContinueHashLines, proofs.SectionCodes.no-section}
 use Rattle.cw_laws.proofs.HashLines.{kind_in, line_with, in-text-lined, has_start, found-starts}
 

@@ -1,21 +1,35 @@
 -- The pieces of a book lie end to end, and are all of its web.
-use Rattle.cw_laws.proofs.Terms.{◌≡◌, ℕ, ◌+◌, ◌-◌, ◌<◌, ◌≤◌, Bool, true, false, List, [], ◌∷◌, ◌++◌, All, length, drop}
-use Rattle.cw_laws.proofs.Terms.{take, refl, sym, ap, subst, ◌∙◌, arith, ◌⊎◌, inl, inr, if◌then◌else◌, cond}
-use Rattle.cw_laws.proofs.Terms.{slice_range, cases_lt, take_all, take-append-drop, drop-drop, drop-take, take-take}
-use Rattle.cw_laws.proofs.Terms.{nat_tests, Span, MergedLine, text_of, not-both, Answer, Token, Begin, Finish, Note}
-use Rattle.cw_laws.proofs.Terms.{Seen, has_sign, answers_at, beginning, fresh_at, last_at, is_section_kind}
-use Rattle.cw_laws.proofs.Terms.{tokens-cover, SecName, Section, answers_of, kept_behind, Placed, at_limbo, token_step}
-use Rattle.cw_laws.proofs.Terms.{behind_begin, placed, placed_from, span, is_section_code, ends_section, first_start}
-use Rattle.cw_laws.proofs.Terms.{section_at, sections_of, plain-role, section-part, pieces_from, book_pieces, EndToEnd}
-use Rattle.cw_laws.proofs.Terms.{AreBegun, piece_bytes, has_byte, pieces_with, IsAllOf, BooksAreWhole}
+use Rattle.std.proofs.Common.{◌≡◌, ℕ, ◌+◌, ◌-◌, ◌<◌, ◌≤◌, Bool, true, false, List, [], ◌∷◌, ◌++◌, All, length, drop}
+use Rattle.std.proofs.Common.{take, refl, sym, ap, subst, ◌∙◌, arith, ◌⊎◌, inl, inr, if◌then◌else◌}
+use Rattle.std.specs.Prelude.{cond, slice_range}
+use Rattle.std.proofs.lemmas.Bool.{cases_lt}
 use Rattle.std.proofs.lemmas.List.Sums.{sum_by-cons}
-use Rattle.cw_phase1.specs.{declared.roles.Standing.Standing, Sound.LiesIn}
-use Rattle.cw_phase1.proofs.SpanLaws.{Follow, follows, all-lie}
-use Rattle.cw_laws.specs.Pieces.{BeginsAt}
-use Rattle.cw_laws.proofs.{Openers.AreOpeners, Openers.openers, PartCodes.definitions-begin, PartCodes.c-part-begins}
-use Rattle.cw_laws.proofs.SectionCodes.{IsCodeAt, AreCoded, coded}
+use Rattle.std.proofs.lemmas.List.{take_all, take-append-drop, drop-drop, drop-take, take-take}
+use Rattle.std.proofs.lemmas.Bool.Decides.{nat_tests}
+use Rattle.cw_base.specs.declared.span.Span.{Span}
+use Rattle.cw_base.specs.Web.{MergedLine, text_of}
+use Rattle.cw_base.proofs.TestLaws.{not-both}
 use Rattle.cw_rules.specs.declared.tokens.Mode.TheVariants as modes
+use Rattle.cw_rules.specs.Answers.{Answer, Token, Begin, Finish, Note, Seen, has_sign}
+use Rattle.cw_lex.specs.Lexing.{answers_at, beginning, fresh_at, last_at}
+use Rattle.cw_lex.specs.Nested.{is_section_kind}
+use Rattle.cw_lex.proofs.Covering.{tokens-cover}
+use Rattle.cw_secnames.specs.Kept.{SecName}
+use Rattle.cw_phase1.specs.declared.roles.Standing.{Standing}
+use Rattle.cw_phase1.specs.declared.sections.Section.{Section}
+use Rattle.cw_phase1.specs.Book.{answers_of}
+use Rattle.cw_phase1.specs.Entering.{kept_behind}
+use Rattle.cw_phase1.specs.Roles.{Placed, at_limbo, token_step, behind_begin, placed, placed_from}
+use Rattle.cw_phase1.specs.Sections.{span, is_section_code, ends_section, first_start, section_at, sections_of}
+use Rattle.cw_phase1.specs.Sound.{LiesIn}
 use Rattle.cw_phase1.specs.declared.roles.Part.TheVariants as parts
+use Rattle.cw_phase1.proofs.PartEnds.{plain-role, section-part}
+use Rattle.cw_phase1.proofs.SpanLaws.{Follow, follows, all-lie}
+use Rattle.cw_laws.specs.Pieces.{pieces_from, book_pieces, EndToEnd, BeginsAt, AreBegun, piece_bytes, has_byte}
+use Rattle.cw_laws.specs.Pieces.{pieces_with, IsAllOf, BooksAreWhole}
+use Rattle.cw_laws.proofs.Openers.{AreOpeners, openers}
+use Rattle.cw_laws.proofs.PartCodes.{definitions-begin, c-part-begins}
+use Rattle.cw_laws.proofs.SectionCodes.{IsCodeAt, AreCoded, coded}
 
 -- ## Pieces lie end to end
 

@@ -1,12 +1,14 @@
 -- What holds of calm C text, and of its white space.
-use Rattle.cw_lex.proofs.Terms.{◌≡◌, ℕ, ◌+◌, Bool, true, false, ◌&&◌, List, [], ◌∷◌, ◌++◌, slice_index, drop, ap}
-use Rattle.cw_lex.proofs.Terms.{length, arith, lemmas.List.drop_all, lemmas.Bool.Decides.nat_tests, parts.Part.Part}
-use Rattle.cw_lex.proofs.Terms.{parts.Opened.Opened, declared.state.State.State, Lexing.answers_at, Lexing.last_at}
-use Rattle.cw_lex.proofs.Terms.{Calm.is_calm_part, Calm.is_calm, where_of, coming, ends_line, is_white_here}
+use Rattle.std.proofs.Common.{◌≡◌, ℕ, ◌+◌, Bool, true, false, ◌&&◌, List, [], ◌∷◌, ◌++◌, slice_index, drop, ap, length}
+use Rattle.std.proofs.Common.{arith}
+use Rattle.std.proofs.{lemmas.List.drop_all, lemmas.Bool.Decides.nat_tests}
+use Rattle.cw_rules.specs.declared.classes.Class.TheVariants as classes
+use Rattle.cw_rules.specs.declared.{parts.Part.Part, parts.Opened.Opened}
 use Rattle.cw_rules.specs.{Answers.note_answers, Bytes.is_in, Bytes.run, Pending.pending_notes, Tokens.all_cut}
 use Rattle.cw_rules.specs.Tokens.{is_code, is_code_part, in_hash_line, behind_include, passed, ends_at_bar, part_cut}
+use Rattle.cw_lex.specs.{declared.state.State.State, Lexing.answers_at, Lexing.last_at, Calm.is_calm_part, Calm.is_calm}
+use Rattle.cw_lex.specs.Coming.{where_of, coming, ends_line, is_white_here}
 use Rattle.cw_lex.proofs.{White.white-found, HeadSpaces.skip-run, HeadSpaces.run-byte}
-use Rattle.cw_rules.specs.declared.classes.Class.TheVariants as classes
 
 and-both : (a b : Bool) → (a && b) ≡ true → (a ≡ true) × (b ≡ true)
 and-both a b h = grind arith

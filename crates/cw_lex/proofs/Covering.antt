@@ -1,13 +1,15 @@
 -- The answers cover the bytes that are scanned, whatever the text.
-use Rattle.cw_lex.proofs.Terms.{◌≡◌, ℕ, zero, suc, ◌+◌, ◌-◌, ◌≤◌, Bool, true, List, [], ◌∷◌, ◌++◌, length, take, drop}
-use Rattle.cw_lex.proofs.Terms.{refl, sym, ap, subst, ◌∙◌, arith, append_assoc, length-drop, append-nil, slice_range}
-use Rattle.cw_lex.proofs.Terms.{lemmas.Bool.cases_lt, lemmas.Bool.Decides.nat_tests, lemmas.Grind.common_steps}
-use Rattle.cw_lex.proofs.Terms.{drop-drop, length-take, drop-take, take-take, Answer, Token, Begin, Finish, Note, Seen}
-use Rattle.cw_lex.proofs.Terms.{Where, Found, still_fresh, answers, fresh_at, last_at, beginning, tokens_of, AreBare}
-use Rattle.cw_lex.proofs.Terms.{AreNotes, TakesAll, Takes, bare-all-cut, found-takes, found-fits}
+use Rattle.std.proofs.Common.{◌≡◌, ℕ, zero, suc, ◌+◌, ◌-◌, ◌≤◌, Bool, true, List, [], ◌∷◌, ◌++◌, length, take, drop}
+use Rattle.std.proofs.Common.{refl, sym, ap, subst, ◌∙◌, arith, append_assoc, length-drop, append-nil}
+use Rattle.std.specs.Prelude.{slice_range}
+use Rattle.std.proofs.{lemmas.Bool.cases_lt, lemmas.Bool.Decides.nat_tests, lemmas.Grind.common_steps}
+use Rattle.std.proofs.lemmas.List.{drop-drop, length-take, drop-take, take-take}
 use Rattle.cw_rules.specs.{declared.tokens.Mode.Mode, Bytes.begins, Tokens.all_cut, Apart.found_apart}
+use Rattle.cw_rules.specs.Answers.{Answer, Token, Begin, Finish, Note, Seen, Where, Found}
+use Rattle.cw_lex.specs.Lexing.{still_fresh, answers, fresh_at, last_at, beginning, tokens_of}
 use Rattle.cw_rules.specs.Order.{begins_space, IsSpace, Stands, Covers}
-use Rattle.cw_rules.proofs.Taking.{IsWhole}
+use Rattle.cw_rules.proofs.Taking.{AreBare, AreNotes, IsWhole, TakesAll, Takes, bare-all-cut, found-takes}
+use Rattle.cw_rules.proofs.Within.{found-fits}
 
 -- white space up to a place that a token without bytes has
 no-space : (text : List ℕ) (place from : ℕ) → from ≡ place → IsSpace text from place

@@ -1,10 +1,12 @@
 -- Worked texts: where the tokens of modern C are cut.
-use Rattle.cw_lex.proofs.Terms.{◌≡◌, ℕ, List, [], ◌∷◌, codes, length, refl, tokens.Mode.Mode, tokens.TokKind.TokKind}
-use Rattle.cw_lex.proofs.Terms.{Answer, Token, tokens_of}
+use Rattle.std.proofs.Common.{◌≡◌, ℕ, List, [], ◌∷◌, codes, length, refl}
 use Rattle.cw_rules.specs.declared.codes.Code.TheVariants as at
 use Rattle.cw_rules.specs.declared.signs.Sign.TheVariants as signs
+use Rattle.cw_rules.specs.declared.{tokens.Mode.Mode, tokens.TokKind.TokKind}
 use Rattle.cw_rules.specs.declared.tokens.Mode.TheVariants as modes
 use Rattle.cw_rules.specs.declared.tokens.TokKind.TheVariants as kinds
+use Rattle.cw_rules.specs.Answers.{Answer, Token}
+use Rattle.cw_lex.specs.Lexing.{tokens_of}
 
 -- the tokens of answers, by their bytes and by their kinds
 abbrev texts : List Answer → List (List ℕ)

@@ -1,6 +1,8 @@
 -- The token with which answers begin: behind answers without bytes, and before notes.
-use Rattle.cw_lex.proofs.Terms.{◌≡◌, ℕ, List, [], ◌∷◌, ◌++◌, refl, subst, ◌⊎◌, inl, arith, nat_tests, Answer, Token}
-use Rattle.cw_lex.proofs.Terms.{Begin, Finish, Note, Seen, has_sign, tokens_in}
+use Rattle.std.proofs.Common.{◌≡◌, ℕ, List, [], ◌∷◌, ◌++◌, refl, subst, ◌⊎◌, inl, arith}
+use Rattle.std.proofs.lemmas.Bool.Decides.{nat_tests}
+use Rattle.cw_rules.specs.Answers.{Answer, Token, Begin, Finish, Note, Seen, has_sign}
+use Rattle.cw_lex.specs.Openings.{tokens_in}
 use Rattle.cw_rules.proofs.{CodeStarts.code_in, Taking.AreBare, Taking.AreNotes, Taking.IsWhole, Taking.TakesAll}
 
 pub bare-tokens : (place : ℕ) (xs : List Answer) → AreBare place xs → tokens_in xs ≡ []

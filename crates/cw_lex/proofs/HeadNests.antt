@@ -1,9 +1,10 @@
 -- The answers behind a head are nested, and their nest is what stands behind the head.
-use Rattle.cw_lex.proofs.Terms.{◌≡◌, Bool, true, false, Option, Some, None, List, [], ◌∷◌, refl, sym, ap, if◌then◌else◌}
-use Rattle.cw_lex.proofs.Terms.{arith, lemmas.Bool.Decides.nat_tests, lemmas.Grind.common_steps}
-use Rattle.cw_lex.proofs.Terms.{declared.heads.Wanted.Wanted, Nested.Level, Nested.InCode, Nested.after_token}
-use Rattle.cw_lex.proofs.Terms.{Nested.IsNested, Answer, Token, Begin, Note, Seen, is_head_sign}
+use Rattle.std.proofs.Common.{◌≡◌, Bool, true, false, Option, Some, None, List, [], ◌∷◌, refl, sym, ap, if◌then◌else◌}
+use Rattle.std.proofs.Common.{arith}
+use Rattle.std.proofs.{lemmas.Bool.Decides.nat_tests, lemmas.Grind.common_steps}
+use Rattle.cw_lex.specs.{declared.heads.Wanted.Wanted, Nested.Level, Nested.InCode, Nested.after_token, Nested.IsNested}
 use Rattle.cw_rules.specs.declared.tokens.TokKind.{TokKind}
+use Rattle.cw_rules.specs.Answers.{Answer, Token, Begin, Note, Seen, is_head_sign}
 use Rattle.cw_lex.specs.Nest.{Nest, Leaf, leaf, group, nests, first_nest, nest}
 use Rattle.cw_lex.specs.Heads.{head_behind, behind_sign, Words, no_word, word_before, head_words, named_headed}
 use Rattle.cw_lex.specs.Heads.{headed_by, headed, without_words, without_name, without_head_of, without_head}

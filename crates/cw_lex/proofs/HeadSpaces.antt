@@ -1,15 +1,18 @@
 -- The white space before what a head wants.
-use Rattle.cw_lex.proofs.Terms.{◌≡◌, ℕ, zero, suc, ◌+◌, ◌-◌, ◌<◌, ◌≤◌, Bool, true, false, ◌&&◌, ◌==◌, List, [], ◌∷◌}
-use Rattle.cw_lex.proofs.Terms.{◌++◌, length, slice_index, drop, refl, sym, ap, ◌∙◌, arith, add-zero, if◌then◌else◌}
-use Rattle.cw_lex.proofs.Terms.{length-drop, lemmas.Bool.eqb-true, lemmas.Bool.ltb-true, lemmas.Bool.ltb-false}
-use Rattle.cw_lex.proofs.Terms.{lemmas.List.drop-drop, lemmas.List.drop_all, lemmas.Bool.Decides.nat_tests}
-use Rattle.cw_lex.proofs.Terms.{lemmas.Grind.common_steps, classes.Class.Class, parts.Part.Part, parts.Opened.Opened}
-use Rattle.cw_lex.proofs.Terms.{Where, plain, note_answers, is_in, is_letter, run, begins, begins_by, Lexing.fresh_at}
-use Rattle.cw_lex.proofs.Terms.{Lexing.last_at, Lexing.answers_at, declared.state.State.State, found_at, where_of}
-use Rattle.cw_lex.proofs.Terms.{coming, is_skipped, drop-here, run-inside}
+use Rattle.std.proofs.Common.{◌≡◌, ℕ, zero, suc, ◌+◌, ◌-◌, ◌<◌, ◌≤◌, Bool, true, false, ◌&&◌, ◌==◌, List, [], ◌∷◌, ◌++◌}
+use Rattle.std.proofs.Common.{length, slice_index, drop, refl, sym, ap, ◌∙◌, arith, add-zero, if◌then◌else◌}
+use Rattle.std.proofs.Common.{length-drop}
+use Rattle.std.proofs.{lemmas.Bool.eqb-true, lemmas.Bool.ltb-true, lemmas.Bool.ltb-false, lemmas.List.drop-drop}
+use Rattle.std.proofs.{lemmas.List.drop_all, lemmas.Bool.Decides.nat_tests, lemmas.Grind.common_steps}
+use Rattle.cw_rules.specs.declared.{classes.Class.Class, parts.Part.Part, parts.Opened.Opened}
+use Rattle.cw_rules.specs.Answers.{Where, plain, note_answers}
+use Rattle.cw_rules.specs.Bytes.{is_in, is_letter, run, begins, begins_by}
 use Rattle.cw_rules.specs.{Codes.begins_section, Apart.in_text_apart, Cuttings.bytes_at, Pending.pending_notes}
+use Rattle.cw_lex.specs.{Lexing.fresh_at, Lexing.last_at, Lexing.answers_at, declared.state.State.State}
 use Rattle.cw_rules.specs.Tokens.{section, macro_name, format_name, parameter, is_parameter, behind_white}
 use Rattle.cw_rules.specs.Tokens.{behind_format, identifier, skipped_byte, one, moved, is_head_part}
+use Rattle.cw_lex.specs.Coming.{found_at, where_of, coming, is_skipped}
+use Rattle.cw_rules.proofs.Runs.{drop-here, run-inside}
 use Rattle.cw_lex.proofs.{Steps.skip-gives, White.other-byte}
 use Rattle.cw_rules.specs.declared.classes.Class.TheVariants as classes
 use Rattle.cw_rules.specs.declared.parts.Part.TheVariants as parts

@@ -1,20 +1,23 @@
 -- Inner C text of TeX text that no bar closes has the answers of its bytes, up to the end of the text.
-use Rattle.cw_lex.proofs.Terms.{◌≡◌, ℕ, zero, suc, ◌+◌, ◌-◌, Bool, true, false, ◌&&◌, ◌||◌, not, ◌==◌, nat_lt, List, []}
-use Rattle.cw_lex.proofs.Terms.{◌∷◌, ◌++◌, Option, Some, None, length, refl, sym, ap, ◌∙◌, arith, append_assoc}
-use Rattle.cw_lex.proofs.Terms.{if◌then◌else◌, nat_tests, codes.Code.Code, parts.Opened.Opened, parts.Start.Start}
-use Rattle.cw_lex.proofs.Terms.{signs.Sign.Sign, hash, star, slash, less, at_sign, begins, is_letter, is_mark, is_in}
-use Rattle.cw_lex.proofs.Terms.{Lexing.still_fresh, Lexing.joined, Lexing.answers, Nested.begins_section_in}
-use Rattle.cw_lex.proofs.Terms.{Parts.closing_bar, tex_inner, alone, in_tex, in_text-twin, if-both, and-none, not-both}
-use Rattle.cw_lex.proofs.Terms.{both-left}
-use Rattle.cw_rules.specs.{Answers.Answer, Answers.Where, Answers.Found, Codes.begins_section, Codes.effect_in_c}
-use Rattle.cw_rules.specs.{Constants.constant, Prefixes.prefix_size, Tokens.section, Signs.all_signs, Signs.longest}
-use Rattle.cw_rules.specs.Tokens.{is_tex_inner, sign_or_other, inner_cut, all_cut, line_end, code_by, in_code, start_of}
-use Rattle.cw_rules.specs.Apart.{code_text_apart, comment_text_apart, in_text_apart, found_apart}
-use Rattle.cw_base.specs.{Bytes.newline, Text.bar}
-use Rattle.cw_lex.proofs.Openings.{section-cuts, uncut-right}
+use Rattle.std.proofs.Common.{◌≡◌, ℕ, zero, suc, ◌+◌, ◌-◌, Bool, true, false, ◌&&◌, ◌||◌, not, ◌==◌, nat_lt, List, []}
+use Rattle.std.proofs.Common.{◌∷◌, ◌++◌, Option, Some, None, length, refl, sym, ap, ◌∙◌, arith, append_assoc}
+use Rattle.std.specs.Prelude.{if◌then◌else◌}
+use Rattle.std.proofs.lemmas.Bool.Decides.{nat_tests}
 use Rattle.cw_rules.specs.declared.classes.Class.TheVariants as classes
+use Rattle.cw_rules.specs.declared.{codes.Code.Code, parts.Opened.Opened, parts.Start.Start, signs.Sign.Sign}
 use Rattle.cw_rules.specs.declared.parts.Part.TheVariants as parts
 use Rattle.cw_rules.specs.declared.parts.Start.TheVariants as start
+use Rattle.cw_rules.specs.{Answers.Answer, Answers.Where, Answers.Found, Codes.begins_section, Codes.effect_in_c}
+use Rattle.cw_rules.specs.{Constants.constant, Prefixes.prefix_size, Tokens.section, Signs.all_signs, Signs.longest}
+use Rattle.cw_base.specs.{Bytes.newline, Text.bar}
+use Rattle.cw_rules.specs.Bytes.{hash, star, slash, less, at_sign, begins, is_letter, is_mark, is_in}
+use Rattle.cw_lex.specs.{Lexing.still_fresh, Lexing.joined, Lexing.answers, Nested.begins_section_in, Parts.closing_bar}
+use Rattle.cw_rules.specs.Tokens.{is_tex_inner, sign_or_other, inner_cut, all_cut, line_end, code_by, in_code, start_of}
+use Rattle.cw_rules.specs.Apart.{code_text_apart, comment_text_apart, in_text_apart, found_apart}
+use Rattle.cw_rules.proofs.InnerTwins.{tex_inner, alone, in_tex, in_text-twin}
+use Rattle.cw_rules.proofs.Choices.{if-both, and-none}
+use Rattle.cw_lex.proofs.Openings.{section-cuts, uncut-right}
+use Rattle.cw_base.proofs.TestLaws.{not-both, both-left}
 
 -- ## What leaves inner C text
 

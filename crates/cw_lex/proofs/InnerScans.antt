@@ -1,14 +1,17 @@
 -- Inner C text of TeX text that a bar closes has the answers of its bytes scanned by themselves.
-use Rattle.cw_lex.proofs.Terms.{◌≡◌, ℕ, zero, suc, ◌+◌, ◌-◌, ◌≤◌, Bool, true, false, ◌==◌, List, [], ◌∷◌, ◌++◌, Option}
-use Rattle.cw_lex.proofs.Terms.{Some, None, length, take, drop, refl, sym, ap, ◌∙◌, arith, append_assoc, ◌⊎◌, inl, inr}
-use Rattle.cw_lex.proofs.Terms.{if◌then◌else◌, lemmas.Bool.eqb-true, lemmas.Bool.Decides.nat_tests}
-use Rattle.cw_lex.proofs.Terms.{lemmas.Grind.common_steps, drop-drop, drop_all, take-take, take_all, bar, Answer, Begin}
-use Rattle.cw_lex.proofs.Terms.{Finish, Where, Found, token_of, still_fresh, joined, answers, fresh_after, last_after}
-use Rattle.cw_lex.proofs.Terms.{fresh_at, last_at, answers_at, Lexing.beginning, Lexing.tokens_of, Parts.closing_bar}
-use Rattle.cw_lex.proofs.Terms.{Parts.closing_bar_from, tex_inner, alone, found-twin}
+use Rattle.std.proofs.Common.{◌≡◌, ℕ, zero, suc, ◌+◌, ◌-◌, ◌≤◌, Bool, true, false, ◌==◌, List, [], ◌∷◌, ◌++◌, Option}
+use Rattle.std.proofs.Common.{Some, None, length, take, drop, refl, sym, ap, ◌∙◌, arith, append_assoc, ◌⊎◌, inl, inr}
+use Rattle.std.specs.Prelude.{if◌then◌else◌}
+use Rattle.std.proofs.{lemmas.Bool.eqb-true, lemmas.Bool.Decides.nat_tests, lemmas.Grind.common_steps}
+use Rattle.std.proofs.lemmas.List.{drop-drop, drop_all, take-take, take_all}
 use Rattle.cw_rules.specs.{declared.parts.Opened.Opened, Bytes.begins, Tokens.is_tex_inner, Apart.found_apart}
+use Rattle.cw_base.specs.Text.{bar}
+use Rattle.cw_rules.specs.Answers.{Answer, Begin, Finish, Where, Found, token_of}
+use Rattle.cw_lex.specs.Lexing.{still_fresh, joined, answers, fresh_after, last_after, fresh_at, last_at, answers_at}
+use Rattle.cw_lex.specs.{Lexing.beginning, Lexing.tokens_of, Parts.closing_bar, Parts.closing_bar_from}
 use Rattle.cw_rules.proofs.{Choices.if-both, Choices.and-none, Ahead.drop-same, Ahead.take-same}
 use Rattle.cw_lex.proofs.{Walk.fresh-more, Walk.last-more, Covering.drop-part, PartScans.begins-byte}
+use Rattle.cw_rules.proofs.InnerTwins.{tex_inner, alone, found-twin}
 use Rattle.cw_rules.specs.declared.parts.Part.TheVariants as parts
 use Rattle.cw_rules.specs.declared.tokens.Mode.TheVariants as modes
 use Rattle.cw_rules.specs.declared.tokens.TokKind.TheVariants as kinds

@@ -1,11 +1,15 @@
 -- No section name stands in limbo.
-use Rattle.cw_lex.proofs.Terms.{◌≡◌, ℕ, zero, suc, ◌+◌, Bool, true, false, List, [], ◌∷◌, ◌++◌, drop, refl}
-use Rattle.cw_lex.proofs.Terms.{if◌then◌else◌, arith, nat_tests, not-both, bodies.Noted.Noted, codes.Code.Code}
-use Rattle.cw_lex.proofs.Terms.{parts.Part.Part, Answer, Where, Cut, Found, note_answers, answers, joined, still_fresh}
-use Rattle.cw_lex.proofs.Terms.{Limbo.HasNoNames, Limbo.LimboHasNoNames, Nested.is_section_kind}
-use Rattle.cw_rules.specs.{Bytes.star, Bytes.begins, Codes.effect_in_limbo, Apart.found_apart, Apart.part_text_apart}
-use Rattle.cw_rules.specs.Tokens.{section, section_code, limbo_by, limbo_text, format_name, name_follows}
+use Rattle.std.proofs.Common.{◌≡◌, ℕ, zero, suc, ◌+◌, Bool, true, false, List, [], ◌∷◌, ◌++◌, drop, refl, if◌then◌else◌}
+use Rattle.std.proofs.Common.{arith}
+use Rattle.std.proofs.lemmas.Bool.Decides.{nat_tests}
+use Rattle.cw_base.proofs.TestLaws.{not-both}
+use Rattle.cw_rules.specs.declared.{bodies.Noted.Noted, codes.Code.Code, parts.Part.Part}
 use Rattle.cw_rules.specs.declared.parts.Part.TheVariants as parts
+use Rattle.cw_rules.specs.Answers.{Answer, Where, Cut, Found, note_answers}
+use Rattle.cw_rules.specs.{Bytes.star, Bytes.begins, Codes.effect_in_limbo, Apart.found_apart, Apart.part_text_apart}
+use Rattle.cw_lex.specs.Lexing.{answers, joined, still_fresh}
+use Rattle.cw_lex.specs.{Limbo.HasNoNames, Limbo.LimboHasNoNames, Nested.is_section_kind}
+use Rattle.cw_rules.specs.Tokens.{section, section_code, limbo_by, limbo_text, format_name, name_follows}
 
 -- limbo, and a format definition in it
 abbrev is_limbo : Part → Bool

@@ -1,8 +1,10 @@
 -- What begins at a line's end of C text.
-use Rattle.cw_lex.proofs.Terms.{◌≡◌, ℕ, Bool, true, false, List, [], ◌∷◌, slice_index, arith, nat_tests}
-use Rattle.cw_lex.proofs.Terms.{parts.Part.Part, parts.Opened.Opened, Lexing.last_at, Coming.found_at}
+use Rattle.std.proofs.Common.{◌≡◌, ℕ, Bool, true, false, List, [], ◌∷◌, slice_index, arith}
+use Rattle.std.proofs.lemmas.Bool.Decides.{nat_tests}
+use Rattle.cw_rules.specs.declared.{parts.Part.Part, parts.Opened.Opened}
 use Rattle.cw_rules.specs.Tokens.{comment_end, in_hash_line, passed, line_end, is_code, is_code_part}
 use Rattle.cw_rules.specs.{Apart.part_text_apart, Apart.in_text_apart, Apart.code_text_apart, Answers.before}
+use Rattle.cw_lex.specs.{Lexing.last_at, Coming.found_at}
 
 -- where C text goes on, the rules of C text hold
 pub part_text-code : (part : Part) (fresh : Bool) (last place byte : ℕ) (bytes : List ℕ) → is_code_part part ≡ true

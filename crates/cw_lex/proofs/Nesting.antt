@@ -1,30 +1,33 @@
 -- The scanner's answers over C text are nested.
-use Rattle.cw_lex.proofs.Terms.{◌≡◌, ℕ, zero, suc, ◌+◌, Bool, true, false, not, ◌&&◌, Option, Some, List, [], ◌∷◌, ◌++◌}
-use Rattle.cw_lex.proofs.Terms.{refl, sym, ◌∙◌, ap, subst, append-nil, append_assoc, arith, if◌then◌else◌, ◌==◌}
-use Rattle.cw_lex.proofs.Terms.{nat_tests, codes.Code.Code, codes.Effect.Effect, bodies.Noted.Noted, parts.Part.Part}
-use Rattle.cw_lex.proofs.Terms.{parts.Opened.Opened, tokens.Mode.Mode, tokens.TokKind.TokKind, is_section}
-use Rattle.cw_lex.proofs.Terms.{begins_section, effect_in_c, code_at, Answer, Note, Where, Cut, Found, before}
-use Rattle.cw_lex.proofs.Terms.{note_answers, plain, answers, joined, tokens_of, still_fresh, if-both, or-false}
-use Rattle.cw_lex.proofs.Terms.{or-first, or-second}
+use Rattle.std.proofs.Common.{◌≡◌, ℕ, zero, suc, ◌+◌, Bool, true, false, not, ◌&&◌, Option, Some, List, [], ◌∷◌, ◌++◌}
+use Rattle.std.proofs.Common.{refl, sym, ◌∙◌, ap, subst, append-nil, append_assoc, arith}
+use Rattle.std.specs.Prelude.{if◌then◌else◌, ◌==◌}
+use Rattle.std.proofs.lemmas.Bool.Decides.{nat_tests}
 use Rattle.cw_base.{proofs.TestLaws.both-left, proofs.TestLaws.both-right, specs.declared.notes.NoteKind.NoteKind}
+use Rattle.cw_rules.specs.declared.{codes.Code.Code, codes.Effect.Effect, bodies.Noted.Noted, parts.Part.Part}
+use Rattle.cw_rules.specs.declared.{parts.Opened.Opened, tokens.Mode.Mode, tokens.TokKind.TokKind}
 use Rattle.cw_rules.specs.{Bodies.one_note, Bodies.note_unless, Bodies.noted, Apart.found_apart, Bytes.at_sign}
+use Rattle.cw_rules.specs.Codes.{is_section, begins_section, effect_in_c, code_at}
 use Rattle.cw_rules.specs.Tokens.{parameter_follows, parameter, format_name, one, skipped_byte, identifier, piece_start}
 use Rattle.cw_rules.specs.Tokens.{passed, moved, in_hash_line, ends_at_bar, line_end, comment_begin, comment_end}
 use Rattle.cw_rules.specs.Tokens.{inner_cut, comment_cut, part_cut, inner_or_none, all_cut, inner_end, effect_in}
 use Rattle.cw_rules.specs.Tokens.{code_token, control_or_plain, head_text, section, section_code, behind_word}
 use Rattle.cw_rules.specs.Tokens.{is_include, may_head, takes_hash_line, name_follows, macro_name}
 use Rattle.cw_rules.specs.Apart.{behind_head_apart, code_text_apart, comment_text_apart, part_text_apart, in_text_apart}
+use Rattle.cw_rules.specs.Answers.{Answer, Note, Where, Cut, Found, before, note_answers, plain}
+use Rattle.cw_lex.specs.Lexing.{answers, joined, tokens_of, still_fresh}
 use Rattle.cw_lex.specs.Nested.{Level, InCode, InComment, after_token, levels_after, all_levels_after, IsNested}
 use Rattle.cw_lex.specs.Nested.{is_section_kind, is_section_answer, begins_section_in, until_section, is_c_mode}
-use Rattle.cw_rules.proofs.Rules.{BeginsPart, Macro, IsPassed, Standing, CodeRule, LineEnd, Space, HashLine, Word}
-use Rattle.cw_rules.proofs.Rules.{Passed, Heading, Beginning, Comment, InnerEnd, CommentRule, Closed, EndedLine}
-use Rattle.cw_rules.proofs.Rules.{InnerBegin, Piece, code-rule, comment-rule}
+use Rattle.cw_rules.proofs.Choices.{if-both, or-false, or-first, or-second}
 use Rattle.cw_rules.specs.declared.codes.Code.TheVariants as code
 use Rattle.cw_rules.specs.declared.codes.Effect.TheVariants as effects
 use Rattle.cw_rules.specs.declared.parts.Part.TheVariants as parts
 use Rattle.cw_rules.specs.declared.tokens.Mode.TheVariants as modes
 use Rattle.cw_rules.specs.declared.tokens.TokKind.TheVariants as kind
 use Rattle.cw_base.specs.declared.notes.NoteKind.TheVariants as notes
+use Rattle.cw_rules.proofs.Rules.{BeginsPart, Macro, IsPassed, Standing, CodeRule, LineEnd, Space, HashLine, Word}
+use Rattle.cw_rules.proofs.Rules.{Passed, Heading, Beginning, Comment, InnerEnd, CommentRule, Closed, EndedLine}
+use Rattle.cw_rules.proofs.Rules.{InnerBegin, Piece, code-rule, comment-rule}
 
 levels-append : (xs bs : List Answer) (ls ms : List Level) → all_levels_after xs ls ≡ Some ms
     → all_levels_after (xs ++ bs) ls ≡ all_levels_after bs ms

@@ -1,6 +1,7 @@
 -- Nested answers are those of one nest, in which pieces of text stand in comments alone, comments in C text and inner
 -- texts in comments.
-use Rattle.cw_lex.proofs.Terms.{◌≡◌, Bool, true, false, not, Option, Some, List, [], ◌∷◌, refl, arith, nat_tests}
+use Rattle.std.proofs.Common.{◌≡◌, Bool, true, false, not, Option, Some, List, [], ◌∷◌, refl, arith}
+use Rattle.std.proofs.lemmas.Bool.Decides.{nat_tests}
 use Rattle.cw_rules.specs.{declared.tokens.TokKind.TokKind, Answers.Answer, Answers.Seen}
 use Rattle.cw_lex.specs.Nested.{Level, InCode, InComment, after_token, after_begin, after_finish, levels_after}
 use Rattle.cw_lex.specs.Nested.{all_levels_after, IsNested}

@@ -1,16 +1,19 @@
 -- A text ends before the code with which a section or another part begins, and goes on from there as that part.
-use Rattle.cw_lex.proofs.Terms.{◌≡◌, ℕ, zero, suc, ◌+◌, ◌-◌, ◌<◌, ◌≤◌, Bool, true, false, ◌&&◌, ◌==◌, List, [], ◌∷◌}
-use Rattle.cw_lex.proofs.Terms.{◌++◌, Option, Some, length, slice_index, take, drop, refl, sym, ap, subst, ◌∙◌, arith}
-use Rattle.cw_lex.proofs.Terms.{append_assoc, length-drop, inl, inr, if◌then◌else◌, lemmas.Bool.eqb-true}
-use Rattle.cw_lex.proofs.Terms.{lemmas.Bool.Decides.nat_tests, drop-drop, take-take, take_all, drop_all, both-left}
-use Rattle.cw_lex.proofs.Terms.{both-right, not-both, codes.Code.Code, tokens.Mode.Mode, tokens.TokKind.TokKind, Answer}
-use Rattle.cw_lex.proofs.Terms.{Token, Finish, Note, Seen, Where, Cut, Found, note_answers, token_of, Coming.found_at}
-use Rattle.cw_lex.proofs.Terms.{Lexing.answers_at, Nested.is_section_kind, Nested.begins_section_in, beginning}
-use Rattle.cw_lex.proofs.Terms.{still_fresh, joined, answers, fresh_after, last_after, fresh_at, last_at, tokens_in}
-use Rattle.cw_lex.proofs.Terms.{named, opened_by, is_limbo_mode, EndsBefore}
+use Rattle.std.proofs.Common.{◌≡◌, ℕ, zero, suc, ◌+◌, ◌-◌, ◌<◌, ◌≤◌, Bool, true, false, ◌&&◌, ◌==◌, List, [], ◌∷◌, ◌++◌}
+use Rattle.std.proofs.Common.{Option, Some, length, slice_index, take, drop, refl, sym, ap, subst, ◌∙◌, arith}
+use Rattle.std.proofs.Common.{append_assoc, length-drop, inl, inr}
+use Rattle.std.specs.Prelude.{if◌then◌else◌}
+use Rattle.std.proofs.{lemmas.Bool.eqb-true, lemmas.Bool.Decides.nat_tests}
+use Rattle.std.proofs.lemmas.List.{drop-drop, take-take, take_all, drop_all}
+use Rattle.cw_base.proofs.TestLaws.{both-left, both-right, not-both}
+use Rattle.cw_rules.specs.declared.{codes.Code.Code, tokens.Mode.Mode, tokens.TokKind.TokKind}
+use Rattle.cw_rules.specs.Answers.{Answer, Token, Finish, Note, Seen, Where, Cut, Found, note_answers, token_of}
 use Rattle.cw_rules.specs.{Answers.has_sign, Answers.is_head_sign, Bytes.at_sign, Bytes.greater, Bytes.begins}
 use Rattle.cw_rules.specs.{Codes.code_at, Codes.is_section, Codes.begins_section, Tokens.all_cut, Tokens.section}
 use Rattle.cw_rules.specs.{Tokens.section_code, Apart.in_text_apart, Apart.found_apart}
+use Rattle.cw_lex.specs.{Coming.found_at, Lexing.answers_at, Nested.is_section_kind, Nested.begins_section_in}
+use Rattle.cw_lex.specs.Lexing.{beginning, still_fresh, joined, answers, fresh_after, last_after, fresh_at, last_at}
+use Rattle.cw_lex.specs.Openings.{tokens_in, named, opened_by, is_limbo_mode, EndsBefore}
 use Rattle.cw_rules.proofs.{Ahead.drop-same, Ahead.take-same, Choices.if-both, RulesAhead.found-local, Taking.AreBare}
 use Rattle.cw_rules.proofs.{Taking.AreNotes, Taking.bare-all-cut, Taking.found-takes, Runs.drop-here, Within.found-fits}
 use Rattle.cw_rules.proofs.CodeStarts.{kind_code, code_in, is_opener, is_limbo, is_head_where, in-text-tells}

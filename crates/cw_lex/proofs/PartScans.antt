@@ -1,12 +1,13 @@
 -- The scan of a part is the scan of the whole there.
-use Rattle.cw_lex.proofs.Terms.{◌≡◌, ℕ, zero, suc, ◌+◌, ◌-◌, ◌<◌, ◌≤◌, Bool, true, false, List, [], ◌∷◌, ◌++◌, Some}
-use Rattle.cw_lex.proofs.Terms.{length, take, drop, sym, ap, subst, ◌∙◌, arith, append_assoc, length-drop}
-use Rattle.cw_lex.proofs.Terms.{lemmas.Bool.eqb-true, lemmas.Bool.Decides.nat_tests, lemmas.Grind.common_steps}
-use Rattle.cw_lex.proofs.Terms.{drop-drop, length-take, take-take, take-append-drop, take_all, both-left, both-right}
-use Rattle.cw_lex.proofs.Terms.{still_fresh, answers, fresh_after, last_after, fresh_at, last_at, answers_at, beginning}
-use Rattle.cw_lex.proofs.Terms.{tokens_of}
+use Rattle.std.proofs.Common.{◌≡◌, ℕ, zero, suc, ◌+◌, ◌-◌, ◌<◌, ◌≤◌, Bool, true, false, List, [], ◌∷◌, ◌++◌, Some}
+use Rattle.std.proofs.Common.{length, take, drop, sym, ap, subst, ◌∙◌, arith, append_assoc, length-drop}
+use Rattle.std.proofs.{lemmas.Bool.eqb-true, lemmas.Bool.Decides.nat_tests, lemmas.Grind.common_steps}
+use Rattle.std.proofs.lemmas.List.{drop-drop, length-take, take-take, take-append-drop, take_all}
+use Rattle.cw_base.proofs.TestLaws.{both-left, both-right}
 use Rattle.cw_rules.specs.{declared.tokens.Mode.Mode, Bytes.at_sign, Bytes.greater, Bytes.begins, Codes.begins_section}
 use Rattle.cw_rules.specs.{Answers.Answer, Answers.Where, Tokens.all_cut, Tokens.section, Apart.found_apart}
+use Rattle.cw_lex.specs.Lexing.{still_fresh, answers, fresh_after, last_after, fresh_at, last_at, answers_at, beginning}
+use Rattle.cw_lex.specs.Lexing.{tokens_of}
 use Rattle.cw_lex.specs.Parts.{stand, stands_at, answers_to, part_answers, is_section_at, IsCodeAt}
 use Rattle.cw_lex.proofs.{Walk.fresh-more, Walk.last-more, Covering.drop-part}
 use Rattle.cw_rules.proofs.RulesAhead.{found-local}

@@ -1,12 +1,14 @@
 -- A piece of a comment's text, as the scanner reads it.
-use Rattle.cw_lex.proofs.Terms.{◌≡◌, ℕ, ◌+◌, ◌-◌, ◌<◌, Bool, false, List, ◌∷◌, length, slice_index, drop, arith}
-use Rattle.cw_lex.proofs.Terms.{nat_tests, or-true, bodies.Inside.Inside, parts.Part.Part, parts.Opened.Opened}
+use Rattle.std.proofs.Common.{◌≡◌, ℕ, ◌+◌, ◌-◌, ◌<◌, Bool, false, List, ◌∷◌, length, slice_index, drop, arith}
+use Rattle.std.proofs.lemmas.Bool.Decides.{nat_tests}
+use Rattle.cw_base.proofs.TestLaws.{or-true}
+use Rattle.cw_rules.specs.declared.bodies.Body.TheVariants as bodies
+use Rattle.cw_rules.specs.declared.{bodies.Inside.Inside, parts.Part.Part, parts.Opened.Opened}
+use Rattle.cw_rules.specs.declared.tokens.TokKind.TheVariants as kinds
 use Rattle.cw_rules.specs.{Bodies.stops, Bodies.ended, Bodies.extent, Bodies.noted, Answers.Found, Cuttings.bytes_at}
 use Rattle.cw_rules.specs.Tokens.{in_hash_line, is_deep, one, piece}
 use Rattle.cw_rules.proofs.Inside.{ended-some}
 use Rattle.cw_lex.proofs.Steps.{bytes-here}
-use Rattle.cw_rules.specs.declared.bodies.Body.TheVariants as bodies
-use Rattle.cw_rules.specs.declared.tokens.TokKind.TheVariants as kinds
 
 -- what a piece gives, by where it ends
 abbrev pub piece_found : Part → List Opened → Opened → ℕ → Inside → Inside → List ℕ → Found

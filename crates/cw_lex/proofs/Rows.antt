@@ -1,13 +1,14 @@
 -- Worked texts: what the scanner's definition gives for them.
-use Rattle.cw_lex.proofs.Terms.{◌≡◌, ℕ, zero, suc, List, [], ◌∷◌, ◌++◌, Some, None, codes, length, take, drop, refl}
-use Rattle.cw_lex.proofs.Terms.{tokens.Mode.Mode, tokens.TokKind.TokKind, Answer, Token, Begin, Finish, Note}
-use Rattle.cw_lex.proofs.Terms.{Lexing.tokens_of, Parts.closing_bar_from}
+use Rattle.std.proofs.Common.{◌≡◌, ℕ, zero, suc, List, [], ◌∷◌, ◌++◌, Some, None, codes, length, take, drop, refl}
 use Rattle.cw_base.specs.declared.notes.NoteKind.{NoteKind}
 use Rattle.cw_base.specs.declared.notes.NoteKind.TheVariants as notes
 use Rattle.cw_rules.specs.declared.codes.Code.TheVariants as at
 use Rattle.cw_rules.specs.declared.signs.Sign.TheVariants as signs
+use Rattle.cw_rules.specs.declared.{tokens.Mode.Mode, tokens.TokKind.TokKind}
 use Rattle.cw_rules.specs.declared.tokens.Mode.TheVariants as modes
 use Rattle.cw_rules.specs.declared.tokens.TokKind.TheVariants as kinds
+use Rattle.cw_rules.specs.Answers.{Answer, Token, Begin, Finish, Note}
+use Rattle.cw_lex.specs.{Lexing.tokens_of, Parts.closing_bar_from}
 
 -- an answer: a token, beginning or end with its kind and span, or a note with its place
 data Shown : Type 0 where

@@ -1,20 +1,22 @@
 -- Short tokens of C text, by its rules.
-use Rattle.cw_lex.proofs.Terms.{not, subst, ◌⊎◌, inl, inr, ◌≡◌, ℕ, ◌+◌, ◌<◌, ◌≤◌, arith, length-drop, Bool, true, false}
-use Rattle.cw_lex.proofs.Terms.{◌&&◌, ◌||◌, ◌==◌, nat_lt, List, ◌∷◌, Some, None, length, slice_index, drop, refl, sym}
-use Rattle.cw_lex.proofs.Terms.{ap, ◌∙◌, if◌then◌else◌, parts.Part.Part, parts.Opened.Opened, parts.Start.Start}
-use Rattle.cw_lex.proofs.Terms.{signs.Sign.Sign, is_in, is_letter, is_mark, begins, begins_by, run, Coming.found_at}
-use Rattle.cw_lex.proofs.Terms.{Calm.is_calm, lemmas.Bool.lt-ltb, lemmas.Bool.eqb-true, lemmas.Bool.Decides.nat_tests}
-use Rattle.cw_lex.proofs.Terms.{and-false}
-use Rattle.cw_rules.specs.{Answers.Where, Answers.plain, Constants.constant, Prefixes.prefix_size, Signs.all_signs}
-use Rattle.cw_rules.specs.{Signs.longest, Signs.spelling, Tokens.passed, Tokens.one, Tokens.moved, Cuttings.bytes_at}
-use Rattle.cw_rules.specs.Tokens.{in_code, start_of, sign_or_other, is_include, behind_word, ends_at_bar, in_hash_line}
-use Rattle.cw_lex.specs.Short.{is_alone, is_lone, IsShort, BeginsString, EndsInner}
-use Rattle.cw_lex.proofs.{White.other-byte, Calm.calm-code, Calm.calm-part, Steps.bytes-here}
-use Rattle.cw_rules.proofs.{Sizes.run-le, StringPrefixes.no-prefix}
+use Rattle.std.proofs.Common.{not, subst, ◌⊎◌, inl, inr, ◌≡◌, ℕ, ◌+◌, ◌<◌, ◌≤◌, arith, length-drop, Bool, true, false}
+use Rattle.std.proofs.Common.{◌&&◌, ◌||◌, ◌==◌, nat_lt, List, ◌∷◌, Some, None, length, slice_index, drop, refl, sym, ap}
+use Rattle.std.proofs.Common.{◌∙◌, if◌then◌else◌}
 use Rattle.cw_rules.specs.declared.classes.Class.TheVariants as classes
+use Rattle.cw_rules.specs.declared.{parts.Part.Part, parts.Opened.Opened, parts.Start.Start, signs.Sign.Sign}
 use Rattle.cw_rules.specs.declared.parts.Part.TheVariants as parts
 use Rattle.cw_rules.specs.declared.parts.Start.TheVariants as start
 use Rattle.cw_rules.specs.declared.tokens.TokKind.TheVariants as kinds
+use Rattle.cw_rules.specs.{Answers.Where, Answers.plain, Constants.constant, Prefixes.prefix_size, Signs.all_signs}
+use Rattle.cw_rules.specs.{Signs.longest, Signs.spelling, Tokens.passed, Tokens.one, Tokens.moved, Cuttings.bytes_at}
+use Rattle.cw_rules.specs.Bytes.{is_in, is_letter, is_mark, begins, begins_by, run}
+use Rattle.cw_rules.specs.Tokens.{in_code, start_of, sign_or_other, is_include, behind_word, ends_at_bar, in_hash_line}
+use Rattle.cw_lex.specs.{Coming.found_at, Calm.is_calm}
+use Rattle.cw_lex.specs.Short.{is_alone, is_lone, IsShort, BeginsString, EndsInner}
+use Rattle.cw_lex.proofs.{White.other-byte, Calm.calm-code, Calm.calm-part, Steps.bytes-here}
+use Rattle.cw_rules.proofs.{Sizes.run-le, StringPrefixes.no-prefix}
+use Rattle.std.proofs.{lemmas.Bool.lt-ltb, lemmas.Bool.eqb-true, lemmas.Bool.Decides.nat_tests}
+use Rattle.cw_base.proofs.TestLaws.{and-false}
 
 -- a byte that begins no line's end, white space, code or `#` line
 pub record IsStart (b : ℕ) : Type 0 where

@@ -1,6 +1,7 @@
 -- The open comments in their rows.
-use Rattle.cw_lex.proofs.Terms.{◌≡◌, ℕ, zero, suc, ◌<◌, ◌≤◌, ◌≢◌, ◌∷◌, length, refl, ap, arith, get_or-set_same}
-use Rattle.cw_lex.proofs.Terms.{get_or-set_other, nat_tests}
+use Rattle.std.proofs.Common.{◌≡◌, ℕ, zero, suc, ◌<◌, ◌≤◌, ◌≢◌, ◌∷◌, length, refl, ap, arith, get_or-set_same}
+use Rattle.std.proofs.Common.{get_or-set_other}
+use Rattle.std.proofs.lemmas.Bool.Decides.{nat_tests}
 use Rattle.cw_rules.specs.declared.parts.Opened.{Opened}
 use Rattle.cw_lex.specs.declared.comments.Rows.{Rows}
 use Rattle.cw_lex.specs.Stack.{IsWhole, innermost, opened_at, with_opened}

@@ -1,7 +1,9 @@
 -- What stays true of a scanner's parts and comments.
-use Rattle.cw_lex.proofs.Terms.{◌≡◌, ℕ, ◌+◌, ◌≤◌, Bool, true, false, List, [], ◌∷◌, length, drop, sym, ap, subst, ◌∙◌}
-use Rattle.cw_lex.proofs.Terms.{arith, nat_tests, parts.Part.Part, parts.Opened.Opened, pending.Pending.Pending}
-use Rattle.cw_lex.proofs.Terms.{declared.state.State.State, Coming.IsNested, Coming.AllWithin, Coming.IsReady}
+use Rattle.std.proofs.Common.{◌≡◌, ℕ, ◌+◌, ◌≤◌, Bool, true, false, List, [], ◌∷◌, length, drop, sym, ap, subst, ◌∙◌}
+use Rattle.std.proofs.Common.{arith}
+use Rattle.std.proofs.lemmas.Bool.Decides.{nat_tests}
+use Rattle.cw_rules.specs.declared.{parts.Part.Part, parts.Opened.Opened, pending.Pending.Pending}
+use Rattle.cw_lex.specs.{declared.state.State.State, Coming.IsNested, Coming.AllWithin, Coming.IsReady}
 use Rattle.cw_rules.specs.{Pending.IsInside, Tokens.is_code, Tokens.is_code_part}
 use Rattle.cw_base.specs.Conditions.{one_if}
 use Rattle.cw_lex.proofs.Steps.{AllWithin-more}

@@ -1,10 +1,14 @@
 -- How one answer follows from what begins at the scanner's place.
-use Rattle.cw_lex.proofs.Terms.{◌≡◌, ℕ, Bool, ◌+◌, ◌<◌, ◌≤◌, List, [], ◌∷◌, ◌++◌, length, sym, ap, arith, append_assoc}
-use Rattle.cw_lex.proofs.Terms.{drop, nat_tests, parts.Opened.Opened, tokens.TokKind.TokKind}
-use Rattle.cw_lex.proofs.Terms.{declared.state.State.State, Lexing.answers_at, Answer, Seen, Where, Found, before}
-use Rattle.cw_lex.proofs.Terms.{note_answers, token_of, where_of, coming, found_at, AllWithin, drop-here}
+use Rattle.std.proofs.Common.{◌≡◌, ℕ, Bool, ◌+◌, ◌<◌, ◌≤◌, List, [], ◌∷◌, ◌++◌, length, sym, ap, arith, append_assoc}
+use Rattle.std.proofs.Common.{drop}
+use Rattle.std.proofs.lemmas.Bool.Decides.{nat_tests}
+use Rattle.cw_rules.specs.declared.{parts.Opened.Opened, tokens.TokKind.TokKind}
+use Rattle.cw_lex.specs.{declared.state.State.State, Lexing.answers_at}
+use Rattle.cw_rules.specs.Answers.{Answer, Seen, Where, Found, before, note_answers, token_of}
 use Rattle.cw_rules.specs.{Pending.pending_notes, Pending.no_notes, Cuttings.bytes_at, Tokens.skipped_byte}
+use Rattle.cw_lex.specs.Coming.{where_of, coming, found_at, AllWithin}
 use Rattle.cw_lex.proofs.Walk.{answers-at, answers-here, rest_at}
+use Rattle.cw_rules.proofs.Runs.{drop-here}
 
 -- without notes the answers are those of the text
 pub coming-quiet : (text : List ℕ) (s : State) → s.pending ≡ no_notes → coming text s

@@ -1,18 +1,21 @@
 -- The scanner's answers over TeX text are nested.
-use Rattle.cw_lex.proofs.Terms.{◌≡◌, ℕ, zero, suc, ◌+◌, ◌-◌, Bool, true, false, ◌&&◌, Option, Some, None, List, [], ◌∷◌}
-use Rattle.cw_lex.proofs.Terms.{◌++◌, refl, ◌∙◌, ap, arith, ◌==◌, bodies.Noted.Noted, codes.Code.Code}
-use Rattle.cw_lex.proofs.Terms.{codes.Effect.Effect, parts.Part.Part, parts.Opened.Opened, tokens.TokKind.TokKind}
-use Rattle.cw_lex.proofs.Terms.{code_at, begins_section, effect_in_tex, Answer, Where, Cut, Found, note_answers}
-use Rattle.cw_lex.proofs.Terms.{nat_tests}
+use Rattle.std.proofs.Common.{◌≡◌, ℕ, zero, suc, ◌+◌, ◌-◌, Bool, true, false, ◌&&◌, Option, Some, None, List, [], ◌∷◌}
+use Rattle.std.proofs.Common.{◌++◌, refl, ◌∙◌, ap, arith}
+use Rattle.std.specs.Prelude.{◌==◌}
+use Rattle.cw_rules.specs.declared.{bodies.Noted.Noted, codes.Code.Code, codes.Effect.Effect, parts.Part.Part}
+use Rattle.cw_rules.specs.declared.{parts.Opened.Opened, tokens.TokKind.TokKind}
 use Rattle.cw_rules.specs.{Bytes.at_sign, Apart.in_text_apart, Apart.found_apart}
-use Rattle.cw_rules.specs.Tokens.{one, dropped_code, moved, is_name, is_head, code_token, comment_cut, inner_or_none}
-use Rattle.cw_rules.specs.Tokens.{all_cut, tex_by, tex_text, head_text, section}
+use Rattle.cw_rules.specs.Codes.{code_at, begins_section, effect_in_tex}
+use Rattle.cw_rules.specs.Answers.{Answer, Where, Cut, Found, note_answers}
 use Rattle.cw_lex.{specs.Lexing.answers, specs.Lexing.tokens_of, specs.Lexing.still_fresh, specs.Nested.begins_part_in}
 use Rattle.cw_lex.{specs.Nested.is_part_answer, proofs.Nesting.cut-one, proofs.Nesting.section-kind}
+use Rattle.cw_rules.specs.Tokens.{one, dropped_code, moved, is_name, is_head, code_token, comment_cut, inner_or_none}
+use Rattle.cw_rules.specs.Tokens.{all_cut, tex_by, tex_text, head_text, section}
 use Rattle.cw_lex.specs.Nested.{Level, InCode, InComment, after_token, after_begin, levels_after, all_levels_after}
 use Rattle.cw_lex.specs.Nested.{tex_levels_after, all_tex_levels_after, IsTexNested, is_section_kind, is_part_kind}
 use Rattle.cw_rules.proofs.{Choices.if-both, Choices.or-first, Choices.or-second, Rules.code-rule}
 use Rattle.cw_lex.proofs.Nesting.{Goes, levels_in, nested_in, in_tex, rule-goes, open-goes, inner-nested, open-levels}
+use Rattle.std.proofs.lemmas.Bool.Decides.{nat_tests}
 use Rattle.cw_rules.specs.declared.codes.Effect.TheVariants as effects
 use Rattle.cw_rules.specs.declared.parts.Part.TheVariants as parts
 use Rattle.cw_rules.specs.declared.tokens.Mode.TheVariants as modes

@@ -1,8 +1,10 @@
 -- TeX text goes on up to the first `@` or bar.
-use Rattle.cw_lex.proofs.Terms.{◌≡◌, ℕ, zero, suc, ◌+◌, ◌<◌, ◌≤◌, Bool, true, false, not, List, [], ◌∷◌, length}
-use Rattle.cw_lex.proofs.Terms.{slice_index, refl, ap, arith, if◌then◌else◌, nat_tests, classes.Class.Class}
-use Rattle.cw_lex.proofs.Terms.{classes.Class.TheVariants.TexText, is_in, run}
+use Rattle.std.proofs.Common.{◌≡◌, ℕ, zero, suc, ◌+◌, ◌<◌, ◌≤◌, Bool, true, false, not, List, [], ◌∷◌, length}
+use Rattle.std.proofs.Common.{slice_index, refl, ap, arith, if◌then◌else◌}
+use Rattle.std.proofs.lemmas.Bool.Decides.{nat_tests}
 use Rattle.memchr.specs.Find.{Nowhere, NoneBefore, Passes, is_byte2}
+use Rattle.cw_rules.specs.declared.{classes.Class.Class, classes.Class.TheVariants.TexText}
+use Rattle.cw_rules.specs.Bytes.{is_in, run}
 
 -- a run ends at the first byte of another class, or with the bytes
 run-first : (class : Class) (bytes : List ℕ) (n : ℕ) → n ≤ length bytes → ((k : ℕ) → k < n → is_in class

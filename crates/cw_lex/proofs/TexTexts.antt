@@ -1,26 +1,30 @@
 -- TeX text in which no other part begins goes on token by token, and its inner C texts are whole by themselves.
-use Rattle.cw_lex.proofs.Terms.{◌≡◌, ℕ, suc, ◌+◌, ◌-◌, ◌<◌, ◌≤◌, Bool, true, false, ◌&&◌, ◌||◌, ◌==◌, List, [], ◌∷◌}
-use Rattle.cw_lex.proofs.Terms.{◌++◌, Option, Some, None, length, slice_index, take, drop, refl, sym, ap, subst, ◌∙◌}
-use Rattle.cw_lex.proofs.Terms.{arith, append-nil, length-drop, ◌⊎◌, inl, inr, if◌then◌else◌, is_some}
-use Rattle.cw_lex.proofs.Terms.{lemmas.Bool.eqb-true, lemmas.Bool.Decides.nat_tests, drop-drop, length-take, both-right}
-use Rattle.cw_lex.proofs.Terms.{one-failed-left, one-failed-right, not-both, bodies.Noted.Noted, codes.Code.Code}
-use Rattle.cw_lex.proofs.Terms.{codes.Effect.Effect, tokens.TokKind.TokKind, Answer, Token, Begin, Finish, Note, Seen}
-use Rattle.cw_lex.proofs.Terms.{Where, Cut, Found, note_answers, token_of, bar, code_of, code_at, is_section}
-use Rattle.cw_lex.proofs.Terms.{begins_section, effect_in_tex, Coming.found_at, Limbo.is_name_kind}
-use Rattle.cw_lex.proofs.Terms.{Parts.closing_bar_from, still_fresh, joined, answers, fresh_at, last_at, answers_at}
-use Rattle.cw_lex.proofs.Terms.{beginning, tokens_of, opened_by, opens_part_before, opens_part_in, AreNotes}
-use Rattle.cw_lex.proofs.Terms.{found-takes, bare-all-cut}
+use Rattle.std.proofs.Common.{◌≡◌, ℕ, suc, ◌+◌, ◌-◌, ◌<◌, ◌≤◌, Bool, true, false, ◌&&◌, ◌||◌, ◌==◌, List, [], ◌∷◌, ◌++◌}
+use Rattle.std.proofs.Common.{Option, Some, None, length, slice_index, take, drop, refl, sym, ap, subst, ◌∙◌, arith}
+use Rattle.std.proofs.Common.{append-nil, length-drop, ◌⊎◌, inl, inr}
+use Rattle.std.specs.Prelude.{if◌then◌else◌, is_some}
+use Rattle.std.proofs.{lemmas.Bool.eqb-true, lemmas.Bool.Decides.nat_tests}
+use Rattle.std.proofs.lemmas.List.{drop-drop, length-take}
+use Rattle.cw_base.proofs.TestLaws.{both-right, one-failed-left, one-failed-right, not-both}
+use Rattle.cw_rules.specs.declared.{bodies.Noted.Noted, codes.Code.Code, codes.Effect.Effect, tokens.TokKind.TokKind}
+use Rattle.cw_rules.specs.Answers.{Answer, Token, Begin, Finish, Note, Seen, Where, Cut, Found, note_answers, token_of}
 use Rattle.cw_rules.specs.{Answers.plain, Answers.has_sign, Bodies.at_start, Bodies.extent, Bytes.at_sign, Bytes.equals}
 use Rattle.cw_rules.specs.{Bytes.run, Bytes.begins, Bytes.is_in, Order.Covers, Apart.found_apart}
+use Rattle.cw_base.specs.Text.{bar}
+use Rattle.cw_rules.specs.Codes.{code_of, code_at, is_section, begins_section, effect_in_tex}
+use Rattle.cw_lex.specs.{Coming.found_at, Limbo.is_name_kind, Parts.closing_bar_from}
+use Rattle.cw_lex.specs.Lexing.{still_fresh, joined, answers, fresh_at, last_at, answers_at, beginning, tokens_of}
+use Rattle.cw_lex.specs.Nested.{is_section_kind, begins_section_in}
+use Rattle.cw_lex.specs.Openings.{opened_by, opens_part_before, opens_part_in}
+use Rattle.cw_lex.specs.TexTexts.{tex_at, are_notes, GoesOn, HoldsInner}
 use Rattle.cw_rules.specs.Tokens.{one, moved, dropped_code, effect_in, section_name, is_name, is_head, is_signed}
 use Rattle.cw_rules.specs.Tokens.{tex_by, tex_text, section, code_by, inner_begin, inner_cut}
-use Rattle.cw_lex.specs.Nested.{is_section_kind, begins_section_in}
-use Rattle.cw_lex.specs.TexTexts.{tex_at, are_notes, GoesOn, HoldsInner}
 use Rattle.cw_rules.proofs.{CodeStarts.code-kind, CodeTwins.at-code, NameEnds.name-take, InnerTwins.tex_inner}
 use Rattle.cw_rules.proofs.{Sizes.extent-le, Runs.drop-here, Within.found-fits}
 use Rattle.cw_lex.proofs.Covering.{drop-part, covers-le, tokens-cover}
 use Rattle.cw_lex.proofs.{InnerEnds.to-end, InnerScans.inner-ends-at-bar, Openings.section-cuts, Openings.bare-uncut}
 use Rattle.cw_lex.proofs.{FirstTokens.notes-sign, FirstTokens.begun, PartScans.ends-with-text, Walk.answers-at}
+use Rattle.cw_rules.proofs.Taking.{AreNotes, found-takes, bare-all-cut}
 use Rattle.cw_base.specs.declared.notes.NoteKind.TheVariants as notes
 use Rattle.cw_rules.specs.declared.bodies.Body.TheVariants as bodies
 use Rattle.cw_rules.specs.declared.classes.Class.TheVariants as classes

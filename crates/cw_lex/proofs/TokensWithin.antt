@@ -1,8 +1,9 @@
 -- The tokens of a part of a text lie in it.
-use Rattle.cw_lex.proofs.Terms.{ℕ, zero, suc, ◌+◌, ◌-◌, ◌≤◌, Bool, List, [], ◌∷◌, length, arith, length-drop}
-use Rattle.cw_lex.proofs.Terms.{lemmas.List.length-take, lemmas.Bool.Decides.nat_tests, append-within, wider}
-use Rattle.cw_lex.proofs.Terms.{all_cut-within, found-fits, still_fresh, answers, tokens_of}
+use Rattle.std.proofs.Common.{ℕ, zero, suc, ◌+◌, ◌-◌, ◌≤◌, Bool, List, [], ◌∷◌, length, arith, length-drop}
+use Rattle.std.proofs.{lemmas.List.length-take, lemmas.Bool.Decides.nat_tests}
 use Rattle.cw_rules.specs.{declared.tokens.Mode.Mode, Answers.Where, Order.AreWithin, Tokens.all_cut, Apart.found_apart}
+use Rattle.cw_rules.proofs.Within.{append-within, wider, all_cut-within, found-fits}
+use Rattle.cw_lex.specs.Lexing.{still_fresh, answers, tokens_of}
 
 -- the answers from a place on
 all-within : (bytes : List ℕ) (w : Where) (fresh : Bool) (last place taken low : ℕ) → low ≤ place → taken ≤ length bytes

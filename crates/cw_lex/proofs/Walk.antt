@@ -1,9 +1,11 @@
 -- How the answers from one place of a text follow from what begins there.
-use Rattle.cw_lex.proofs.Terms.{◌≡◌, ℕ, zero, suc, ◌+◌, ◌<◌, ◌≤◌, Bool, true, List, [], ◌∷◌, ◌++◌, length, slice_index}
-use Rattle.cw_lex.proofs.Terms.{take, drop, sym, ap, ◌∙◌, arith, add-zero, zero-add, length-drop, lemmas.List.drop-drop}
-use Rattle.cw_lex.proofs.Terms.{Math.Seq.take-nil, lemmas.Grind.common_steps, nat_tests, found_at, still_fresh, joined}
-use Rattle.cw_lex.proofs.Terms.{answers, fresh_after, last_after, fresh_at, last_at, answers_at}
+use Rattle.std.proofs.Common.{◌≡◌, ℕ, zero, suc, ◌+◌, ◌<◌, ◌≤◌, Bool, true, List, [], ◌∷◌, ◌++◌, length, slice_index}
+use Rattle.std.proofs.Common.{take, drop, sym, ap, ◌∙◌, arith, add-zero, zero-add, length-drop}
+use Rattle.std.proofs.{lemmas.List.drop-drop, Math.Seq.take-nil, lemmas.Grind.common_steps}
+use Rattle.std.proofs.lemmas.Bool.Decides.{nat_tests}
 use Rattle.cw_rules.{proofs.Runs.drop-here, specs.Answers.Answer, specs.Answers.Where, specs.Answers.Found}
+use Rattle.cw_lex.specs.Coming.{found_at}
+use Rattle.cw_lex.specs.Lexing.{still_fresh, joined, answers, fresh_after, last_after, fresh_at, last_at, answers_at}
 
 -- bytes that belong to the last token
 taken : (bs : List ℕ) (w : Where) (fresh : Bool) (last place n : ℕ) → n ≤ length bs → answers bs w fresh last place n

@@ -1,21 +1,23 @@
 -- What the rules for tokens see of the bytes ahead, where an `@` or a bar stands that no token takes.
-use Rattle.cw_rules.proofs.Terms.{◌≡◌, ℕ, zero, suc, ◌+◌, ◌≤◌, Bool, true, false, ◌&&◌, ◌||◌, not, ◌==◌, nat_lt, List}
-use Rattle.cw_rules.proofs.Terms.{[], ◌∷◌, ◌++◌, codes, length, slice_index, take, drop, refl, sym, ap, ◌∙◌, arith}
-use Rattle.cw_rules.proofs.Terms.{if◌then◌else◌, list_any, classes.Class.Class, signs.Sign.Sign, apostrophe, is_mark}
-use Rattle.cw_rules.proofs.Terms.{star, plus, minus, slash, at_sign, left_paren, right_paren, comma, run, is_in}
-use Rattle.cw_rules.proofs.Terms.{is_letter, is_letter_of, begins, begins_by, begins_with, more_digits, digits}
-use Rattle.cw_rules.proofs.Terms.{fraction, exponent_sign, exponent, mantissa, scaled, is_prefixed, hexadecimal, binary}
-use Rattle.cw_rules.proofs.Terms.{decimal, number, constant, lemmas.List.get_or_append_left}
-use Rattle.cw_rules.proofs.Terms.{lemmas.Bool.Decides.nat_tests}
+use Rattle.std.proofs.Common.{◌≡◌, ℕ, zero, suc, ◌+◌, ◌≤◌, Bool, true, false, ◌&&◌, ◌||◌, not, ◌==◌, nat_lt, List, []}
+use Rattle.std.proofs.Common.{◌∷◌, ◌++◌, codes, length, slice_index, take, drop, refl, sym, ap, ◌∙◌, arith}
+use Rattle.std.specs.Prelude.{if◌then◌else◌}
+use Rattle.std.specs.List.{list_any}
+use Rattle.cw_rules.specs.declared.{classes.Class.Class, signs.Sign.Sign}
+use Rattle.cw_rules.specs.declared.classes.Class.TheVariants as classes
+use Rattle.cw_rules.specs.declared.parts.Start.TheVariants as start
+use Rattle.cw_rules.specs.Bytes.{apostrophe, is_mark, star, plus, minus, slash, at_sign, left_paren, right_paren, comma}
+use Rattle.cw_rules.specs.Bytes.{run, is_in, is_letter, is_letter_of, begins, begins_by, begins_with}
 use Rattle.cw_base.specs.Text.{bar}
 use Rattle.cw_rules.specs.{Signs.all_signs, Signs.spelling, Signs.longer, Signs.longest, Prefixes.prefix_size}
 use Rattle.cw_rules.specs.{Codes.code_at, Codes.begins_section, Tokens.parameter_follows, Tokens.depth_size}
 use Rattle.cw_rules.specs.{Tokens.is_include}
+use Rattle.cw_rules.specs.Constants.{more_digits, digits, fraction, exponent_sign, exponent, mantissa, scaled}
+use Rattle.cw_rules.specs.Constants.{is_prefixed, hexadecimal, binary, decimal, number, constant}
 use Rattle.cw_rules.specs.Tokens.{start_of, sign_or_other, is_signed, behind_white, name_follows, is_parameter}
 use Rattle.cw_rules.proofs.{Sizes.run-le, Sizes.digits-le, Sizes.mantissa-le, Sizes.number-le, Choices.if-same}
 use Rattle.cw_rules.proofs.{Choices.and-none, Choices.or-first, Choices.or-second, StringPrefixes.prefix-below}
-use Rattle.cw_rules.specs.declared.classes.Class.TheVariants as classes
-use Rattle.cw_rules.specs.declared.parts.Start.TheVariants as start
+use Rattle.std.proofs.{lemmas.List.get_or_append_left, lemmas.Bool.Decides.nat_tests}
 
 pub drop-same : (n : ℕ) (bs more : List ℕ) → n ≤ length bs → drop n (bs ++ more) ≡ drop n bs ++ more
 drop-same zero bs more h = refl

@@ -1,10 +1,13 @@
 -- A body that ends before an `@` or a bar which it doesn't take is the same where the text ends there.
-use Rattle.cw_rules.proofs.Terms.{◌++◌, None, codes, length, refl, sym, ap, ◌∙◌, arith, length-append, length-drop, ◌≡◌}
-use Rattle.cw_rules.proofs.Terms.{ℕ, suc, ◌+◌, ◌<◌, ◌≤◌, Bool, true, false, ◌&&◌, ◌||◌, not, ◌==◌, List, [], ◌∷◌}
-use Rattle.cw_rules.proofs.Terms.{if◌then◌else◌, lemmas.Bool.eqb-true, lemmas.Bool.Decides.nat_tests, NoteKind}
-use Rattle.cw_rules.proofs.Terms.{bodies.Body.Body, bodies.Inside.Inside, greater, at_sign, begins, begins_with, stops}
-use Rattle.cw_rules.proofs.Terms.{takes_next, note_on, stepped, goes_on, ended, note_here, with_note, noted}
-use Rattle.cw_rules.proofs.Terms.{closing_bytes, stop_at, extent, all_notes}
+use Rattle.std.proofs.Common.{◌++◌, None, codes, length, refl, sym, ap, ◌∙◌, arith, length-append, length-drop, ◌≡◌, ℕ}
+use Rattle.std.proofs.Common.{suc, ◌+◌, ◌<◌, ◌≤◌, Bool, true, false, ◌&&◌, ◌||◌, not, ◌==◌, List, [], ◌∷◌}
+use Rattle.std.specs.Prelude.{if◌then◌else◌}
+use Rattle.std.proofs.{lemmas.Bool.eqb-true, lemmas.Bool.Decides.nat_tests}
+use Rattle.cw_base.specs.declared.notes.NoteKind.{NoteKind}
+use Rattle.cw_rules.specs.declared.{bodies.Body.Body, bodies.Inside.Inside}
+use Rattle.cw_rules.specs.Bytes.{greater, at_sign, begins, begins_with}
+use Rattle.cw_rules.specs.Bodies.{stops, takes_next, note_on, stepped, goes_on, ended, note_here, with_note, noted}
+use Rattle.cw_rules.specs.Bodies.{closing_bytes, stop_at, extent, all_notes}
 use Rattle.cw_rules.proofs.{Inside.ended-some, Inside.ended-le, Sizes.ended-most, Choices.if-both, Ahead.section-same}
 use Rattle.cw_rules.proofs.Ahead.{Stop, At, Bar, byte_of, drop-same, begins-before, with-before, begins-same}
 use Rattle.cw_rules.specs.declared.bodies.Body.TheVariants as bodies

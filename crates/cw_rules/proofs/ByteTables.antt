@@ -1,6 +1,7 @@
 -- Which bytes are letters and digits, which are white, and which are plain, by the tables of the code.
-use Rattle.cw_rules.proofs.Terms.{◌≡◌, ℕ, ◌<◌, Bool, map, get_or, refl, ap, ◌∙◌, arith, range_with_len}
-use Rattle.cw_rules.proofs.Terms.{lemmas.List.FromFn.get_or-map-range_with_len, lemmas.Bool.Decides.nat_tests}
+use Rattle.std.proofs.Common.{◌≡◌, ℕ, ◌<◌, Bool, map, get_or, refl, ap, ◌∙◌, arith}
+use Rattle.std.specs.List.{range_with_len}
+use Rattle.std.proofs.{lemmas.List.FromFn.get_or-map-range_with_len, lemmas.Bool.Decides.nat_tests}
 use Rattle.cw_rules.specs.{declared.bodies.TheConstants.PLAIN_BYTES, Bodies.is_plain, Bytes.is_in}
 use Rattle.cw_rules.specs.declared.classes.Class.TheVariants.{White, Word}
 use Rattle.cw_rules.specs.declared.classes.TheConstants.{WHITE_BYTES, WORD_BYTES}

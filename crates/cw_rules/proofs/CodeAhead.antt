@@ -1,22 +1,25 @@
 -- What begins at a place of C text or a comment is the same where the text ends before an `@` or a bar that it doesn't
 -- take.
-use Rattle.cw_rules.proofs.Terms.{◌≡◌, ℕ, suc, ◌+◌, ◌<◌, ◌≤◌, Bool, true, false, ◌&&◌, ◌||◌, not, ◌==◌, nat_lt, List}
-use Rattle.cw_rules.proofs.Terms.{[], ◌∷◌, ◌++◌, Option, Some, None, length, take, drop, refl, sym, ap, subst, ◌∙◌}
-use Rattle.cw_rules.proofs.Terms.{arith, ◌⊎◌, inl, inr, slice_index, length-drop, if◌then◌else◌, lemmas.Bool.eqb-true}
-use Rattle.cw_rules.proofs.Terms.{lemmas.List.drop_all, lemmas.Bool.Decides.nat_tests, both-right}
-use Rattle.cw_rules.proofs.Terms.{declared.notes.NoteKind.NoteKind, Text.bar, bodies.Inside.Inside, codes.Code.Code}
-use Rattle.cw_rules.proofs.Terms.{codes.Effect.Effect, parts.Part.Part, parts.Opened.Opened, parts.Start.Start}
-use Rattle.cw_rules.proofs.Terms.{signs.Sign.Sign, quote, apostrophe, star, slash, less, greater, at_sign, run}
-use Rattle.cw_rules.proofs.Terms.{is_letter, is_mark, at_start, stops, extent, ended, noted, one_note, note_unless}
-use Rattle.cw_rules.proofs.Terms.{Answer, Where, Cut, Found, before, plain, dropped}
+use Rattle.std.proofs.Common.{◌≡◌, ℕ, suc, ◌+◌, ◌<◌, ◌≤◌, Bool, true, false, ◌&&◌, ◌||◌, not, ◌==◌, nat_lt, List, []}
+use Rattle.std.proofs.Common.{◌∷◌, ◌++◌, Option, Some, None, length, take, drop, refl, sym, ap, subst, ◌∙◌, arith, ◌⊎◌}
+use Rattle.std.proofs.Common.{inl, inr, slice_index, length-drop}
+use Rattle.std.specs.Prelude.{if◌then◌else◌}
+use Rattle.std.proofs.{lemmas.Bool.eqb-true, lemmas.List.drop_all, lemmas.Bool.Decides.nat_tests}
+use Rattle.cw_base.proofs.TestLaws.{both-right}
+use Rattle.cw_base.specs.{declared.notes.NoteKind.NoteKind, Text.bar}
+use Rattle.cw_rules.specs.declared.{bodies.Inside.Inside, codes.Code.Code, codes.Effect.Effect, parts.Part.Part}
+use Rattle.cw_rules.specs.declared.{parts.Opened.Opened, parts.Start.Start, signs.Sign.Sign}
 use Rattle.cw_rules.specs.{declared.tokens.TokKind.TokKind, Bytes.begins, Constants.constant, Prefixes.prefix_size}
 use Rattle.cw_rules.specs.{Signs.all_signs, Signs.longest, Codes.code_at, Codes.has_control_text, Names.is_void}
+use Rattle.cw_rules.specs.Bytes.{quote, apostrophe, star, slash, less, greater, at_sign, run, is_letter, is_mark}
+use Rattle.cw_rules.proofs.StringPrefixes.{prefix-below, prefix-mark}
+use Rattle.cw_rules.specs.Bodies.{at_start, stops, extent, ended, noted, one_note, note_unless}
+use Rattle.cw_rules.specs.Answers.{Answer, Where, Cut, Found, before, plain, dropped}
 use Rattle.cw_rules.specs.Tokens.{sign_or_other, identifier, string, string_of, closes_on_line, include_name}
 use Rattle.cw_rules.specs.Tokens.{section_name, is_name, is_quote, control_or_plain, code_token, dropped_code}
 use Rattle.cw_rules.specs.Tokens.{is_signed, is_head, in_hash_line, passed, moved, one, comment_begin, comment_closed}
 use Rattle.cw_rules.specs.Tokens.{piece_start, piece, effect_in, may_head, code_by, in_code, start_of}
 use Rattle.cw_rules.specs.Apart.{comment_text_apart, code_text_apart, in_text_apart}
-use Rattle.cw_rules.proofs.StringPrefixes.{prefix-below, prefix-mark}
 use Rattle.cw_rules.proofs.{Choices.if-both, Sizes.run-le, IncludeEnds.greater-stops}
 use Rattle.cw_rules.proofs.Ahead.{Stop, At, Bar, byte_of, of-both, IsApart, apart-on, drop-same, take-same, begins-same}
 use Rattle.cw_rules.proofs.Ahead.{run-same, constant-same, prefix-same, start_of-same, signed-same, include-same}

@@ -1,28 +1,29 @@
 -- What begins at a place of a text tells the code with which a part of a section begins there.
-use Rattle.cw_rules.proofs.Terms.{arith, ◌≡◌, ℕ, Bool, true, false, ◌&&◌, not, ◌==◌, List, [], ◌∷◌, ◌++◌, refl, sym}
-use Rattle.cw_rules.proofs.Terms.{◌∙◌, append_assoc, length, ap, lemmas.Bool.eqb-true, lemmas.Bool.Decides.nat_tests}
-use Rattle.cw_rules.proofs.Terms.{bodies.Noted.Noted, codes.Code.Code, codes.Effect.Effect, parts.Part.Part}
-use Rattle.cw_rules.proofs.Terms.{parts.Opened.Opened, signs.Sign.Sign, tokens.TokKind.TokKind, dropped, has_sign}
-use Rattle.cw_rules.proofs.Terms.{is_head_sign, Answer, Token, Begin, Finish, Note, Where, Cut, Found, before}
-use Rattle.cw_rules.proofs.Terms.{note_answers, plain}
+use Rattle.std.proofs.Common.{arith, ◌≡◌, ℕ, Bool, true, false, ◌&&◌, not, ◌==◌, List, [], ◌∷◌, ◌++◌, refl, sym, ◌∙◌}
+use Rattle.std.proofs.Common.{append_assoc, length, ap}
+use Rattle.std.proofs.{lemmas.Bool.eqb-true, lemmas.Bool.Decides.nat_tests}
+use Rattle.cw_rules.specs.declared.{bodies.Noted.Noted, codes.Code.Code, codes.Effect.Effect, parts.Part.Part}
+use Rattle.cw_rules.specs.declared.{parts.Opened.Opened, signs.Sign.Sign, tokens.TokKind.TokKind}
+use Rattle.cw_rules.specs.Answers.{dropped, has_sign, is_head_sign, Answer, Token, Begin, Finish, Note, Where, Cut}
+use Rattle.cw_rules.specs.Answers.{Found, before, note_answers, plain}
 use Rattle.cw_base.specs.Bytes.{newline, backslash}
 use Rattle.cw_rules.specs.{Bytes.at_sign, Bytes.run, Codes.code_at, Tokens.dropped_code, Apart.in_text_apart}
 use Rattle.cw_rules.specs.{Signs.spelling, Bodies.one_note, Bodies.note_unless}
 use Rattle.cw_rules.specs.Tokens.{is_head_part, one, skipped_byte, passed, moved, in_hash_line, line_end, comment_end}
 use Rattle.cw_rules.specs.Tokens.{inner_cut, behind_inner, code_token, alone_size, behind_word, is_include, identifier}
 use Rattle.cw_rules.proofs.Choices.{if-both}
-use Rattle.cw_rules.proofs.Rules.{IsPassed, Standing, BeginsPart, Macro, CodeRule, LineEnd, Space, HashLine, Word}
-use Rattle.cw_rules.proofs.Rules.{Passed, Heading, Beginning, Comment, InnerEnd, CommentRule, Closed, EndedLine}
-use Rattle.cw_rules.proofs.Rules.{LimboRule, LimboCode, LimboFormat, LimboDropped, LimboText, IsHeadWord, LastOfMacro}
-use Rattle.cw_rules.proofs.Rules.{IsHeadSign, CommaStands, PartRule, OfCode, OfLimbo, TexCode, TexHeading, TexDropped}
-use Rattle.cw_rules.proofs.Rules.{TexBeginning, TexInner, TexText, Blank, HeadSign, White, HeadWord, Opening}
-use Rattle.cw_rules.proofs.Rules.{ParameterSign, Improper, ImproperInLimbo, within, code-rule, comment-rule, part-rule}
 use Rattle.cw_base.specs.declared.notes.NoteKind.TheVariants as notes
 use Rattle.cw_rules.specs.declared.classes.Class.TheVariants as classes
 use Rattle.cw_rules.specs.declared.codes.Code.TheVariants as at
 use Rattle.cw_rules.specs.declared.parts.Part.TheVariants as parts
 use Rattle.cw_rules.specs.declared.tokens.TokKind.TheVariants as kinds
 use Rattle.cw_rules.specs.declared.signs.Sign.TheVariants as signs
+use Rattle.cw_rules.proofs.Rules.{IsPassed, Standing, BeginsPart, Macro, CodeRule, LineEnd, Space, HashLine, Word}
+use Rattle.cw_rules.proofs.Rules.{Passed, Heading, Beginning, Comment, InnerEnd, CommentRule, Closed, EndedLine}
+use Rattle.cw_rules.proofs.Rules.{LimboRule, LimboCode, LimboFormat, LimboDropped, LimboText, IsHeadWord, LastOfMacro}
+use Rattle.cw_rules.proofs.Rules.{IsHeadSign, CommaStands, PartRule, OfCode, OfLimbo, TexCode, TexHeading, TexDropped}
+use Rattle.cw_rules.proofs.Rules.{TexBeginning, TexInner, TexText, Blank, HeadSign, White, HeadWord, Opening}
+use Rattle.cw_rules.proofs.Rules.{ParameterSign, Improper, ImproperInLimbo, within, code-rule, comment-rule, part-rule}
 
 -- ## The code of answers
 

@@ -1,9 +1,11 @@
 -- At the code of a definition, and at the code or the name of a C part, what begins is the same as where the part
 -- begins.
-use Rattle.cw_rules.proofs.Terms.{arith, ◌≡◌, ℕ, Bool, true, false, List, [], ◌∷◌, refl, sym, ap, subst, if◌then◌else◌}
-use Rattle.cw_rules.proofs.Terms.{nat_tests, bodies.Noted.Noted, codes.Code.Code, parts.Part.Part, parts.Opened.Opened}
-use Rattle.cw_rules.proofs.Terms.{Answer, Token, Note, Seen, Where, Cut, Found, before, code_at, is_section}
-use Rattle.cw_rules.proofs.Terms.{effect_in_tex, effect_in_c, effect_in_definition, effect_at_begin}
+use Rattle.std.proofs.Common.{arith, ◌≡◌, ℕ, Bool, true, false, List, [], ◌∷◌, refl, sym, ap, subst}
+use Rattle.std.specs.Prelude.{if◌then◌else◌}
+use Rattle.std.proofs.lemmas.Bool.Decides.{nat_tests}
+use Rattle.cw_rules.specs.declared.{bodies.Noted.Noted, codes.Code.Code, parts.Part.Part, parts.Opened.Opened}
+use Rattle.cw_rules.specs.Answers.{Answer, Token, Note, Seen, Where, Cut, Found, before}
+use Rattle.cw_rules.specs.Codes.{code_at, is_section, effect_in_tex, effect_in_c, effect_in_definition, effect_at_begin}
 use Rattle.cw_rules.specs.Tokens.{one, moved, passed, in_hash_line, effect_in, is_head, is_name, is_space, code_by}
 use Rattle.cw_rules.specs.Tokens.{code_token, tex_by, section}
 use Rattle.cw_rules.specs.Apart.{code_text_apart, comment_text_apart, part_text_apart, in_text_apart, found_apart}

@@ -1,11 +1,13 @@
 -- Codes that are cut, by their rules.
-use Rattle.cw_rules.proofs.Terms.{◌≡◌, ℕ, ◌+◌, true, List, None, Some, drop, add_assoc, arith, lemmas.List.drop-drop}
-use Rattle.cw_rules.proofs.Terms.{lemmas.Bool.Decides.nat_tests, NoteKind, codes.Code.Code, cuttings.Cutting.Cutting}
+use Rattle.std.proofs.Common.{◌≡◌, ℕ, ◌+◌, true, List, None, Some, drop, add_assoc, arith}
+use Rattle.std.proofs.{lemmas.List.drop-drop, lemmas.Bool.Decides.nat_tests}
+use Rattle.cw_base.specs.declared.notes.NoteKind.{NoteKind}
+use Rattle.cw_rules.specs.declared.bodies.Body.TheVariants as bodies
+use Rattle.cw_rules.specs.declared.{codes.Code.Code, cuttings.Cutting.Cutting}
+use Rattle.cw_rules.specs.declared.tokens.TokKind.TheVariants as kinds
 use Rattle.cw_rules.specs.{Bodies.at_start, Codes.has_control_text, Answers.Cut, Answers.dropped}
 use Rattle.cw_rules.specs.Tokens.{control_text_of, section_name_of, control_or_plain, code_token, is_name}
 use Rattle.cw_rules.specs.Cuttings.{bytes_at, cut_of}
-use Rattle.cw_rules.specs.declared.bodies.Body.TheVariants as bodies
-use Rattle.cw_rules.specs.declared.tokens.TokKind.TheVariants as kinds
 
 -- the bytes behind the first two
 pub drop-two : (text : List ℕ) (place : ℕ) → drop 2 (bytes_at text place) ≡ drop (place + 2) text

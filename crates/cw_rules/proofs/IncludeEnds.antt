@@ -1,8 +1,9 @@
 -- The inside of an include name ends before its sign, which no byte takes along.
-use Rattle.cw_rules.proofs.Terms.{◌≡◌, ℕ, zero, suc, ◌+◌, ◌≤◌, Bool, true, false, ◌&&◌, not, ◌==◌, List, [], ◌∷◌, drop}
-use Rattle.cw_rules.proofs.Terms.{refl, sym, ap, ◌∙◌, arith, lemmas.Bool.eqb-true, lemmas.Bool.Decides.nat_tests}
-use Rattle.cw_rules.proofs.Terms.{takes_next, goes_on, stepped, ended}
+use Rattle.std.proofs.Common.{◌≡◌, ℕ, zero, suc, ◌+◌, ◌≤◌, Bool, true, false, ◌&&◌, not, ◌==◌, List, [], ◌∷◌, drop}
+use Rattle.std.proofs.Common.{refl, sym, ap, ◌∙◌, arith}
+use Rattle.std.proofs.{lemmas.Bool.eqb-true, lemmas.Bool.Decides.nat_tests}
 use Rattle.cw_rules.specs.{declared.bodies.Inside.Inside, Bytes.greater, Bytes.at_sign, Bytes.begins}
+use Rattle.cw_rules.specs.Bodies.{takes_next, goes_on, stepped, ended}
 use Rattle.cw_rules.specs.declared.bodies.Body.TheVariants as bodies
 
 -- The inside of an include name ends before `>`, which no byte takes along.

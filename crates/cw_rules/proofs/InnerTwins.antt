@@ -1,10 +1,13 @@
 -- Inner C text that is scanned by itself is scanned as in TeX text, up to its closing bar.
-use Rattle.cw_rules.proofs.Terms.{arith, ◌≡◌, ℕ, ◌≤◌, Bool, true, false, ◌&&◌, ◌||◌, not, ◌==◌, nat_lt, List, [], ◌∷◌}
-use Rattle.cw_rules.proofs.Terms.{◌++◌, length, refl, ap, ◌⊎◌, inl, inr, if◌then◌else◌, nat_tests, codes.Code.Code}
-use Rattle.cw_rules.proofs.Terms.{codes.Effect.Effect, parts.Opened.Opened, parts.Start.Start, Bytes.newline, Text.bar}
-use Rattle.cw_rules.proofs.Terms.{hash, star, slash, less, at_sign, is_in, is_letter, begins, is_mark, Answer, Where}
-use Rattle.cw_rules.proofs.Terms.{Found, before}
+use Rattle.std.proofs.Common.{arith, ◌≡◌, ℕ, ◌≤◌, Bool, true, false, ◌&&◌, ◌||◌, not, ◌==◌, nat_lt, List, [], ◌∷◌, ◌++◌}
+use Rattle.std.proofs.Common.{length, refl, ap, ◌⊎◌, inl, inr}
+use Rattle.std.specs.Prelude.{if◌then◌else◌}
+use Rattle.std.proofs.lemmas.Bool.Decides.{nat_tests}
+use Rattle.cw_rules.specs.declared.{codes.Code.Code, codes.Effect.Effect, parts.Opened.Opened, parts.Start.Start}
+use Rattle.cw_base.specs.{Bytes.newline, Text.bar}
+use Rattle.cw_rules.specs.Bytes.{hash, star, slash, less, at_sign, is_in, is_letter, begins, is_mark}
 use Rattle.cw_rules.specs.{Constants.constant, Prefixes.prefix_size, Signs.all_signs, Signs.longest}
+use Rattle.cw_rules.specs.Answers.{Answer, Where, Found, before}
 use Rattle.cw_rules.specs.Tokens.{sign_or_other, line_end, inner_cut, comment_end, is_deep, code_by, in_code, start_of}
 use Rattle.cw_rules.specs.Tokens.{skipped_byte, is_tex_inner}
 use Rattle.cw_rules.specs.Apart.{comment_text_apart, code_text_apart, in_text_apart, found_apart}

@@ -1,8 +1,9 @@
 -- One byte on, inside a body.
-use Rattle.cw_rules.proofs.Terms.{◌≡◌, ℕ, ◌<◌, ◌≤◌, true, arith, List, [], ◌∷◌, Option, slice_index, drop, ap, sym, ◌∙◌}
-use Rattle.cw_rules.proofs.Terms.{lemmas.List.drop-drop, lemmas.Bool.Decides.nat_tests, NoteKind, goes_on, stepped}
-use Rattle.cw_rules.proofs.Terms.{ended, noted, note_here, with_note}
+use Rattle.std.proofs.Common.{◌≡◌, ℕ, ◌<◌, ◌≤◌, true, arith, List, [], ◌∷◌, Option, slice_index, drop, ap, sym, ◌∙◌}
+use Rattle.std.proofs.{lemmas.List.drop-drop, lemmas.Bool.Decides.nat_tests}
+use Rattle.cw_base.specs.declared.notes.NoteKind.{NoteKind}
 use Rattle.cw_rules.specs.declared.bodies.Inside.{Inside}
+use Rattle.cw_rules.specs.Bodies.{goes_on, stepped, ended, noted, note_here, with_note}
 
 noted-step : (i : Inside) (bytes : List ℕ) → goes_on i bytes ≡ true
     → noted i bytes ≡ with_note (note_here i (slice_index bytes 0) (drop 1 bytes)) i.place

@@ -1,9 +1,11 @@
 -- A section name is the same where the text ends behind it.
-use Rattle.cw_rules.proofs.Terms.{◌≡◌, ℕ, zero, suc, ◌+◌, ◌-◌, ◌≤◌, Bool, true, false, ◌&&◌, ◌||◌, not, ◌==◌, List, []}
-use Rattle.cw_rules.proofs.Terms.{◌∷◌, codes, length, take, drop, refl, sym, ap, ◌∙◌, arith, if◌then◌else◌}
-use Rattle.cw_rules.proofs.Terms.{Math.Seq.take-nil, lemmas.Bool.Decides.nat_tests, stops, stepped, goes_on, ended}
-use Rattle.cw_rules.proofs.Terms.{extent, closing_bytes, greater, at_sign, begins, begins_with}
+use Rattle.std.proofs.Common.{◌≡◌, ℕ, zero, suc, ◌+◌, ◌-◌, ◌≤◌, Bool, true, false, ◌&&◌, ◌||◌, not, ◌==◌, List, [], ◌∷◌}
+use Rattle.std.proofs.Common.{codes, length, take, drop, refl, sym, ap, ◌∙◌, arith}
+use Rattle.std.specs.Prelude.{if◌then◌else◌}
+use Rattle.std.proofs.{Math.Seq.take-nil, lemmas.Bool.Decides.nat_tests}
 use Rattle.cw_rules.specs.{declared.bodies.Inside.Inside, Codes.begins_section}
+use Rattle.cw_rules.specs.Bodies.{stops, stepped, goes_on, ended, extent, closing_bytes}
+use Rattle.cw_rules.specs.Bytes.{greater, at_sign, begins, begins_with}
 use Rattle.cw_rules.proofs.{BodiesAhead.ended-here, BodiesAhead.ended-on, Inside.ended-le}
 use Rattle.cw_rules.specs.declared.bodies.Body.TheVariants as bodies
 

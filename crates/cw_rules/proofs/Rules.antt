@@ -1,13 +1,17 @@
 -- What begins at a place is one of these rules: each law of what is found there is proved by these cases.
-use Rattle.cw_rules.proofs.Terms.{◌≡◌, ℕ, ◌+◌, Bool, true, false, ◌&&◌, not, ◌==◌, nat_lt, List, [], ◌∷◌, Option}
-use Rattle.cw_rules.proofs.Terms.{length, Some, None, drop, slice_index, refl, sym, ap, ◌∙◌, arith, if◌then◌else◌}
-use Rattle.cw_rules.proofs.Terms.{nat_tests, both-left, both-right, not-true, declared.notes.NoteKind.NoteKind}
-use Rattle.cw_rules.proofs.Terms.{Bytes.newline, Text.bar, codes.Code.Code, codes.Effect.Effect, parts.Part.Part}
-use Rattle.cw_rules.proofs.Terms.{parts.Opened.Opened, parts.Start.Start, signs.Sign.Sign, Note, Where, Cut, Found}
-use Rattle.cw_rules.proofs.Terms.{before, plain, dropped, slash, star, at_sign, hash, less, comma, equals, left_paren}
-use Rattle.cw_rules.proofs.Terms.{right_paren, run, begins, begins_by, is_in, is_letter, is_mark, code_at}
-use Rattle.cw_rules.proofs.Terms.{effect_in_limbo, effect_in_tex}
+use Rattle.std.proofs.Common.{◌≡◌, ℕ, ◌+◌, Bool, true, false, ◌&&◌, not, ◌==◌, nat_lt, List, [], ◌∷◌, Option, length}
+use Rattle.std.proofs.Common.{Some, None, drop, slice_index, refl, sym, ap, ◌∙◌, arith}
+use Rattle.std.specs.Prelude.{if◌then◌else◌}
+use Rattle.std.proofs.lemmas.Bool.Decides.{nat_tests}
+use Rattle.cw_base.proofs.TestLaws.{both-left, both-right, not-true}
+use Rattle.cw_base.specs.{declared.notes.NoteKind.NoteKind, Bytes.newline, Text.bar}
+use Rattle.cw_rules.specs.declared.{codes.Code.Code, codes.Effect.Effect, parts.Part.Part, parts.Opened.Opened}
+use Rattle.cw_rules.specs.declared.{parts.Start.Start, signs.Sign.Sign}
+use Rattle.cw_rules.specs.Answers.{Note, Where, Cut, Found, before, plain, dropped}
 use Rattle.cw_rules.specs.Apart.{code_text_apart, comment_text_apart, behind_head_apart, part_text_apart}
+use Rattle.cw_rules.specs.Bytes.{slash, star, at_sign, hash, less, comma, equals, left_paren, right_paren, run, begins}
+use Rattle.cw_rules.specs.Bytes.{begins_by, is_in, is_letter, is_mark}
+use Rattle.cw_rules.specs.Codes.{code_at, effect_in_limbo, effect_in_tex}
 use Rattle.cw_rules.specs.{Constants.constant, Prefixes.prefix_size, Signs.all_signs, Signs.longest, Signs.spelling}
 use Rattle.cw_rules.specs.Tokens.{alone_size, behind_format, behind_include, behind_white, behind_word, closes_on_line}
 use Rattle.cw_rules.specs.Tokens.{code_by, code_token, comment_begin, comment_closed, comment_end, dropped_code}

@@ -1,10 +1,21 @@
 -- What begins at a place is the same where the text ends before an `@` that it doesn't take.
-use Rattle.cw_rules.proofs.Terms.{◌≡◌, ℕ, suc, ◌+◌, ◌≤◌, Bool, true, false, ◌&&◌, ◌==◌, List, [], ◌∷◌, ◌++◌, length}
-use Rattle.cw_rules.proofs.Terms.{drop, refl, ap, ◌∙◌, arith, if◌then◌else◌, lemmas.Bool.Decides.nat_tests}
-use Rattle.cw_rules.proofs.Terms.{lemmas.Grind.common_steps, both-right, declared.notes.NoteKind.NoteKind, Text.bar}
-use Rattle.cw_rules.proofs.Terms.{codes.Code.Code, codes.Effect.Effect, parts.Part.Part, parts.Opened.Opened, star}
-use Rattle.cw_rules.proofs.Terms.{greater, at_sign, run, is_in, begins, code_at, begins_section, effect_in_limbo}
-use Rattle.cw_rules.proofs.Terms.{effect_in_tex, Note, Where, before, plain, dropped}
+use Rattle.std.proofs.Common.{◌≡◌, ℕ, suc, ◌+◌, ◌≤◌, Bool, true, false, ◌&&◌, ◌==◌, List, [], ◌∷◌, ◌++◌, length, drop}
+use Rattle.std.proofs.Common.{refl, ap, ◌∙◌, arith}
+use Rattle.std.specs.Prelude.{if◌then◌else◌}
+use Rattle.std.proofs.{lemmas.Bool.Decides.nat_tests, lemmas.Grind.common_steps}
+use Rattle.cw_base.proofs.TestLaws.{both-right}
+use Rattle.cw_base.specs.{declared.notes.NoteKind.NoteKind, Text.bar}
+use Rattle.cw_base.specs.declared.notes.NoteKind.TheVariants as notes
+use Rattle.cw_rules.specs.declared.classes.Class.TheVariants as classes
+use Rattle.cw_rules.specs.declared.{codes.Code.Code, codes.Effect.Effect, parts.Part.Part, parts.Opened.Opened}
+use Rattle.cw_rules.specs.declared.codes.Code.TheVariants as at
+use Rattle.cw_rules.specs.declared.codes.Effect.TheVariants as effects
+use Rattle.cw_rules.specs.declared.parts.Part.TheVariants as parts
+use Rattle.cw_rules.specs.declared.signs.Sign.TheVariants as signs
+use Rattle.cw_rules.specs.declared.tokens.TokKind.TheVariants as kinds
+use Rattle.cw_rules.specs.Bytes.{star, greater, at_sign, run, is_in, begins}
+use Rattle.cw_rules.specs.Codes.{code_at, begins_section, effect_in_limbo, effect_in_tex}
+use Rattle.cw_rules.specs.Answers.{Note, Where, before, plain, dropped}
 use Rattle.cw_rules.specs.Tokens.{identifier, depth_size, section_code, moved, all_cut, section, limbo_by, limbo_text}
 use Rattle.cw_rules.specs.Tokens.{tex_by, tex_text, head_text, name_follows, macro_name, parameter_follows, parameter}
 use Rattle.cw_rules.specs.Tokens.{format_name}
@@ -13,13 +24,6 @@ use Rattle.cw_rules.proofs.{Sizes.depth-le, Ahead.parameter-same, Ahead.paren-sa
 use Rattle.cw_rules.proofs.Ahead.{At, drop-same, run-before, begins-same, run-same, section-same, name-same}
 use Rattle.cw_rules.proofs.CodeAhead.{Local, if-local, same-local, before-local, one-local, simple-local, code-local}
 use Rattle.cw_rules.proofs.CodeAhead.{dropped-local, heads-same, code_text-local, within-local, twice}
-use Rattle.cw_base.specs.declared.notes.NoteKind.TheVariants as notes
-use Rattle.cw_rules.specs.declared.classes.Class.TheVariants as classes
-use Rattle.cw_rules.specs.declared.codes.Code.TheVariants as at
-use Rattle.cw_rules.specs.declared.codes.Effect.TheVariants as effects
-use Rattle.cw_rules.specs.declared.parts.Part.TheVariants as parts
-use Rattle.cw_rules.specs.declared.signs.Sign.TheVariants as signs
-use Rattle.cw_rules.specs.declared.tokens.TokKind.TheVariants as kinds
 
 -- The bytes behind the `@` begin with no `>`.
 module _ (more : List ℕ) (code : begins greater more ≡ false) where

@@ -1,7 +1,7 @@
 -- Bytes of a class in a row, and texts at the beginning of others.
-use Rattle.cw_rules.proofs.Terms.{◌≡◌, ℕ, zero, suc, ◌+◌, ◌-◌, ◌<◌, ◌≤◌, false, List, [], ◌∷◌, length, slice_index}
-use Rattle.cw_rules.proofs.Terms.{drop, refl, arith, add-one, drop-cons, lemmas.List.drop-drop, lemmas.List.drop_all}
-use Rattle.cw_rules.proofs.Terms.{lemmas.Bool.Decides.nat_tests}
+use Rattle.std.proofs.Common.{◌≡◌, ℕ, zero, suc, ◌+◌, ◌-◌, ◌<◌, ◌≤◌, false, List, [], ◌∷◌, length, slice_index, drop}
+use Rattle.std.proofs.Common.{refl, arith, add-one, drop-cons}
+use Rattle.std.proofs.{lemmas.List.drop-drop, lemmas.List.drop_all, lemmas.Bool.Decides.nat_tests}
 use Rattle.cw_rules.specs.{declared.classes.Class.Class, Bytes.run, Bytes.begins_with}
 
 -- a text from a place on, and the byte there

@@ -1,7 +1,9 @@
 -- Prefixes of strings begin with a letter, and a mark stands behind them.
-use Rattle.cw_rules.proofs.Terms.{◌≡◌, ℕ, ◌≤◌, Bool, true, false, ◌&&◌, ◌==◌, nat_lt, List, ◌∷◌, codes, length}
-use Rattle.cw_rules.proofs.Terms.{slice_index, drop, arith, lemmas.Bool.eqb-true, lemmas.Bool.Decides.nat_tests}
-use Rattle.cw_rules.proofs.Terms.{both-right, begins_by, begins_with, is_letter, is_mark}
+use Rattle.std.proofs.Common.{◌≡◌, ℕ, ◌≤◌, Bool, true, false, ◌&&◌, ◌==◌, nat_lt, List, ◌∷◌, codes, length, slice_index}
+use Rattle.std.proofs.Common.{drop, arith}
+use Rattle.std.proofs.{lemmas.Bool.eqb-true, lemmas.Bool.Decides.nat_tests}
+use Rattle.cw_base.proofs.TestLaws.{both-right}
+use Rattle.cw_rules.specs.Bytes.{begins_by, begins_with, is_letter, is_mark}
 use Rattle.cw_rules.specs.Prefixes.{is_prefix_letter, prefix_size}
 
 -- a byte that fails a test is none that passes it

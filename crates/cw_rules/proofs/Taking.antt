@@ -1,29 +1,33 @@
 -- What begins at a place takes the bytes there: answers without bytes come first, and then what has them all.
-use Rattle.cw_rules.proofs.Terms.{◌≡◌, ℕ, suc, ◌+◌, ◌-◌, ◌<◌, Bool, true, false, ◌&&◌, not, ◌==◌, List, [], ◌∷◌, ◌++◌}
-use Rattle.cw_rules.proofs.Terms.{length, take, refl, ap, arith, append_assoc, if◌then◌else◌, lemmas.Bool.ltb-true}
-use Rattle.cw_rules.proofs.Terms.{lemmas.Bool.Decides.nat_tests, one-left, one-right, Bytes.newline, Bytes.backslash}
-use Rattle.cw_rules.proofs.Terms.{Text.bar, declared.notes.NoteKind.TheVariants.ImproperFormat, bodies.Noted.Noted}
-use Rattle.cw_rules.proofs.Terms.{classes.Class.Class, codes.Code.Code, parts.Part.Part, parts.Opened.Opened}
-use Rattle.cw_rules.proofs.Terms.{signs.Sign.Sign, star, slash, at_sign, run, is_in, is_letter, is_digit, begins}
-use Rattle.cw_rules.proofs.Terms.{equals, plain, Answer, Token, Begin, Finish, Note, Seen, Where, Cut, Found, before}
-use Rattle.cw_rules.proofs.Terms.{code_at, begins_section, has_control_text, stops, goes_on, extent, ended, noted}
+use Rattle.std.proofs.Common.{◌≡◌, ℕ, suc, ◌+◌, ◌-◌, ◌<◌, Bool, true, false, ◌&&◌, not, ◌==◌, List, [], ◌∷◌, ◌++◌}
+use Rattle.std.proofs.Common.{length, take, refl, ap, arith, append_assoc}
+use Rattle.std.specs.Prelude.{if◌then◌else◌}
+use Rattle.std.proofs.{lemmas.Bool.ltb-true, lemmas.Bool.Decides.nat_tests}
+use Rattle.cw_base.proofs.TestLaws.{one-left, one-right}
+use Rattle.cw_base.specs.{Bytes.newline, Bytes.backslash, Text.bar, declared.notes.NoteKind.TheVariants.ImproperFormat}
+use Rattle.cw_rules.specs.declared.{bodies.Noted.Noted, classes.Class.Class, codes.Code.Code, parts.Part.Part}
+use Rattle.cw_rules.specs.declared.{parts.Opened.Opened, signs.Sign.Sign}
+use Rattle.cw_rules.specs.Bytes.{star, slash, at_sign, run, is_in, is_letter, is_digit, begins, equals}
 use Rattle.cw_rules.specs.{Constants.constant, Answers.note_answers, Answers.dropped, Order.begins_space}
 use Rattle.cw_rules.specs.{Apart.found_apart, Apart.in_text_apart, Signs.spelling}
+use Rattle.cw_rules.specs.Answers.{plain, Answer, Token, Begin, Finish, Note, Seen, Where, Cut, Found, before}
+use Rattle.cw_rules.specs.Codes.{code_at, begins_section, has_control_text}
+use Rattle.cw_rules.specs.Bodies.{stops, goes_on, extent, ended, noted}
 use Rattle.cw_rules.specs.Tokens.{in_hash_line, is_space, is_deep, passed, one, skipped_byte, comment_end, inner_cut}
 use Rattle.cw_rules.specs.Tokens.{comment_cut, part_cut, inner_or_none, all_cut, section, section_code, line_end}
 use Rattle.cw_rules.specs.Tokens.{identifier, alone_size, control_or_plain, code_token, dropped_code, comment_begin}
 use Rattle.cw_rules.specs.Tokens.{inner_begin, inner_end, piece_start, piece, comment_closed}
 use Rattle.cw_rules.proofs.{Inside.ended-some, Choices.if-both, Choices.or-false, Choices.at-byte}
+use Rattle.cw_rules.specs.declared.classes.Class.TheVariants as classes
+use Rattle.cw_rules.specs.declared.parts.Part.TheVariants as parts
+use Rattle.cw_rules.specs.declared.signs.Sign.TheVariants as signs
+use Rattle.cw_rules.specs.declared.tokens.TokKind.TheVariants as kinds
 use Rattle.cw_rules.proofs.Rules.{IsPassed, Constant, Standing, Dropping, OfSign, CodeRule, LineEnd, Space, HashLine}
 use Rattle.cw_rules.proofs.Rules.{Word, Passed, Heading, Beginning, Comment, InnerEnd, CommentRule, Closed, EndedLine}
 use Rattle.cw_rules.proofs.Rules.{InnerBegin, Piece, LimboRule, LimboCode, LimboFormat, LimboDropped, LimboText}
 use Rattle.cw_rules.proofs.Rules.{PartRule, OfCode, OfLimbo, TexCode, TexHeading, TexDropped, TexBeginning, TexInner}
 use Rattle.cw_rules.proofs.Rules.{TexText, Blank, HeadSign, White, HeadWord, Opening, ParameterSign, Improper}
 use Rattle.cw_rules.proofs.Rules.{ImproperInLimbo, within, code-rule, comment-rule, part-rule}
-use Rattle.cw_rules.specs.declared.classes.Class.TheVariants as classes
-use Rattle.cw_rules.specs.declared.parts.Part.TheVariants as parts
-use Rattle.cw_rules.specs.declared.signs.Sign.TheVariants as signs
-use Rattle.cw_rules.specs.declared.tokens.TokKind.TheVariants as kinds
 
 -- answers without bytes at a place
 abbrev pub AreBare : ℕ → List Answer → Type 0

@@ -1,8 +1,9 @@
 -- A name is void by what its bytes are one after another.
-use Rattle.cw_rules.proofs.Terms.{◌≡◌, ℕ, zero, suc, ◌+◌, ◌<◌, Bool, true, false, ◌==◌, List, ◌∷◌, length, slice_index}
-use Rattle.cw_rules.proofs.Terms.{drop, ap, ◌∙◌, arith, if◌then◌else◌, lemmas.Bool.eqb-true}
-use Rattle.cw_rules.proofs.Terms.{lemmas.Bool.Decides.nat_tests, uncoded, is_void_from, void_behind}
+use Rattle.std.proofs.Common.{◌≡◌, ℕ, zero, suc, ◌+◌, ◌<◌, Bool, true, false, ◌==◌, List, ◌∷◌, length, slice_index}
+use Rattle.std.proofs.Common.{drop, ap, ◌∙◌, arith, if◌then◌else◌}
+use Rattle.std.proofs.{lemmas.Bool.eqb-true, lemmas.Bool.Decides.nat_tests}
 use Rattle.cw_rules.specs.{declared.classes.Class.TheVariants.White, Bytes.is_in, Bytes.run}
+use Rattle.cw_rules.specs.Names.{uncoded, is_void_from, void_behind}
 
 abbrev pub may_be_white : ℕ → Bool
 may_be_white zero = true

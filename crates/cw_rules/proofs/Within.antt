@@ -1,16 +1,19 @@
 -- What begins at a byte lies in the bytes that are left.
-use Rattle.cw_rules.proofs.Terms.{◌≡◌, ℕ, suc, ◌+◌, ◌<◌, ◌≤◌, Bool, true, false, ◌&&◌, ◌||◌, not, ◌==◌, List, [], ◌∷◌}
-use Rattle.cw_rules.proofs.Terms.{◌++◌, length, sym, ap, ◌∙◌, arith, Option, codes, if◌then◌else◌}
-use Rattle.cw_rules.proofs.Terms.{lemmas.Bool.Decides.nat_tests, lemmas.Grind.common_steps, both-right}
-use Rattle.cw_rules.proofs.Terms.{declared.notes.NoteKind.NoteKind, Bytes.newline, Text.bar, bodies.Noted.Noted}
-use Rattle.cw_rules.proofs.Terms.{codes.Code.Code, codes.Effect.Effect, parts.Part.Part, parts.Opened.Opened}
-use Rattle.cw_rules.proofs.Terms.{parts.Start.Start, signs.Sign.Sign, hash, star, comma, slash, less, right_paren}
-use Rattle.cw_rules.proofs.Terms.{at_sign, is_in, is_letter, begins, code_at, begins_section, effect_in_limbo}
-use Rattle.cw_rules.proofs.Terms.{effect_in_tex, extent, noted, one_note, note_unless, Answer, Note, Where, Cut, Found}
-use Rattle.cw_rules.proofs.Terms.{before, note_answers}
+use Rattle.std.proofs.Common.{◌≡◌, ℕ, suc, ◌+◌, ◌<◌, ◌≤◌, Bool, true, false, ◌&&◌, ◌||◌, not, ◌==◌, List, [], ◌∷◌, ◌++◌}
+use Rattle.std.proofs.Common.{length, sym, ap, ◌∙◌, arith, Option, codes, if◌then◌else◌}
+use Rattle.std.proofs.{lemmas.Bool.Decides.nat_tests, lemmas.Grind.common_steps}
+use Rattle.cw_base.proofs.TestLaws.{both-right}
+use Rattle.cw_base.specs.{declared.notes.NoteKind.NoteKind, Bytes.newline, Text.bar}
 use Rattle.cw_base.specs.declared.notes.NoteKind.TheVariants.{UnknownCode, MissingBrace, ImproperMacro, ImproperFormat}
+use Rattle.cw_rules.specs.declared.{bodies.Noted.Noted, codes.Code.Code, codes.Effect.Effect, parts.Part.Part}
+use Rattle.cw_rules.specs.declared.{parts.Opened.Opened, parts.Start.Start, signs.Sign.Sign}
+use Rattle.cw_rules.specs.Bytes.{hash, star, comma, slash, less, right_paren, at_sign, is_in, is_letter, begins}
 use Rattle.cw_rules.specs.{Bytes.begins_with, Prefixes.prefix_size, Order.AreWithin, Apart.found_apart}
 use Rattle.cw_rules.specs.Signs.{all_signs, longest, spelling}
+use Rattle.cw_rules.proofs.{StringPrefixes.prefix-below, Sizes.section_code-le}
+use Rattle.cw_rules.specs.Codes.{code_at, begins_section, effect_in_limbo, effect_in_tex}
+use Rattle.cw_rules.specs.Bodies.{extent, noted, one_note, note_unless}
+use Rattle.cw_rules.specs.Answers.{Answer, Note, Where, Cut, Found, before, note_answers}
 use Rattle.cw_rules.specs.Tokens.{in_hash_line, behind_include, takes_hash_line, is_space, is_deep, ends_at_bar}
 use Rattle.cw_rules.specs.Tokens.{closes_on_line, moved, one, skipped_byte, comment_end, inner_cut, part_cut, all_cut}
 use Rattle.cw_rules.specs.Tokens.{section, passed, line_end, sign_or_other, start_of, effect_in, code_by, in_code}
@@ -18,7 +21,6 @@ use Rattle.cw_rules.specs.Tokens.{string, code_token, dropped_code, include_name
 use Rattle.cw_rules.specs.Tokens.{limbo_by, limbo_text, tex_by, tex_text, head_text, behind_white, name_follows}
 use Rattle.cw_rules.specs.Tokens.{macro_name, is_parameter, parameter_follows, parameter, format_name}
 use Rattle.cw_rules.specs.Apart.{code_text_apart, comment_text_apart, behind_head_apart, part_text_apart, in_text_apart}
-use Rattle.cw_rules.proofs.{StringPrefixes.prefix-below, Sizes.section_code-le}
 use Rattle.cw_rules.proofs.Sizes.{begins-some, begins_with-le, run-le, constant-le, AllFit, longest-fits, extent-le}
 use Rattle.cw_rules.proofs.Sizes.{identifier-le, string-le, include_name-le, control_or_plain-le, code_token-le}
 use Rattle.cw_rules.specs.declared.classes.Class.TheVariants as classes

@@ -1,11 +1,13 @@
 -- Names in memory, and the first that pass a test.
-use Rattle.cw_secnames.proofs.Terms.{◌≡◌, ℕ, zero, suc, ◌+◌, ◌<◌, ◌≤◌, ◌&&◌, Bool, true, false, not, nat_lt, List, []}
-use Rattle.cw_secnames.proofs.Terms.{◌∷◌, Option, Some, None, map, length, drop, cond, refl, ap, sym, get_or, add-zero}
-use Rattle.cw_secnames.proofs.Terms.{zero-add, arith, kinds.RefKind.RefKind, sec_names.Kept.Kept, List.position}
-use Rattle.cw_secnames.proofs.Terms.{List.position_or_len, Option.option_map, Global.Vec, SecName, with_text}
-use Rattle.cw_secnames.proofs.Terms.{positions_from, grown, earliest, slice_set}
+use Rattle.std.proofs.Common.{◌≡◌, ℕ, zero, suc, ◌+◌, ◌<◌, ◌≤◌, ◌&&◌, Bool, true, false, not, nat_lt, List, [], ◌∷◌}
+use Rattle.std.proofs.Common.{Option, Some, None, map, length, drop, cond, refl, ap, sym, get_or, add-zero, zero-add}
+use Rattle.std.proofs.Common.{arith}
 use Rattle.cw_secnames.specs.declared.kinds.Earliest.TheVariants.{Nobody, One, Several}
+use Rattle.cw_secnames.specs.declared.{kinds.RefKind.RefKind, sec_names.Kept.Kept}
 use Rattle.cw_secnames.specs.{References.with_section, References.with_reference, Inside.name_of}
+use Rattle.std.specs.{List.position, List.position_or_len, Option.option_map, Global.Vec}
+use Rattle.cw_secnames.specs.Kept.{SecName, with_text, positions_from, grown, earliest}
+use Rattle.std.specs.Prelude.{slice_set}
 
 pub length-named : (xs : List Kept) → length (map name_of xs) ≡ length xs
 length-named [] = refl

@@ -1,5 +1,4 @@
 -- The laws of section names: how they are entered and found, what refers to them, and their parts between bars.
-mod Terms
 mod Rows
 pub mod Finding
 pub mod Linked

@@ -1,9 +1,12 @@
 -- What tables have under a mark, with a link more.
-use Rattle.cw_secnames.proofs.Terms.{◌≡◌, ◌≢◌, ℕ, zero, suc, ◌-◌, ◌<◌, ◌≤◌, ◌==◌, ◌⊎◌, Bool, true, List, [], ◌∷◌, ◌++◌}
-use Rattle.cw_secnames.proofs.Terms.{length, get_or, set, refl, Option, Some, None, sym, subst, append_assoc, arith}
-use Rattle.cw_secnames.proofs.Terms.{eq-eqb, length-append, slice_get, get_or-set_same, get_or-set_other, length-set}
-use Rattle.cw_secnames.proofs.Terms.{one-left, one-right, at_link, back_from, is_one_of, row_of, sign_of, with_sign}
+use Rattle.std.proofs.Common.{◌≡◌, ◌≢◌, ℕ, zero, suc, ◌-◌, ◌<◌, ◌≤◌, ◌==◌, ◌⊎◌, Bool, true, List, [], ◌∷◌, ◌++◌, length}
+use Rattle.std.proofs.Common.{get_or, set, refl, Option, Some, None, sym, subst, append_assoc, arith, eq-eqb}
+use Rattle.std.proofs.Common.{length-append}
+use Rattle.std.specs.Prelude.{slice_get}
+use Rattle.std.proofs.lemmas.List.{get_or-set_same, get_or-set_other, length-set}
+use Rattle.cw_base.proofs.TestLaws.{one-left, one-right}
 use Rattle.cw_secnames.{specs.declared.tables.Link.Link, proofs.Marked.or-yes}
+use Rattle.cw_secnames.specs.Marks.{at_link, back_from, is_one_of, row_of, sign_of, with_sign}
 
 -- ## A link more in a table
 

@@ -1,13 +1,14 @@
 -- The positions that are found by marks hold those of all names near a text.
-use Rattle.cw_secnames.proofs.Terms.{nat_lt, ◌≡◌, ℕ, zero, suc, ◌+◌, ◌<◌, ◌≤◌, ◌&&◌, ◌||◌, ◌==◌, ◌⊎◌, Bool, true}
-use Rattle.cw_secnames.proofs.Terms.{nat_eq, List, [], ◌∷◌, ◌++◌, length, take, get_or, refl, ap, if◌then◌else◌, ◌∙◌}
-use Rattle.cw_secnames.proofs.Terms.{sym, subst, arith, min, length-take, take_all, take-take, lemmas.Bool.ltb-true}
-use Rattle.cw_secnames.proofs.Terms.{lemmas.Cmp.nat_list_eq_equiv, lemmas.List.Folds.list_any-append, one-left}
-use Rattle.cw_secnames.proofs.Terms.{one-right, kinds.SecKind.SecKind, marks.Marks.Marks, is_beginning_of, first_mark}
-use Rattle.cw_secnames.proofs.Terms.{next_mark, mark_from, mark_of, last_kept, Has, HasAll, positions_at, is_one_of}
-use Rattle.cw_secnames.proofs.Terms.{wholes_at, IsMarked, KeepsMarks, IsNear}
+use Rattle.std.proofs.Common.{nat_lt, ◌≡◌, ℕ, zero, suc, ◌+◌, ◌<◌, ◌≤◌, ◌&&◌, ◌||◌, ◌==◌, ◌⊎◌, Bool, true, nat_eq, List}
+use Rattle.std.proofs.Common.{[], ◌∷◌, ◌++◌, length, take, get_or, refl, ap, if◌then◌else◌, ◌∙◌, sym, subst, arith, min}
+use Rattle.std.proofs.Common.{length-take, take_all, take-take}
+use Rattle.std.proofs.{lemmas.Bool.ltb-true, lemmas.Cmp.nat_list_eq_equiv, lemmas.List.Folds.list_any-append}
 use Rattle.std.specs.Cmp.Lexicographic.{same_text, pointwise}
-use Rattle.cw_secnames.specs.Marks.{is_kept_length}
+use Rattle.cw_base.proofs.TestLaws.{one-left, one-right}
+use Rattle.cw_secnames.specs.declared.{kinds.SecKind.SecKind, marks.Marks.Marks}
+use Rattle.cw_secnames.specs.Kept.{is_beginning_of}
+use Rattle.cw_secnames.specs.Marks.{first_mark, next_mark, mark_from, mark_of, is_kept_length, last_kept, Has, HasAll}
+use Rattle.cw_secnames.specs.Marks.{positions_at, is_one_of, wholes_at, IsMarked, KeepsMarks, IsNear}
 
 -- ## What tables have under a mark
 

@@ -1,16 +1,18 @@
 -- The earliest name that passes is the least position, among those near a text, of a name that passes.
-use Rattle.cw_secnames.proofs.Terms.{◌≡◌, ℕ, zero, suc, ◌+◌, ◌-◌, ◌<◌, ◌≤◌, ◌&&◌, ◌==◌, ◌⊎◌, inl, inr, Bool, true}
-use Rattle.cw_secnames.proofs.Terms.{false, nat_lt, nat_le, nat_eq, List, [], ◌∷◌, ◌++◌, Option, Some, None, IfSome}
-use Rattle.cw_secnames.proofs.Terms.{slice_set, option_map, map, length, drop, take, get_or, cond, refl, ap, ◌∙◌, sym}
-use Rattle.cw_secnames.proofs.Terms.{subst, arith, add-zero, zero-add, length-drop, get_or-drop, eqb-true, lt-ltb}
-use Rattle.cw_secnames.proofs.Terms.{ltb-true, ltb-false, le-ltb, leb-true, le-leb, position, position_or_len}
-use Rattle.cw_secnames.proofs.Terms.{lemmas.List.Sums.position_or_len_is, lemmas.Bool.Decides.nat_tests}
-use Rattle.cw_secnames.proofs.Terms.{lemmas.Grind.common_steps, one-left, one-right, kinds.SecKind.SecKind}
-use Rattle.cw_secnames.proofs.Terms.{kinds.SecKind.TheVariants.Named, sec_names.Asked.Asked, sec_names.Kept.Kept}
-use Rattle.cw_secnames.proofs.Terms.{marks.Marks.Marks, kinds.RefKind.RefKind, SecName, same_name_kind, is_beginning_of}
-use Rattle.cw_secnames.proofs.Terms.{unreferred, kind_asked, passes, passes_at, is_below, chosen, is_lesser, least_of}
-use Rattle.cw_secnames.proofs.Terms.{is_one_of, is_near, IsNear, IsMarked, KeepsMarks, AreMarked, HoldNear}
+use Rattle.std.proofs.Common.{◌≡◌, ℕ, zero, suc, ◌+◌, ◌-◌, ◌<◌, ◌≤◌, ◌&&◌, ◌==◌, ◌⊎◌, inl, inr, Bool, true, false}
+use Rattle.std.proofs.Common.{nat_lt, nat_le, nat_eq, List, [], ◌∷◌, ◌++◌, Option, Some, None, IfSome, slice_set}
+use Rattle.std.proofs.Common.{option_map, map, length, drop, take, get_or, cond, refl, ap, ◌∙◌, sym, subst, arith}
+use Rattle.std.proofs.Common.{add-zero, zero-add, length-drop, get_or-drop, eqb-true, lt-ltb, ltb-true, ltb-false}
+use Rattle.std.proofs.Common.{le-ltb, leb-true, le-leb}
+use Rattle.std.specs.List.{position, position_or_len}
+use Rattle.std.proofs.{lemmas.List.Sums.position_or_len_is, lemmas.Bool.Decides.nat_tests, lemmas.Grind.common_steps}
+use Rattle.cw_base.proofs.TestLaws.{one-left, one-right}
+use Rattle.cw_secnames.specs.declared.{kinds.SecKind.SecKind, kinds.SecKind.TheVariants.Named, sec_names.Asked.Asked}
+use Rattle.cw_secnames.specs.declared.{sec_names.Kept.Kept, marks.Marks.Marks, kinds.RefKind.RefKind}
 use Rattle.cw_secnames.specs.{References.with_reference, References.with_section, Inside.name_of}
+use Rattle.cw_secnames.specs.Kept.{SecName, same_name_kind, is_beginning_of, unreferred}
+use Rattle.cw_secnames.specs.Asked.{kind_asked, passes, passes_at, is_below, chosen, is_lesser, least_of}
+use Rattle.cw_secnames.specs.Marks.{is_one_of, is_near, IsNear, IsMarked, KeepsMarks, AreMarked, HoldNear}
 use Rattle.cw_secnames.proofs.{Finding.length-named, Marked.both, Marked.and-yes, Marked.or-yes, Marked.begins-self}
 
 -- ## All names are marked

@@ -1,7 +1,9 @@
 -- Of the parts of a section name that lie ahead.
-use Rattle.cw_secnames.proofs.Terms.{◌≡◌, ℕ, zero, suc, ◌+◌, ◌<◌, ◌≤◌, List, [], ◌∷◌, Option, Some, ◌∙◌, refl, arith}
-use Rattle.cw_secnames.proofs.Terms.{drop, length, get_or, option_map, drop-cons, add-one, add-zero, drop-drop, Span}
-use Rattle.cw_secnames.proofs.Terms.{end_of_part, part_here, parts_at, parts_from, IsNextPart}
+use Rattle.std.proofs.Common.{◌≡◌, ℕ, zero, suc, ◌+◌, ◌<◌, ◌≤◌, List, [], ◌∷◌, Option, Some, ◌∙◌, refl, arith, drop}
+use Rattle.std.proofs.Common.{length, get_or, option_map, drop-cons, add-one, add-zero}
+use Rattle.std.proofs.lemmas.List.{drop-drop}
+use Rattle.cw_base.specs.declared.span.Span.{Span}
+use Rattle.cw_secnames.specs.Parts.{end_of_part, part_here, parts_at, parts_from, IsNextPart}
 
 -- Bytes that belong to the part before are passed.
 parts_from-taken : (bytes : List ℕ) (place taken : ℕ) → parts_from bytes place taken

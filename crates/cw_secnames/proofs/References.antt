@@ -1,11 +1,14 @@
 -- A number more in an ascending list.
-use Rattle.cw_secnames.proofs.Terms.{◌≡◌, ℕ, zero, suc, ◌<◌, ◌≤◌, ◌==◌, ◌||◌, ◌+◌, Bool, true, false, List, [], ◌∷◌}
-use Rattle.cw_secnames.proofs.Terms.{◌++◌, length, refl, ap, sym, ◌∙◌, get_or, map, insert, slice_set, arith, Result}
-use Rattle.cw_secnames.proofs.Terms.{Ok, Err, MatchResult, List.Sorted.IsBinarySearchResult, Ordering.nat_cmp}
-use Rattle.cw_secnames.proofs.Terms.{lemmas.List.Sorted.searched, lemmas.Bool.eq-eqb, lemmas.Bool.eqb-true, or-false}
-use Rattle.cw_secnames.proofs.Terms.{kinds.RefKind.RefKind, sec_names.Kept.Kept, Ascend, AscendFrom, ReferAscending}
-use Rattle.cw_secnames.proofs.Terms.{RefersAscending, with_number, with_reference, with_section}
+use Rattle.std.proofs.Common.{◌≡◌, ℕ, zero, suc, ◌<◌, ◌≤◌, ◌==◌, ◌||◌, ◌+◌, Bool, true, false, List, [], ◌∷◌, ◌++◌}
+use Rattle.std.proofs.Common.{length, refl, ap, sym, ◌∙◌, get_or, map, insert, slice_set, arith, Result, Ok, Err}
+use Rattle.std.proofs.Common.{MatchResult}
+use Rattle.std.specs.{List.Sorted.IsBinarySearchResult, Ordering.nat_cmp}
+use Rattle.std.proofs.{lemmas.List.Sorted.searched, lemmas.Bool.eq-eqb, lemmas.Bool.eqb-true}
+use Rattle.cw_base.proofs.TestLaws.{or-false}
+use Rattle.cw_secnames.specs.declared.{kinds.RefKind.RefKind, sec_names.Kept.Kept}
 use Rattle.cw_secnames.specs.{Inside.listed, Inside.lists_of, Inside.name_of, Kept.SecName, Marks.is_one_of}
+use Rattle.cw_secnames.specs.References.{Ascend, AscendFrom, ReferAscending, RefersAscending, with_number}
+use Rattle.cw_secnames.specs.References.{with_reference, with_section}
 use Rattle.cw_secnames.specs.OnceLaws.{with_number-ascends, with_number-is}
 
 or-comm : (a b : Bool) → (a || b) ≡ (b || a)

@@ -1,8 +1,7 @@
 -- The pair at a place.
-use Rattle.cw_secnames.proofs.Terms.{◌≡◌, ◌≢◌, ℕ, zero, suc, ◌<◌, ◌≤◌, Bool, true, false, List, [], ◌∷◌, ◌++◌, Some}
-use Rattle.cw_secnames.proofs.Terms.{None, map, length, nat_lt, refl, ap, get_or, arith, All, length-append}
-use Rattle.cw_secnames.proofs.Terms.{Math.ListN.get_or-append, Math.Seq.get_or-append_seam, Math.Dec.ltb}
-use Rattle.cw_secnames.proofs.Terms.{lemmas.Grind.common_steps}
+use Rattle.std.proofs.Common.{◌≡◌, ◌≢◌, ℕ, zero, suc, ◌<◌, ◌≤◌, Bool, true, false, List, [], ◌∷◌, ◌++◌, Some, None, map}
+use Rattle.std.proofs.Common.{length, nat_lt, refl, ap, get_or, arith, All, length-append}
+use Rattle.std.proofs.{Math.ListN.get_or-append, Math.Seq.get_or-append_seam, Math.Dec.ltb, lemmas.Grind.common_steps}
 use Rattle.std.specs.List.Sorted.{IsPartitionPoint, IsPartitionedBy}
 use Rattle.std.proofs.lemmas.Bool.Decides.{nat_tests}
 use Rattle.cw_base.proofs.NumberLaws.{apart}

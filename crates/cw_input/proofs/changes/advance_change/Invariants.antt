@@ -1,8 +1,11 @@
 -- The lines that are left, in the phase so far, give from the state so far what all give from the first state; and the
 -- room that was enough at first is enough for what is left.
-use Rattle.cw_input.proofs.Terms.{◌≡◌, ◌+◌, ◌-◌, ◌*◌, ◌<◌, ◌≤◌, length, get, declared.limits.TheConstants.INPUT_LIMIT}
-use Rattle.cw_input.proofs.Terms.{Web.text_of, Meaning.Files, Told.OnlyReads, Fold.advance, Reading.ReadsOn, IsPhase}
-use Rattle.cw_input.proofs.Terms.{lines_from, rest_of, state_of}
+use Rattle.std.proofs.Common.{◌≡◌, ◌+◌, ◌-◌, ◌*◌, ◌<◌, ◌≤◌, length}
+use Rattle.std.specs.FinMap.{get}
+use Rattle.cw_base.specs.{declared.limits.TheConstants.INPUT_LIMIT, Web.text_of}
+use Rattle.cw_desk.specs.{Meaning.Files, Told.OnlyReads}
+use Rattle.cw_input.specs.{Fold.advance, Reading.ReadsOn}
+use Rattle.cw_input.specs.State.{IsPhase, lines_from, rest_of, state_of}
 use Rattle.cw_input.proofs.changes.advance_change.Given as goal
 
 abbrev pub invariant-lines : goal.invariant-lines

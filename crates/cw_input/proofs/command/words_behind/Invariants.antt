@@ -1,5 +1,5 @@
 -- The words so far and those that are left are all but the first.
-use Rattle.cw_input.proofs.Terms.{◌≡◌, ◌++◌, drop}
+use Rattle.std.proofs.Common.{◌≡◌, ◌++◌, drop}
 use Rattle.cw_input.proofs.command.words_behind.Given as goal
 
 abbrev pub invariant-loop-i : goal.invariant-loop-i

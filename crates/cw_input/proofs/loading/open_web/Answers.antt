@@ -1,5 +1,5 @@
 -- What is read of the first file that is there.
-use Rattle.cw_input.proofs.Terms.{arith}
+use Rattle.std.proofs.Common.{arith}
 use Rattle.cw_input.proofs.ReadLaws.{reads_first-then, reads_on-more}
 use Rattle.cw_input.proofs.loading.open_web.Goals as goal
 

@@ -1,5 +1,5 @@
 -- The first such word among those that are left is the first of the line.
-use Rattle.cw_input.proofs.Terms.{◌≡◌, drop}
+use Rattle.std.proofs.Common.{◌≡◌, drop}
 use Rattle.cw_input.specs.LongWords.{first_unknown}
 use Rattle.cw_input.proofs.long_words.first_unknown.Given as goal
 

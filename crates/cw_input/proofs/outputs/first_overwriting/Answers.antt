@@ -1,6 +1,6 @@
 -- The next output is taken, and is the first one that is, or it isn't, and those behind it decide.
-use Rattle.cw_input.proofs.Terms.{◌≡◌, ◌<◌, ◌||◌, ℕ, true, false, List, Some, length, sym, ap, ◌∙◌, arith, take, subst}
-use Rattle.cw_input.proofs.Terms.{is_among}
+use Rattle.std.proofs.Common.{◌≡◌, ◌<◌, ◌||◌, ℕ, true, false, List, Some, length, sym, ap, ◌∙◌, arith, take, subst}
+use Rattle.cw_input.specs.Overwriting.{is_among}
 use Rattle.cw_input.proofs.OutputLaws.{next-is_taken, next-overwrites}
 use Rattle.cw_input.proofs.outputs.first_overwriting.Goals as goal
 

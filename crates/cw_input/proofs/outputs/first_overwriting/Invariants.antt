@@ -1,5 +1,6 @@
 -- None of the outputs so far overwrites anything, so those that are left decide, with those before them taken.
-use Rattle.cw_input.proofs.Terms.{◌≡◌, drop, first_overwriting}
+use Rattle.std.proofs.Common.{◌≡◌, drop}
+use Rattle.cw_input.specs.Overwriting.{first_overwriting}
 use Rattle.cw_input.proofs.OutputLaws.{taken_after}
 use Rattle.cw_input.proofs.outputs.first_overwriting.Given as goal
 

@@ -1,5 +1,6 @@
 -- None of the names so far is this one, so those that are left decide.
-use Rattle.cw_input.proofs.Terms.{◌≡◌, take, drop, is_among}
+use Rattle.std.proofs.Common.{◌≡◌, take, drop}
+use Rattle.cw_input.specs.Overwriting.{is_among}
 use Rattle.cw_input.proofs.outputs.is_before.Given as goal
 
 abbrev pub invariant-loop-number : goal.invariant-loop-number

@@ -1,5 +1,5 @@
 -- Where no white space, `#` line or include name begins, a token of code does.
-use Rattle.cw_lex.proofs.Terms.{◌≡◌, ℕ, Bool, false, ◌&&◌, ◌==◌, List, ◌∷◌, refl, arith}
+use Rattle.std.proofs.Common.{◌≡◌, ℕ, Bool, false, ◌&&◌, ◌==◌, List, ◌∷◌, refl, arith}
 use Rattle.std.proofs.lemmas.Bool.{eq-eqb, ne_eqb}
 use Rattle.cw_base.{proofs.TestLaws.not-false, specs.Bytes.newline}
 use Rattle.cw_rules.specs.{Answers.Where, Bytes.hash, Bytes.less, Tokens.takes_hash_line, Apart.code_text_apart}

@@ -1,9 +1,11 @@
 -- A line's end finishes inner C text of a short comment, with a note that its bar is missing, and takes no byte.
-use Rattle.cw_lex.proofs.Terms.{ℕ, List, [], ◌∷◌, ◌++◌, None, drop, refl, sym, ap, ◌∙◌, declared.state.State.State}
-use Rattle.cw_lex.proofs.Terms.{Lexing.last_at, Coming.found_at, before, Finish, note_answers, token_of, pending_notes}
+use Rattle.std.proofs.Common.{ℕ, List, [], ◌∷◌, ◌++◌, None, drop, refl, sym, ap, ◌∙◌}
+use Rattle.cw_lex.specs.{declared.state.State.State, Lexing.last_at, Coming.found_at}
+use Rattle.cw_rules.specs.declared.tokens.TokKind.TheVariants as kinds
+use Rattle.cw_rules.specs.Answers.{before, Finish, note_answers, token_of}
+use Rattle.cw_rules.specs.Pending.{pending_notes}
 use Rattle.cw_rules.specs.Tokens.{passed, in_hash_line, inner_cut, comment_end, line_end}
 use Rattle.cw_lex.proofs.{Steps.zero-gives, Lines.found-comment-line, Lines.in_hash_line-passed}
-use Rattle.cw_rules.specs.declared.tokens.TokKind.TheVariants as kinds
 use Rattle.cw_lex.proofs.code_text.cut_inner.Goals as goal
 
 pub returns-clause-gives : goal.returns-clause-gives

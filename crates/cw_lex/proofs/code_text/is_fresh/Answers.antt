@@ -1,5 +1,5 @@
 -- A blank leaves open whether the line began with blanks alone; any other byte decides.
-use Rattle.cw_lex.proofs.Terms.{arith}
+use Rattle.std.proofs.Common.{arith}
 use Rattle.cw_lex.proofs.White.{fresh-blank, fresh-other}
 use Rattle.cw_lex.proofs.code_text.is_fresh.Goals as goal
 

@@ -1,5 +1,6 @@
 -- Only blanks were passed so far: what stands before them decides.
-use Rattle.cw_lex.proofs.Terms.{◌≡◌, ◌≤◌, length, fresh_at}
+use Rattle.std.proofs.Common.{◌≡◌, ◌≤◌, length}
+use Rattle.cw_lex.specs.Lexing.{fresh_at}
 use Rattle.cw_lex.proofs.code_text.is_fresh.Given as goal
 
 abbrev pub invariant-loop-k : goal.invariant-loop-k

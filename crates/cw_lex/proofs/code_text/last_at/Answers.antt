@@ -1,5 +1,5 @@
 -- The byte before a place is the last of those that stand before it.
-use Rattle.cw_lex.proofs.Terms.{arith}
+use Rattle.std.proofs.Common.{arith}
 use Rattle.cw_lex.proofs.White.{last-byte}
 use Rattle.cw_lex.proofs.code_text.last_at.Goals as goal
 

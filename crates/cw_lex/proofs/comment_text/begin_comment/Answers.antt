@@ -1,6 +1,8 @@
 -- The two bytes that open a comment are answered as its beginning, and it is the innermost from there on.
-use Rattle.cw_lex.proofs.Terms.{ℕ, ◌+◌, List, ◌∷◌, false, refl, sym, ap, ◌∙◌, arith, State, Begin, token_of}
+use Rattle.std.proofs.Common.{ℕ, ◌+◌, List, ◌∷◌, false, refl, sym, ap, ◌∙◌, arith}
 use Rattle.cw_rules.specs.{declared.parts.Opened.Opened, Tokens.passed, Cuttings.bytes_at}
+use Rattle.cw_lex.specs.declared.state.State.{State}
+use Rattle.cw_rules.specs.Answers.{Begin, token_of}
 use Rattle.cw_lex.proofs.{Steps.one-gives, Steps.token-here, States.ready-push}
 use Rattle.cw_lex.proofs.comment_text.begin_comment.Goals as goal
 

@@ -1,8 +1,9 @@
 -- A bar finishes inner C text of a comment, whose own text goes on behind it.
-use Rattle.cw_lex.proofs.Terms.{ℕ, ◌+◌, List, false, drop, sym, ap, ◌∙◌, arith, State}
+use Rattle.std.proofs.Common.{ℕ, ◌+◌, List, false, drop, sym, ap, ◌∙◌, arith}
+use Rattle.cw_lex.specs.declared.state.State.{State}
+use Rattle.cw_rules.specs.declared.tokens.TokKind.TheVariants as kinds
 use Rattle.cw_rules.specs.{Answers.Finish, Answers.token_of, Tokens.behind_inner, Cuttings.bytes_at}
 use Rattle.cw_lex.proofs.{Steps.one-gives, Steps.token-here, States.ready-top, States.top-within}
-use Rattle.cw_rules.specs.declared.tokens.TokKind.TheVariants as kinds
 use Rattle.cw_lex.proofs.comment_text.end_comment_inner.Goals as goal
 
 pub returns-clause-gives : goal.returns-clause-gives

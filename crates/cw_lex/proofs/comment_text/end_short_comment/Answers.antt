@@ -1,10 +1,11 @@
 -- A line's end finishes a short comment and isn't taken: what it ends around the comment comes next.
-use Rattle.cw_lex.proofs.Terms.{ℕ, ◌≡◌, List, [], ◌∷◌, true, drop, refl, sym, ap, ◌∙◌, arith}
-use Rattle.cw_lex.proofs.Terms.{declared.state.State.State, Lexing.last_at, Coming.found_at, seen, before, Finish}
-use Rattle.cw_lex.proofs.Terms.{note_answers, token_of, nat_tests}
+use Rattle.std.proofs.Common.{ℕ, ◌≡◌, List, [], ◌∷◌, true, drop, refl, sym, ap, ◌∙◌, arith}
+use Rattle.cw_lex.specs.{declared.state.State.State, Lexing.last_at, Coming.found_at}
+use Rattle.cw_rules.specs.Answers.{seen, before, Finish, note_answers, token_of}
 use Rattle.cw_rules.specs.{Pending.pending_notes, Tokens.line_end, Tokens.is_code}
 use Rattle.cw_lex.proofs.{Notes.one-note, Notes.one-inside, Steps.zero-gives, Lines.found-newline}
 use Rattle.cw_lex.proofs.States.{ready-pop, top-nested}
+use Rattle.std.proofs.lemmas.Bool.Decides.{nat_tests}
 use Rattle.cw_lex.proofs.comment_text.end_short_comment.Goals as goal
 
 pub returns-clause-gives : goal.returns-clause-gives

@@ -1,9 +1,11 @@
 -- A piece of a comment takes the bytes up to where it stops; its notes follow, and the open braces are kept.
-use Rattle.cw_lex.proofs.Terms.{ℕ, ◌≡◌, ◌≤◌, ◌<◌, ◌-◌, List, ◌∷◌, false, drop, refl, sym, ◌∙◌, arith, State, Token}
-use Rattle.cw_lex.proofs.Terms.{note_answers, token_of, nat_tests}
+use Rattle.std.proofs.Common.{ℕ, ◌≡◌, ◌≤◌, ◌<◌, ◌-◌, List, ◌∷◌, false, drop, refl, sym, ◌∙◌, arith}
+use Rattle.cw_lex.specs.declared.state.State.{State}
+use Rattle.cw_rules.specs.Answers.{Token, note_answers, token_of}
 use Rattle.cw_rules.specs.{Pending.no_notes, Pending.body_notes, Bodies.ended, declared.bodies.Inside.Inside}
 use Rattle.cw_lex.proofs.{Steps.step-gives, States.ready-top, States.top-within}
 use Rattle.cw_lex.proofs.Pieces.{piece_found, piece-found, piece-some}
+use Rattle.std.proofs.lemmas.Bool.Decides.{nat_tests}
 use Rattle.cw_rules.specs.declared.tokens.TokKind.TheVariants as kinds
 use Rattle.cw_rules.specs.declared.bodies.Body.TheVariants as bodies
 use Rattle.cw_lex.proofs.comment_text.piece.Goals as goal

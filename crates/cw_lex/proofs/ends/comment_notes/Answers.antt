@@ -1,5 +1,6 @@
 -- `comment_notes`: answer; said here, so that a wrong one fails at once.
-use Rattle.cw_lex.proofs.Terms.{arith, common_steps}
+use Rattle.std.proofs.Common.{arith}
+use Rattle.std.proofs.lemmas.Grind.{common_steps}
 use Rattle.cw_lex.proofs.ends.comment_notes.Goals as goal
 
 pub returns : goal.returns

@@ -1,6 +1,7 @@
 -- The blanks behind a head give no answer, and the scanner then stands at no blank.
-use Rattle.cw_lex.proofs.Terms.{◌≡◌, ◌+◌, true, slice_index, drop, sym, ap, ◌∙◌, arith, last_at}
+use Rattle.std.proofs.Common.{◌≡◌, ◌+◌, true, slice_index, drop, sym, ap, ◌∙◌, arith}
 use Rattle.cw_rules.specs.{declared.classes.Class.TheVariants.Blank, Bytes.run, Tokens.is_head_part}
+use Rattle.cw_lex.specs.Lexing.{last_at}
 use Rattle.cw_lex.proofs.HeadSpaces.{head-coming, head-is, head-skipped, run-behind}
 use Rattle.cw_lex.proofs.lexer.skip.Goals as goal
 

@@ -1,5 +1,5 @@
 -- White space of calm C text gives no answer.
-use Rattle.cw_lex.proofs.Terms.{arith}
+use Rattle.std.proofs.Common.{arith}
 use Rattle.cw_lex.proofs.Calm.{calm-coming}
 use Rattle.cw_lex.proofs.lexer.skip_in_calm.Goals as goal
 

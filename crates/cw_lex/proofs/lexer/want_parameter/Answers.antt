@@ -1,5 +1,5 @@
 -- White space before a parameter, or a sign among parameters, gives no answer.
-use Rattle.cw_lex.proofs.Terms.{◌≡◌, List, true, drop, subst}
+use Rattle.std.proofs.Common.{◌≡◌, List, true, drop, subst}
 use Rattle.cw_rules.specs.{Tokens.is_parameter, Answers.Answer, Answers.Gives}
 use Rattle.cw_lex.{specs.Coming.coming, proofs.HeadSpaces.parameter-here, proofs.HeadSpaces.parameter-coming}
 use Rattle.cw_lex.proofs.lexer.want_parameter.Goals as goal

@@ -1,5 +1,5 @@
 -- What stands before the first `@` or bar, or all.
-use Rattle.cw_lex.proofs.Terms.{sym}
+use Rattle.std.proofs.Common.{sym}
 use Rattle.cw_lex.proofs.TexRuns.{tex-first, tex-all}
 use Rattle.cw_lex.proofs.plain.tex_size.Goals as goal
 

@@ -1,5 +1,5 @@
 -- A bar that ends inner C text stands before no other bar; else the longest sign that fits is a short token.
-use Rattle.cw_lex.proofs.Terms.{◌∷◌, not, ◌&&◌, sym, ap, ◌∙◌, arith}
+use Rattle.std.proofs.Common.{◌∷◌, not, ◌&&◌, sym, ap, ◌∙◌, arith}
 use Rattle.cw_rules.specs.{Bytes.begins, Signs.all_signs, Signs.longest, Tokens.ends_at_bar}
 use Rattle.cw_lex.proofs.ShortTokens.{inner-ends, bar-short}
 use Rattle.cw_lex.proofs.short.bar.Goals as goal

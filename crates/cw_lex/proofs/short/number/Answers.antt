@@ -1,5 +1,5 @@
 -- A constant that begins with a digit is a short token.
-use Rattle.cw_lex.proofs.Terms.{ap, ◌∙◌, arith}
+use Rattle.std.proofs.Common.{ap, ◌∙◌, arith}
 use Rattle.cw_rules.specs.Constants.{constant}
 use Rattle.cw_lex.proofs.ShortTokens.{number-short}
 use Rattle.cw_lex.proofs.short.number.Goals as goal

@@ -1,5 +1,5 @@
 -- A quote in C text begins a string.
-use Rattle.cw_lex.proofs.Terms.{arith}
+use Rattle.std.proofs.Common.{arith}
 use Rattle.cw_lex.proofs.ShortTokens.{string-begins}
 use Rattle.cw_lex.proofs.short.seldom.Goals as goal
 

@@ -1,5 +1,6 @@
 -- The bytes passed so far change neither where the body stops nor which notes it has.
-use Rattle.cw_rules.proofs.Terms.{◌≡◌, ◌-◌, ◌≤◌, length, drop, ended, noted}
+use Rattle.std.proofs.Common.{◌≡◌, ◌-◌, ◌≤◌, length, drop}
+use Rattle.cw_rules.specs.Bodies.{ended, noted}
 use Rattle.cw_rules.proofs.bodies.behind_idle.Given as goal
 
 abbrev pub invariant-loop-i : goal.invariant-loop-i

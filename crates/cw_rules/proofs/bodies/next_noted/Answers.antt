@@ -1,5 +1,5 @@
 -- The note that is met is the first of those that were left; a byte without one leaves them all.
-use Rattle.cw_rules.proofs.Terms.{◌≡◌, ◌∷◌, true, None, Some, slice_index, drop, ap, sym, ◌∙◌}
+use Rattle.std.proofs.Common.{◌≡◌, ◌∷◌, true, None, Some, slice_index, drop, ap, sym, ◌∙◌}
 use Rattle.cw_rules.specs.{declared.bodies.Noted.Noted, Bodies.goes_on, Bodies.note_here, Bodies.stepped}
 use Rattle.cw_rules.proofs.Inside.{noted-at}
 use Rattle.cw_rules.proofs.bodies.next_noted.Goals as goal

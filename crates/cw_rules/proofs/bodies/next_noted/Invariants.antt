@@ -1,5 +1,6 @@
 -- The notes from this place on are all those that were left.
-use Rattle.cw_rules.proofs.Terms.{◌≡◌, ◌-◌, ◌≤◌, length, drop, noted}
+use Rattle.std.proofs.Common.{◌≡◌, ◌-◌, ◌≤◌, length, drop}
+use Rattle.cw_rules.specs.Bodies.{noted}
 use Rattle.cw_rules.proofs.bodies.next_noted.Given as goal
 
 abbrev pub invariant-loop-place : goal.invariant-loop-place

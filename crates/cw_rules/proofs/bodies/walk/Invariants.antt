@@ -1,5 +1,5 @@
 -- From this place on the body stops where it did, and the notes met so far with those to come are all its notes.
-use Rattle.cw_rules.proofs.Terms.{◌≡◌, ◌-◌, ◌≤◌, length, drop}
+use Rattle.std.proofs.Common.{◌≡◌, ◌-◌, ◌≤◌, length, drop}
 use Rattle.cw_rules.specs.{Bodies.ended, Bodies.noted, Pending.IsInside, Pending.notes_so_far}
 use Rattle.cw_rules.proofs.bodies.walk.Given as goal
 

@@ -1,5 +1,5 @@
 -- Bytes that end before the wanted ones don't begin with them.
-use Rattle.cw_rules.proofs.Terms.{arith}
+use Rattle.std.proofs.Common.{arith}
 use Rattle.cw_rules.proofs.Runs.{begins_with-short}
 use Rattle.cw_rules.proofs.classes.begins_with.Goals as goal
 

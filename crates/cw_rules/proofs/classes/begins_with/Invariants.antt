@@ -1,5 +1,6 @@
 -- The bytes so far are the wanted ones, so what is behind them decides.
-use Rattle.cw_rules.proofs.Terms.{◌≡◌, ◌-◌, ◌≤◌, length, drop, begins_with}
+use Rattle.std.proofs.Common.{◌≡◌, ◌-◌, ◌≤◌, length, drop}
+use Rattle.cw_rules.specs.Bytes.{begins_with}
 use Rattle.cw_rules.proofs.classes.begins_with.Given as goal
 
 abbrev pub invariant-loop-k : goal.invariant-loop-k

@@ -1,5 +1,5 @@
 -- The table of the code tells of each byte whether it is white.
-use Rattle.cw_rules.proofs.Terms.{false, arith}
+use Rattle.std.proofs.Common.{false, arith}
 use Rattle.cw_rules.proofs.ByteTables.{white-at}
 use Rattle.cw_rules.proofs.classes.is_white.Goals as goal
 

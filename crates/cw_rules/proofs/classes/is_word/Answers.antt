@@ -1,5 +1,5 @@
 -- The table of the code tells of each byte whether an identifier may go on with it.
-use Rattle.cw_rules.proofs.Terms.{false, arith}
+use Rattle.std.proofs.Common.{false, arith}
 use Rattle.cw_rules.proofs.ByteTables.{word-at}
 use Rattle.cw_rules.proofs.classes.is_word.Goals as goal
 

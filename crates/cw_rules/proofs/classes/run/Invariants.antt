@@ -1,5 +1,6 @@
 -- The bytes so far, and the run behind them, are the whole run.
-use Rattle.cw_rules.proofs.Terms.{◌≡◌, ◌+◌, ◌-◌, ◌≤◌, length, drop, run}
+use Rattle.std.proofs.Common.{◌≡◌, ◌+◌, ◌-◌, ◌≤◌, length, drop}
+use Rattle.cw_rules.specs.Bytes.{run}
 use Rattle.cw_rules.proofs.classes.run.Given as goal
 
 abbrev pub invariant-loop-n : goal.invariant-loop-n

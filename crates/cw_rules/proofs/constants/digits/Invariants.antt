@@ -1,5 +1,6 @@
 -- The bytes so far, and the digits behind them, are all the digits.
-use Rattle.cw_rules.proofs.Terms.{◌≡◌, ◌+◌, ◌-◌, ◌≤◌, length, drop, more_digits}
+use Rattle.std.proofs.Common.{◌≡◌, ◌+◌, ◌-◌, ◌≤◌, length, drop}
+use Rattle.cw_rules.specs.Constants.{more_digits}
 use Rattle.cw_rules.proofs.constants.digits.Given as goal
 
 abbrev pub invariant-loop-n : goal.invariant-loop-n

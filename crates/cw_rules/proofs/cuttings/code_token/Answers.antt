@@ -1,5 +1,5 @@
 -- A code that takes a section name is cut with the name behind it.
-use Rattle.cw_rules.proofs.Terms.{arith}
+use Rattle.std.proofs.Common.{arith}
 use Rattle.cw_rules.proofs.Cuts.{name-cut}
 use Rattle.cw_rules.proofs.cuttings.code_token.Goals as goal
 

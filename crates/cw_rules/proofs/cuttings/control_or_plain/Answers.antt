@@ -1,5 +1,5 @@
 -- A code that takes a control text is cut with the text behind it.
-use Rattle.cw_rules.proofs.Terms.{arith}
+use Rattle.std.proofs.Common.{arith}
 use Rattle.cw_rules.proofs.Cuts.{control-cut}
 use Rattle.cw_rules.proofs.cuttings.control_or_plain.Goals as goal
 

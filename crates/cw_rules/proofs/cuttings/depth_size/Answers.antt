@@ -1,5 +1,6 @@
 -- `depth_size`: clause `value` on one of its ways; said here, so that a wrong one fails at once.
-use Rattle.cw_rules.proofs.Terms.{arith, common_steps}
+use Rattle.std.proofs.Common.{arith}
+use Rattle.std.proofs.lemmas.Grind.{common_steps}
 use Rattle.cw_rules.proofs.cuttings.depth_size.Goals as goal
 
 pub returns-else-begins-clause-value : goal.returns-else-begins-clause-value

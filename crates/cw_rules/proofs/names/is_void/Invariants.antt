@@ -1,5 +1,6 @@
 -- Behind the dots so far, the rest of the name tells whether it is void.
-use Rattle.cw_rules.proofs.Terms.{◌≡◌, ◌-◌, ◌≤◌, length, drop, uncoded, void_behind, is_void}
+use Rattle.std.proofs.Common.{◌≡◌, ◌-◌, ◌≤◌, length, drop}
+use Rattle.cw_rules.specs.Names.{uncoded, void_behind, is_void}
 use Rattle.cw_rules.proofs.names.is_void.Given as goal
 
 abbrev pub invariant-loop-at : goal.invariant-loop-at

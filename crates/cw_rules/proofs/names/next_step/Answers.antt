@@ -1,5 +1,5 @@
 -- White space, or one dot more, leaves it to the rest of the name whether it is void.
-use Rattle.cw_rules.proofs.Terms.{arith}
+use Rattle.std.proofs.Common.{arith}
 use Rattle.cw_rules.proofs.Void.{white-step, dot-step}
 use Rattle.cw_rules.proofs.names.next_step.Goals as goal
 

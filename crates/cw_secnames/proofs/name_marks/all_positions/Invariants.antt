@@ -1,5 +1,6 @@
 -- The positions so far are there.
-use Rattle.cw_secnames.proofs.Terms.{◌≡◌, ℕ, ◌<◌, true, is_one_of}
+use Rattle.std.proofs.Common.{◌≡◌, ℕ, ◌<◌, true}
+use Rattle.cw_secnames.specs.Marks.{is_one_of}
 use Rattle.cw_secnames.proofs.name_marks.all_positions.Given as goal
 
 abbrev pub invariant-loop-index : goal.invariant-loop-index

@@ -1,6 +1,6 @@
 -- A binary search finds the section, or the place at which it ascends.
-use Rattle.cw_secnames.proofs.Terms.{◌≡◌, ◌∙◌, subst, MatchResult, insert, List, List.Sorted.IsBinarySearchResult}
-use Rattle.cw_secnames.proofs.Terms.{Ordering.nat_cmp}
+use Rattle.std.proofs.Common.{◌≡◌, ◌∙◌, subst, MatchResult, insert, List}
+use Rattle.std.specs.{List.Sorted.IsBinarySearchResult, Ordering.nat_cmp}
 use Rattle.std.proofs.lemmas.Result.{on_ok_weaker}
 use Rattle.cw_secnames.{specs.References.with_number, proofs.References.searched_number}
 use Rattle.cw_secnames.proofs.referrers.add_section.Goals as goal

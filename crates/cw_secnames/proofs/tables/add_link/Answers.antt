@@ -1,5 +1,6 @@
 -- `add_link`: answer behind `push`; said here, so that a wrong one fails at once.
-use Rattle.cw_secnames.proofs.Terms.{arith, common_steps}
+use Rattle.std.proofs.Common.{arith}
+use Rattle.std.proofs.lemmas.Grind.{common_steps}
 use Rattle.cw_secnames.proofs.tables.add_link.Goals as goal
 
 pub returns-in_ok-push : goal.returns-in_ok-push

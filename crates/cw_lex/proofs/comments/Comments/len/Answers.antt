@@ -1,5 +1,5 @@
 -- As many comments are open as are counted, and at most 21.
-use Rattle.cw_lex.proofs.Terms.{length, sym, ap, ◌∙◌, arith}
+use Rattle.std.proofs.Common.{length, sym, ap, ◌∙◌, arith}
 use Rattle.cw_lex.proofs.Stack.{innermost-length}
 use Rattle.cw_lex.proofs.comments.Comments.len.Goals as goal
 

@@ -1,5 +1,5 @@
 -- The comment that is stored behind the others is the innermost one.
-use Rattle.cw_lex.proofs.Terms.{arith}
+use Rattle.std.proofs.Common.{arith}
 use Rattle.cw_lex.proofs.Stack.{innermost-length, innermost-push}
 use Rattle.cw_lex.proofs.comments.Comments.push.Goals as goal
 

@@ -1,5 +1,5 @@
 -- The answers stand on the scanned bytes, one behind another, with only white space between them.
-use Rattle.cw_lex.proofs.Terms.{arith}
+use Rattle.std.proofs.Common.{arith}
 use Rattle.cw_lex.proofs.{Covering.tokens-cover, TokensWithin.tokens-within}
 use Rattle.cw_lex.proofs.lexer.Lexer.over.Goals as goal
 

@@ -1,5 +1,5 @@
 -- So they do where a scanner begins anew.
-use Rattle.cw_lex.proofs.Terms.{arith}
+use Rattle.std.proofs.Common.{arith}
 use Rattle.cw_lex.proofs.{Covering.tokens-cover, TokensWithin.tokens-within}
 use Rattle.cw_lex.proofs.lexer.Lexer.restart.Goals as goal
 

@@ -1,5 +1,6 @@
 -- `effect_in_c`: answer in the last case; said here, so that a wrong one fails at once.
-use Rattle.cw_rules.proofs.Terms.{arith, common_steps}
+use Rattle.std.proofs.Common.{arith}
+use Rattle.std.proofs.lemmas.Grind.{common_steps}
 use Rattle.cw_rules.proofs.codes.Code.effect_in_c.Goals as goal
 
 pub returns-in_default : goal.returns-in_default

@@ -1,5 +1,6 @@
 -- `add_wholes`: answer on one of its ways; said here, so that a wrong one fails at once.
-use Rattle.cw_secnames.proofs.Terms.{arith, common_steps}
+use Rattle.std.proofs.Common.{arith}
+use Rattle.std.proofs.lemmas.Grind.{common_steps}
 use Rattle.cw_secnames.proofs.marks.Marks.add_wholes.Goals as goal
 
 pub returns-then-count-self : goal.returns-then-count-self

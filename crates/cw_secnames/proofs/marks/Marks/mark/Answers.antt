@@ -1,5 +1,5 @@
 -- A name's marks, of one byte more at a time.
-use Rattle.cw_secnames.proofs.Terms.{arith, refl}
+use Rattle.std.proofs.Common.{arith, refl}
 use Rattle.cw_secnames.proofs.Marked.{keeps-all, enter-first, enter-more, enter-last, no-more}
 use Rattle.cw_secnames.proofs.marks.Marks.mark.Goals as goal
 

@@ -1,6 +1,7 @@
 -- What is found, of one byte more at a time.
-use Rattle.cw_secnames.proofs.Terms.{◌≡◌, sym, subst, true, is_one_of}
 use Rattle.cw_secnames.proofs.Marked.{found-first, found-next, found-end}
+use Rattle.std.proofs.Common.{◌≡◌, sym, subst, true}
+use Rattle.cw_secnames.specs.Marks.{is_one_of}
 use Rattle.cw_secnames.proofs.marks.Marks.near.Goals as goal
 
 pub loop-count-init : goal.loop-count-init

@@ -1,5 +1,5 @@
 -- The names near a text are found by their marks; where these were given back, all positions are there.
-use Rattle.cw_secnames.proofs.Terms.{◌<◌, ◌∙◌, length, subst, zero-add}
+use Rattle.std.proofs.Common.{◌<◌, ◌∙◌, length, subst, zero-add}
 use Rattle.cw_secnames.proofs.{NamedMarks.all-near, Nearest.holds}
 use Rattle.cw_secnames.proofs.name_marks.NameMarks.near.Goals as goal
 

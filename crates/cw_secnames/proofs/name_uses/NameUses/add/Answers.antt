@@ -1,5 +1,5 @@
 -- A pair with a greater place keeps the order.
-use Rattle.cw_secnames.proofs.Terms.{◌<◌, All, subst, sym}
+use Rattle.std.proofs.Common.{◌<◌, All, subst, sym}
 use Rattle.cw_secnames.specs.{InsideUses.AreAscending, Uses.NameUse}
 use Rattle.cw_secnames.proofs.Using.{ascending-more}
 use Rattle.cw_secnames.proofs.name_uses.NameUses.add.Goals as goal

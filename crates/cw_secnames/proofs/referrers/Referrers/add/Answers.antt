@@ -1,5 +1,6 @@
 -- `add`: clause `ok` behind `self`; said here, so that a wrong one fails at once.
-use Rattle.cw_secnames.proofs.Terms.{arith, common_steps}
+use Rattle.std.proofs.Common.{arith}
+use Rattle.std.proofs.lemmas.Grind.{common_steps}
 use Rattle.cw_secnames.proofs.References.{few}
 use Rattle.cw_secnames.proofs.referrers.Referrers.add.Goals as goal
 

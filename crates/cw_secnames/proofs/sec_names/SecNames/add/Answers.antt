@@ -1,5 +1,5 @@
 -- A name more is marked, and the others stay marked; nothing refers to it.
-use Rattle.cw_secnames.proofs.Terms.{List, map, refl, ◌∙◌, sym, subst}
+use Rattle.std.proofs.Common.{List, map, refl, ◌∙◌, sym, subst}
 use Rattle.cw_secnames.specs.{declared.sec_names.Kept.Kept, Inside.name_of, Sound.AreSound}
 use Rattle.cw_secnames.proofs.NamedMarks.{named-more, named-behind}
 use Rattle.cw_secnames.proofs.{Nearest.marked-as, References.ascending-behind}

@@ -1,6 +1,7 @@
 -- The name in the list gets what the name in memory gets.
-use Rattle.cw_secnames.proofs.Terms.{◌∙◌, ap, sym, subst, length, arith, RefersAscending, with_section}
+use Rattle.std.proofs.Common.{◌∙◌, ap, sym, subst, length, arith}
 use Rattle.cw_secnames.specs.{declared.sec_names.Kept.Kept, Inside.name_of, Sound.AreSound}
+use Rattle.cw_secnames.specs.References.{RefersAscending, with_section}
 use Rattle.cw_secnames.proofs.NamedMarks.{named-with_reference}
 use Rattle.cw_secnames.proofs.Finding.{same-map, reference-map, length-named, length-with_reference}
 use Rattle.cw_secnames.proofs.References.{ascending-at, ascending-with_reference}

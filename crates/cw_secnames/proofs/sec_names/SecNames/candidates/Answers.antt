@@ -1,5 +1,6 @@
 -- The earliest candidates, from the first one and the next one behind it.
-use Rattle.cw_secnames.proofs.Terms.{◌∙◌, sym, is_candidate}
+use Rattle.std.proofs.Common.{◌∙◌, sym}
+use Rattle.cw_secnames.specs.Kept.{is_candidate}
 use Rattle.cw_secnames.proofs.Finding.{from-nobody, from-one, from-several}
 use Rattle.cw_secnames.proofs.sec_names.SecNames.candidates.Goals as goal
 

@@ -1,5 +1,5 @@
 -- What refers to each kept name ascends.
-use Rattle.cw_secnames.proofs.Terms.{arith}
+use Rattle.std.proofs.Common.{arith}
 use Rattle.cw_secnames.proofs.{Finding.length-named, References.ascending-at, References.ascending-in}
 use Rattle.cw_secnames.proofs.sec_names.SecNames.defined_in.Goals as goal
 

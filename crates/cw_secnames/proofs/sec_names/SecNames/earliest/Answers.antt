@@ -1,5 +1,5 @@
 -- From the first position on, the earliest name that passes is the first of all names that pass.
-use Rattle.cw_secnames.proofs.Terms.{arith}
+use Rattle.std.proofs.Common.{arith}
 use Rattle.cw_secnames.proofs.Nearest.{from-first}
 use Rattle.cw_secnames.proofs.sec_names.SecNames.earliest.Goals as goal
 

@@ -1,6 +1,7 @@
 -- `enter`: clause `answer` on one of its ways and clause `kept` on one of its ways; said here, so that
 -- a wrong one fails at once.
-use Rattle.cw_secnames.proofs.Terms.{arith, common_steps}
+use Rattle.std.proofs.Common.{arith}
+use Rattle.std.proofs.lemmas.Grind.{common_steps}
 use Rattle.cw_secnames.proofs.sec_names.SecNames.enter.Goals as goal
 
 pub returns-in-Some-conflicting-clause-answer : goal.returns-in-Some-conflicting-clause-answer

@@ -1,5 +1,5 @@
 -- A name grows where it is incomplete and shorter, and stays as it is otherwise.
-use Rattle.cw_secnames.proofs.Terms.{arith}
+use Rattle.std.proofs.Common.{arith}
 use Rattle.cw_secnames.proofs.Finding.{grown-shorter, grown-longer, grown-complete}
 use Rattle.cw_secnames.proofs.sec_names.SecNames.grow.Goals.{then-name-via-then-name}
 use Rattle.cw_secnames.proofs.sec_names.SecNames.grow.Goals as goal

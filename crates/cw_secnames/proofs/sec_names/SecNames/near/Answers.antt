@@ -1,5 +1,5 @@
 -- All names are marked.
-use Rattle.cw_secnames.proofs.Terms.{◌∙◌, ap, length, subst, sym}
+use Rattle.std.proofs.Common.{◌∙◌, ap, length, subst, sym}
 use Rattle.cw_secnames.{specs.NameMarks.AreMarkedNames, proofs.Finding.length-named}
 use Rattle.cw_secnames.proofs.sec_names.SecNames.near.Goals as goal
 

@@ -1,5 +1,5 @@
 -- The name in the list is that in memory.
-use Rattle.cw_secnames.proofs.Terms.{arith}
+use Rattle.std.proofs.Common.{arith}
 use Rattle.cw_secnames.proofs.{Finding.length-named, Nearest.passes-there, Nearest.passes-not}
 use Rattle.cw_secnames.proofs.sec_names.SecNames.passes_at.Goals as goal
 

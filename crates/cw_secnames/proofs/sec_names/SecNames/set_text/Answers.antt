@@ -1,5 +1,5 @@
 -- A name in memory gets the text as the name in the list.
-use Rattle.cw_secnames.proofs.Terms.{arith}
+use Rattle.std.proofs.Common.{arith}
 use Rattle.cw_secnames.proofs.{NamedMarks.named-more, NamedMarks.named-set, Nearest.marked-as, Nearest.same-kind}
 use Rattle.cw_secnames.proofs.References.{ascending-at, ascending-set}
 use Rattle.cw_secnames.proofs.Finding.{with_text-map, length-with_text, length-named}

@@ -1,5 +1,6 @@
 -- One link more; and behind the last one nothing is left.
-use Rattle.cw_secnames.proofs.Terms.{arith, lemmas.List.append-nil, lemmas.Option.slice_get-get_or}
+use Rattle.std.proofs.Common.{arith}
+use Rattle.std.proofs.{lemmas.List.append-nil, lemmas.Option.slice_get-get_or}
 use Rattle.cw_secnames.proofs.Linked.{back-end, back-step}
 use Rattle.cw_secnames.proofs.tables.Table.add_to.Goals as goal
 
