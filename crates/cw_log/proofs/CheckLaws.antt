@@ -1,36 +1,20 @@
 -- Blocks are checked one after another.
-use Rattle.std.proofs.Common.{◌≡◌, ℕ, ◌+◌, ◌-◌, ◌≤◌, Bool, true, false, ◌&&◌, List, [], ◌∷◌, ◌++◌}
-use Rattle.std.proofs.Common.{inl, inr, length, map, sum_by, All, eqb, cond, refl, sym, ◌∙◌, ap, arith}
-use Rattle.std.proofs.Common.{append_assoc}
-use Rattle.std.proofs.lemmas.Bool.Decides.{eqb_tells}
-use Rattle.std.proofs.lemmas.Grind.{flat_map-append}
-use Rattle.std.proofs.lemmas.List.{append-nil, length-append, length-map}
+use Rattle.cw_log.proofs.Terms.{◌≡◌, ℕ, ◌+◌, ◌-◌, ◌≤◌, Bool, true, false, ◌&&◌, List, [], ◌∷◌, ◌++◌, inl, inr, length}
+use Rattle.cw_log.proofs.Terms.{map, sum_by, All, eqb, cond, refl, sym, ◌∙◌, ap, arith, append_assoc, eqb_tells}
+use Rattle.cw_log.proofs.Terms.{flat_map-append, append-nil, length-append, length-map, both-left, both-right}
+use Rattle.cw_log.proofs.Terms.{pieces_of, pieces_by, Judges, same_item, LeafLine, leaf_line, log_of_lines, IsTold}
+use Rattle.cw_log.proofs.Terms.{line_of, production_of, spelled, block_of, HasBlock, IsLog, Block, block_lines}
+use Rattle.cw_log.proofs.Terms.{end_text, item_text, line_text, log_lines, IsFineBlock, all-append, all-cons, Entry}
+use Rattle.cw_log.proofs.Terms.{AreDistinct, Production, log as log_of, productions, State, Scrap, checked, checked_by}
+use Rattle.cw_log.proofs.Terms.{from_wrong, is_right, told, IsCheckedAs, Accepted, Rejected}
 use Rattle.std.proofs.lemmas.List.Sums.{sum_by-append, sum_by-cons}
 use Rattle.std.specs.Cmp.Lexicographic.{pointwise}
-use Rattle.cw_base.proofs.TestLaws.{both-left, both-right}
-use Rattle.cw_base.specs.Text.{pieces_of, pieces_by}
 use Rattle.cw_base.specs.Flags.{start_flags}
-use Rattle.cw_check.specs.Judging.{Judges, same_item}
-use Rattle.cw_check.specs.declared.checking.Verdict.TheVariants as verdicts
-use Rattle.cw_leaves.specs.declared.lines.LeafLine.{LeafLine}
-use Rattle.cw_leaves.specs.LeafLines.{leaf_line, log_of_lines, IsTold}
-use Rattle.cw_leaves.specs.Spelling.{line_of, production_of, spelled}
 use Rattle.cw_leaves.proofs.LineFacts.{lines-have-log}
-use Rattle.cw_logtext.specs.Appending.{block_of}
-use Rattle.cw_logtext.specs.Blocks.{HasBlock}
-use Rattle.cw_logtext.specs.LogReading.{IsLog}
-use Rattle.cw_logtext.specs.LogText.{Block, block_lines, end_text, item_text, line_text, log_lines, IsFineBlock}
 use Rattle.cw_logtext.specs.declared.blocks.ReadBlock.{ReadBlock}
-use Rattle.cw_logtext.proofs.Cutting.{all-append, all-cons}
 use Rattle.cw_logtext.proofs.Telling.{blocks-are-told}
-use Rattle.cw_names.specs.Names.{Entry, AreDistinct}
-use Rattle.cw_table.specs.Normal.{Production, log as log_of}
-use Rattle.cw_table.specs.Productions.{productions}
-use Rattle.cw_table.specs.Rewriting.{State}
-use Rattle.cw_trees.specs.Joining.{Scrap}
-use Rattle.cw_log.specs.Checking.{checked, checked_by, from_wrong, is_right, told, IsCheckedAs}
-use Rattle.cw_log.specs.declared.checking.Checked.TheVariants.{Accepted, Rejected}
 use Rattle.cw_log.proofs.LineLaws.{lines-say-scraps}
+use Rattle.cw_check.specs.declared.checking.Verdict.TheVariants as verdicts
 
 -- ## One block
 
@@ -44,10 +28,8 @@ spelled-lines names (s ∷ scraps) = ap (λ l. l ∷ map (spelled names) (map li
 pub log-told : (names : List Entry) (leaves : List LeafLine) (items : List Production) (state : State)
     → AreDistinct names → All (IsTold names) state.scraps → map line_of state.scraps ≡ leaves
     → log_of productions start_flags state ≡ told (record { leaves = map (spelled names) leaves; items = items })
-log-told names leaves items state distinct all is =
-    lines-have-log productions start_flags names state distinct all
-    ∙ ap (log_of_lines productions start_flags) (sym (spelled-lines names state.scraps)
-    ∙ ap (map (spelled names)) is)
+log-told names leaves items state distinct all is = lines-have-log productions start_flags names state distinct all
+    ∙ ap (log_of_lines productions start_flags) (sym (spelled-lines names state.scraps) ∙ ap (map (spelled names)) is)
 
 same-item : (p : Production) → same_item p p ≡ true
 same-item p = elim (eqb_tells p.number p.number) [
@@ -75,8 +57,7 @@ items-same : (ps qs : List Production) → pointwise same_item ps qs ≡ true �
 items-same [] [] h = refl
 items-same [] (q ∷ qs) h = absurd cc
 items-same (p ∷ ps) [] h = absurd cc
-items-same (p ∷ ps) (q ∷ qs) h =
-    ap (λ x. x ∷ ps) (item-same p q (both-left (same_item p q) _ h))
+items-same (p ∷ ps) (q ∷ qs) h = ap (λ x. x ∷ ps) (item-same p q (both-left (same_item p q) _ h))
     ∙ ap (λ xs. q ∷ xs) (items-same ps qs (both-right (same_item p q) _ h))
 
 accepted-right : (b : Block) → Judges b.items (told b) verdicts.Accepted → is_right b ≡ true
@@ -136,10 +117,8 @@ one-wrong b later e = ap (λ t. cond t (from_wrong later) (b ∷ later)) e
 
 joined : (done : List Block) (b : Block) (lines : List (List ℕ))
     → log_lines done ++ (block_lines b ++ lines) ≡ log_lines (done ++ b ∷ []) ++ lines
-joined done b lines =
-    sym (append_assoc (log_lines done) (block_lines b) lines)
-    ∙ ap (λ ls. ls ++ lines) (ap (λ ls. log_lines done ++ ls) (sym (append-nil (block_lines b)))
-    ∙ sym (flat_map-append block_lines done (b ∷ [])))
+joined done b lines = sym (append_assoc (log_lines done) (block_lines b) lines) ∙ ap (λ ls. ls ++ lines) (ap
+    (λ ls. log_lines done ++ ls) (sym (append-nil (block_lines b))) ∙ sym (flat_map-append block_lines done (b ∷ [])))
 
 block-next : (log rest : List ℕ) (texts count : ℕ) (old new : List Entry) (read : ReadBlock)
     → CheckedSoFar log rest texts count → HasBlock old new rest read → is_right (block_of new read.log) ≡ true
@@ -170,17 +149,13 @@ all-checked blocks others fine good e = ap checked (blocks-are-told blocks other
 
 pub all-accepted : (log rest : List ℕ) (texts count : ℕ) → CheckedSoFar log rest texts count → rest ≡ []
     → IsCheckedAs (pieces_of log) (Accepted texts count)
-all-accepted log rest texts count s none is =
-    ap (λ n. Accepted n count) s.texts ∙ (ap (λ n. Accepted (length s.done) n) s.count
-    ∙ (sym (ap (checked_by s.done) s.right)
-    ∙ all-checked s.done is.blocks s.fine is.fine
-    (sym (append-nil (log_lines s.done)) ∙ (ap (λ r. log_lines s.done ++ pieces_of r) (sym none)
-    ∙ (sym s.is ∙ is.is)))))
+all-accepted log rest texts count s none is = ap (λ n. Accepted n count) s.texts ∙ (ap (λ n. Accepted (length s.done) n)
+    s.count ∙ (sym (ap (checked_by s.done) s.right) ∙ all-checked s.done is.blocks s.fine is.fine (sym
+    (append-nil (log_lines s.done)) ∙ (ap (λ r. log_lines s.done ++ pieces_of r) (sym none) ∙ (sym s.is ∙ is.is)))))
 
 pub block-rejected : (log rest : List ℕ) (texts count after : ℕ) (old new : List Entry) (read : ReadBlock)
-    → CheckedSoFar log rest texts count → HasBlock old new rest read
-    → Judges (map production_of read.log.items) (told (block_of new read.log)) (verdicts.Rejected after)
-    → IsCheckedAs (pieces_of log) (Rejected (texts + 1) after)
+    → CheckedSoFar log rest texts count → HasBlock old new rest read → Judges (map production_of read.log.items)
+    (told (block_of new read.log)) (verdicts.Rejected after) → IsCheckedAs (pieces_of log) (Rejected (texts + 1) after)
 block-rejected log rest texts count after old new read s h found is =
     let b : Block = block_of new read.log in
     let later : List Block = h.later.blocks in
@@ -188,15 +163,11 @@ block-rejected log rest texts count after old new read s h found is =
     let wrong : from_wrong blocks ≡ b ∷ later = right-then s.done (b ∷ later) s.right
     ∙ one-wrong b later (rejected-wrong b after found) in
     let number : length blocks - length later ≡ texts + 1 = omega (arith, s.texts, length-append s.done (b ∷ later)) in
-    let lines : log_lines blocks ≡ pieces_of log =
-    flat_map-append block_lines s.done (b ∷ later)
-    ∙ (ap (λ ls. log_lines s.done ++ (block_lines b ++ ls)) (sym h.later.is)
-    ∙ (ap (λ ls. log_lines s.done ++ ls) (sym h.is) ∙ sym s.is)) in
+    let lines : log_lines blocks ≡ pieces_of log = flat_map-append block_lines s.done (b ∷ later) ∙ (ap (λ ls. log_lines
+    s.done ++ (block_lines b ++ ls)) (sym h.later.is) ∙ (ap (λ ls. log_lines s.done ++ ls) (sym h.is) ∙ sym s.is)) in
     ap (λ n. Rejected n after) (sym number) ∙ (ap (Rejected (length blocks - length later)) found.1
-    ∙ (sym (ap (checked_by blocks) wrong)
-    ∙ all-checked blocks is.blocks
-    (all-append IsFineBlock s.done (b ∷ later) s.fine (all-cons IsFineBlock b later h.fine h.later.fine)) is.fine
-    (lines ∙ is.is)))
+    ∙ (sym (ap (checked_by blocks) wrong) ∙ all-checked blocks is.blocks (all-append IsFineBlock s.done
+    (b ∷ later) s.fine (all-cons IsFineBlock b later h.fine h.later.fine)) is.fine (lines ∙ is.is)))
 
 -- ## How many there are
 
@@ -229,9 +200,8 @@ blocks-many (b ∷ blocks) = omega (
 )
 
 -- with one block more there are no more than the log has bytes
-pub block-few : (log rest : List ℕ) (texts count : ℕ) (old new : List Entry) (read : ReadBlock)
-    → CheckedSoFar log rest texts count → HasBlock old new rest read
-    → texts + count + length read.log.items + 1 ≤ length log
+pub block-few : (log rest : List ℕ) (texts count : ℕ) (old new : List Entry) (read : ReadBlock) → CheckedSoFar log rest
+    texts count → HasBlock old new rest read → texts + count + length read.log.items + 1 ≤ length log
 block-few log rest texts count old new read s h =
     let b : Block = block_of new read.log in
     let all : length (pieces_of log) ≡ length (log_lines s.done) + length (pieces_of rest) =

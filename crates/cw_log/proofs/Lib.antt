@@ -1,4 +1,5 @@
 -- Laws of what is told.
+mod Terms
 pub mod LineLaws
 pub mod SayLaws
 pub mod MakingLaws

@@ -1,10 +1,6 @@
 -- The line told of a scrap spells its leaf line.
-use Rattle.std.proofs.Common.{◌≡◌, ℕ, List, [], ◌∷◌, map, refl, ap}
-use Rattle.cw_names.specs.Names.{Entry}
-use Rattle.cw_leaves.specs.LeafLines.{kind_by, said, text_at}
-use Rattle.cw_trees.specs.Tree.{bare_name}
-use Rattle.cw_leaves.specs.Spelling.{id_of}
-use Rattle.cw_log.specs.Telling.{ItemsSayProductions, LinesSayScraps}
+use Rattle.cw_log.proofs.Terms.{◌≡◌, ℕ, List, [], ◌∷◌, map, refl, ap, Entry, kind_by, said, text_at, bare_name, id_of}
+use Rattle.cw_log.proofs.Terms.{ItemsSayProductions, LinesSayScraps}
 
 texts-of : (names : List Entry) (ns : List ℕ) → map (λ id. text_at names id.index) (map id_of ns)
     ≡ map (text_at names) ns

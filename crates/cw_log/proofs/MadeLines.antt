@@ -1,34 +1,16 @@
 -- A line of scraps that are made of leaf lines, one behind another.
-use Rattle.std.proofs.Common.{◌≡◌, ℕ, zero, suc, ◌+◌, ◌<◌, true, None, List, [], ◌∷◌, ◌++◌, length, map, get_or}
-use Rattle.std.proofs.Common.{slice_get, All, refl, sym, ◌∙◌, ap, subst, arith}
-use Rattle.std.proofs.lemmas.List.{length-map, map-append}
-use Rattle.cw_names.specs.declared.entry.NameId.{NameId}
-use Rattle.cw_names.specs.Names.{Entry}
+use Rattle.cw_log.proofs.Terms.{◌≡◌, ℕ, zero, suc, ◌+◌, ◌<◌, true, None, List, [], ◌∷◌, ◌++◌, length, map, get_or}
+use Rattle.cw_log.proofs.Terms.{slice_get, All, refl, sym, ◌∙◌, ap, subst, arith, length-map, map-append, NameId, Entry}
+use Rattle.cw_log.proofs.Terms.{Scrap, Tree, LeafKind, LeafLine, said, text_at, HasNoMark, IsIdentEntry, IsTold}
+use Rattle.cw_log.proofs.Terms.{line_by, line_of, spelled, AreIdents, IsFineLine, fits_kind, all-append, all-cons}
+use Rattle.cw_log.proofs.Terms.{LineEntry, seen, scraps_of, IsSoundLine, leaf-sound, Token, IsTied, tree_in, trees_from}
+use Rattle.cw_log.proofs.Terms.{unfolded, StoredLists, unfolded-old, unfolded-new, ident_token, last_tokens, made_form}
+use Rattle.cw_log.proofs.Terms.{made_tokens}
 use Rattle.cw_names.specs.Words.{built_in_words, words_of, BeginsWithWords}
-use Rattle.cw_trees.specs.Joining.{Scrap}
-use Rattle.cw_trees.specs.Tree.{Tree}
-use Rattle.cw_leaves.specs.declared.kinds.LeafKind.{LeafKind}
-use Rattle.cw_leaves.specs.declared.kinds.LeafKind.TheVariants as kinds
-use Rattle.cw_leaves.specs.declared.lines.LeafLine.{LeafLine}
-use Rattle.cw_leaves.specs.LeafLines.{said, text_at, HasNoMark, IsIdentEntry, IsTold}
-use Rattle.cw_leaves.specs.Spelling.{line_by, line_of, spelled}
-use Rattle.cw_logtext.specs.Blocks.{AreIdents}
-use Rattle.cw_logtext.specs.LogText.{IsFineLine, fits_kind}
-use Rattle.cw_logtext.proofs.Cutting.{all-append, all-cons}
-use Rattle.cw_scraps.specs.declared.leaves.Leaf.{Leaf}
-use Rattle.cw_scraps.specs.declared.line.LineEntry.{LineEntry}
-use Rattle.cw_scraps.specs.Leaves.{HasForm, entry_of}
-use Rattle.cw_scraps.specs.Lines.{seen, scraps_of, IsSoundLine}
-use Rattle.cw_scraps.proofs.LeafForms.{leaf-sound}
-use Rattle.cw_scraps.proofs.Productions.{seen-line}
-use Rattle.cw_scraps.proofs.Reservings.{entry-there}
-use Rattle.cw_tokens.specs.declared.token.Token.{Token}
-use Rattle.cw_tokens.specs.References.{IsTied}
-use Rattle.cw_tokens.specs.Shapes.{tree_in, trees_from, unfolded}
-use Rattle.cw_tokens.specs.Stored.{StoredLists}
-use Rattle.cw_tokens.proofs.Unfolding.{unfolded-old, unfolded-new}
-use Rattle.cw_log.specs.Making.{ident_token, last_tokens, made_form, made_tokens}
+use Rattle.cw_scraps.specs.{declared.leaves.Leaf.Leaf, Leaves.HasForm, Leaves.entry_of}
+use Rattle.cw_scraps.proofs.{Productions.seen-line, Reservings.entry-there}
 use Rattle.cw_log.proofs.MakingLaws.{made-good, made-line, said-made}
+use Rattle.cw_leaves.specs.declared.kinds.LeafKind.TheVariants as kinds
 
 -- there is a name for the word like `case`
 pub some-word : (names : List Entry) → BeginsWithWords names → 0 < length names
@@ -53,18 +35,16 @@ unmarked-last trees word kinds.S = tt
 told-names : (names : List Entry) (ids : List NameId) → AreIdents names ids
     → All (λ name. IsIdentEntry (slice_get names name)) (map (λ id. id.index) ids ++ [])
 told-names names [] h = λ i d lt. absurd (omega (arith, lt))
-told-names names (id ∷ ids) h =
-    all-cons (λ name. IsIdentEntry (slice_get names name)) id.index (map (λ i. i.index) ids ++ [])
-    (h 0 id (omega arith)) (told-names names ids (λ i d lt. h (suc i) d (omega arith)))
+told-names names (id ∷ ids) h = all-cons (λ name. IsIdentEntry (slice_get names name)) id.index
+    (map (λ i. i.index) ids ++ []) (h 0 id (omega arith)) (told-names names ids (λ i d lt. h (suc i) d (omega arith)))
 
 told-made : (names : List Entry) (trees : List Tree) (word : NameId) (leaf : LeafLine) → AreIdents names leaf.names
     → (scrap : Scrap) → scrap.tree ≡ tree_in trees (made_tokens word leaf) → IsTold names scrap
 told-made names trees word leaf idents scrap is = record {
   unmarked = subst HasNoMark (sym is) (unmarked-idents trees leaf.names (last_tokens word leaf.kind)
       (unmarked-last trees word leaf.kind));
-  idents = subst (λ ns. All (λ name. IsIdentEntry (slice_get names name)) ns)
-      (sym (ap (λ t. (said t).names) is ∙ said-made trees word leaf.kind leaf.names))
-      (told-names names leaf.names idents);
+  idents = subst (λ ns. All (λ name. IsIdentEntry (slice_get names name)) ns) (sym (ap (λ t. (said t).names) is
+      ∙ said-made trees word leaf.kind leaf.names)) (told-names names leaf.names idents);
 }
 
 -- ## One leaf after another
@@ -117,26 +97,21 @@ one-made names old new line leaves leaf made word lt idents fine has tied idle s
     let all : scraps_of new.lists (line ++ entry_of made ∷ [])
     ≡ scraps_of old.lists line ++ seen new.lists (entry_of made) ∷ [] = map-append (seen new.lists) line
     (entry_of made ∷ []) ∙ ap (λ ss. ss ++ seen new.lists (entry_of made) ∷ []) before in
-    let fits : fits_kind leaf.kind leaf.cat (length leaf.names) ≡ true =
-    ap (fits_kind leaf.kind leaf.cat) (sym (length-map leaf.names (λ (id : NameId). text_at names id.index)))
-    ∙ fine.kind in
-    let last : line_of (seen new.lists (entry_of made)) ≡ leaf =
-    ap (λ c. line_by c (unfolded new.lists made.list.index)) has.cat
-    ∙ (ap (line_by leaf.cat) tree
-    ∙ made-line (trees_from [] old.lists) word leaf.kind leaf.cat leaf.names fits) in
+    let fits : fits_kind leaf.kind leaf.cat (length leaf.names) ≡ true = ap (fits_kind leaf.kind leaf.cat)
+    (sym (length-map leaf.names (λ (id : NameId). text_at names id.index))) ∙ fine.kind in
+    let last : line_of (seen new.lists (entry_of made)) ≡ leaf = ap
+    (λ c. line_by c (unfolded new.lists made.list.index)) has.cat
+    ∙ (ap (line_by leaf.cat) tree ∙ made-line (trees_from [] old.lists) word leaf.kind leaf.cat leaf.names fits) in
     record {
       lines = ap (map line_of) all
           ∙ (map-append line_of (scraps_of old.lists line) (seen new.lists (entry_of made) ∷ [])
-          ∙ (ap (λ ls. ls ++ line_of (seen new.lists (entry_of made)) ∷ []) s.lines
-          ∙ ap (λ l. leaves ++ l ∷ []) last));
-      told = subst (All (IsTold names)) (sym all)
-          (all-append (IsTold names) (scraps_of old.lists line) (seen new.lists (entry_of made) ∷ []) s.told
-          (all-cons (IsTold names) (seen new.lists (entry_of made)) []
+          ∙ (ap (λ ls. ls ++ line_of (seen new.lists (entry_of made)) ∷ []) s.lines ∙ ap (λ l. leaves ++ l ∷ []) last));
+      told = subst (All (IsTold names)) (sym all) (all-append (IsTold names) (scraps_of old.lists line)
+          (seen new.lists (entry_of made) ∷ []) s.told (all-cons (IsTold names) (seen new.lists (entry_of made)) []
           (told-made names (trees_from [] old.lists) word leaf idents (seen new.lists (entry_of made)) tree)
           (λ i d h. absurd (omega (arith, h)))));
-      sound = leaf-sound (made_form word leaf) made old new names names line
-          (made-good (length names) word leaf lt (known-below names leaf.names idents) fits) has tied idle
-          (omega arith) s.sound;
+      sound = leaf-sound (made_form word leaf) made old new names names line (made-good (length names) word leaf lt
+          (known-below names leaf.names idents) fits) has tied idle (omega arith) s.sound;
     }
 
 -- ## Which leaf is the next

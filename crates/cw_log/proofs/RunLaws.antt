@@ -1,25 +1,16 @@
 -- What was found of a file is what its run is.
-use Rattle.std.proofs.Common.{◌≡◌, ◌≢◌, ℕ, ◌≤◌, ◌<◌, List, length, true, false, cond, Result, sym, ap}
-use Rattle.std.proofs.Common.{◌∙◌, arith, nat_le}
-use Rattle.std.specs.Result.{IfOk}
-use Rattle.std.proofs.lemmas.Bool.Decides.{nat_tests}
+use Rattle.cw_log.proofs.Terms.{◌≡◌, ◌≢◌, ℕ, ◌≤◌, ◌<◌, List, length, true, false, cond, Result, sym, ap, ◌∙◌, arith}
+use Rattle.cw_log.proofs.Terms.{nat_le, IfOk, nat_tests, pieces_of, PutError, IsFaultAt, IsLog, judgement, check_bytes}
+use Rattle.cw_log.proofs.Terms.{judged, no_log_text, run_of, too_long_text, checked, IsCheckedAs, Accepted, Rejected}
+use Rattle.cw_log.proofs.Terms.{LOG_LIMIT}
 use Rattle.std.proofs.lemmas.Result.{IfOk-weaker}
-use Rattle.cw_base.specs.declared.exit.Exit.{Exit}
-use Rattle.cw_base.specs.declared.exit.Exit.TheVariants.{Fault}
-use Rattle.cw_base.specs.Text.{pieces_of}
+use Rattle.cw_base.specs.{declared.exit.Exit.Exit, declared.exit.Exit.TheVariants.Fault}
 use Rattle.cw_desk.specs.Told.{Told}
-use Rattle.cw_lines.specs.declared.put_error.PutError.{PutError}
 use Rattle.cw_logtext.specs.Judgement.{Judgement, log, no_log}
-use Rattle.cw_logtext.specs.LogReading.{IsFaultAt, IsLog}
-use Rattle.cw_logtext.proofs.Deciding.{judgement}
 use Rattle.cw_logtext.proofs.Faults.{fault-no-log, fault-same}
 use Rattle.cw_run.specs.Emits.{Run, Runs}
 use Rattle.cw_tool.specs.Tool.{refused}
-use Rattle.cw_log.specs.Check.{check_bytes, judged, no_log_text, run_of, too_long_text}
-use Rattle.cw_log.specs.Checking.{checked, IsCheckedAs}
 use Rattle.cw_log.specs.declared.checking.Checked.{Checked}
-use Rattle.cw_log.specs.declared.checking.Checked.TheVariants.{Accepted, Rejected}
-use Rattle.cw_log.specs.declared.file.TheConstants.{LOG_LIMIT}
 
 pub judged-log : (lines : List (List ℕ)) (j : Judgement lines) (c : Checked) → IsLog lines → IsCheckedAs lines c
     → run_of c ≡ judged j
@@ -41,13 +32,11 @@ more-than : (m n : ℕ) → n < m → nat_le m n ≡ false
 more-than m n h = grind (arith, nat_tests)
 
 pub check-short : (file : List ℕ) → length file ≤ LOG_LIMIT → judged (judgement (pieces_of file)) ≡ check_bytes file
-check-short file short =
-    ap (λ t. cond t (judged (judgement (pieces_of file))) (refused too_long_text))
+check-short file short = ap (λ t. cond t (judged (judgement (pieces_of file))) (refused too_long_text))
     (sym (at-most (length file) LOG_LIMIT short))
 
 pub check-long : (file : List ℕ) → LOG_LIMIT < length file → refused too_long_text ≡ check_bytes file
-check-long file long =
-    ap (λ t. cond t (judged (judgement (pieces_of file))) (refused too_long_text))
+check-long file long = ap (λ t. cond t (judged (judgement (pieces_of file))) (refused too_long_text))
     (sym (more-than (length file) LOG_LIMIT long))
 
 -- ## Its status

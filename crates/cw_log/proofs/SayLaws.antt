@@ -1,23 +1,13 @@
 -- The tokens of a list say its names, one after another.
-use Rattle.std.proofs.Common.{◌≡◌, ℕ, zero, suc, ◌+◌, ◌*◌, ◌<◌, ◌≤◌, Bool, true, false, Option, Some, None, List, []}
-use Rattle.std.proofs.Common.{◌∷◌}
-use Rattle.std.proofs.Common.{◌++◌, length, map, drop, get_or, slice_get, refl, sym, ◌∙◌, ap, subst, arith, drop-cons}
-use Rattle.std.proofs.lemmas.List.{append_assoc, map-append}
+use Rattle.cw_log.proofs.Terms.{◌≡◌, ℕ, zero, suc, ◌+◌, ◌*◌, ◌<◌, ◌≤◌, Bool, true, false, Option, Some, None, List, []}
+use Rattle.cw_log.proofs.Terms.{◌∷◌, ◌++◌, length, map, drop, get_or, slice_get, refl, sym, ◌∙◌, ap, subst, arith}
+use Rattle.cw_log.proofs.Terms.{drop-cons, append_assoc, map-append, NameId, Cat, Tree, search_word, said, Heard}
+use Rattle.cw_log.proofs.Terms.{followed, silence, told_by, Token, refers, token_ref, IsTied, Shape, Plain, Below}
+use Rattle.cw_log.proofs.Terms.{InnerBelow, shape, ref_of, tree_in, trees_from, unfolded, with_built, unfold-is, id_of}
+use Rattle.cw_log.proofs.Terms.{token_said, IsSaid}
 use Rattle.std.proofs.lemmas.Option.{slice_get-get_or}
-use Rattle.cw_names.specs.declared.entry.NameId.{NameId}
-use Rattle.cw_base.specs.declared.category.Cat.{Cat}
 use Rattle.cw_base.specs.declared.category.Cat.TheVariants.{CaseLike}
-use Rattle.cw_trees.specs.Tree.{Tree, search_word}
-use Rattle.cw_leaves.specs.LeafLines.{said}
-use Rattle.cw_leaves.specs.Sights.{Heard, followed, silence, told_by}
-use Rattle.cw_tokens.specs.declared.token.Token.{Token}
-use Rattle.cw_tokens.specs.References.{refers, token_ref, IsTied}
-use Rattle.cw_tokens.specs.Shapes.{Shape, Plain, Below, InnerBelow, shape, ref_of, item_of, tree_in, trees_from}
-use Rattle.cw_tokens.specs.Shapes.{unfolded}
-use Rattle.cw_tokens.specs.Stored.{with_built}
-use Rattle.cw_tokens.proofs.Unfolding.{unfold-is}
-use Rattle.cw_leaves.specs.Spelling.{id_of}
-use Rattle.cw_log.specs.Telling.{token_said, IsSaid}
+use Rattle.cw_tokens.specs.Shapes.{item_of}
 
 -- ## The finished lists
 
@@ -47,9 +37,8 @@ token_rank token = rank_by (ref_of (shape token))
 pub below-earlier : (lists : List (List Token)) (tokens : List Token) (list place x : ℕ) (token d : Token)
     → IsTied lists → tokens ≡ get_or lists list [] → place < length tokens → get_or tokens place d ≡ token
     → ref_of (shape token) ≡ Some x → x < list
-below-earlier lists tokens list place x token d tied same lt is e =
-    tied.earlier list place x (ap (λ ts. token_ref (slice_get ts place)) (sym same)
-    ∙ (ap token_ref (slice_get-get_or tokens place d lt ∙ ap Some is) ∙ e))
+below-earlier lists tokens list place x token d tied same lt is e = tied.earlier list place x (ap (λ ts. token_ref
+    (slice_get ts place)) (sym same) ∙ (ap token_ref (slice_get-get_or tokens place d lt ∙ ap Some is) ∙ e))
 
 rank-below : (o : Option ℕ) (list : ℕ) → ((x : ℕ) → o ≡ Some x → x < list) → rank_by o < 2 * list + 1
 rank-below None list h = omega arith
@@ -58,8 +47,7 @@ rank-below (Some x) list h = omega (arith, h x refl)
 pub rank-falls : (lists : List (List Token)) (tokens : List Token) (list place : ℕ) (token d : Token) → IsTied lists
     → tokens ≡ get_or lists list [] → place < length tokens → get_or tokens place d ≡ token
     → token_rank token < 2 * list + 1
-rank-falls lists tokens list place token d tied same lt is =
-    rank-below (ref_of (shape token)) list
+rank-falls lists tokens list place token d tied same lt is = rank-below (ref_of (shape token)) list
     (λ x e. below-earlier lists tokens list place x token d tied same lt is e)
 
 said-item : (lists : List (List Token)) (s : Shape) (rest : Tree)
@@ -100,14 +88,12 @@ nothing-said lists tokens old = record { names = []; grown = sym (append-none ol
 
 -- what is said from a place on, by its token
 here-said : (lists : List (List Token)) (tokens : List Token) (place : ℕ) (token d : Token) → place < length tokens
-    → get_or tokens place d ≡ token
-    → list_said lists (drop place tokens)
+    → get_or tokens place d ≡ token → list_said lists (drop place tokens)
     ≡ followed (token_said lists (shape token)) (list_said lists (drop (place + 1) tokens))
 here-said lists tokens place token d lt is =
     let next : suc place ≡ place + 1 = omega arith in
-    ap (list_said lists) (drop-cons tokens place d lt ∙ (ap (λ t. t ∷ drop (suc place) tokens) is
-    ∙ ap (λ n. token ∷ drop n tokens) next))
-    ∙ said-item lists (shape token) (tree_in (trees_from [] lists) (drop (place + 1) tokens))
+    ap (list_said lists) (drop-cons tokens place d lt ∙ (ap (λ t. t ∷ drop (suc place) tokens) is ∙ ap (λ n. token
+    ∷ drop n tokens) next)) ∙ said-item lists (shape token) (tree_in (trees_from [] lists) (drop (place + 1) tokens))
 
 grown-twice : (old mid new : List NameId) (ns ms : List ℕ) → mid ≡ old ++ map id_of ns → new ≡ mid ++ map id_of ms
     → new ≡ old ++ map id_of (ns ++ ms)
@@ -122,9 +108,8 @@ one-said-of lists tokens place old mid new token d ms s lt is says grown = recor
   names = s.names ++ ms;
   grown = grown-twice old mid new s.names ms s.grown grown;
   rest = sym (followed-twice s.names ms (list_said lists (drop (place + 1) tokens)))
-      ∙ (ap (followed (names_alone s.names))
-      (ap (λ h. followed h (list_said lists (drop (place + 1) tokens))) (sym says)
-      ∙ sym (here-said lists tokens place token d lt is)) ∙ s.rest);
+      ∙ (ap (followed (names_alone s.names)) (ap (λ h. followed h (list_said lists (drop (place + 1) tokens)))
+      (sym says) ∙ sym (here-said lists tokens place token d lt is)) ∙ s.rest);
 }
 
 pub said-stopped-of : (lists : List (List Token)) (tokens : List Token) (place : ℕ) (old mid new : List NameId)
@@ -151,8 +136,7 @@ append-no-names (x ∷ xs) = ap (λ ys. x ∷ ys) (append-no-names xs)
 pub said-all : (lists : List (List Token)) (tokens : List Token) (place : ℕ) (old now : List NameId)
     → SaidSoFar lists tokens place old now → length tokens ≤ place → IsSaid (list_said lists tokens) old now false
 said-all lists tokens place old now s le =
-    let whole : names_alone s.names ≡ list_said lists tokens =
-    ap names_alone (sym (append-no-names s.names))
+    let whole : names_alone s.names ≡ list_said lists tokens = ap names_alone (sym (append-no-names s.names))
     ∙ (ap (λ ts. followed (names_alone s.names) (list_said lists ts)) (sym (drop-all tokens place le)) ∙ s.rest) in
     subst (λ h. IsSaid h old now false) whole (record { grown = s.grown; is = refl })
 

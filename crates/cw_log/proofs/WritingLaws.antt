@@ -1,38 +1,20 @@
 -- The log of a web is written text by text.
-use Rattle.std.proofs.Common.{◌≡◌, ℕ, zero, suc, ◌+◌, All, Some, Result, Ok, Err, List, [], ◌∷◌, ◌++◌}
-use Rattle.std.proofs.Common.{IsErrAnd, map, take, slice_get, refl, sym, ◌∙◌, ap, subst}
-use Rattle.std.proofs.Common.{arith, append_assoc}
-use Rattle.std.specs.List.{flat_map}
-use Rattle.std.proofs.lemmas.Grind.{flat_map-append}
-use Rattle.std.proofs.lemmas.List.{append-nil, take_all}
+use Rattle.cw_log.proofs.Terms.{◌≡◌, ℕ, zero, suc, ◌+◌, All, Some, Result, Ok, Err, List, [], ◌∷◌, ◌++◌, IsErrAnd, map}
+use Rattle.cw_log.proofs.Terms.{take, slice_get, refl, sym, ◌∙◌, ap, subst, arith, append_assoc, flat_map}
+use Rattle.cw_log.proofs.Terms.{flat_map-append, append-nil, take_all, Flags, EndedText, Source, text_ended, TextLog}
+use Rattle.cw_log.proofs.Terms.{item_of, production_of, PutError, block_of, Block, block_lines, ended, log_lines}
+use Rattle.cw_log.proofs.Terms.{log_text, Entry, Told as Recorded, Production, log, productions, State, TextRef}
+use Rattle.cw_log.proofs.Terms.{HasRecorded, logged, blocks_from, state_block, text_blocks, block_bytes, ended_by}
+use Rattle.cw_log.proofs.Terms.{recorded_of}
 use Rattle.std.proofs.lemmas.List.Elements.{All-head, All-tail}
 use Rattle.cw_base.specs.declared.event.Out.TheVariants.{Tex}
-use Rattle.cw_base.specs.declared.flags.Flags.{Flags}
-use Rattle.cw_desk.specs.Journal.{byte_events}
-use Rattle.cw_desk.specs.Told.{Told}
-use Rattle.cw_each.specs.EachText.{EndedText, Source, text_ended}
+use Rattle.cw_desk.specs.{Journal.byte_events, Told.Told}
 use Rattle.cw_each.specs.Forms.{IsWholeRef}
-use Rattle.cw_leaves.specs.declared.lines.TextLog.{TextLog}
-use Rattle.cw_leaves.specs.Spelling.{item_of, production_of}
-use Rattle.cw_lines.specs.declared.put_error.PutError.{PutError}
-use Rattle.cw_lines.specs.declared.put_error.PutError.TheVariants.{Memory as no_memory}
-use Rattle.cw_lines.specs.Writes.{Adds, HasAdded}
-use Rattle.cw_lines.specs.WritesLaws.{adds-events, adds-none}
-use Rattle.cw_logtext.specs.Appending.{block_of}
-use Rattle.cw_logtext.specs.LogText.{Block, block_lines, ended, log_lines, log_text}
-use Rattle.cw_names.specs.Names.{Entry}
-use Rattle.cw_rewrite.specs.Telling.{Told as Recorded}
-use Rattle.cw_table.specs.Normal.{Production, log}
-use Rattle.cw_table.specs.Productions.{productions}
-use Rattle.cw_table.specs.Rewriting.{State}
-use Rattle.cw_texts.specs.declared.text_list.TextRef.{TextRef}
+use Rattle.cw_lines.specs.{declared.put_error.PutError.TheVariants.Memory as no_memory, Writes.Adds, Writes.HasAdded}
+use Rattle.cw_lines.specs.{WritesLaws.adds-events, WritesLaws.adds-none}
 use Rattle.cw_tool.specs.PieceLaws.{piece-stop, piece-then, piece-wanting}
 use Rattle.cw_texts.specs.Scans.{scanned}
-use Rattle.cw_translator.specs.NameParts.{name_texts}
-use Rattle.cw_translator.specs.Recording.{HasRecorded, logged}
-use Rattle.cw_translator.specs.Translating.{translated}
-use Rattle.cw_log.specs.LogOfWeb.{blocks_from, state_block, text_blocks}
-use Rattle.cw_log.specs.Writing.{block_bytes, ended_by, recorded_of}
+use Rattle.cw_translator.specs.{NameParts.name_texts, Translating.translated}
 use Rattle.cw_log.proofs.CheckLaws.{spelled-lines}
 
 -- ## What is recorded of a text
@@ -50,21 +32,16 @@ recorded-all flags states before after value none h =
 -- the names that a translation leaves that begins without marks
 pub text-names : (s : Source) (part : TextRef) (names after : List Entry) (marks : List ℕ) → marks ≡ []
     → after ≡ (translated s.flags (name_texts s.sec_names s.name_uses) (scanned part.mode s.text part.span) names
-    marks).known.names
-    → after ≡ (text_ended s part names).known.names
-text-names s part names after marks none is =
-    is ∙ ap (λ (m : List ℕ). (translated s.flags (name_texts s.sec_names s.name_uses)
-    (scanned part.mode s.text part.span) names m).known.names) none
+    marks).known.names → after ≡ (text_ended s part names).known.names
+text-names s part names after marks none is = is ∙ ap (λ (m : List ℕ). (translated s.flags
+    (name_texts s.sec_names s.name_uses) (scanned part.mode s.text part.span) names m).known.names) none
 
 -- the texts that it tells
 pub text-recorded : (s : Source) (part : TextRef) (names : List Entry) (after : List TextLog) (marks : List ℕ)
-    → marks ≡ []
-    → after ≡ map (logged s.flags) (translated s.flags (name_texts s.sec_names s.name_uses)
-    (scanned part.mode s.text part.span) names marks).known.ended
-    → after ≡ recorded_of s (ended_by s part names)
-text-recorded s part names after marks none is =
-    is ∙ ap (λ (m : List ℕ). map (logged s.flags) (translated s.flags (name_texts s.sec_names s.name_uses)
-    (scanned part.mode s.text part.span) names m).known.ended) none
+    → marks ≡ [] → after ≡ map (logged s.flags) (translated s.flags (name_texts s.sec_names s.name_uses)
+    (scanned part.mode s.text part.span) names marks).known.ended → after ≡ recorded_of s (ended_by s part names)
+text-recorded s part names after marks none is = is ∙ ap (λ (m : List ℕ). map (logged s.flags) (translated s.flags
+    (name_texts s.sec_names s.name_uses) (scanned part.mode s.text part.span) names m).known.ended) none
 
 -- ## Its bytes
 
@@ -75,10 +52,9 @@ items-again (p ∷ items) = ap (λ ps. p ∷ ps) (items-again items)
 -- the block of what is recorded of a text
 block-logged : (flags : Flags) (names : List Entry) (state : State)
     → block_of names (logged flags state) ≡ state_block flags names state
-block-logged flags names state =
-    ap (λ ls. record { leaves = ls; items = map production_of (map item_of (log productions flags state)) })
-    (spelled-lines names state.scraps)
-    ∙ ap (λ ps. record { leaves = (state_block flags names state).leaves; items = ps })
+block-logged flags names state = ap
+    (λ ls. record { leaves = ls; items = map production_of (map item_of (log productions flags state)) }) (spelled-lines
+    names state.scraps) ∙ ap (λ ps. record { leaves = (state_block flags names state).leaves; items = ps })
     (items-again (log productions flags state))
 
 text-of-both : (xs ys : List Block) → log_text (xs ++ ys) ≡ log_text xs ++ log_text ys
@@ -88,12 +64,10 @@ text-of-both xs ys = ap (flat_map ended) (flat_map-append block_lines xs ys)
 states-bytes : (flags : Flags) (names : List Entry) (states : List State)
     → flat_map (block_bytes names) (map (logged flags) states) ≡ log_text (map (state_block flags names) states)
 states-bytes flags names [] = refl
-states-bytes flags names (state ∷ states) =
-    ap (λ (bytes : List ℕ). block_bytes names (logged flags state) ++ bytes) (states-bytes flags names states)
-    ∙ (ap (λ (b : Block). flat_map ended (block_lines b) ++ log_text (map (state_block flags names) states))
-    (block-logged flags names state)
-    ∙ sym (flat_map-append ended (block_lines (state_block flags names state))
-    (log_lines (map (state_block flags names) states))))
+states-bytes flags names (state ∷ states) = ap (λ (bytes : List ℕ). block_bytes names (logged flags state) ++ bytes)
+    (states-bytes flags names states) ∙ (ap (λ (b : Block). flat_map ended (block_lines b) ++ log_text
+    (map (state_block flags names) states)) (block-logged flags names state) ∙ sym (flat_map-append ended
+    (block_lines (state_block flags names state)) (log_lines (map (state_block flags names) states))))
 
 -- the bytes of the blocks that are recorded
 pub recorded-bytes : (s : Source) (t : EndedText)
@@ -105,17 +79,15 @@ flat-more : {A : Type 0} (f : A → List ℕ) (xs : List A) (i : ℕ) (x : A) �
 flat-more f [] zero x e = absurd cc
 flat-more f [] (suc i) x e = absurd cc
 flat-more f (y ∷ ys) zero x e = append-nil (f y) ∙ ap f (let d : y ≡ x = cc in d)
-flat-more f (y ∷ ys) (suc i) x e =
-    ap (λ bytes. f y ++ bytes) (flat-more f ys i x e)
+flat-more f (y ∷ ys) (suc i) x e = ap (λ bytes. f y ++ bytes) (flat-more f ys i x e)
     ∙ sym (append_assoc (f y) (flat_map f (take i ys)) (f x))
 
 -- one block more is appended
 pub bytes-more : (names : List Entry) (texts : List TextLog) (i : ℕ) (text : TextLog) (old new : List ℕ)
     → slice_get texts i ≡ Some text → old ≡ flat_map (block_bytes names) (take i texts)
     → new ≡ old ++ block_bytes names text → new ≡ flat_map (block_bytes names) (take (i + 1) texts)
-bytes-more names texts i text old new there so_far is =
-    is ∙ (ap (λ (bytes : List ℕ). bytes ++ block_bytes names text) so_far
-    ∙ (sym (flat-more (block_bytes names) texts i text there)
+bytes-more names texts i text old new there so_far is = is ∙ (ap (λ (bytes : List ℕ). bytes ++ block_bytes names text)
+    so_far ∙ (sym (flat-more (block_bytes names) texts i text there)
     ∙ ap (λ n. flat_map (block_bytes names) (take n texts)) (let e : suc i ≡ i + 1 = omega arith in e)))
 
 -- ## Text after text
@@ -123,8 +95,7 @@ bytes-more names texts i text old new there so_far is =
 abbrev pub texts_log : Source → List TextRef → List Entry → List ℕ
 texts_log s texts names = log_text (blocks_from s texts names)
 
-log-first : (s : Source) (text : TextRef) (texts : List TextRef) (names : List Entry)
-    → texts_log s (text ∷ texts) names
+log-first : (s : Source) (text : TextRef) (texts : List TextRef) (names : List Entry) → texts_log s (text ∷ texts) names
     ≡ log_text (text_blocks s.flags (ended_by s text names)) ++ texts_log s texts (text_ended s text names).known.names
 log-first s text texts names = text-of-both (text_blocks s.flags (ended_by s text names))
     (blocks_from s texts (text_ended s text names).known.names)
@@ -151,15 +122,13 @@ module _ (s : Source) (all coming : List TextRef) (names names' : List Entry) (b
   -- memory was wanting before a text was translated
   pub written-wanting : {U : Type 0} {result : Result U PutError} → IsErrAnd result (λ found. found ≡ no_memory)
       → Adds (byte_events Tex (texts_log s all names)) before now result
-  written-wanting is =
-      adds-events (ap (byte_events Tex) w.left)
+  written-wanting is = adds-events (ap (byte_events Tex) w.left)
       (piece-then Tex w.done (texts_log s coming names') w.added (piece-wanting Tex (texts_log s coming names') is))
 
   -- no text is left
   pub written-all : {U : Type 0} (value : U) → coming ≡ []
       → Adds {T = U} (byte_events Tex (texts_log s all names)) before now (Ok value)
-  written-all value none =
-      adds-events (ap (byte_events Tex) (sym (append-nil w.done)
+  written-all value none = adds-events (ap (byte_events Tex) (sym (append-nil w.done)
       ∙ (ap (λ (rest : List TextRef). w.done ++ texts_log s rest names') (sym none) ∙ w.left)))
       (record { ok = w.added.ok; err = tt; same = w.added.same; fault = λ fault. cc })
 
@@ -177,17 +146,15 @@ module _ (s : Source) (all coming coming' : List TextRef) (text : TextRef) (name
     (before now : Told) (w : Written s all coming names names' before now) (gives : coming ≡ text ∷ coming') where
   text-left : w.done ++ (text_log s text names' ++ texts_log s coming' (names_behind s text names'))
       ≡ texts_log s all names
-  text-left =
-      ap (λ (bytes : List ℕ). w.done ++ bytes) (sym (log-first s text coming' names'))
+  text-left = ap (λ (bytes : List ℕ). w.done ++ bytes) (sym (log-first s text coming' names'))
       ∙ (ap (λ (ts : List TextRef). w.done ++ texts_log s ts names') (sym gives) ∙ w.left)
 
   pub text-whole : IsWholeRef s.text text
   text-whole = All-head (IsWholeRef s.text) text coming' (subst (All (IsWholeRef s.text)) gives w.whole)
 
   -- its blocks are written
-  pub written-more : {U : Type 0} {later : Told} {value : U} (names'' : List Entry)
-      → names'' ≡ names_behind s text names'
-      → Adds {T = U} (byte_events Tex (text_log s text names')) now later (Ok value)
+  pub written-more : {U : Type 0} {later : Told} {value : U} (names'' : List Entry) → names''
+      ≡ names_behind s text names' → Adds {T = U} (byte_events Tex (text_log s text names')) now later (Ok value)
       → Written s all coming' names names'' before later
   written-more names'' same piece = record {
     done = w.done ++ text_log s text names';
@@ -201,9 +168,7 @@ module _ (s : Source) (all coming coming' : List TextRef) (text : TextRef) (name
   -- they are refused
   pub written-refused : {T U : Type 0} {later : Told} {error : PutError} {result : Result U PutError}
       → Adds {T = T} (byte_events Tex (text_log s text names')) now later (Err error)
-      → IsErrAnd result (λ found. found ≡ error)
-      → Adds (byte_events Tex (texts_log s all names)) before later result
-  written-refused piece refused =
-      adds-events (ap (byte_events Tex) text-left)
+      → IsErrAnd result (λ found. found ≡ error) → Adds (byte_events Tex (texts_log s all names)) before later result
+  written-refused piece refused = adds-events (ap (byte_events Tex) text-left)
       (piece-then Tex w.done (text_log s text names' ++ texts_log s coming' (names_behind s text names')) w.added
       (piece-stop Tex (text_log s text names') (texts_log s coming' (names_behind s text names')) piece refused))

@@ -1,30 +1,18 @@
 -- The names of a book: no two are alike, each has a category, and none of its section names is longer than its text.
-use Rattle.std.proofs.Common.{◌≡◌, ◌≢◌, ℕ, zero, suc, ◌≤◌, ◌^◌, Bool, true, false, not, ◌&&◌, List, [], ◌∷◌, Option}
-use Rattle.std.proofs.Common.{None, length, slice_get, All, refl, arith}
-use Rattle.std.specs.List.{IsDistinct, AllByRecursion, list_all}
-use Rattle.std.proofs.lemmas.List.Elements.{All-from_recursion, All-weaker}
-use Rattle.cw_base.proofs.TestLaws.{both-left, both-right, not-true}
-use Rattle.cw_base.specs.declared.category.Cat.{Cat}
-use Rattle.cw_base.specs.declared.category.Cat.TheVariants.{End}
-use Rattle.cw_base.specs.Web.{MergedLine, text_of}
-use Rattle.cw_rules.specs.declared.tokens.Mode.TheVariants as modes
-use Rattle.cw_lex.proofs.Covering.{tokens-cover}
-use Rattle.cw_names.specs.declared.entry.EntryKind.{EntryKind}
-use Rattle.cw_names.specs.declared.entry.EntryKind.TheVariants.{Ident}
-use Rattle.cw_names.specs.declared.entry.NameId.{NameId}
-use Rattle.cw_names.specs.Names.{Entry, AreDistinct, is_entry, with_category, with_entry}
-use Rattle.cw_names.specs.Words.{built_in_words}
+use Rattle.cw_log_laws.proofs.Terms.{◌≡◌, ◌≢◌, ℕ, zero, suc, ◌≤◌, ◌^◌, Bool, true, false, not, ◌&&◌, List, [], ◌∷◌}
+use Rattle.cw_log_laws.proofs.Terms.{Option, None, length, slice_get, All, refl, arith, AllByRecursion, list_all}
+use Rattle.cw_log_laws.proofs.Terms.{All-from_recursion, All-weaker, both-left, both-right, not-true, Cat, End}
+use Rattle.cw_log_laws.proofs.Terms.{MergedLine, text_of, tokens-cover, EntryKind, Ident, NameId, Entry, AreDistinct}
+use Rattle.cw_log_laws.proofs.Terms.{is_entry, with_category, with_entry, built_in_words, answers_of, book, Placed}
+use Rattle.cw_log_laws.proofs.Terms.{placed, SecName, AreNames}
+use Rattle.std.specs.List.{IsDistinct}
 use Rattle.cw_phase1.proofs.NameSizes.{all-short}
-use Rattle.cw_phase1.specs.Book.{answers_of, book}
-use Rattle.cw_phase1.specs.Roles.{Placed, placed}
 use Rattle.cw_rules.specs.ControlTexts.{text_behind_code}
-use Rattle.cw_phase1.specs.Uses.{references_of}
+use Rattle.cw_phase1.specs.{Uses.references_of, declared.roles.Role.Role}
 use Rattle.cw_phase1.specs.Words.{KnownNames, category_of, known_after, known_behind, name_id, with_format}
-use Rattle.cw_phase1.specs.declared.roles.Role.{Role}
-use Rattle.cw_phase1.specs.declared.roles.Role.TheVariants as roles
-use Rattle.cw_secnames.specs.Kept.{SecName}
-use Rattle.cw_log_laws.specs.LoggedTexts.{AreNames}
 use Rattle.cw_log_laws.proofs.LaterNames.{HaveCats, are_real, distinct-entry, have-entry, real-law}
+use Rattle.cw_rules.specs.declared.tokens.Mode.TheVariants as modes
+use Rattle.cw_phase1.specs.declared.roles.Role.TheVariants as roles
 
 -- ## The built-in words
 
@@ -38,8 +26,7 @@ are_apart (e ∷ es) = is_other e es && are_apart es
 other-law : (e : Entry) (es : List Entry) → is_other e es ≡ true
     → AllByRecursion (λ d. is_entry e.kind e.text d ≡ false) es
 other-law e [] h = tt
-other-law e (d ∷ es) h =
-    (not-true (is_entry e.kind e.text d) (both-left _ _ h), other-law e es (both-right _ _ h))
+other-law e (d ∷ es) h = (not-true (is_entry e.kind e.text d) (both-left _ _ h), other-law e es (both-right _ _ h))
 
 apart-law : (es : List Entry) → are_apart es ≡ true → AreDistinct es
 unfolding IsDistinct
@@ -54,9 +41,8 @@ words-real = refl
 
 -- ## Another category
 
-others-at : (e : Entry) (place : ℕ) (c : Cat) (es : List Entry)
-    → AllByRecursion (λ d. is_entry e.kind e.text d ≡ false) es
-    → AllByRecursion (λ d. is_entry e.kind e.text d ≡ false) (with_category place c es)
+others-at : (e : Entry) (place : ℕ) (c : Cat) (es : List Entry) → AllByRecursion (λ d. is_entry e.kind e.text d ≡ false)
+    es → AllByRecursion (λ d. is_entry e.kind e.text d ≡ false) (with_category place c es)
 others-at e place c [] all = tt
 others-at e zero c (d ∷ es) all = (all.0, all.1)
 others-at e (suc place) c (d ∷ es) all = (all.0, others-at e place c es all.1)
@@ -85,8 +71,7 @@ Good es = AreDistinct es × HaveCats es
 good-entry : (kind : EntryKind) (text : List ℕ) (es : List Entry) → Good es → Good (with_entry kind text es)
 good-entry kind text es g = (distinct-entry kind text es g.0, have-entry kind text es g.1)
 
-good-format : (first : Option NameId) (second : NameId) (es : List Entry) → Good es
-    → Good (with_format first second es)
+good-format : (first : Option NameId) (second : NameId) (es : List Entry) → Good es → Good (with_format first second es)
 good-format first second es g = grind (arith, distinct-at, slice_get, have-at, category-real)
 
 good-behind : (role : Role) (text : List ℕ) (k : KnownNames) → Good k.names → Good (known_behind role text k).names
@@ -101,8 +86,7 @@ good-behind _ text k g = g
 
 good-after : (ps : List Placed) (k : KnownNames) → Good k.names → Good (known_after ps k).names
 good-after [] k g = g
-good-after (p ∷ ps) k g =
-    good-after ps (known_behind p.role p.token.text k) (good-behind p.role p.token.text k g)
+good-after (p ∷ ps) k g = good-after ps (known_behind p.role p.token.text k) (good-behind p.role p.token.text k g)
 
 real-all : (es : List Entry) → HaveCats es → AllByRecursion (λ entry. entry.category ≢ End) es
 real-all [] all = tt
@@ -115,16 +99,14 @@ book-names lines =
     (apart-law built_in_words words-apart, real-law built_in_words words-real) in
     record {
       apart = g.0;
-      real = All-from_recursion (λ (e : Entry). e.category ≢ End) (book lines).names
-          (real-all (book lines).names g.1);
+      real = All-from_recursion (λ (e : Entry). e.category ≢ End) (book lines).names (real-all (book lines).names g.1);
     }
 
 -- ## Section names
 
 pub book-short : (lines : List MergedLine) → length (text_of lines) ≤ 2 ^ 24
     → All (λ (name : SecName). length name.text ≤ 2 ^ 24) (book lines).sec_names
-book-short lines short =
-    All-weaker (λ (name : SecName). length name.text ≤ length (text_of lines))
+book-short lines short = All-weaker (λ (name : SecName). length name.text ≤ length (text_of lines))
     (λ (name : SecName). length name.text ≤ 2 ^ 24) (λ name h. omega (arith, h, short)) (book lines).sec_names
     (all-short (text_of lines) (answers_of lines) (references_of (placed (answers_of lines)))
     (tokens-cover (text_of lines) 0 (length (text_of lines)) modes.Limbo (omega arith) (omega arith)))

@@ -1,15 +1,11 @@
 -- There are at most as many tokens and comments as bytes, and a nest has no more of them.
-use Rattle.std.proofs.Common.{◌≡◌, ℕ, zero, suc, ◌+◌, ◌-◌, ◌≤◌, Bool, List, [], ◌∷◌, ◌++◌, length, refl, sym, ap, ◌∙◌}
-use Rattle.std.proofs.Common.{arith, append_assoc, append-nil, length-drop}
-use Rattle.std.proofs.lemmas.List.{length-take}
-use Rattle.cw_rules.specs.declared.tokens.Mode.{Mode}
-use Rattle.cw_rules.specs.Answers.{Answer, Token, Begin, Finish, Note, Seen, Where, Found}
+use Rattle.cw_log_laws.proofs.Terms.{◌≡◌, ℕ, zero, suc, ◌+◌, ◌-◌, ◌≤◌, Bool, List, [], ◌∷◌, ◌++◌, length, refl, sym, ap}
+use Rattle.cw_log_laws.proofs.Terms.{◌∙◌, arith, append_assoc, append-nil, length-drop, length-take, Mode, Answer}
+use Rattle.cw_log_laws.proofs.Terms.{Token, Begin, Finish, Note, Seen, Where, Found, found_apart, AreBare, AreNotes}
+use Rattle.cw_log_laws.proofs.Terms.{TakesAll, Takes, bare-all-cut, found-takes, still_fresh, answers, tokens_of, Nest}
+use Rattle.cw_log_laws.proofs.Terms.{Leaf, Group, group, leaf, nests, first_nest, nest, until_section}
 use Rattle.cw_rules.specs.Tokens.{all_cut}
-use Rattle.cw_rules.specs.Apart.{found_apart}
-use Rattle.cw_rules.proofs.Taking.{AreBare, AreNotes, TakesAll, Takes, bare-all-cut, found-takes}
-use Rattle.cw_lex.specs.Lexing.{still_fresh, answers, tokens_of}
-use Rattle.cw_lex.specs.Nest.{Nest, End, Leaf, Group, group, leaf, nests, first_nest, nest}
-use Rattle.cw_lex.specs.Nested.{until_section}
+use Rattle.cw_lex.specs.Nest.{End}
 
 -- how many of the answers are tokens, or begin a comment or an inner text
 abbrev pub tokens_in : List Answer → ℕ

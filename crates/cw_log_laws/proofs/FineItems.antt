@@ -1,21 +1,12 @@
 -- The productions of a log are those of the table, at places below the number of scraps.
-use Rattle.std.proofs.Common.{◌≡◌, ℕ, zero, suc, ◌<◌, ◌≤◌, Bool, true, false, ◌&&◌, nat_le, Some, List, [], ◌∷◌}
-use Rattle.std.proofs.Common.{length, drop, refl, sym, ap, ◌∙◌, subst, arith, if◌then◌else◌}
-use Rattle.std.specs.List.{All, list_all}
-use Rattle.std.proofs.lemmas.Bool.{leb-true}
-use Rattle.std.proofs.lemmas.List.Elements.{All-cons, All-nil}
-use Rattle.cw_base.proofs.TestLaws.{both-left, both-right}
-use Rattle.cw_base.specs.declared.category.Cat.{Cat}
-use Rattle.cw_base.specs.declared.flags.Flags.{Flags}
-use Rattle.cw_table.specs.declared.productions.TheConstants.{ROW_COUNT}
-use Rattle.cw_table.specs.declared.types.Row.{Row}
-use Rattle.cw_table.specs.Fitting.{row_fits, first_of}
-use Rattle.cw_table.specs.Normal.{Place, Nowhere, At, next_place, is_fine, log, log_of, weight}
-use Rattle.cw_table.specs.Productions.{productions}
-use Rattle.cw_table.specs.Rewriting.{State, cats_of, rewrite}
+use Rattle.cw_log_laws.proofs.Terms.{◌≡◌, ℕ, zero, suc, ◌<◌, ◌≤◌, Bool, true, false, ◌&&◌, nat_le, Some, List, [], ◌∷◌}
+use Rattle.cw_log_laws.proofs.Terms.{length, drop, refl, sym, ap, ◌∙◌, subst, arith, if◌then◌else◌, All, list_all}
+use Rattle.cw_log_laws.proofs.Terms.{leb-true, All-cons, All-nil, both-left, both-right, Cat, Flags, Row, Place}
+use Rattle.cw_log_laws.proofs.Terms.{Nowhere, At, next_place, is_fine, log_of, weight, State, cats_of, rewrite}
+use Rattle.cw_log_laws.proofs.Terms.{log-none-of, log-turn-of, takes, greatest, IsFineItem}
+use Rattle.cw_table.specs.{declared.productions.TheConstants.ROW_COUNT, Fitting.row_fits, Fitting.first_of, Normal.log}
+use Rattle.cw_table.specs.{Productions.productions}
 use Rattle.cw_table.proofs.Examples.{productions-sound}
-use Rattle.cw_table.proofs.Normals.{log-none-of, log-turn-of, takes}
-use Rattle.cw_logtext.specs.LogText.{greatest, IsFineItem}
 
 -- ## Numbers of rows
 
@@ -43,14 +34,12 @@ first-numbered (r ∷ rows) cats row all e = go (row_fits r cats) refl e
 
 module _ (flags : Flags) (most : ℕ) (few : most ≤ greatest) where
   item-fine : (st : State) (i : ℕ) (r : Row) → first_of productions (drop i (cats_of st.scraps)) ≡ Some r
-      → i < length st.scraps → length st.scraps ≤ most
-      → IsFineItem (record { number = r.number.number; place = i })
+      → i < length st.scraps → length st.scraps ≤ most → IsFineItem (record { number = r.number.number; place = i })
   item-fine st i r found inside short =
       let numbered = first-numbered productions (drop i (cats_of st.scraps)) r all-numbered found in
       record {
         from_one = leb-true 1 r.number.number (both-left (nat_le 1 r.number.number) _ numbered);
-        to_last = leb-true r.number.number ROW_COUNT
-            (both-right (nat_le 1 r.number.number) _ numbered);
+        to_last = leb-true r.number.number ROW_COUNT (both-right (nat_le 1 r.number.number) _ numbered);
         near = omega (arith, inside, short, few);
       }
 

@@ -1,37 +1,22 @@
 -- The C texts of a book lie in its text, behind the code of a section.
-use Rattle.std.proofs.Common.{ℕ, zero, suc, ◌<◌, ◌≤◌, ◌^◌, Bool, not, List, [], ◌∷◌, ◌++◌, Option, Some, None, length}
-use Rattle.std.proofs.Common.{All, arith, if◌then◌else◌}
-use Rattle.std.proofs.lemmas.List.Concat.{flat_map-cons}
-use Rattle.std.proofs.lemmas.List.Elements.{All-append, All-filter, All-head, All-map, All-nil, All-tail, All-weaker}
+use Rattle.cw_log_laws.proofs.Terms.{ℕ, zero, suc, ◌<◌, ◌≤◌, ◌^◌, Bool, not, List, [], ◌∷◌, ◌++◌, Option, Some, None}
+use Rattle.cw_log_laws.proofs.Terms.{length, All, arith, if◌then◌else◌, flat_map-cons, All-append, All-filter, All-head}
+use Rattle.cw_log_laws.proofs.Terms.{All-map, All-nil, All-tail, All-weaker, MergedLine, text_of, Span, Code, TokKind}
+use Rattle.cw_log_laws.proofs.Terms.{Answer, Seen, Token, Begin, Finish, Note, tokens-cover, answers_of, book, Placed}
+use Rattle.cw_log_laws.proofs.Terms.{at_limbo, placed, NameUse, definition_ref, definition_refs, part_refs, piece_refs}
+use Rattle.cw_log_laws.proofs.Terms.{refs_from, section_refs, tex_refs, text_ref, texts_of, TextRef, IsInside}
 use Rattle.cw_base.specs.Conditions.{list_if}
-use Rattle.cw_base.specs.Web.{MergedLine, text_of}
-use Rattle.cw_base.specs.declared.span.Span.{Span}
-use Rattle.cw_rules.specs.declared.codes.Code.{Code}
-use Rattle.cw_rules.specs.declared.tokens.Mode.TheVariants as modes
-use Rattle.cw_rules.specs.declared.tokens.TokKind.{TokKind}
-use Rattle.cw_rules.specs.declared.tokens.TokKind.TheVariants as kinds
-use Rattle.cw_rules.specs.Answers.{Answer, Seen, Token, Begin, Finish, Note}
 use Rattle.cw_rules.specs.Order.{AreWithin}
-use Rattle.cw_lex.proofs.Covering.{tokens-cover}
 use Rattle.cw_lex.proofs.TokensWithin.{tokens-within}
-use Rattle.cw_phase1.specs.Book.{answers_of, book}
-use Rattle.cw_phase1.specs.Roles.{Placed, at_limbo, placed}
-use Rattle.cw_phase1.specs.Sections.{sections_of}
-use Rattle.cw_phase1.specs.Sound.{LiesIn}
-use Rattle.cw_phase1.specs.declared.sections.Section.{Section}
+use Rattle.cw_phase1.specs.{Sections.sections_of, Sound.LiesIn, declared.sections.Section.Section}
 use Rattle.cw_phase1.proofs.SpanLaws.{Follow, all-lie, follows}
-use Rattle.cw_secnames.specs.Uses.{NameUse}
+use Rattle.cw_texts.specs.{Printed.is_printed, Scans.scanned, declared.definitions.Begun.Begun}
+use Rattle.cw_texts.specs.{declared.definitions.Definition.Definition}
 use Rattle.cw_texts.specs.Definitions.{begun_by, next_begin, definitions_in, definitions_of, not_silent}
 use Rattle.cw_texts.specs.Definitions.{printed_definitions, with_begun}
-use Rattle.cw_texts.specs.Printed.{is_printed}
-use Rattle.cw_texts.specs.Scans.{scanned}
 use Rattle.cw_texts.specs.TexPieces.{Cited, Copied, InnerText, TexPiece, tex_pieces_of, tex_pieces, token_piece}
-use Rattle.cw_texts.specs.Texts.{definition_ref, definition_refs, part_refs, piece_refs, refs_from, section_refs}
-use Rattle.cw_texts.specs.Texts.{tex_refs, text_ref, texts_of}
-use Rattle.cw_texts.specs.declared.definitions.Begun.{Begun}
-use Rattle.cw_texts.specs.declared.definitions.Definition.{Definition}
-use Rattle.cw_texts.specs.declared.text_list.TextRef.{TextRef}
-use Rattle.cw_log_laws.specs.LoggedTexts.{IsInside}
+use Rattle.cw_rules.specs.declared.tokens.Mode.TheVariants as modes
+use Rattle.cw_rules.specs.declared.tokens.TokKind.TheVariants as kinds
 
 -- ## The pieces of TeX parts, and definitions
 
@@ -128,15 +113,12 @@ module _ (low high : ℕ) (some : 0 < low) (short : high ≤ 2 ^ 24) where
 
   definitions-inside : (number : ℕ) (ds : List Definition) → All (IsDefined low high) ds
       → All IsInsideRef (definition_refs number (not_silent ds))
-  definitions-inside number ds h =
-      All-map IsInsideRef (definition_ref number) (not_silent ds)
-      (All-filter (λ d. not d.silent) (λ d. IsInsideRef (definition_ref number d)) ds
-      (All-weaker (IsDefined low high) (λ d. IsInsideRef (definition_ref number d))
-      (λ d g. inside d.span g.begins g.ends) ds h))
+  definitions-inside number ds h = All-map IsInsideRef (definition_ref number) (not_silent ds)
+      (All-filter (λ d. not d.silent) (λ d. IsInsideRef (definition_ref number d)) ds (All-weaker (IsDefined low high)
+      (λ d. IsInsideRef (definition_ref number d)) (λ d g. inside d.span g.begins g.ends) ds h))
 
-section-inside : (printed : Bool) (text : List ℕ) (uses : List NameUse) (number : ℕ) (s : Section)
-    → length text ≤ 2 ^ 24 → LiesIn (length text) s → 0 < s.tex.start
-    → All IsInsideRef (section_refs printed text uses number s)
+section-inside : (printed : Bool) (text : List ℕ) (uses : List NameUse) (number : ℕ) (s : Section) → length text ≤ 2 ^
+    24 → LiesIn (length text) s → 0 < s.tex.start → All IsInsideRef (section_refs printed text uses number s)
 section-inside printed text uses number s short l some =
     let ds = definition_refs number (printed_definitions text s.definitions) in
     let tex = tokens-within text s.tex.start s.tex.«end» modes.TexText l.tex
@@ -144,16 +126,20 @@ section-inside printed text uses number s short l some =
     let defs = tokens-within text s.definitions.start s.definitions.«end» modes.Definition l.definitions
     (omega (arith, l.definitions_end, l.c_part, l.within)) in
     All-append IsInsideRef (tex_refs uses number (tex_pieces_of text s.tex)) (ds ++ part_refs printed number s.c_part)
-    (tex-inside s.tex.start s.tex.«end» some
-    (omega (arith, l.tex_ends, l.definitions, l.definitions_end, l.c_part, l.within, short)) uses number
-    (tex_pieces_of text s.tex) (pieces-in s.tex.start s.tex.«end» 0 0 (scanned modes.TexText text s.tex) tex tt))
-    (All-append IsInsideRef ds (part_refs printed number s.c_part)
+    (tex-inside s.tex.start s.tex.«end» some (omega (
+      arith,
+      l.tex_ends,
+      l.definitions,
+      l.definitions_end,
+      l.c_part,
+      l.within,
+      short,
+    )) uses number (tex_pieces_of text s.tex) (pieces-in s.tex.start s.tex.«end» 0 0
+    (scanned modes.TexText text s.tex) tex tt)) (All-append IsInsideRef ds (part_refs printed number s.c_part)
     (definitions-inside s.definitions.start s.definitions.«end» (omega (arith, some, l.tex, l.tex_ends))
     (omega (arith, l.definitions_end, l.c_part, l.within, short)) number (definitions_in text s.definitions)
-    (definitions-in s.definitions.start s.definitions.«end» s.definitions.«end» (omega arith)
-    (scanned modes.Definition text s.definitions) defs))
-    (one-if printed (text_ref number modes.CPart s.c_part)
-    (record {
+    (definitions-in s.definitions.start s.definitions.«end» s.definitions.«end» (omega arith) (scanned modes.Definition
+    text s.definitions) defs)) (one-if printed (text_ref number modes.CPart s.c_part) (record {
       behind = omega (arith, some, l.tex, l.tex_ends, l.definitions, l.definitions_end);
       within = omega (arith, l.within, short);
     })))
@@ -183,15 +169,13 @@ sections-inside test text uses number (s ∷ sections) short lie all =
     (sections-inside test text uses (suc number) sections short (All-tail (LiesIn (length text)) s sections lie) all.1)
 
 -- the texts of a book
-pub book-inside : (lines : List MergedLine) → length (text_of lines) ≤ 2 ^ 24
-    → All (λ (ref : TextRef). IsInside ref.span)
-    (texts_of (text_of lines) (book lines).name_uses (book lines).outline.sections)
+pub book-inside : (lines : List MergedLine) → length (text_of lines) ≤ 2 ^ 24 → All (λ (ref : TextRef). IsInside
+    ref.span) (texts_of (text_of lines) (book lines).name_uses (book lines).outline.sections)
 book-inside lines short =
     let text = text_of lines in
     let size = length text in
     let answers = answers_of lines in
     let f = follows text 0 size at_limbo [] answers
     (tokens-cover text 0 size modes.Limbo (omega arith) (omega arith)) in
-    sections-inside (is_printed text (book lines).name_uses) text (book lines).name_uses 1
-    (book lines).outline.sections short (all-lie lines 0 size (placed answers) f)
-    (behind lines 0 size (placed answers) f)
+    sections-inside (is_printed text (book lines).name_uses) text (book lines).name_uses 1 (book lines).outline.sections
+    short (all-lie lines 0 size (placed answers) f) (behind lines 0 size (placed answers) f)

@@ -1,11 +1,8 @@
 -- The file of blocks that may stand in a log is found to be a log with just these blocks.
-use Rattle.std.proofs.Common.{◌≡◌, ℕ, suc, List, arith}
-use Rattle.std.specs.List.{All}
-use Rattle.std.proofs.lemmas.List.{take-append-drop}
-use Rattle.cw_logtext.specs.Judgement.{Judgement, log, no_log}
-use Rattle.cw_logtext.specs.LogLaws.{BlocksAreTold}
+use Rattle.cw_log_laws.proofs.Terms.{◌≡◌, ℕ, suc, List, arith, All, take-append-drop, Judgement, no_log, Block}
+use Rattle.cw_log_laws.proofs.Terms.{IsFineBlock, log_lines}
+use Rattle.cw_logtext.specs.{Judgement.log, LogLaws.BlocksAreTold}
 use Rattle.cw_logtext.specs.LogReading.{IsFault, IsLog, cut_off, wrong}
-use Rattle.cw_logtext.specs.LogText.{Block, IsFineBlock, log_lines}
 
 -- the lines of a log have no fault
 no-fault : (lines : List (List ℕ)) (good : ℕ) → IsLog lines → IsFault lines good → ⊥

@@ -1,18 +1,11 @@
 -- Names that are added, or whose categories change: they keep their places and texts, stay apart, and have categories.
-use Rattle.std.proofs.Common.{◌≡◌, ◌≢◌, ℕ, zero, suc, ◌+◌, ◌≤◌, Bool, true, false, not, cond, nat_eq, List, [], ◌∷◌}
-use Rattle.std.proofs.Common.{◌++◌, length, map, slice_get, Option, refl, arith}
-use Rattle.std.specs.List.{IsDistinct, AllByRecursion, list_all}
-use Rattle.cw_base.proofs.TestLaws.{both-left, both-right, not-true}
-use Rattle.cw_base.specs.Category.{is_end}
-use Rattle.std.specs.Cmp.Lexicographic.{pointwise}
-use Rattle.std.proofs.lemmas.Bool.{ltb-false}
+use Rattle.cw_log_laws.proofs.Terms.{◌≡◌, ◌≢◌, ℕ, zero, suc, ◌+◌, ◌≤◌, Bool, true, false, not, cond, nat_eq, List, []}
+use Rattle.cw_log_laws.proofs.Terms.{◌∷◌, ◌++◌, length, map, slice_get, Option, refl, arith, AllByRecursion, list_all}
+use Rattle.cw_log_laws.proofs.Terms.{both-left, both-right, not-true, is_end, pointwise, ltb-false, Cat, End, EntryKind}
+use Rattle.cw_log_laws.proofs.Terms.{Entry, same_kind, is_entry, place_of, with_entry, AreDistinct, IsKept, IsLater}
+use Rattle.std.specs.List.{IsDistinct}
 use Rattle.std.proofs.lemmas.Cmp.{nat_list_eq_equiv}
-use Rattle.cw_base.specs.declared.category.Cat.{Cat}
-use Rattle.cw_base.specs.declared.category.Cat.TheVariants.{End}
-use Rattle.cw_names.specs.declared.entry.EntryKind.{EntryKind}
-use Rattle.cw_names.specs.Names.{Entry, same_kind, is_entry, place_of, with_entry, AreDistinct}
 use Rattle.cw_translator.specs.Translating.{with_categories}
-use Rattle.cw_log_laws.specs.LoggedTexts.{IsKept, IsLater}
 
 -- ## Places
 
@@ -69,12 +62,10 @@ distinct-more n (e ∷ es) d all = grind (arith, distinct-more n es d.1 all.1, o
 none-there : (kind : EntryKind) (text : List ℕ) (category : Cat) (es : List Entry) → length es ≤ place_of kind text es
     → AreOthers (record { kind = kind; text = text; category = category }) es
 none-there kind text category [] h = tt
-none-there kind text category (e ∷ es) h =
-    by (is_entry kind text e) refl h (λ g. none-there kind text category es g)
+none-there kind text category (e ∷ es) h = by (is_entry kind text e) refl h (λ g. none-there kind text category es g)
   where
     by : (b : Bool) → is_entry kind text e ≡ b → suc (length es) ≤ cond (not b) (1 + place_of kind text es) 0
-        → (length es ≤ place_of kind text es
-        → AreOthers (record { kind = kind; text = text; category = category }) es)
+        → (length es ≤ place_of kind text es → AreOthers (record { kind = kind; text = text; category = category }) es)
         → AreOthers (record { kind = kind; text = text; category = category }) (e ∷ es)
     by true i h rest = absurd (omega (arith, h))
     by false i h rest = (i, rest (omega (arith, h)))
@@ -109,8 +100,7 @@ have-more : (n : Entry) (es : List Entry) → HaveCats es → n.category ≢ End
 have-more n [] all h = (h, tt)
 have-more n (e ∷ es) all h = (all.0, have-more n es all.1 h)
 
-pub have-entry : (kind : EntryKind) (text : List ℕ) (es : List Entry) → HaveCats es
-    → HaveCats (with_entry kind text es)
+pub have-entry : (kind : EntryKind) (text : List ℕ) (es : List Entry) → HaveCats es → HaveCats (with_entry kind text es)
 have-entry kind text es all = grind (arith, have-more)
 
 pub have-categories : (cats : List Cat) (es : List Entry) → AreReal cats → HaveCats es

@@ -1,30 +1,19 @@
 -- The scraps of single tokens, and the tokens of heads, are written with words of the names behind them.
-use Rattle.std.proofs.Common.{◌≡◌, ◌≢◌, ℕ, zero, suc, Bool, true, false, if◌then◌else◌, Option, Some, None, List, []}
-use Rattle.std.proofs.Common.{◌∷◌, ◌++◌, slice_get, unwrap_or, refl, arith}
-use Rattle.std.specs.Prelude.{nat_eq}
-use Rattle.std.specs.Cmp.Lexicographic.{pointwise}
-use Rattle.cw_base.specs.declared.category.Cat.{Cat}
-use Rattle.cw_base.specs.declared.category.Cat.TheVariants.{End}
-use Rattle.cw_rules.specs.declared.codes.Code.{Code}
+use Rattle.cw_log_laws.proofs.Terms.{◌≡◌, ◌≢◌, ℕ, zero, suc, Bool, true, false, if◌then◌else◌, Option, Some, None, List}
+use Rattle.cw_log_laws.proofs.Terms.{[], ◌∷◌, ◌++◌, slice_get, unwrap_or, refl, arith, nat_eq, pointwise, Cat, End}
+use Rattle.cw_log_laws.proofs.Terms.{Code, TokKind, Ident as ident_kind, NameId, Entry, AreDistinct, place_of}
+use Rattle.cw_log_laws.proofs.Terms.{with_entry, category_among, hash_line_words, tree_in, LeafForm, code_form, form_of}
+use Rattle.cw_log_laws.proofs.Terms.{names_with, own_cat, sign_cat, token_form, word_cat, word_form, is_identifier}
+use Rattle.cw_log_laws.proofs.Terms.{IsLater}
 use Rattle.cw_rules.specs.declared.signs.Sign.{Sign}
-use Rattle.cw_rules.specs.declared.tokens.TokKind.{TokKind}
-use Rattle.cw_rules.specs.declared.tokens.TokKind.TheVariants as kind
-use Rattle.cw_names.specs.declared.entry.EntryKind.TheVariants.{Ident as ident_kind}
-use Rattle.cw_names.specs.declared.entry.NameId.{NameId}
-use Rattle.cw_names.specs.Names.{Entry, AreDistinct, place_of, with_entry}
-use Rattle.cw_names.specs.Words.{category_among, hash_line_words}
 use Rattle.cw_tokens.specs.declared.token.Token.{Token}
-use Rattle.cw_tokens.specs.declared.token.Token.TheVariants as token
-use Rattle.cw_tokens.specs.Shapes.{tree_in}
-use Rattle.cw_scraps.specs.Leaves.{LeafForm, code_form, form_of, names_with, own_cat, sign_cat, token_form, word_cat}
-use Rattle.cw_scraps.specs.Leaves.{word_form}
-use Rattle.cw_logtext.specs.LogText.{is_identifier}
 use Rattle.cw_logtext.proofs.Adding.{IsNamed, entry-there}
 use Rattle.cw_translator.specs.Translating.{leaf_scrap, form_tokens}
-use Rattle.cw_log_laws.specs.LoggedTexts.{IsLater}
 use Rattle.cw_log_laws.proofs.LaterNames.{HaveCats, distinct-entry, have-entry, later-entry, later-same, real-law}
 use Rattle.cw_log_laws.proofs.SpeltTokens.{IsSpelt}
 use Rattle.cw_log_laws.proofs.WrittenScraps.{IsLogged, IsWord, IsWordEntry, IsWritten}
+use Rattle.cw_rules.specs.declared.tokens.TokKind.TheVariants as kind
+use Rattle.cw_tokens.specs.declared.token.Token.TheVariants as token
 
 -- ## Names behind a token
 
@@ -94,12 +83,10 @@ form-logged names k number = grind (arith, sign-real, code-logged)
 -- a token, over the names behind it
 pub token-logged : (k : TokKind) (text : List ℕ) (hash_line : Bool) (number : ℕ) (names : List Entry) → IsSpelt k text
     → HaveCats names → MayBeForm (names_with k text names) (token_form k text hash_line number names)
-token-logged kind.Identifier text hash_line number names h cats =
-    word-logged (with_entry ident_kind text names) (word_cat hash_line text
-    (own_cat (with_entry ident_kind text names) (place_of ident_kind text names)))
-    (record { index = place_of ident_kind text names }) number (word-there text names h)
-    (word-real hash_line text _ (own-real (with_entry ident_kind text names) (place_of ident_kind text names)
-    (have-entry ident_kind text names cats)))
+token-logged kind.Identifier text hash_line number names h cats = word-logged (with_entry ident_kind text names)
+    (word_cat hash_line text (own_cat (with_entry ident_kind text names) (place_of ident_kind text names))) (record
+    { index = place_of ident_kind text names }) number (word-there text names h) (word-real hash_line text _ (own-real
+    (with_entry ident_kind text names) (place_of ident_kind text names) (have-entry ident_kind text names cats)))
 token-logged (kind.Code c) text hash_line number names h cats = code-logged names c number
 token-logged k text hash_line number names h cats = form-logged names k number
 

@@ -1,4 +1,5 @@
 -- Lemmas of the laws of logs.
+mod Terms
 mod SpeltTokens
 mod CountedTokens
 mod LaterNames

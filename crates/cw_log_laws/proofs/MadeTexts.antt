@@ -1,31 +1,21 @@
 -- What is made of tokens: scraps of which leaf lines tell all, and the states of texts that have ended.
-use Rattle.std.proofs.Common.{ℕ, suc, ◌+◌, ◌≤◌, Option, List, [], ◌∷◌, length, arith, length-append}
-use Rattle.std.specs.List.{All}
-use Rattle.std.proofs.lemmas.List.Elements.{All-append, All-nil, All-push, All-weaker}
-use Rattle.cw_base.specs.declared.flags.Flags.{Flags}
-use Rattle.cw_rules.specs.Answers.{Answer, Token, Begin, Finish, Note, Seen}
-use Rattle.cw_rules.specs.declared.codes.Code.TheVariants as code
-use Rattle.cw_rules.specs.declared.tokens.TokKind.{TokKind}
-use Rattle.cw_rules.specs.declared.tokens.TokKind.TheVariants as kind
-use Rattle.cw_lex.specs.Nest.{Nest, End, Leaf, Group, group, leaf, nests, first_nest, nest}
-use Rattle.cw_names.specs.Names.{Entry, AreDistinct}
-use Rattle.cw_trees.specs.Joining.{Scrap}
-use Rattle.cw_table.specs.Normal.{normal}
-use Rattle.cw_table.specs.Productions.{productions}
-use Rattle.cw_table.specs.Rewriting.{State}
-use Rattle.cw_scraps.specs.Leaves.{LeafForm, names_with, token_form}
-use Rattle.cw_logtext.specs.LogText.{greatest}
+use Rattle.cw_log_laws.proofs.Terms.{ℕ, suc, ◌+◌, ◌≤◌, Option, List, [], ◌∷◌, length, arith, length-append, All}
+use Rattle.cw_log_laws.proofs.Terms.{All-append, All-nil, All-push, All-weaker, Flags, Answer, Token, Begin, Finish}
+use Rattle.cw_log_laws.proofs.Terms.{Note, Seen, TokKind, Nest, Leaf, Group, group, leaf, nests, first_nest, nest}
+use Rattle.cw_log_laws.proofs.Terms.{Entry, AreDistinct, Scrap, normal, productions, State, LeafForm, names_with}
+use Rattle.cw_log_laws.proofs.Terms.{token_form, greatest, IsLater}
+use Rattle.cw_lex.specs.Nest.{End}
 use Rattle.cw_translator.specs.Translating.{CommentItem, Piece, InnerText, Known, Made, as_item, made_before, beside}
 use Rattle.cw_translator.specs.Translating.{comment_rest, comment_scrap, end_of, form_made, group_made, made, no_name}
 use Rattle.cw_translator.specs.Translating.{nothing, one_item, one_scrap, plain_text, state_in, token_made, with_names}
-use Rattle.cw_log_laws.specs.LoggedTexts.{IsLater}
+use Rattle.cw_log_laws.proofs.{ReducedCats.normal-real, SpeltTokens.AreSpelt, SpeltTokens.IsSpelt}
 use Rattle.cw_log_laws.proofs.CountedTokens.{nest-size, nest_size, tokens_in}
 use Rattle.cw_log_laws.proofs.LaterNames.{HaveCats, cats-real, distinct-categories, have-categories, later-categories}
 use Rattle.cw_log_laws.proofs.LaterNames.{later-on, later-same}
 use Rattle.cw_log_laws.proofs.LeafScraps.{AreNamesBehind, MayBeForm, names-behind, token-logged}
-use Rattle.cw_log_laws.proofs.ReducedCats.{normal-real}
-use Rattle.cw_log_laws.proofs.SpeltTokens.{AreSpelt, IsSpelt}
 use Rattle.cw_log_laws.proofs.WrittenScraps.{IsFineState, IsLogged, IsWritten, logged-later, state-later}
+use Rattle.cw_rules.specs.declared.codes.Code.TheVariants as code
+use Rattle.cw_rules.specs.declared.tokens.TokKind.TheVariants as kind
 
 -- ## What is known grows
 
@@ -89,9 +79,8 @@ well-scrap n k new scrap some h g = grind arith
 well-beside : (m n : ℕ) (k : Known) (a b : Made) → IsWellMade m k a → IsWellMade n a.known b
     → IsWellMade (m + n) k (beside a b)
 well-beside m n k a b v w = record {
-  scraps = All-append (IsLogged b.known.names) a.scraps b.scraps
-      (All-weaker (IsLogged a.known.names) (IsLogged b.known.names)
-      (λ s h. logged-later a.known.names b.known.names w.grows.later s h) a.scraps v.scraps) w.scraps;
+  scraps = All-append (IsLogged b.known.names) a.scraps b.scraps (All-weaker (IsLogged a.known.names) (IsLogged
+      b.known.names) (λ s h. logged-later a.known.names b.known.names w.grows.later s h) a.scraps v.scraps) w.scraps;
   few = omega (arith, length-append a.scraps b.scraps, v.few, w.few);
   grows = grows-then m n k a.known b.known v.grows w.grows;
 }
@@ -114,9 +103,8 @@ ended-grows flags n k m w =
       cats = have-categories done.cats m.known.names
           (normal-real productions flags begun (cats-real m.known.names w.grows.cats)) w.grows.cats;
       ended = λ few f. All-push (IsFineState after.names) m.known.ended begun
-          (fine-later m.known.names after.names later m.known.ended (w.grows.ended few f))
-          (state-later m.known.names after.names later begun
-          (record { scraps = w.scraps; few = omega (arith, w.few, few) }));
+          (fine-later m.known.names after.names later m.known.ended (w.grows.ended few f)) (state-later m.known.names
+          after.names later begun (record { scraps = w.scraps; few = omega (arith, w.few, few) }));
     }
 
 -- ## Tokens and comments
@@ -132,10 +120,8 @@ well-form o k new h g = grind (arith, well-nothing, well-scrap)
 well-formed : (k : TokKind) (t : Seen) (known : Known) → HaveCats known.names → IsSpelt k t.text
     → IsWellMade 1 known (form_made (token_form k t.text t.hash_line t.span.start known.names)
     (with_names (names_with k t.text known.names) known))
-well-formed k t known cats h =
-    well-form (token_form k t.text t.hash_line t.span.start known.names) known
-    (with_names (names_with k t.text known.names) known)
-    (token-logged k t.text t.hash_line t.span.start known.names h cats)
+well-formed k t known cats h = well-form (token_form k t.text t.hash_line t.span.start known.names) known (with_names
+    (names_with k t.text known.names) known) (token-logged k t.text t.hash_line t.span.start known.names h cats)
     (grows-wider 0 1 known (with_names (names_with k t.text known.names) known) (omega arith)
     (grows-names known (names_with k t.text known.names) cats (names-behind k t.text known.names)))
 
@@ -161,14 +147,12 @@ comment-logged names number items =
 
 well-comment : (n : ℕ) (k : Known) (number : ℕ) (m : Made) → IsWellMade n k m
     → IsWellMade (suc n) k (one_scrap (comment_scrap number m.items) m.known)
-well-comment n k number m w =
-    well-scrap (suc n) k m.known (comment_scrap number m.items) (omega arith)
+well-comment n k number m w = well-scrap (suc n) k m.known (comment_scrap number m.items) (omega arith)
     (comment-logged m.known.names number m.items) (grows-wider n (suc n) k m.known (omega arith) w.grows)
 
 well-inner : (flags : Flags) (n : ℕ) (k : Known) (m : Made) → IsWellMade n k m
     → IsWellMade (suc n) k (as_item (end_of flags m))
-well-inner flags n k m w =
-    well-item (suc n) k (end_of flags m).known (InnerText (end_of flags m).tree)
+well-inner flags n k m w = well-item (suc n) k (end_of flags m).known (InnerText (end_of flags m).tree)
     (grows-wider n (suc n) k (end_of flags m).known (omega arith) (ended-grows flags n k m w))
 
 well-group : (flags : Flags) (g : TokKind) (t : Seen) (n : ℕ) (k : Known) (m : Made) → IsWellMade n k m
@@ -213,17 +197,15 @@ module _ (flags : Flags) (name : ℕ → Known → Made) (names : AreWellNamed n
   well-made (Leaf t rest) known cats h =
       let first = token_made name t.kind t known in
       well-wider (1 + nest_size rest) (suc (nest_size rest)) known (made_before first (made flags name rest))
-      (omega arith)
-      (well-before 1 (nest_size rest) known first (made flags name rest) (well-token name names t.kind t known cats h.0)
-      (λ cats. well-made rest first.known cats h.1))
+      (omega arith) (well-before 1 (nest_size rest) known first (made flags name rest)
+      (well-token name names t.kind t known cats h.0) (λ cats. well-made rest first.known cats h.1))
   well-made (Group t inner rest) known cats h =
       let within = made flags name inner known in
       let first = group_made flags t.kind t within in
       well-wider (suc (nest_size inner) + nest_size rest) (suc (nest_size inner + nest_size rest)) known
-      (made_before first (made flags name rest)) (omega arith)
-      (well-before (suc (nest_size inner)) (nest_size rest) known first (made flags name rest)
-      (well-group flags t.kind t (nest_size inner) known within (well-made inner known cats h.0))
-      (λ cats. well-made rest first.known cats h.1))
+      (made_before first (made flags name rest)) (omega arith) (well-before (suc (nest_size inner))
+      (nest_size rest) known first (made flags name rest) (well-group flags t.kind t (nest_size inner) known within
+      (well-made inner known cats h.0)) (λ cats. well-made rest first.known cats h.1))
 
 no-names : AreWellNamed no_name
 no-names number k cats = well-nothing 1 k k (grows-wider 0 1 k k (omega arith) (grows-none k cats))
@@ -235,5 +217,4 @@ plain-grows flags answers known cats h few =
     let n = nest answers in
     let all = made flags no_name n known in
     grows-few (nest_size n) 0 known (end_of flags all).known (omega (arith, nest-size answers, few))
-    (ended-grows flags (nest_size n) known all
-    (well-made flags no_name no-names n known cats (nest-spelt answers h)))
+    (ended-grows flags (nest_size n) known all (well-made flags no_name no-names n known cats (nest-spelt answers h)))

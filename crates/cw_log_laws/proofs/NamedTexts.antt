@@ -1,38 +1,29 @@
 -- What section names and heads make, and whole texts.
-use Rattle.std.proofs.Common.{◌≢◌, ℕ, ◌+◌, ◌≤◌, Option, Some, None, List, [], ◌∷◌, ◌++◌, arith}
-use Rattle.cw_base.specs.declared.category.Cat.{Cat}
-use Rattle.cw_base.specs.declared.category.Cat.TheVariants as cat
-use Rattle.cw_base.specs.declared.flags.Flags.{Flags}
+use Rattle.cw_log_laws.proofs.Terms.{◌≢◌, ℕ, ◌+◌, ◌≤◌, Option, Some, None, List, [], ◌∷◌, ◌++◌, arith, Cat, Flags}
+use Rattle.cw_log_laws.proofs.Terms.{Answer, Seen, TokKind, Nest, Leaf, Group, nest, Entry, Tree, Empty, Then, Source}
+use Rattle.cw_log_laws.proofs.Terms.{Sign, tree_in, names_with, token_form, greatest}
 use Rattle.cw_base.specs.declared.mode.MathMode.{MathMode}
 use Rattle.cw_base.specs.declared.mode.MathMode.TheVariants.{Text, Maybe}
-use Rattle.cw_rules.specs.Answers.{Answer, Seen}
-use Rattle.cw_rules.specs.declared.tokens.TokKind.{TokKind}
-use Rattle.cw_lex.specs.declared.heads.Wanted.{Wanted}
+use Rattle.cw_lex.specs.{declared.heads.Wanted.Wanted, Nest.End}
 use Rattle.cw_lex.specs.Heads.{Head, Headless, Macro, Format, Silent, Named, Headed, headed, headed_by, head_behind}
 use Rattle.cw_lex.specs.Heads.{Words, head_words, headless, named_headed, no_word, word_before}
-use Rattle.cw_lex.specs.Nest.{Nest, End, Leaf, Group, nest}
-use Rattle.cw_names.specs.Names.{Entry}
-use Rattle.cw_trees.specs.declared.Control.TheVariants as control
-use Rattle.cw_trees.specs.Tree.{Tree, Empty, Then, Source, Sign}
 use Rattle.cw_tokens.specs.declared.token.Token.{Token}
-use Rattle.cw_tokens.specs.declared.token.Token.TheVariants as token
-use Rattle.cw_tokens.specs.Shapes.{tree_in}
-use Rattle.cw_scraps.specs.Leaves.{names_with, token_form}
-use Rattle.cw_logtext.specs.LogText.{greatest}
 use Rattle.cw_translator.specs.Translating.{Known, NameTexts, Spelled, made_before, begin, dead, dollared, end_of}
 use Rattle.cw_translator.specs.Translating.{first_word, format_made, head_made, headed_made, later_words, leaf_of_name}
 use Rattle.cw_translator.specs.Translating.{leaf_scrap, macro_made, made, plain_text, sign_behind, spelled, texts_made}
 use Rattle.cw_translator.specs.Translating.{name_in_text, names_in_text, texts_named, translated, with_names}
 use Rattle.cw_translator.specs.Translating.{word_tokens}
+use Rattle.cw_log_laws.proofs.{LaterNames.HaveCats, LaterNames.later-on, SpeltTokens.AreSpelt, SpeltTokens.IsSpelt}
 use Rattle.cw_log_laws.proofs.CountedTokens.{nest-size, nest_size, tokens_in}
-use Rattle.cw_log_laws.proofs.LaterNames.{HaveCats, later-on}
 use Rattle.cw_log_laws.proofs.LeafScraps.{AreNamesBehind, form-tokens, names-behind, same-behind, token-logged}
 use Rattle.cw_log_laws.proofs.LeafScraps.{tokens-append}
 use Rattle.cw_log_laws.proofs.MadeTexts.{AreWellNamed, Grows, IsSpeltNest, IsWellMade, ended-grows, grows-names}
 use Rattle.cw_log_laws.proofs.MadeTexts.{grows-none, grows-then, grows-wider, nest-spelt, plain-grows, well-before}
 use Rattle.cw_log_laws.proofs.MadeTexts.{well-made, well-nothing, well-scrap, well-wider}
-use Rattle.cw_log_laws.proofs.SpeltTokens.{AreSpelt, IsSpelt}
 use Rattle.cw_log_laws.proofs.WrittenScraps.{IsLogged, IsWritten, written-later}
+use Rattle.cw_base.specs.declared.category.Cat.TheVariants as cat
+use Rattle.cw_trees.specs.declared.Control.TheVariants as control
+use Rattle.cw_tokens.specs.declared.token.Token.TheVariants as token
 
 -- ## Section names
 
@@ -76,21 +67,18 @@ name-well flags (Some texts) c mode rest number known real plain cats h =
       tree = Then (Source number Maybe) all.tree;
       left = mode;
       right = mode;
-    }) (omega arith)
-    (record {
+    }) (omega arith) (record {
       written = (tt, texts-plain flags texts behind known (λ names. (tt, plain names)) all.known.names);
       real = real;
       bare = tt;
-    })
-    (grows-wider 0 1 known all.known (omega arith) (texts-grow flags texts behind known cats h))
+    }) (grows-wider 0 1 known all.known (omega arith) (texts-grow flags texts behind known cats h))
 
 abbrev pub ArePlainNames : NameTexts → Type 0
 ArePlainNames named = (number : ℕ) → MayBePlain (named number)
 
 names-well : (flags : Flags) (named : NameTexts) → ArePlainNames named → AreWellNamed (leaf_of_name flags named)
-names-well flags named h number known cats =
-    name-well flags (named number) cat.SectionScrap Maybe Empty number known (λ e. absurd cc) (λ names. tt) cats
-    (h number)
+names-well flags named h number known cats = name-well flags (named number) cat.SectionScrap Maybe Empty number known
+    (λ e. absurd cc) (λ names. tt) cats (h number)
 
 -- ## Words of heads
 
@@ -108,10 +96,8 @@ behind-on a b c g h = (later-on a b c g.0 h.0, λ d. h.1 (g.1 d), λ k. h.2 (g.2
 
 word-written : (word : Seen) (names : List Entry) → IsSpelt word.kind word.text → HaveCats names
     → IsWritten (names_with word.kind word.text names) (tree_in [] (word_tokens word names))
-word-written word names h cats =
-    form-tokens (names_with word.kind word.text names)
-    (token_form word.kind word.text word.hash_line word.span.start names)
-    (token-logged word.kind word.text word.hash_line word.span.start names h cats)
+word-written word names h cats = form-tokens (names_with word.kind word.text names) (token_form word.kind word.text
+    word.hash_line word.span.start names) (token-logged word.kind word.text word.hash_line word.span.start names h cats)
 
 well-spelled : (words : List Seen) (names : List Entry) → HaveCats names → AreSpeltWords words
     → IsWellSpelled names (spelled words names)
@@ -168,9 +154,8 @@ module _ (number : ℕ) (known : Known) where
   macro-well words cats s =
       let behind = token.Control control.OptionalBreak ∷ [] in
       well-scrap 1 known (with_names words.names known) (leaf_scrap (dead number (dollared words.tokens ++ behind)))
-      (omega arith) (dead-logged words.names number (dollared words.tokens ++ behind)
-      (tokens-append words.names (dollared words.tokens) behind
-      (dollared-written words.names words.tokens s.written) (tt, tt)))
+      (omega arith) (dead-logged words.names number (dollared words.tokens ++ behind) (tokens-append words.names
+      (dollared words.tokens) behind (dollared-written words.names words.tokens s.written) (tt, tt)))
       (words-grow words cats s)
 
   format-well : (first second : Spelled) → HaveCats known.names → IsWellSpelled known.names first
@@ -178,12 +163,10 @@ module _ (number : ℕ) (known : Known) where
   format-well first second cats s t =
       let front = names_in_text first.tokens in
       let behind = token.Control control.OptionalBreak ∷ names_in_text second.tokens in
-      well-scrap 1 known (with_names second.names known) (leaf_scrap (dead number (front ++ behind)))
-      (omega arith) (dead-logged second.names number (front ++ behind)
-      (tokens-append second.names front behind
-      (written-later first.names second.names t.behind.0 (tree_in [] front)
-      (names-written first.names first.tokens s.written))
-      (tt, names-written second.names second.tokens t.written)))
+      well-scrap 1 known (with_names second.names known) (leaf_scrap (dead number (front ++ behind))) (omega arith)
+      (dead-logged second.names number (front ++ behind)
+      (tokens-append second.names front behind (written-later first.names second.names t.behind.0 (tree_in [] front)
+      (names-written first.names first.tokens s.written)) (tt, names-written second.names second.tokens t.written)))
       (grows-wider 0 1 known (with_names second.names known) (omega arith)
       (grows-names known second.names cats (behind-on known.names first.names second.names s.behind t.behind)))
 
@@ -219,9 +202,8 @@ head-well flags named plain (Silent words) known cats h =
     let all = spelled words known.names in
     well-nothing 1 known (with_names all.names known)
     (words-grow 0 known all cats (well-spelled words known.names cats h))
-head-well flags named plain (Named number sign) known cats h =
-    name-well flags (named number) cat.Dead Text (sign_behind sign) number known (λ e. absurd cc)
-    (λ names. (tt, (tt, tt))) cats (plain number)
+head-well flags named plain (Named number sign) known cats h = name-well flags (named number) cat.Dead Text
+    (sign_behind sign) number known (λ e. absurd cc) (λ names. (tt, (tt, tt))) cats (plain number)
 
 -- ## What a head has of a nest
 
@@ -238,8 +220,7 @@ record AreWordsOf (n : Nest) (w : Words) : Type 0 where
 words-fit : (wanted : Wanted) (n : Nest) → IsSpeltNest n → AreWordsOf n (head_words wanted n)
 words-fit wanted End h = record { words = tt; rest = tt; few = omega arith }
 words-fit wanted (Group t inner rest) h = record { words = tt; rest = h; few = omega arith }
-words-fit wanted (Leaf t rest) h =
-    by (head_behind wanted t.kind t.span) (λ next. words-fit next rest h.1)
+words-fit wanted (Leaf t rest) h = by (head_behind wanted t.kind t.span) (λ next. words-fit next rest h.1)
   where
     by : (o : Option Wanted) → ((next : Wanted) → AreWordsOf rest (head_words next rest))
         → AreWordsOf (Leaf t rest) (elim o as (λ o. Words) [
@@ -268,18 +249,15 @@ headed-fits n h = grind (arith, headless-fits, headed-by)
 -- ## Whole texts
 
 headed-well : (flags : Flags) (named : NameTexts) → ArePlainNames named → (n : Nest) (known : Known)
-    → HaveCats known.names → IsSpeltNest n
-    → IsWellMade (nest_size n) known (headed_made flags named (headed n) known)
+    → HaveCats known.names → IsSpeltNest n → IsWellMade (nest_size n) known (headed_made flags named (headed n) known)
 headed-well flags named plain n known cats h =
     let fits = headed-fits n h in
     let first = head_made flags named (headed n).head known in
     let rest = made flags (leaf_of_name flags named) (headed n).rest in
     well-wider (head_size (headed n).head + nest_size (headed n).rest) (nest_size n) known (made_before first rest)
-    fits.few
-    (well-before (head_size (headed n).head) (nest_size (headed n).rest) known first rest
-    (head-well flags named plain (headed n).head known cats fits.words)
-    (λ cats. well-made flags (leaf_of_name flags named) (names-well flags named plain) (headed n).rest first.known cats
-    fits.rest))
+    fits.few (well-before (head_size (headed n).head) (nest_size (headed n).rest) known first rest
+    (head-well flags named plain (headed n).head known cats fits.words) (λ cats. well-made flags
+    (leaf_of_name flags named) (names-well flags named plain) (headed n).rest first.known cats fits.rest))
 
 pub text-grows : (flags : Flags) (named : NameTexts) (answers : List Answer) (names : List Entry) (marks : List ℕ)
     → ArePlainNames named → HaveCats names → AreSpelt answers

@@ -1,13 +1,8 @@
 -- Productions give names no category but that of types.
-use Rattle.std.proofs.Common.{◌≡◌, ◌≢◌, ℕ, zero, suc, List, [], ◌∷◌, set, sym, subst, refl, arith}
-use Rattle.cw_base.specs.declared.category.Cat.{Cat}
-use Rattle.cw_base.specs.declared.category.Cat.TheVariants.{End}
-use Rattle.cw_base.specs.declared.flags.Flags.{Flags}
-use Rattle.cw_trees.specs.Tree.{Search}
-use Rattle.cw_table.specs.declared.types.Row.{Row}
-use Rattle.cw_table.specs.Normal.{Place, Nowhere, At, next_place, steps, normal, weight}
-use Rattle.cw_table.specs.Rewriting.{State, rewrite, with_type}
-use Rattle.cw_table.proofs.Normals.{steps-none, steps-turn}
+use Rattle.cw_log_laws.proofs.Terms.{◌≡◌, ◌≢◌, ℕ, zero, suc, List, [], ◌∷◌, set, sym, subst, refl, arith, Cat, End}
+use Rattle.cw_log_laws.proofs.Terms.{Flags, Search, Row, Place, Nowhere, At, next_place, steps, weight, State, rewrite}
+use Rattle.cw_log_laws.proofs.Terms.{with_type, steps-none, steps-turn}
+use Rattle.cw_table.specs.Normal.{normal}
 use Rattle.cw_log_laws.proofs.LaterNames.{AreReal}
 
 set-real : (cats : List Cat) (n : ℕ) (c : Cat) → c ≢ End → AreReal cats → AreReal (set cats n c)

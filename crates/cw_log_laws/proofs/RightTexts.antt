@@ -1,38 +1,21 @@
 -- The texts of a book: their names stay, and the blocks of all that are reduced are right.
-use Rattle.std.proofs.Common.{◌≢◌, ℕ, zero, suc, ◌+◌, ◌<◌, ◌≤◌, ◌^◌, Bool, true, false, Option, Some, None, List, []}
-use Rattle.std.proofs.Common.{◌∷◌, length, map, slice_get, arith}
-use Rattle.std.specs.List.{All, AllByRecursion}
-use Rattle.std.specs.Prelude.{if◌then◌else◌, ◌==◌}
-use Rattle.std.proofs.lemmas.List.Elements.{All-from_recursion, All-head, All-nil, All-tail, All-weaker}
-use Rattle.std.proofs.lemmas.List.Elements.{recursion_from_All}
-use Rattle.cw_base.specs.declared.category.Cat.TheVariants.{End}
-use Rattle.cw_base.specs.declared.span.Span.{Span}
-use Rattle.cw_base.specs.Text.{bar}
-use Rattle.cw_rules.specs.Answers.{Answer}
-use Rattle.cw_rules.specs.declared.tokens.Mode.{Mode}
+use Rattle.cw_log_laws.proofs.Terms.{◌≢◌, ℕ, zero, suc, ◌+◌, ◌<◌, ◌≤◌, ◌^◌, Bool, true, false, Option, Some, None, List}
+use Rattle.cw_log_laws.proofs.Terms.{[], ◌∷◌, length, map, slice_get, arith, All, AllByRecursion, if◌then◌else◌, ◌==◌}
+use Rattle.cw_log_laws.proofs.Terms.{All-from_recursion, All-head, All-nil, All-tail, All-weaker, recursion_from_All}
+use Rattle.cw_log_laws.proofs.Terms.{End, Span, bar, Answer, Mode, tokens_of, until_section, Entry, SecName, NameUse}
+use Rattle.cw_log_laws.proofs.Terms.{name_at, block_of, greatest, TextRef, text_ended, logged, AreNames, HasShortNames}
+use Rattle.cw_log_laws.proofs.Terms.{IsInside, IsLater, IsRightBlock, TextsAreLogged, TextsKeepNames}
 use Rattle.cw_rules.specs.declared.tokens.Mode.TheVariants.{Inner}
-use Rattle.cw_lex.specs.Lexing.{tokens_of}
-use Rattle.cw_lex.specs.Nested.{until_section}
-use Rattle.cw_names.specs.Names.{Entry}
-use Rattle.cw_secnames.specs.Kept.{SecName}
 use Rattle.cw_secnames.specs.Parts.{begins_with_bar, one_more, part_here, parts_from, size_to_bar}
-use Rattle.cw_secnames.specs.Uses.{NameUse, name_at}
 use Rattle.cw_secnames.specs.declared.kinds.SecKind.{SecKind}
-use Rattle.cw_logtext.specs.Appending.{block_of}
-use Rattle.cw_logtext.specs.LogText.{greatest}
-use Rattle.cw_texts.specs.declared.text_list.TextRef.{TextRef}
-use Rattle.cw_each.specs.EachText.{Source, text_ended}
+use Rattle.cw_each.specs.EachText.{Source}
 use Rattle.cw_translator.specs.NameParts.{name_texts, parts_by_kind, texts_kept, texts_of_name}
-use Rattle.cw_translator.specs.Recording.{logged}
 use Rattle.cw_translator.specs.Translating.{begin}
-use Rattle.cw_log_laws.specs.LoggedTexts.{AreNames, HasShortNames, IsInside, IsLater, IsRightBlock, TextsAreLogged}
-use Rattle.cw_log_laws.specs.LoggedTexts.{TextsKeepNames}
+use Rattle.cw_log_laws.proofs.{LaterNames.HaveCats, MadeTexts.AreFine, MadeTexts.Grows, MadeTexts.fine-later}
+use Rattle.cw_log_laws.proofs.{SpeltTokens.tokens-spelt, SpeltTokens.until-spelt, WrittenScraps.IsFineState}
+use Rattle.cw_log_laws.proofs.{WrittenScraps.block-right}
 use Rattle.cw_log_laws.proofs.CountedTokens.{tokens-count, tokens_in, until-count}
-use Rattle.cw_log_laws.proofs.LaterNames.{HaveCats}
-use Rattle.cw_log_laws.proofs.MadeTexts.{AreFine, Grows, fine-later}
 use Rattle.cw_log_laws.proofs.NamedTexts.{ArePlainNames, ArePlainTexts, MayBePlain, text-grows}
-use Rattle.cw_log_laws.proofs.SpeltTokens.{tokens-spelt, until-spelt}
-use Rattle.cw_log_laws.proofs.WrittenScraps.{IsFineState, block-right}
 
 -- ## The inner texts of a name
 
@@ -51,13 +34,11 @@ more-size most o h = grind arith
 size-in : (second : Bool) (bytes : List ℕ) → IsSizeIn (length bytes) (size_to_bar second bytes)
 size-in second [] = tt
 size-in true (byte ∷ bytes) = more-size (length bytes) (size_to_bar false bytes) (size-in false bytes)
-size-in false (byte ∷ bytes) =
-    by (byte == bar) (begins_with_bar bytes) (size-in true bytes) (size-in false bytes)
+size-in false (byte ∷ bytes) = by (byte == bar) (begins_with_bar bytes) (size-in true bytes) (size-in false bytes)
   where
-    by : (b c : Bool) → IsSizeIn (length bytes) (size_to_bar true bytes)
-        → IsSizeIn (length bytes) (size_to_bar false bytes)
-        → IsSizeIn (suc (length bytes)) (if b then (if c then one_more (size_to_bar true bytes) else Some 0)
-        else one_more (size_to_bar false bytes))
+    by : (b c : Bool) → IsSizeIn (length bytes) (size_to_bar true bytes) → IsSizeIn (length bytes)
+        (size_to_bar false bytes) → IsSizeIn (suc (length bytes))
+        (if b then (if c then one_more (size_to_bar true bytes) else Some 0) else one_more (size_to_bar false bytes))
     by true true h g = more-size (length bytes) (size_to_bar true bytes) h
     by true false h g = omega arith
     by false c h g = more-size (length bytes) (size_to_bar false bytes) g
@@ -73,9 +54,8 @@ parts-in (byte ∷ bytes) place (suc taken) end fits = parts-in bytes (place + 1
 parts-in (byte ∷ bytes) place zero end fits =
     by (byte == bar) (λ n. parts-in bytes (place + 1) n end (omega (arith, fits)))
   where
-    by : (b : Bool) → ((n : ℕ) → ArePartsIn end (parts_from bytes (place + 1) n))
-        → ArePartsIn end (if b then part_here (size_to_bar false bytes) (place + 1) (parts_from bytes (place + 1))
-        else parts_from bytes (place + 1) 0)
+    by : (b : Bool) → ((n : ℕ) → ArePartsIn end (parts_from bytes (place + 1) n)) → ArePartsIn end (if b then part_here
+        (size_to_bar false bytes) (place + 1) (parts_from bytes (place + 1)) else parts_from bytes (place + 1) 0)
     by true later = part-in (size_to_bar false bytes) (place + 1) end (length bytes) (parts_from bytes (place + 1))
         (size-in false bytes) (omega arith) (omega (arith, fits)) later
     by false later = later 0
@@ -103,8 +83,7 @@ abbrev IsShortName : Option SecName → Type 0
 IsShortName None = Unit {0}
 IsShortName (Some name) = length name.text ≤ 2 ^ 24
 
-short-at : (kept : List SecName) (k : ℕ) → All (λ name. length name.text ≤ 2 ^ 24) kept
-    → IsShortName (slice_get kept k)
+short-at : (kept : List SecName) (k : ℕ) → All (λ name. length name.text ≤ 2 ^ 24) kept → IsShortName (slice_get kept k)
 short-at [] k all = tt
 short-at (name ∷ kept) zero all = All-head (λ (n : SecName). length n.text ≤ 2 ^ 24) name kept all
 short-at (name ∷ kept) (suc k) all = short-at kept k (All-tail (λ (n : SecName). length n.text ≤ 2 ^ 24) name kept all)
@@ -140,10 +119,8 @@ module _ (s : Source) (ref : TextRef) (names : List Entry) (short : HasShortName
   answers = tokens_of s.text ref.span.start ref.span.«end» ref.mode
 
   grown : Grows (tokens_in answers) (begin names []) (text_ended s ref names).known
-  grown =
-      text-grows s.flags (name_texts s.sec_names s.name_uses) answers names []
-      (names-plain s.sec_names s.name_uses short) (names-cats names are)
-      (tokens-spelt s.text ref.span.start ref.span.«end» ref.mode)
+  grown = text-grows s.flags (name_texts s.sec_names s.name_uses) answers names [] (names-plain s.sec_names s.name_uses
+      short) (names-cats names are) (tokens-spelt s.text ref.span.start ref.span.«end» ref.mode)
 
   pub text-names : AreNames (text_ended s ref names).known.names
   text-names = record {
@@ -158,16 +135,14 @@ module _ (s : Source) (ref : TextRef) (names : List Entry) (short : HasShortName
   -- the states of a text, over any later names
   pub text-fine : (later : List Entry) → IsInside ref.span → IsLater (text_ended s ref names).known.names later
       → AreFine later (text_ended s ref names).known.ended
-  text-fine later inside l =
-      fine-later (text_ended s ref names).known.names later l (text_ended s ref names).known.ended
-      (grown.ended (inside-few s.text ref.span.start ref.span.«end» ref.mode inside.behind inside.within)
-      (All-nil (IsFineState names)))
+  text-fine later inside l = fine-later (text_ended s ref names).known.names later l
+      (text_ended s ref names).known.ended (grown.ended (inside-few s.text ref.span.start ref.span.«end» ref.mode
+      inside.behind inside.within) (All-nil (IsFineState names)))
 
 pub texts-keep-names : TextsKeepNames
 texts-keep-names s ref names short are = (text-names s ref names short are, names-later s ref names short are)
 
 pub texts-logged : TextsAreLogged
-texts-logged s ref names later inside short are distinct l =
-    All-weaker (IsFineState later) (λ state. IsRightBlock s.flags (block_of later (logged s.flags state)))
-    (λ state h. block-right s.flags later state distinct h) (text_ended s ref names).known.ended
-    (text-fine s ref names short are later inside l)
+texts-logged s ref names later inside short are distinct l = All-weaker (IsFineState later) (λ state. IsRightBlock
+    s.flags (block_of later (logged s.flags state))) (λ state h. block-right s.flags later state distinct h)
+    (text_ended s ref names).known.ended (text-fine s ref names short are later inside l)

@@ -1,44 +1,28 @@
 -- The text of an identifier is a letter, and letters and digits behind it, in all answers of the scanner.
-use Rattle.std.proofs.Common.{◌≡◌, ℕ, zero, suc, ◌+◌, Bool, true, false, ◌&&◌, ◌||◌, not, ◌==◌, nat_lt, List, []}
-use Rattle.std.proofs.Common.{◌∷◌, ◌++◌, Option, slice_index, take, refl, sym, ap, ◌∙◌, arith, if◌then◌else◌}
-use Rattle.std.specs.List.{list_all}
-use Rattle.cw_base.proofs.TestLaws.{both}
-use Rattle.cw_rules.specs.declared.bodies.Noted.{Noted}
-use Rattle.cw_rules.specs.declared.classes.Class.TheVariants as classes
-use Rattle.cw_rules.specs.declared.codes.Code.{Code}
-use Rattle.cw_rules.specs.declared.codes.Effect.{Effect}
-use Rattle.cw_rules.specs.declared.parts.Part.{Part}
-use Rattle.cw_rules.specs.declared.parts.Part.TheVariants as parts
-use Rattle.cw_rules.specs.declared.parts.Opened.{Opened}
-use Rattle.cw_rules.specs.declared.parts.Start.{Start}
-use Rattle.cw_rules.specs.declared.parts.Start.TheVariants as start
-use Rattle.cw_rules.specs.declared.signs.Sign.{Sign}
-use Rattle.cw_rules.specs.declared.tokens.Mode.{Mode}
-use Rattle.cw_rules.specs.declared.tokens.TokKind.{TokKind}
-use Rattle.cw_rules.specs.declared.tokens.TokKind.TheVariants as kinds
-use Rattle.cw_rules.specs.Answers.{Answer, Token, Begin, Finish, Note, Where, Cut, Found, note_answers}
-use Rattle.cw_base.specs.Bytes.{newline}
+use Rattle.cw_log_laws.proofs.Terms.{◌≡◌, ℕ, zero, suc, ◌+◌, Bool, true, false, ◌&&◌, ◌||◌, not, ◌==◌, nat_lt, List, []}
+use Rattle.cw_log_laws.proofs.Terms.{◌∷◌, ◌++◌, Option, slice_index, take, refl, sym, ap, ◌∙◌, arith, if◌then◌else◌}
+use Rattle.cw_log_laws.proofs.Terms.{list_all, both, Code, Mode, TokKind, Answer, Token, Begin, Finish, Note, Where}
+use Rattle.cw_log_laws.proofs.Terms.{Cut, Found, note_answers, bar, code_text_apart, comment_text_apart}
+use Rattle.cw_log_laws.proofs.Terms.{behind_head_apart, part_text_apart, in_text_apart, found_apart, AreBare}
+use Rattle.cw_log_laws.proofs.Terms.{bare-all-cut, still_fresh, answers, tokens_of, is_section_answer, until_section}
+use Rattle.cw_log_laws.proofs.Terms.{is_identifier}
+use Rattle.cw_rules.specs.{declared.bodies.Noted.Noted, declared.codes.Effect.Effect, declared.parts.Part.Part}
+use Rattle.cw_rules.specs.{declared.parts.Opened.Opened, declared.parts.Start.Start, declared.signs.Sign.Sign}
+use Rattle.cw_rules.specs.{Codes.code_at, Codes.begins_section, Constants.constant, Prefixes.prefix_size}
+use Rattle.cw_rules.specs.{Signs.all_signs, Signs.longest, Bodies.one_note, Bodies.note_unless, Bodies.noted}
 use Rattle.cw_rules.specs.Bytes.{slash, star, at_sign, hash, less, begins, begins_by, is_letter, is_mark, is_digit}
 use Rattle.cw_rules.specs.Bytes.{is_in, run}
-use Rattle.cw_base.specs.Text.{bar}
-use Rattle.cw_rules.specs.Codes.{code_at, begins_section}
-use Rattle.cw_rules.specs.Constants.{constant}
-use Rattle.cw_rules.specs.Prefixes.{prefix_size}
-use Rattle.cw_rules.specs.Signs.{all_signs, longest}
 use Rattle.cw_rules.specs.Tokens.{in_hash_line, behind_include, takes_hash_line, is_space, is_deep, ends_at_bar}
 use Rattle.cw_rules.specs.Tokens.{closes_on_line, moved, passed, comment_end, section, section_code, string, line_end}
 use Rattle.cw_rules.specs.Tokens.{sign_or_other, start_of, effect_in, code_by, in_code, code_token, limbo_by}
 use Rattle.cw_rules.specs.Tokens.{limbo_text, tex_by, tex_text, name_follows, macro_name, parameter_follows, parameter}
 use Rattle.cw_rules.specs.Tokens.{format_name, include_name, piece_start, behind_white}
-use Rattle.cw_rules.specs.Apart.{code_text_apart, comment_text_apart, behind_head_apart, part_text_apart, in_text_apart}
-use Rattle.cw_rules.specs.Apart.{found_apart}
-use Rattle.cw_rules.specs.Bodies.{one_note, note_unless, noted}
-use Rattle.cw_base.specs.declared.notes.NoteKind.{NoteKind}
+use Rattle.cw_base.specs.{Bytes.newline, declared.notes.NoteKind.NoteKind}
 use Rattle.cw_rules.proofs.Choices.{if-both}
-use Rattle.cw_rules.proofs.Taking.{AreBare, bare-all-cut}
-use Rattle.cw_lex.specs.Lexing.{still_fresh, answers, tokens_of}
-use Rattle.cw_lex.specs.Nested.{is_section_answer, until_section}
-use Rattle.cw_logtext.specs.LogText.{is_identifier}
+use Rattle.cw_rules.specs.declared.classes.Class.TheVariants as classes
+use Rattle.cw_rules.specs.declared.parts.Part.TheVariants as parts
+use Rattle.cw_rules.specs.declared.parts.Start.TheVariants as start
+use Rattle.cw_rules.specs.declared.tokens.TokKind.TheVariants as kinds
 
 -- the text of a token, where it is an identifier
 abbrev pub IsSpelt : TokKind → List ℕ → Type 0
@@ -130,38 +114,33 @@ in-code-spelt bar_ends w place byte bytes =
     let P : Start → Type 0 = λ s. Spelt (in_code s w place all) in
     let string-at : ℕ → Cut = λ mark. string kinds.Quoted (prefix_size all + 1) mark place all in
     if-both P (nat_lt 0 (prefix_size all)) (start.Quoted (slice_index all (prefix_size all))) _
-    (λ h. (tt, noted-spelt (string-at (slice_index all (prefix_size all))).notes))
-    (λ h. if-both P (is_letter byte) start.Identifier _ (λ h. (word-spelt byte bytes h, tt))
-    (λ h. if-both P (nat_lt 0 (constant all)) start.Constant _ (λ h. (tt, tt))
-    (λ h. if-both P (is_mark byte) (start.Quoted byte) _ (λ h. (tt, noted-spelt (string-at byte).notes))
+    (λ h. (tt, noted-spelt (string-at (slice_index all (prefix_size all))).notes)) (λ h. if-both P (is_letter byte)
+    start.Identifier _ (λ h. (word-spelt byte bytes h, tt)) (λ h. if-both P (nat_lt 0 (constant all)) start.Constant _
+    (λ h. (tt, tt)) (λ h. if-both P (is_mark byte) (start.Quoted byte) _ (λ h. (tt, noted-spelt (string-at byte).notes))
     (λ h. if-both P (byte == slash && begins star bytes) start.LongComment _ (λ h. tt)
-    (λ h. if-both P (byte == slash && begins slash bytes) start.ShortComment _ (λ h. tt)
-    (λ h. if-both P (byte == at_sign) (start.Code (code_at bytes)) _
-    (λ h. code-by-spelt (effect_in w.part w.comments (code_at bytes)) (code_at bytes) w place all)
-    (λ h. if-both P (byte == bar && (bar_ends && not (begins bar bytes))) start.EndOfInner
-    (sign_or_other (longest all_signs all)) (λ h. tt)
-    (λ h. sign-spelt (longest all_signs all) w place all))))))))
+    (λ h. if-both P (byte == slash && begins slash bytes) start.ShortComment _ (λ h. tt) (λ h. if-both P
+    (byte == at_sign) (start.Code (code_at bytes)) _ (λ h. code-by-spelt (effect_in w.part w.comments (code_at bytes))
+    (code_at bytes) w place all) (λ h. if-both P (byte == bar && (bar_ends && not (begins bar bytes))) start.EndOfInner
+    (sign_or_other (longest all_signs all)) (λ h. tt) (λ h. sign-spelt (longest all_signs all) w place all))))))))
 
 code-text-spelt : (w : Where) (fresh : Bool) (last place byte : ℕ) (bytes : List ℕ)
     → Spelt (code_text_apart w fresh last place byte bytes)
-code-text-spelt w fresh last place byte bytes =
-    if-both Spelt (byte == newline) _ _ (λ h. line-end-spelt w.part w.comments last place)
-    (λ h. if-both Spelt (is_space w.part byte bytes) _ _ (λ h. tt)
-    (λ h. if-both Spelt (byte == hash && (takes_hash_line w.part w.comments && fresh)) _ _ (λ h. (tt, tt))
-    (λ h. if-both Spelt (byte == less && (behind_include w.part && closes_on_line bytes)) _ _
-    (λ h. (tt, noted-spelt (include_name place (byte ∷ bytes)).notes))
-    (λ h. in-code-spelt (ends_at_bar w.part w.comments) w place byte bytes))))
+code-text-spelt w fresh last place byte bytes = if-both Spelt (byte == newline) _ _
+    (λ h. line-end-spelt w.part w.comments last place) (λ h. if-both Spelt (is_space w.part byte bytes) _ _ (λ h. tt)
+    (λ h. if-both Spelt (byte == hash && (takes_hash_line w.part w.comments && fresh)) _ _ (λ h. (tt, tt)) (λ h. if-both
+    Spelt (byte == less && (behind_include w.part && closes_on_line bytes)) _ _ (λ h. (
+      tt,
+      noted-spelt (include_name
+          place (byte ∷ bytes)).notes,
+    )) (λ h. in-code-spelt (ends_at_bar w.part w.comments) w place byte bytes))))
 
 comment-text-spelt : (part : Part) (c : Opened) (comments : List Opened) (last place byte : ℕ) (bytes : List ℕ)
     → Spelt (comment_text_apart part c comments last place byte bytes)
-comment-text-spelt part c comments last place byte bytes =
-    if-both Spelt (c.long && (byte == star && begins slash bytes)) _ _ (λ h. noted-spelt (missing c place))
-    (λ h. if-both Spelt (not c.long && byte == newline) _ _
-    (λ h. append-spelt (comment_end (in_hash_line part) c place 0 [])
-    (line_end part comments last place).answers (noted-spelt (missing c place))
-    (line-end-spelt part comments last place))
-    (λ h. if-both Spelt (byte == bar && not (is_deep part (c ∷ comments))) _ _ (λ h. tt)
-    (λ h. (tt, noted-spelt (noted (piece_start part comments c place) (byte ∷ bytes))))))
+comment-text-spelt part c comments last place byte bytes = if-both Spelt (c.long && (byte == star && begins slash
+    bytes)) _ _ (λ h. noted-spelt (missing c place)) (λ h. if-both Spelt (not c.long && byte == newline) _ _ (λ h.
+    append-spelt (comment_end (in_hash_line part) c place 0 []) (line_end part comments last place).answers (noted-spelt
+    (missing c place)) (line-end-spelt part comments last place)) (λ h. if-both Spelt (byte == bar && not (is_deep part
+    (c ∷ comments))) _ _ (λ h. tt) (λ h. (tt, noted-spelt (noted (piece_start part comments c place) (byte ∷ bytes))))))
 
 -- ## Limbo, TeX text and heads
 
@@ -212,16 +191,13 @@ part-text-spelt parts.Limbo w fresh last place byte bytes = limbo-text-spelt w p
 part-text-spelt parts.Tex w fresh last place byte bytes = tex-text-spelt w place byte bytes
 part-text-spelt parts.Head w fresh last place byte bytes =
     if-both Spelt (is_in classes.Blank byte) _ _ (λ h. tt) (λ h. (tt, tt))
-part-text-spelt (parts.MacroName code) w fresh last place byte bytes =
-    if-both Spelt (name_follows (byte ∷ bytes)) _ _ (λ h. macro-name-spelt code w place byte bytes h)
-    (λ h. behind-head-spelt false w fresh last place byte bytes)
+part-text-spelt (parts.MacroName code) w fresh last place byte bytes = if-both Spelt (name_follows (byte ∷ bytes)) _ _
+    (λ h. macro-name-spelt code w place byte bytes h) (λ h. behind-head-spelt false w fresh last place byte bytes)
 part-text-spelt (parts.MacroParen code) w fresh last place byte bytes = (tt, tt)
-part-text-spelt (parts.Parameters code) w fresh last place byte bytes =
-    if-both Spelt (parameter_follows (byte ∷ bytes)) _ _ (λ h. parameter-spelt w place byte bytes)
-    (λ h. behind-head-spelt false w fresh last place byte bytes)
-part-text-spelt (parts.FormatName code second limbo) w fresh last place byte bytes =
-    if-both Spelt (name_follows (byte ∷ bytes)) _ _
-    (λ h. format-name-spelt code second limbo w place byte bytes h)
+part-text-spelt (parts.Parameters code) w fresh last place byte bytes = if-both Spelt (parameter_follows (byte ∷ bytes))
+    _ _ (λ h. parameter-spelt w place byte bytes) (λ h. behind-head-spelt false w fresh last place byte bytes)
+part-text-spelt (parts.FormatName code second limbo) w fresh last place byte bytes = if-both Spelt
+    (name_follows (byte ∷ bytes)) _ _ (λ h. format-name-spelt code second limbo w place byte bytes h)
     (λ h. behind-head-spelt limbo w fresh last place byte bytes)
 part-text-spelt _ w fresh last place byte bytes = code-text-spelt w fresh last place byte bytes
 
@@ -235,18 +211,16 @@ section-spelt w place bytes = grind (arith, append-spelt, bare-spelt, bare-all-c
 
 found-spelt : (w : Where) (fresh : Bool) (last place byte : ℕ) (bytes : List ℕ)
     → Spelt (found_apart w fresh last place byte bytes)
-found-spelt w fresh last place byte bytes =
-    if-both Spelt (byte == at_sign && begins_section bytes) _ _ (λ h. section-spelt w place bytes)
-    (λ h. in-text-spelt w.part w.comments fresh last place byte bytes)
+found-spelt w fresh last place byte bytes = if-both Spelt (byte == at_sign && begins_section bytes) _ _
+    (λ h. section-spelt w place bytes) (λ h. in-text-spelt w.part w.comments fresh last place byte bytes)
 
 all-spelt : (bytes : List ℕ) (w : Where) (fresh : Bool) (last place taken : ℕ)
     → AreSpelt (answers bytes w fresh last place taken)
 all-spelt [] w fresh last place taken = grind (arith, bare-spelt, bare-all-cut)
 all-spelt (byte ∷ bytes) w fresh last place zero =
     let f = found_apart w fresh last place byte bytes in
-    append-spelt f.answers (answers bytes f.next (still_fresh fresh byte) byte (place + 1) f.more)
-    (found-spelt w fresh last place byte bytes)
-    (all-spelt bytes f.next (still_fresh fresh byte) byte (place + 1) f.more)
+    append-spelt f.answers (answers bytes f.next (still_fresh fresh byte) byte (place + 1) f.more) (found-spelt w fresh
+    last place byte bytes) (all-spelt bytes f.next (still_fresh fresh byte) byte (place + 1) f.more)
 all-spelt (byte ∷ bytes) w fresh last place (suc taken) =
     all-spelt bytes w (still_fresh fresh byte) byte (place + 1) taken
 

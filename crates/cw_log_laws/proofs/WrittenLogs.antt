@@ -1,25 +1,14 @@
 -- The blocks of every web are right, and so its log is accepted.
-use Rattle.std.proofs.Common.{◌≤◌, ◌^◌, List, [], ◌∷◌, length, sym, subst, ap, ◌∙◌, arith}
-use Rattle.std.specs.List.{All}
-use Rattle.std.proofs.lemmas.List.Concat.{flat_map-cons}
-use Rattle.std.proofs.lemmas.List.Elements.{All-append, All-head, All-map, All-nil, All-tail, All-weaker}
-use Rattle.cw_base.specs.Flags.{start_flags}
-use Rattle.cw_base.specs.Web.{MergedLine, text_of}
-use Rattle.cw_names.specs.Names.{Entry}
-use Rattle.cw_phase1.specs.Book.{book}
-use Rattle.cw_texts.specs.Texts.{texts_of}
-use Rattle.cw_texts.specs.declared.text_list.TextRef.{TextRef}
-use Rattle.cw_each.specs.EachText.{EndedText, Source, each_text, text_ended}
-use Rattle.cw_log.specs.Check.{check_file}
+use Rattle.cw_log_laws.proofs.Terms.{◌≤◌, ◌^◌, List, [], ◌∷◌, length, sym, subst, ap, ◌∙◌, arith, All, flat_map-cons}
+use Rattle.cw_log_laws.proofs.Terms.{All-append, All-head, All-map, All-nil, All-tail, All-weaker, start_flags}
+use Rattle.cw_log_laws.proofs.Terms.{MergedLine, text_of, Entry, book, texts_of, TextRef, EndedText, each_text}
+use Rattle.cw_log_laws.proofs.Terms.{text_ended, check_file, AreNames, HasShortNames, IsInside, IsRightBlock}
+use Rattle.cw_each.specs.EachText.{Source}
 use Rattle.cw_log.specs.LogOfWeb.{blocks_from, log_blocks, state_block, text_blocks}
 use Rattle.cw_log_laws.specs.WrittenLogs.{CommandsAccept, WrittenLogsAreAccepted}
-use Rattle.cw_log_laws.specs.LoggedTexts.{AreNames, HasShortNames, IsInside, IsRightBlock}
-use Rattle.cw_log_laws.proofs.AcceptedLogs.{right-accepted}
-use Rattle.cw_log_laws.proofs.BookNames.{book-names, book-short}
-use Rattle.cw_log_laws.proofs.InsideTexts.{book-inside}
-use Rattle.cw_log_laws.proofs.LaterNames.{later-same}
-use Rattle.cw_log_laws.proofs.RightTexts.{text-fine, text-names}
-use Rattle.cw_log_laws.proofs.WrittenScraps.{IsFineState, told-right}
+use Rattle.cw_log_laws.proofs.{AcceptedLogs.right-accepted, BookNames.book-names, BookNames.book-short}
+use Rattle.cw_log_laws.proofs.{InsideTexts.book-inside, LaterNames.later-same, RightTexts.text-fine}
+use Rattle.cw_log_laws.proofs.{RightTexts.text-names, WrittenScraps.IsFineState, WrittenScraps.told-right}
 
 module _ (s : Source) (short : HasShortNames s) where
   text-right : (ref : TextRef) (names : List Entry) → IsInside ref.span → AreNames names
@@ -37,12 +26,10 @@ module _ (s : Source) (short : HasShortNames s) where
   each-right (ref ∷ refs) names inside are =
       let known = (text_ended s ref names).known in
       let first : EndedText = record { text = ref; ended = text_ended s ref names } in
-      subst (All (IsRightBlock s.flags))
-      (sym (flat_map-cons (text_blocks s.flags) first (each_text s refs known.names)))
-      (All-append (IsRightBlock s.flags) (text_blocks s.flags first) (blocks_from s refs known.names)
-      (text-right ref names (All-head (λ (r : TextRef). IsInside r.span) ref refs inside) are)
-      (each-right refs known.names (All-tail (λ (r : TextRef). IsInside r.span) ref refs inside)
-      (text-names s ref names short are)))
+      subst (All (IsRightBlock s.flags)) (sym (flat_map-cons (text_blocks s.flags) first (each_text s refs
+      known.names))) (All-append (IsRightBlock s.flags) (text_blocks s.flags first) (blocks_from s refs known.names)
+      (text-right ref names (All-head (λ (r : TextRef). IsInside r.span) ref refs inside) are) (each-right refs
+      known.names (All-tail (λ (r : TextRef). IsInside r.span) ref refs inside) (text-names s ref names short are)))
 
 book-right : (lines : List MergedLine) → length (text_of lines) ≤ 2 ^ 24
     → All (IsRightBlock start_flags) (log_blocks lines)
@@ -52,11 +39,9 @@ book-right lines short = grind (
     text = text_of lines;
     flags = start_flags;
     sec_names = (book lines).sec_names;
-    name_uses
-        = (book lines).name_uses;
-  }) (book-short lines short)
-      (texts_of (text_of lines) (book lines).name_uses (book lines).outline.sections) (book lines).names
-      (book-inside lines short) (book-names lines),
+    name_uses = (book lines).name_uses;
+  }) (book-short lines short) (texts_of (text_of lines) (book lines).name_uses (book lines).outline.sections)
+      (book lines).names (book-inside lines short) (book-names lines),
 )
 
 pub written-accepted : WrittenLogsAreAccepted

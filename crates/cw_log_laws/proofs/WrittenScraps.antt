@@ -1,35 +1,19 @@
 -- Scraps of which leaf lines tell all: their trees, their leaf lines, and the blocks of states that have such scraps.
-use Rattle.std.proofs.Common.{◌≡◌, ◌≢◌, ℕ, ◌≤◌, Bool, true, false, Option, Some, None, List, [], ◌∷◌, length, map}
-use Rattle.std.proofs.Common.{slice_get, refl, sym, ap, subst, arith, eq-eqb}
-use Rattle.std.specs.List.{All, list_all}
-use Rattle.std.proofs.lemmas.Bool.{lt-ltb}
-use Rattle.std.proofs.lemmas.List.{length-map}
-use Rattle.std.proofs.lemmas.List.Elements.{All-append, All-head, All-map, All-nil, All-tail, All-weaker}
-use Rattle.cw_base.proofs.TestLaws.{both}
-use Rattle.cw_base.specs.declared.category.Cat.{Cat}
-use Rattle.cw_base.specs.declared.category.Cat.TheVariants.{End}
-use Rattle.cw_base.specs.declared.flags.Flags.{Flags}
-use Rattle.cw_base.specs.Category.{may_be_bare}
-use Rattle.cw_names.specs.declared.entry.EntryKind.TheVariants.{Ident as ident_kind}
-use Rattle.cw_names.specs.Names.{Entry, AreDistinct}
-use Rattle.cw_trees.specs.declared.Control.{Control}
-use Rattle.cw_trees.specs.declared.Control.TheVariants.{Inserted}
-use Rattle.cw_trees.specs.Joining.{Scrap}
-use Rattle.cw_trees.specs.Tree.{Leaf, Source, Ident, Reserved, Sign, Tree, Empty, Then, Sub, Inner, bare_name}
-use Rattle.cw_trees.specs.Tree.{search_word}
-use Rattle.cw_table.specs.Normal.{Production, is_fine, fine_with, log}
-use Rattle.cw_table.specs.Productions.{productions}
-use Rattle.cw_table.specs.Rewriting.{State}
+use Rattle.cw_log_laws.proofs.Terms.{◌≡◌, ◌≢◌, ℕ, ◌≤◌, Bool, true, false, Option, Some, None, List, [], ◌∷◌, length}
+use Rattle.cw_log_laws.proofs.Terms.{map, slice_get, refl, sym, ap, subst, arith, eq-eqb, All, list_all, lt-ltb}
+use Rattle.cw_log_laws.proofs.Terms.{length-map, All-append, All-head, All-map, All-nil, All-tail, All-weaker, both}
+use Rattle.cw_log_laws.proofs.Terms.{Cat, End, Flags, may_be_bare, Ident as ident_kind, Entry, AreDistinct, Scrap}
+use Rattle.cw_log_laws.proofs.Terms.{Source, Reserved, Sign, Tree, Empty, Then, Sub, Inner, bare_name, search_word}
+use Rattle.cw_log_laws.proofs.Terms.{Production, is_fine, fine_with, log, productions, State, block_of, Block}
+use Rattle.cw_log_laws.proofs.Terms.{IsFineLine, fits_kind, greatest, is_identifier, logged, IsKept, IsLater}
+use Rattle.cw_log_laws.proofs.Terms.{IsRightBlock}
+use Rattle.cw_trees.specs.{declared.Control.Control, declared.Control.TheVariants.Inserted, Tree.Leaf, Tree.Ident}
 use Rattle.cw_table.specs.Sound.{is_exp}
 use Rattle.cw_leaves.specs.LeafLines.{HasNoMark, IsClear, IsIdentEntry, IsTold, kind_by, leaf_line, said, said_by}
 use Rattle.cw_leaves.specs.LeafLines.{text_at, text_by}
 use Rattle.cw_leaves.specs.Sights.{Heard, behind, told_by}
 use Rattle.cw_leaves.specs.Spelling.{id_of, item_of, line_of, production_of, spelled}
 use Rattle.cw_leaves.proofs.LineFacts.{lines-have-log}
-use Rattle.cw_logtext.specs.Appending.{block_of}
-use Rattle.cw_logtext.specs.LogText.{Block, IsFineLine, fits_kind, greatest, is_identifier}
-use Rattle.cw_translator.specs.Recording.{logged}
-use Rattle.cw_log_laws.specs.LoggedTexts.{IsKept, IsLater, IsRightBlock}
 use Rattle.cw_log_laws.proofs.FineItems.{log-fine}
 
 -- ## Words among the names
@@ -141,9 +125,8 @@ fine-by b c h = grind (arith, exp-bare)
 
 scraps-fine : (names : List Entry) (scraps : List Scrap) → All (IsLogged names) scraps → list_all is_fine scraps ≡ true
 scraps-fine names [] all = refl
-scraps-fine names (s ∷ scraps) all =
-    both (is_fine s) _ (fine-by (bare_name s.tree) s.cat (All-head (IsLogged names) s scraps all).bare)
-    (scraps-fine names scraps (All-tail (IsLogged names) s scraps all))
+scraps-fine names (s ∷ scraps) all = both (is_fine s) _ (fine-by (bare_name s.tree) s.cat
+    (All-head (IsLogged names) s scraps all).bare) (scraps-fine names scraps (All-tail (IsLogged names) s scraps all))
 
 -- ## Leaf lines
 

@@ -1,27 +1,18 @@
 -- The file of plain texts, which is written text by text.
-use Rattle.std.proofs.Common.{◌≡◌, ℕ, List, [], ◌∷◌, ◌++◌, Result, Ok, Err, refl, sym, ap, subst, ◌∙◌}
-use Rattle.std.specs.Prelude.{All, IsErrAnd}
-use Rattle.std.proofs.lemmas.List.{append-nil, append_assoc}
-use Rattle.std.proofs.lemmas.List.Concat.{flat_map-cons}
+use Rattle.cw_plain.proofs.Terms.{◌≡◌, ℕ, List, [], ◌∷◌, ◌++◌, Result, Ok, Err, refl, sym, ap, subst, ◌∙◌, All}
+use Rattle.cw_plain.proofs.Terms.{IsErrAnd, append-nil, append_assoc, flat_map-cons, Each, HasTranslated, IsWholeRef}
+use Rattle.cw_plain.proofs.Terms.{NextText, unfolded, plain_tree, source_by}
 use Rattle.std.proofs.lemmas.List.Elements.{All-tail}
 use Rattle.cw_base.specs.declared.event.Out.TheVariants.{Tex}
-use Rattle.cw_desk.specs.Journal.{byte_events}
-use Rattle.cw_desk.specs.Told.{Told}
+use Rattle.cw_desk.specs.{Journal.byte_events, Told.Told}
 use Rattle.cw_each.specs.EachText.{EndedText, Source, each_text, text_ended}
-use Rattle.cw_each.specs.Forms.{Each, HasTranslated, IsWholeRef}
-use Rattle.cw_each.specs.declared.each.NextText.{NextText}
-use Rattle.cw_lines.specs.Writes.{Adds, HasAdded}
-use Rattle.cw_lines.specs.WritesLaws.{adds-events, adds-none}
-use Rattle.cw_lines.specs.declared.put_error.PutError.{PutError}
-use Rattle.cw_lines.specs.declared.put_error.PutError.TheVariants.{Memory}
+use Rattle.cw_lines.specs.{Writes.Adds, Writes.HasAdded, WritesLaws.adds-events, WritesLaws.adds-none}
+use Rattle.cw_lines.specs.{declared.put_error.PutError.PutError, declared.put_error.PutError.TheVariants.Memory}
 use Rattle.cw_names.specs.Names.{Entry}
 use Rattle.cw_texts.specs.declared.text_list.TextRef.{TextRef}
-use Rattle.cw_tokens.specs.Shapes.{unfolded}
 use Rattle.cw_tool.specs.PieceLaws.{piece-stop, piece-then, piece-wanting}
 use Rattle.cw_translator.specs.NameParts.{AreNamesOf}
 use Rattle.cw_plain.specs.File.{lines_by, text_lines, texts_lines}
-use Rattle.cw_plain.specs.Plain.{plain_tree}
-use Rattle.cw_plain.specs.Titles.{source_by}
 
 -- These bytes are written, and behind them comes what is left of all.
 pub record Written (old new : Each) (names names' : List Entry) (before now : Told) : Type 0 where
@@ -53,9 +44,8 @@ abbrev first_lines : Source → TextRef → List Entry → List ℕ
 first_lines s text names = text_lines s (ended_first s text names)
 
 -- the lines of the first text, and those of the others
-lines-first : (s : Source) (text : TextRef) (texts : List TextRef) (names : List Entry)
-    → texts_lines s (text ∷ texts) names
-    ≡ first_lines s text names ++ texts_lines s texts (text_ended s text names).known.names
+lines-first : (s : Source) (text : TextRef) (texts : List TextRef) (names : List Entry) → texts_lines s (text ∷ texts)
+    names ≡ first_lines s text names ++ texts_lines s texts (text_ended s text names).known.names
 lines-first s text texts names = flat_map-cons (text_lines s) (ended_first s text names)
     (each_text s texts (text_ended s text names).known.names)
 
@@ -75,8 +65,7 @@ module _ (old e new : Each) (next : NextText) (names names' names'' : List Entry
   -- behind them come those of the others
   lines-left : first_lines e.source next.text names' ++ texts_lines new.source new.coming names''
       ≡ texts_lines e.source e.coming names'
-  lines-left =
-      (λ i. first_lines e.source next.text names' ++ texts_lines (same i) new.coming (has.ended.names_are i))
+  lines-left = (λ i. first_lines e.source next.text names' ++ texts_lines (same i) new.coming (has.ended.names_are i))
       ∙ sym (lines-first e.source next.text new.coming names')
       ∙ ap (λ (texts : List TextRef). texts_lines e.source texts names') (sym has.coming)
 
@@ -85,9 +74,8 @@ module _ (old e new : Each) (next : NextText) (names names' names'' : List Entry
   all-left = ap (λ (lines : List ℕ). w.done ++ lines) lines-left ∙ w.left
 
   -- its lines are written
-  pub written-more : {U : Type 0} {later : Told} {value : U}
-      → Adds {T = U} (byte_events Tex (lines_of new next)) now later (Ok value)
-      → Written old new names names'' before later
+  pub written-more : {U : Type 0} {later : Told} {value : U} → Adds {T = U} (byte_events Tex (lines_of new next)) now
+      later (Ok value) → Written old new names names'' before later
   written-more {later = later} piece = record {
     done = w.done ++ first_lines e.source next.text names';
     added = piece-then Tex w.done (first_lines e.source next.text names') w.added
@@ -101,20 +89,16 @@ module _ (old e new : Each) (next : NextText) (names names' names'' : List Entry
     kept = subst (λ (s : Source). AreNamesOf s.sec_names s.name_uses) (sym same) w.kept;
   }
     where
-      first-lines : {V : Type 0} {a b : Told} {result : Result V PutError}
-          → Adds (byte_events Tex (lines_of new next)) a b result
-          → Adds (byte_events Tex (first_lines e.source next.text names')) a b result
+      first-lines : {V : Type 0} {a b : Told} {result : Result V PutError} → Adds (byte_events Tex (lines_of new next))
+          a b result → Adds (byte_events Tex (first_lines e.source next.text names')) a b result
       first-lines adds = adds-events (ap (byte_events Tex) lines-translated) adds
 
   -- they are refused
-  pub written-refused : {T U : Type 0} {later : Told} {error : PutError} {result : Result U PutError}
-      → Adds {T = T} (byte_events Tex (lines_of new next)) now later (Err error)
-      → IsErrAnd result (λ found. found ≡ error)
+  pub written-refused : {T U : Type 0} {later : Told} {error : PutError} {result : Result U PutError} → Adds {T = T}
+      (byte_events Tex (lines_of new next)) now later (Err error) → IsErrAnd result (λ found. found ≡ error)
       → Adds (byte_events Tex (texts_lines old.source old.coming names)) before later result
-  written-refused piece is =
-      adds-events (ap (byte_events Tex) all-left)
-      (piece-then Tex w.done (first_lines e.source next.text names' ++ texts_lines new.source new.coming names'')
-      w.added
+  written-refused piece is = adds-events (ap (byte_events Tex) all-left) (piece-then Tex w.done
+      (first_lines e.source next.text names' ++ texts_lines new.source new.coming names'') w.added
       (piece-stop Tex (first_lines e.source next.text names') (texts_lines new.source new.coming names'')
       (adds-events (ap (byte_events Tex) lines-translated) piece) is))
 
@@ -124,8 +108,7 @@ module _ (old e new : Each) (next : NextText) (names names' names'' : List Entry
 pub written-all : {U : Type 0} {old e : Each} {names names' : List Entry} {before now : Told} (value : U)
     → Written old e names names' before now → e.coming ≡ []
     → Adds {T = U} (byte_events Tex (texts_lines old.source old.coming names)) before now (Ok value)
-written-all {old = old} {e = e} {names = names} {names' = names'} value w none =
-    adds-events (ap (byte_events Tex) all)
+written-all {old = old} {e = e} {names = names} {names' = names'} value w none = adds-events (ap (byte_events Tex) all)
     (record { ok = w.added.ok; err = tt; same = w.added.same; fault = λ fault. cc })
   where
     all : w.done ≡ texts_lines old.source old.coming names
@@ -134,10 +117,7 @@ written-all {old = old} {e = e} {names = names} {names' = names'} value w none =
 
 -- memory was wanting before a text was translated
 pub written-wanting : {U : Type 0} {old e : Each} {names names' : List Entry} {before now : Told}
-    {result : Result U PutError} → Written old e names names' before now
-    → IsErrAnd result (λ found. found ≡ Memory)
+    {result : Result U PutError} → Written old e names names' before now → IsErrAnd result (λ found. found ≡ Memory)
     → Adds (byte_events Tex (texts_lines old.source old.coming names)) before now result
-written-wanting {e = e} {names' = names'} w is =
-    adds-events (ap (byte_events Tex) w.left)
-    (piece-then Tex w.done (texts_lines e.source e.coming names') w.added
-    (piece-wanting Tex (texts_lines e.source e.coming names') is))
+written-wanting {e = e} {names' = names'} w is = adds-events (ap (byte_events Tex) w.left) (piece-then Tex w.done
+    (texts_lines e.source e.coming names') w.added (piece-wanting Tex (texts_lines e.source e.coming names') is))

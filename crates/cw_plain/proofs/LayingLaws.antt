@@ -1,23 +1,16 @@
 -- Plain text that is made piece by piece is that of its pieces, laid out.
-use Rattle.std.proofs.Common.{◌≡◌, ℕ, zero, suc, Bool, true, false, List, [], ◌∷◌, ◌++◌, Option, None, refl, sym, ap}
-use Rattle.std.proofs.Common.{◌∙◌, arith, if◌then◌else◌}
-use Rattle.std.specs.Prelude.{nat_lt}
+use Rattle.cw_plain.proofs.Terms.{◌≡◌, ℕ, zero, suc, Bool, true, false, List, [], ◌∷◌, ◌++◌, Option, None, refl, sym}
+use Rattle.cw_plain.proofs.Terms.{ap, ◌∙◌, arith, if◌then◌else◌, nat_lt, append-nil, append_assoc, flat_map-cons}
+use Rattle.cw_plain.proofs.Terms.{Laying, begun, ended, ended_text, no_run, piece_text, pieces_text, with_control}
+use Rattle.cw_plain.proofs.Terms.{with_piece, Added, Layout, Other, Run, Stretch, at_start, backed, behind_piece}
+use Rattle.cw_plain.proofs.Terms.{behind_run, break_text, cut_off, ink_bytes, ink_text, laid, laid_from, level_behind}
+use Rattle.cw_plain.proofs.Terms.{level_in, moved, piece_inks, run_text, stretches, with_move, Closing, Ending, Move}
+use Rattle.cw_plain.proofs.Terms.{Nothing, Opening, Part, Piece, Word}
 use Rattle.std.specs.List.{list_any}
-use Rattle.std.proofs.lemmas.Grind.{flat_map-append}
-use Rattle.std.proofs.lemmas.Bool.Decides.{nat_tests}
-use Rattle.std.proofs.lemmas.List.{append-nil, append_assoc}
-use Rattle.std.proofs.lemmas.List.Concat.{flat_map-cons}
-use Rattle.std.proofs.lemmas.List.Sums.{fold_push}
-use Rattle.cw_trees.specs.declared.Control.{Control}
-use Rattle.cw_trees.specs.Printing.{is_backup, is_cancel, strongest}
+use Rattle.std.proofs.{lemmas.Grind.flat_map-append, lemmas.Bool.Decides.nat_tests, lemmas.List.Sums.fold_push}
+use Rattle.cw_trees.specs.{declared.Control.Control, Printing.is_backup, Printing.is_cancel, Printing.strongest}
 use Rattle.cw_join.specs.Runs.{run_state}
 use Rattle.cw_join.proofs.StateLaws.{state-more}
-use Rattle.cw_plain.specs.Laying.{Laying, begun, ended, ended_text, no_run, piece_text, pieces_text, with_control}
-use Rattle.cw_plain.specs.Laying.{with_piece}
-use Rattle.cw_plain.specs.Lines.{Added, Layout, Other, Run, Stretch, at_start, backed, behind_piece, behind_run}
-use Rattle.cw_plain.specs.Lines.{break_text, cut_off, ink_bytes, ink_text, laid, laid_from, level_behind, level_in}
-use Rattle.cw_plain.specs.Lines.{moved, piece_inks, run_text, stretches, with_move}
-use Rattle.cw_plain.specs.Pieces.{Closing, Ending, Move, Nothing, Opening, Part, Piece, Word}
 
 -- ## Runs
 
@@ -66,14 +59,12 @@ run-text l run = by (list_any is_cancel run) l.depth
     back : Bool
     back = list_any is_backup run
 
-    by : (t : Bool) (depth : ℕ)
-        → break_text (nat_lt 0 depth) (backed back (level_in depth l.level run))
-        (if t then 0 else strongest run)
-        ≡ (if t then [] else break_text (nat_lt 0 depth) (backed back (level_behind l.level run)) (strongest run))
+    by : (t : Bool) (depth : ℕ) → break_text (nat_lt 0 depth) (backed back (level_in depth l.level run))
+        (if t then 0 else strongest run) ≡ (if t then [] else break_text (nat_lt 0 depth)
+        (backed back (level_behind l.level run)) (strongest run))
     by true depth = refl
     by false zero = refl
-    by false (suc depth) =
-        ap (λ inner. break_text inner (backed back l.level) (strongest run)) (is-inner depth)
+    by false (suc depth) = ap (λ inner. break_text inner (backed back l.level) (strongest run)) (is-inner depth)
         ∙ inner-level (backed back l.level) (backed back (level_behind l.level run)) (strongest run)
         ∙ sym (ap (λ inner. break_text inner (backed back (level_behind l.level run)) (strongest run)) (is-inner depth))
 
@@ -145,32 +136,26 @@ other-laid piece pieces ends are l run =
     let b = in_run l run in
     let text = λ (x : Layout). ink_text (piece_inks x.last piece) in
     let more = λ (x : Layout). ink_text (laid_from (behind_piece x piece) (stretches pieces)) in
-    (λ i. (ends b).0 i ++ pieces_text ((ends b).1 i) pieces)
-    ∙ (λ i. (run-text l run i ++ text (run-ended l run i))
-    ++ none-laid pieces are (behind_piece (run-ended l run i) piece) i)
-    ∙ append_assoc (run_text l run) (text (behind_run l run)) (more (behind_run l run))
-    ∙ ap (λ t. run_text l run ++ t) (sym (flat_map-append ink_bytes (piece_inks (behind_run l run).last piece)
-    (laid_from (behind_piece (behind_run l run) piece) (stretches pieces))))
+    (λ i. (ends b).0 i ++ pieces_text ((ends b).1 i) pieces) ∙ (λ i. (run-text l run i ++ text (run-ended l run i))
+    ++ none-laid pieces are (behind_piece (run-ended l run i) piece) i) ∙ append_assoc (run_text l run)
+    (text (behind_run l run)) (more (behind_run l run)) ∙ ap (λ t. run_text l run ++ t) (sym (flat_map-append ink_bytes
+    (piece_inks (behind_run l run).last piece) (laid_from (behind_piece (behind_run l run) piece) (stretches pieces))))
     ∙ sym (run-laid l run (Other piece ∷ stretches pieces) tt)
     ∙ ap (λ ss. ink_text (laid_from l (with_run run ss))) (sym (ends b).2)
 
 are-laid : (pieces : List Piece) → AreLaid pieces
 are-laid [] l run = run-text l run ∙ sym (append-nil (run_text l run)) ∙ sym (run-laid l run [] tt)
 are-laid (Move c ∷ pieces) l run = ap (λ b. pieces_text b pieces) (control-more l run c)
-    ∙ are-laid pieces l (run ++ c ∷ [])
-    ∙ ap (λ ss. ink_text (laid_from l ss)) (run-more run c (stretches pieces))
+    ∙ are-laid pieces l (run ++ c ∷ []) ∙ ap (λ ss. ink_text (laid_from l ss)) (run-more run c (stretches pieces))
 are-laid (Word number bytes ∷ pieces) l run =
     other-laid (Word number bytes) pieces (λ l. (refl, refl, refl)) (are-laid pieces) l run
 are-laid (Part number bytes ∷ pieces) l run =
     other-laid (Part number bytes) pieces (λ l. (refl, refl, refl)) (are-laid pieces) l run
 are-laid (Ending bytes ∷ pieces) l run =
     other-laid (Ending bytes) pieces (λ l. (refl, refl, refl)) (are-laid pieces) l run
-are-laid (Opening ∷ pieces) l run =
-    other-laid Opening pieces (λ l. (refl, refl, refl)) (are-laid pieces) l run
-are-laid (Closing ∷ pieces) l run =
-    other-laid Closing pieces (λ l. (refl, refl, refl)) (are-laid pieces) l run
-are-laid (Nothing ∷ pieces) l run =
-    other-laid Nothing pieces (λ l. (refl, refl, refl)) (are-laid pieces) l run
+are-laid (Opening ∷ pieces) l run = other-laid Opening pieces (λ l. (refl, refl, refl)) (are-laid pieces) l run
+are-laid (Closing ∷ pieces) l run = other-laid Closing pieces (λ l. (refl, refl, refl)) (are-laid pieces) l run
+are-laid (Nothing ∷ pieces) l run = other-laid Nothing pieces (λ l. (refl, refl, refl)) (are-laid pieces) l run
 
 -- All pieces, from the start of a text.
 pub pieces-laid : (pieces : List Piece) → pieces_text begun pieces ≡ ink_text (laid pieces)

@@ -1,21 +1,16 @@
 -- A piece that is laid is what the walk makes.
-use Rattle.std.proofs.Common.{◌≡◌, ℕ, List, [], Option, Result, Ok, Err, OnOk, refl, subst}
+use Rattle.cw_plain.proofs.Terms.{◌≡◌, ℕ, List, [], Option, Result, Ok, Err, OnOk, refl, subst, Code, TokKind, Lays}
+use Rattle.cw_plain.proofs.Terms.{Laying, Piece, Placed, Stand, Word, placed, token_placed, MakesPlaced, Walked}
 use Rattle.cw_base.specs.declared.memory.Memory.{Memory}
-use Rattle.cw_rules.specs.declared.codes.Code.{Code}
 use Rattle.cw_rules.specs.declared.codes.Code.TheVariants as codes
-use Rattle.cw_rules.specs.declared.tokens.TokKind.{TokKind}
 use Rattle.cw_rules.specs.declared.tokens.TokKind.TheVariants as kinds
-use Rattle.cw_plain.specs.Laying.{Lays, Laying}
-use Rattle.cw_plain.specs.Pieces.{Piece, Placed, Stand, Word, placed, token_placed}
-use Rattle.cw_plain.specs.Walking.{MakesPlaced, Walked}
 
 -- a walk that stands elsewhere, and has laid more
 abbrev pub moved_to : Walked → Stand → Laying → Walked
 moved_to w stand laying = record { reads = w.reads; walk = record { stand = stand; laying = laying } }
 
 lays-makes : {w : Walked} {piece : Piece} {out out' : List ℕ} {laying : Laying} (stand : Stand)
-    → Lays w.walk.laying piece out laying out'
-    → MakesPlaced w (placed piece stand) out (moved_to w stand laying) out'
+    → Lays w.walk.laying piece out laying out' → MakesPlaced w (placed piece stand) out (moved_to w stand laying) out'
 lays-makes stand lays = record {
   text = lays.text;
   walk = λ i. record { stand = stand; laying = lays.laying i };
@@ -27,9 +22,8 @@ pub laid-makes : (w old : Walked) (p : Walked → Placed) (piece : Piece) (stand
     (out out' : List ℕ) (new : Walked) (result : Result (Unit {0}) Memory) → w ≡ old
     → OnOk result (Lays w.walk.laying piece out laying out') → placed piece stand ≡ p w
     → moved_to w stand laying ≡ new → OnOk result (MakesPlaced old (p old) out new out')
-laid-makes w old p piece stand laying out out' new (Ok done) same lays is there =
-    subst (λ (v : Walked). MakesPlaced v (p v) out new out') same
-    (subst (λ (q : Placed). MakesPlaced w q out new out') is
+laid-makes w old p piece stand laying out out' new (Ok done) same lays is there = subst
+    (λ (v : Walked). MakesPlaced v (p v) out new out') same (subst (λ (q : Placed). MakesPlaced w q out new out') is
     (subst (λ (v : Walked). MakesPlaced w (placed piece stand) out v out') there (lays-makes stand lays)))
 laid-makes w old p piece stand laying out out' new (Err error) same lays is there = tt
 
@@ -38,8 +32,7 @@ laid-makes w old p piece stand laying out out' new (Err error) same lays is ther
 -- a code that prints nothing
 pub other-code : (number : ℕ) (title : Option (List ℕ)) (code : Code) (text : List ℕ) (stand : Stand)
     → (code ≡ codes.SectionName → ⊥) → (code ≡ codes.FileName → ⊥) → (code ≡ codes.Verbatim → ⊥)
-    → (code ≡ codes.Quote → ⊥)
-    → placed (Word number []) stand ≡ token_placed number title (kinds.Code code) text stand
+    → (code ≡ codes.Quote → ⊥) → placed (Word number []) stand ≡ token_placed number title (kinds.Code code) text stand
 other-code number title codes.SectionName text stand section file verbatim quoted = absurd (section refl)
 other-code number title codes.FileName text stand section file verbatim quoted = absurd (file refl)
 other-code number title codes.Verbatim text stand section file verbatim quoted = absurd (verbatim refl)

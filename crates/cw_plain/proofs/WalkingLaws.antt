@@ -1,11 +1,7 @@
 -- Plain text that is made item by item is that of the definition.
-use Rattle.std.proofs.Common.{◌≡◌, ℕ, zero, suc, List, [], ◌∷◌, ◌++◌, refl, ap, ◌∙◌}
-use Rattle.cw_trees.specs.Flat.{Item, trimmed_items}
-use Rattle.cw_plain.specs.Laying.{piece_text, pieces_text}
-use Rattle.cw_plain.specs.Pieces.{Source, item_placed, passed, pieces, pieces_from, pieces_in}
-use Rattle.cw_plain.specs.Plain.{plain}
-use Rattle.cw_plain.specs.Walking.{Walk, behind_at, items_text, text_at, walk_begun}
-use Rattle.cw_plain.specs.Walking.{with_placed}
+use Rattle.cw_plain.proofs.Terms.{◌≡◌, ℕ, zero, suc, List, [], ◌∷◌, ◌++◌, refl, ap, ◌∙◌, Item, trimmed_items}
+use Rattle.cw_plain.proofs.Terms.{piece_text, pieces_text, Source, item_placed, passed, pieces, pieces_from, pieces_in}
+use Rattle.cw_plain.proofs.Terms.{plain, Walk, behind_at, items_text, text_at, walk_begun, with_placed}
 use Rattle.cw_plain.proofs.LayingLaws.{pieces-laid}
 
 abbrev AsPieces : Source → List Item → Type 0
@@ -16,8 +12,7 @@ item-pieces : (depth : ℕ) (s : Source) (w : Walk) (item : Item) (items : List 
     → text_at depth s w item ++ items_text s (behind_at depth s w item) items
     ≡ pieces_text w.laying (pieces_in s depth item w.stand (pieces_from s items))
 item-pieces zero s w item items are =
-    let p = item_placed s item w.stand in
-    ap (λ t. piece_text w.laying p.piece ++ t) (are (with_placed w.laying p))
+    let p = item_placed s item w.stand in ap (λ t. piece_text w.laying p.piece ++ t) (are (with_placed w.laying p))
 item-pieces (suc depth) s w item items are = are (record { stand = passed item w.stand; laying = w.laying })
 
 items-pieces : (s : Source) (items : List Item) → AsPieces s items

@@ -1,17 +1,11 @@
 -- What plain text adds to its tokens is white space, bars and ends of comments.
-use Rattle.std.proofs.Common.{◌≡◌, ℕ, Bool, true, false, List, [], ◌∷◌, Option, Some, codes, cond, inl, inr, refl}
-use Rattle.std.proofs.Common.{arith}
-use Rattle.std.proofs.lemmas.List.Elements.{All-cons, All-nil}
-use Rattle.std.specs.List.{All, list_all}
-use Rattle.cw_base.proofs.TestLaws.{both}
-use Rattle.cw_plain.specs.Lines.{Own, Added, Layout, Other, Run, Stretch, behind_piece, behind_run, blank_before, clash}
-use Rattle.cw_plain.specs.Lines.{laid_from}
-use Rattle.cw_plain.specs.Pieces.{Word, Part, Ending, Opening, Closing, Move, Nothing, Source}
-use Rattle.cw_plain_laws.proofs.Again.{AreWhite}
+use Rattle.cw_plain_laws.proofs.Terms.{◌≡◌, ℕ, Bool, true, false, List, [], ◌∷◌, Option, Some, codes, cond, inl, inr}
+use Rattle.cw_plain_laws.proofs.Terms.{refl, arith, All-cons, All-nil, All, list_all, both, Own, Added, Layout, Other}
+use Rattle.cw_plain_laws.proofs.Terms.{Run, Stretch, behind_piece, behind_run, blank_before, clash, laid_from, Word}
+use Rattle.cw_plain_laws.proofs.Terms.{Part, Ending, Opening, Closing, Move, Nothing, Source, AddsLittle, MayBeAdded}
+use Rattle.cw_plain_laws.proofs.Terms.{PlainAddsLittle, is_in}
+use Rattle.cw_plain_laws.proofs.{Again.AreWhite, SpacedLaws.white-run}
 use Rattle.cw_plain_laws.proofs.OwnInks.{StretchesOwn, pieces-own, stretched-own}
-use Rattle.cw_plain_laws.proofs.SpacedLaws.{white-run}
-use Rattle.cw_plain_laws.specs.OwnLaws.{AddsLittle, MayBeAdded, PlainAddsLittle}
-use Rattle.cw_rules.specs.Bytes.{is_in}
 use Rattle.cw_rules.specs.declared.classes.Class.TheVariants.{White}
 
 white-all : (bytes : List ℕ) → AreWhite bytes → list_all (λ byte. is_in White byte) bytes ≡ true

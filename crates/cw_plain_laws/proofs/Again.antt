@@ -1,18 +1,12 @@
 -- Tokens that are scanned again, one behind another, with white space between them.
-use Rattle.std.proofs.Common.{◌≡◌, ℕ, ◌||◌, ◌&&◌, not, Bool, true, false, List, [], ◌∷◌, ◌++◌, codes, length}
+use Rattle.cw_plain_laws.proofs.Terms.{◌≡◌, ℕ, ◌||◌, ◌&&◌, not, Bool, true, false, List, [], ◌∷◌, ◌++◌, codes, length}
+use Rattle.cw_plain_laws.proofs.Terms.{TokKind, Answer, Token, Where, is_single, stops, takes_next, apostrophe, at_sign}
+use Rattle.cw_plain_laws.proofs.Terms.{is_in, is_letter, is_mark, run, constant, spelling, clash, is_wordy, is_hash}
 use Rattle.cw_rules.specs.declared.classes.Class.TheVariants as classes
 use Rattle.cw_rules.specs.declared.parts.Part.TheVariants as parts
-use Rattle.cw_rules.specs.declared.tokens.TokKind.{TokKind}
 use Rattle.cw_rules.specs.declared.tokens.TokKind.TheVariants as kinds
-use Rattle.cw_rules.specs.Answers.{Answer, Token, Where}
 use Rattle.cw_rules.specs.declared.bodies.Body.TheVariants as bodies
-use Rattle.cw_rules.specs.Bodies.{is_single, stops, takes_next}
-use Rattle.cw_rules.specs.Bytes.{apostrophe, at_sign, is_in, is_letter, is_mark, run}
 use Rattle.cw_rules.specs.declared.codes.Code.TheVariants as codes
-use Rattle.cw_rules.specs.Constants.{constant}
-use Rattle.cw_rules.specs.Signs.{spelling}
-use Rattle.cw_plain.specs.Lines.{clash, is_wordy}
-use Rattle.cw_plain_laws.specs.PlainLaws.{is_hash}
 
 abbrev pub last_of : ℕ → List ℕ → ℕ
 last_of byte [] = byte
@@ -27,10 +21,9 @@ has_no_note false byte bytes = is_single byte bytes ≡ false
 abbrev pub IsClosed : ℕ → ℕ → Bool → List ℕ → Type 0
 IsClosed mark last along [] = ⊥
 IsClosed mark last along (byte ∷ []) = (along ≡ false) × (byte ≡ mark)
-IsClosed mark last along (byte ∷ next ∷ bytes) =
-    ((along || not (stops (bodies.Quoted mark) last byte (next ∷ bytes))) ≡ true)
-    × has_no_note along byte (next ∷ bytes)
-    × IsClosed mark byte (not along && takes_next (bodies.Quoted mark) byte (next ∷ bytes)) (next ∷ bytes)
+IsClosed mark last along (byte ∷ next ∷ bytes) = ((along || not (stops (bodies.Quoted mark) last byte (next ∷ bytes)))
+    ≡ true) × has_no_note along byte (next ∷ bytes) × IsClosed mark byte
+    (not along && takes_next (bodies.Quoted mark) byte (next ∷ bytes)) (next ∷ bytes)
 
 -- what may stand before the mark with which a string begins
 pub data Prefix : Type 0 where

@@ -1,45 +1,26 @@
 -- What begins at a place of a C part: white space, one token, or what is none of the tokens that are scanned again.
 -- These are tokens by themselves.
-use Rattle.std.proofs.Common.{◌≡◌, ℕ, zero, suc, ◌+◌, ◌-◌, ◌≤◌, Bool, true, false, ◌&&◌, ◌||◌, ◌==◌, nat_lt, List, []}
-use Rattle.std.proofs.Common.{◌∷◌, ◌++◌, codes, length, take, drop, refl, sym, ap, subst, ◌∙◌, arith, not, Option, Some}
-use Rattle.std.proofs.Common.{slice_index, if◌then◌else◌}
-use Rattle.std.proofs.lemmas.Bool.{eqb-true}
-use Rattle.std.proofs.lemmas.Bool.Decides.{nat_tests}
-use Rattle.std.proofs.lemmas.List.{length-take, take-append-drop}
-use Rattle.cw_lex.specs.Lexing.{answers, joined, still_fresh, tokens_of}
+use Rattle.cw_plain_laws.proofs.Terms.{◌≡◌, ℕ, zero, suc, ◌+◌, ◌-◌, ◌≤◌, Bool, true, false, ◌&&◌, ◌||◌, ◌==◌, nat_lt}
+use Rattle.cw_plain_laws.proofs.Terms.{List, [], ◌∷◌, ◌++◌, codes, length, take, drop, refl, sym, ap, subst, ◌∙◌, arith}
+use Rattle.cw_plain_laws.proofs.Terms.{not, Option, Some, slice_index, if◌then◌else◌, eqb-true, nat_tests, length-take}
+use Rattle.cw_plain_laws.proofs.Terms.{take-append-drop, answers, joined, still_fresh, tokens_of, AreSimpleTokens}
+use Rattle.cw_plain_laws.proofs.Terms.{BeginsBefore, is_hash, is_program, is_simple, both-left, both-right, and-none}
+use Rattle.cw_plain_laws.proofs.Terms.{if-both, constant-le, run-le, AreNotes, Answer, Token, Begin, Finish, Note, Cut}
+use Rattle.cw_plain_laws.proofs.Terms.{Found, Seen, Where, note_answers, plain, token_of, at_start, extent, at_sign}
+use Rattle.cw_plain_laws.proofs.Terms.{begins, begins_by, begins_with, hash, is_in, is_letter, is_mark, less, run}
+use Rattle.cw_plain_laws.proofs.Terms.{slash, star, newline, is_prefix_letter, prefix_size, constant, all_signs}
+use Rattle.cw_plain_laws.proofs.Terms.{longest, spelling, code_text_apart, found_apart, Noted, Code, CPart, TokKind}
+use Rattle.cw_plain_laws.proofs.{AgainLaws.at-mark, CutStrings.sign-alone, CutStrings.string-closed, Tests.or-case}
 use Rattle.cw_plain_laws.proofs.Again.{Bare, IsAloneText, IsClosed, IsString, Prefix, in_part, prefix_bytes}
-use Rattle.cw_plain_laws.proofs.AgainLaws.{at-mark}
 use Rattle.cw_plain_laws.proofs.CutConstants.{constant-cut, constant-last, run-cut}
-use Rattle.cw_plain_laws.proofs.CutStrings.{sign-alone, string-closed}
-use Rattle.cw_plain_laws.proofs.Tests.{or-case}
-use Rattle.cw_plain_laws.specs.PlainLaws.{AreSimpleTokens, BeginsBefore, is_hash, is_program, is_simple}
-use Rattle.cw_base.proofs.TestLaws.{both-left, both-right}
-use Rattle.cw_rules.proofs.Choices.{and-none, if-both}
-use Rattle.cw_rules.proofs.Sizes.{constant-le, run-le}
-use Rattle.cw_rules.proofs.Taking.{AreNotes}
-use Rattle.cw_rules.specs.Answers.{Answer, Token, Begin, Finish, Note, Cut, Found, Seen, Where, note_answers, plain}
-use Rattle.cw_rules.specs.Answers.{token_of}
-use Rattle.cw_rules.specs.Bodies.{at_start, extent}
-use Rattle.cw_rules.specs.Bytes.{at_sign, begins, begins_by, begins_with, hash, is_in, is_letter, is_mark, less, run}
-use Rattle.cw_rules.specs.Bytes.{slash, star}
-use Rattle.cw_base.specs.Bytes.{newline}
-use Rattle.cw_rules.specs.Prefixes.{is_prefix_letter, prefix_size}
-use Rattle.cw_rules.specs.Codes.{begins_section, code_at, code_of}
-use Rattle.cw_rules.specs.Constants.{constant}
-use Rattle.cw_rules.specs.Signs.{all_signs, longest, spelling}
+use Rattle.cw_rules.specs.{Codes.begins_section, Codes.code_at, Codes.code_of, declared.parts.Start.Start}
+use Rattle.cw_rules.specs.{declared.signs.Sign.Sign}
 use Rattle.cw_rules.specs.Tokens.{code_by, code_token, effect_in, in_code, in_hash_line, is_space, moved, one, passed}
 use Rattle.cw_rules.specs.Tokens.{section, section_code, sign_or_other, skipped_byte, identifier, string, start_of}
-use Rattle.cw_rules.specs.Apart.{code_text_apart, found_apart}
 use Rattle.cw_rules.specs.declared.bodies.Body.TheVariants as bodies
-use Rattle.cw_rules.specs.declared.bodies.Noted.{Noted}
 use Rattle.cw_rules.specs.declared.classes.Class.TheVariants as classes
-use Rattle.cw_rules.specs.declared.codes.Code.{Code}
 use Rattle.cw_rules.specs.declared.codes.Code.TheVariants as codes
-use Rattle.cw_rules.specs.declared.parts.Start.{Start}
 use Rattle.cw_rules.specs.declared.parts.Start.TheVariants as start
-use Rattle.cw_rules.specs.declared.signs.Sign.{Sign}
-use Rattle.cw_rules.specs.declared.tokens.Mode.TheVariants.{CPart}
-use Rattle.cw_rules.specs.declared.tokens.TokKind.{TokKind}
 use Rattle.cw_rules.specs.declared.tokens.TokKind.TheVariants as kinds
 
 -- ## What is cut is a token by itself
@@ -57,10 +38,9 @@ identifier-alone b bs letter =
     let word : is_in classes.Word b ≡ true = ap (λ t. t || is_in classes.Digit b) letter in
     let m = run classes.Word bs in
     let e : run classes.Word (b ∷ bs) ≡ suc m = ap (λ t. if t then 1 + m else 0) word ∙ omega arith in
-    let whole : run classes.Word (take (suc m) (b ∷ bs)) ≡ length (take (suc m) (b ∷ bs)) =
-    subst (λ n. run classes.Word (take n (b ∷ bs)) ≡ length (take n (b ∷ bs))) e
-    (whole-cut (run classes.Word) (λ t r all. run-cut classes.Word t r (omega arith) ∙ all) (b ∷ bs)
-    (run-le classes.Word (b ∷ bs))) in
+    let whole : run classes.Word (take (suc m) (b ∷ bs)) ≡ length (take (suc m) (b ∷ bs)) = subst
+    (λ n. run classes.Word (take n (b ∷ bs)) ≡ length (take n (b ∷ bs))) e (whole-cut (run classes.Word)
+    (λ t r all. run-cut classes.Word t r (omega arith) ∙ all) (b ∷ bs) (run-le classes.Word (b ∷ bs))) in
     subst (λ n. IsAloneText kinds.Identifier (take n (b ∷ bs))) (sym e) (letter, whole)
 
 some-more : (n : ℕ) → nat_lt 0 n ≡ true → n ≡ suc (n - 1)
@@ -71,11 +51,9 @@ constant-alone : (b : ℕ) (bs : List ℕ) → is_letter b ≡ false → nat_lt 
 constant-alone b bs letter some =
     let m = constant (b ∷ bs) - 1 in
     let e : constant (b ∷ bs) ≡ suc m = some-more (constant (b ∷ bs)) some in
-    let whole : constant (take (suc m) (b ∷ bs)) ≡ length (take (suc m) (b ∷ bs)) =
-    subst (λ n. constant (take n (b ∷ bs)) ≡ length (take n (b ∷ bs))) e
-    (whole-cut constant constant-cut (b ∷ bs) (constant-le (b ∷ bs))) in
-    subst (λ n. IsAloneText kinds.Constant (take n (b ∷ bs))) (sym e)
-    (letter, whole, constant-last b (take m bs) whole)
+    let whole : constant (take (suc m) (b ∷ bs)) ≡ length (take (suc m) (b ∷ bs)) = subst (λ n. constant
+    (take n (b ∷ bs)) ≡ length (take n (b ∷ bs))) e (whole-cut constant constant-cut (b ∷ bs) (constant-le (b ∷ bs))) in
+    subst (λ n. IsAloneText kinds.Constant (take n (b ∷ bs))) (sym e) (letter, whole, constant-last b (take m bs) whole)
 
 -- ## What begins at a place
 
@@ -137,19 +115,15 @@ quote-bytes b (c ∷ bytes) place at e quiet =
     subst (λ k. IsAloneText (kinds.Code codes.Quote) (take k (b ∷ c ∷ bytes))) (sym size)
     (eqb-true b 64 at, (mark, closed))
 
-tells-code : (first : Bool) (code : Code) (place b : ℕ) (bytes : List ℕ) → (b == at_sign) ≡ true
-    → code ≡ code_at bytes
-    → Tells first (code_by (effect_in (in_part first).part (in_part first).comments code) code (in_part first) place
-    (b ∷ bytes))
-tells-code true codes.Program place b bytes at e =
-    tells-one true false (in_part false) place (b ∷ bytes) (plain (kinds.Code codes.Program) 2) refl refl
-    (λ simple quiet. absurd (let e : false ≡ true = simple in cc))
-tells-code true codes.Quote place b bytes at e =
-    tells-one true false (in_part false) place (b ∷ bytes) (code_token codes.Quote place (b ∷ bytes)) refl refl
-    (λ simple quiet. quote-bytes b bytes place at e quiet)
-tells-code false codes.Quote place b bytes at e =
-    tells-one false false (in_part false) place (b ∷ bytes) (code_token codes.Quote place (b ∷ bytes)) refl refl
-    (λ simple quiet. quote-bytes b bytes place at e quiet)
+tells-code : (first : Bool) (code : Code) (place b : ℕ) (bytes : List ℕ) → (b == at_sign) ≡ true → code ≡ code_at bytes
+    → Tells first
+    (code_by (effect_in (in_part first).part (in_part first).comments code) code (in_part first) place (b ∷ bytes))
+tells-code true codes.Program place b bytes at e = tells-one true false (in_part false) place (b ∷ bytes)
+    (plain (kinds.Code codes.Program) 2) refl refl (λ simple quiet. absurd (let e : false ≡ true = simple in cc))
+tells-code true codes.Quote place b bytes at e = tells-one true false (in_part false) place (b ∷ bytes)
+    (code_token codes.Quote place (b ∷ bytes)) refl refl (λ simple quiet. quote-bytes b bytes place at e quiet)
+tells-code false codes.Quote place b bytes at e = tells-one false false (in_part false) place (b ∷ bytes)
+    (code_token codes.Quote place (b ∷ bytes)) refl refl (λ simple quiet. quote-bytes b bytes place at e quiet)
 tells-code _ _ _ _ _ _ _ = other (refl, refl)
 
 -- ## Tokens
@@ -171,9 +145,8 @@ letter-opens : (b mark : ℕ) (rest : List ℕ) → is_prefix_letter b ≡ true 
 letter-opens b mark rest letter is = grind (arith, or-case, eqb-true)
 
 -- `u8` and a mark, at the first bytes
-eight-opens : (b : ℕ) (bytes : List ℕ)
-    → (begins_with (codes "u8") (b ∷ bytes) && begins_by is_mark (drop 1 bytes)) ≡ true
-    → Opens (slice_index (b ∷ bytes) 2) (b ∷ bytes)
+eight-opens : (b : ℕ) (bytes : List ℕ) → (begins_with (codes "u8") (b ∷ bytes) && begins_by is_mark (drop 1 bytes))
+    ≡ true → Opens (slice_index (b ∷ bytes) 2) (b ∷ bytes)
 eight-opens b bytes h = grind (arith, and-none, both-left, eqb-true, both-right)
 
 one-opens : (b : ℕ) (bytes : List ℕ) → (is_prefix_letter b && begins_by is_mark bytes) ≡ true
@@ -185,9 +158,8 @@ one-opens b (mark ∷ rest) h = letter-opens b mark rest (both-left (is_prefix_l
 -- where a prefix has a size, the mark stands behind it
 prefix-opens : (b : ℕ) (bytes : List ℕ) → nat_lt 0 (prefix_size (b ∷ bytes)) ≡ true
     → Opens (slice_index (b ∷ bytes) (prefix_size (b ∷ bytes))) (b ∷ bytes)
-prefix-opens b bytes =
-    if-both Here (is_prefix_letter b && begins_by is_mark bytes) 1 _ (λ h e. one-opens b bytes h) (λ n.
-    if-both Here (begins_with (codes "u8") (b ∷ bytes) && begins_by is_mark (drop 1 bytes)) 2 0
+prefix-opens b bytes = if-both Here (is_prefix_letter b && begins_by is_mark bytes) 1 _ (λ h e. one-opens b bytes h)
+    (λ n. if-both Here (begins_with (codes "u8") (b ∷ bytes) && begins_by is_mark (drop 1 bytes)) 2 0
     (λ h e. eight-opens b bytes h) (λ n e. absurd cc))
   where
     Here : ℕ → Type 0
@@ -248,17 +220,13 @@ sign-says : (b : ℕ) (bytes : List ℕ) (o : Option Sign) → longest all_signs
 sign-says b bytes o e = grind arith
 
 start-says : (b : ℕ) (bytes : List ℕ) → Says b bytes (start_of false b bytes)
-start-says b bytes =
-    if-both (Says b bytes) (nat_lt 0 (prefix_size (b ∷ bytes))) _ _ (λ h. prefix-opens b bytes h) (λ n.
-    if-both (Says b bytes) (is_letter b) _ _ (λ h. h) (λ letter.
-    if-both (Says b bytes) (nat_lt 0 (constant (b ∷ bytes))) _ _ (λ h. (letter, h)) (λ n.
-    if-both (Says b bytes) (is_mark b) _ _
-    (λ h. record { prefix = Bare; rest = bytes; mark_is = h; same = refl }) (λ n.
-    if-both (Says b bytes) (b == slash && begins star bytes) _ _ (λ h. tt) (λ n.
-    if-both (Says b bytes) (b == slash && begins slash bytes) _ _ (λ h. tt) (λ n.
-    if-both (Says b bytes) (b == at_sign) _ _ (λ h. (h, refl)) (λ n.
-    if-both (Says b bytes) (b == 124 && (false && not-bar)) _ _ (λ h. tt) (λ n.
-    sign-says b bytes (longest all_signs (b ∷ bytes)) refl))))))))
+start-says b bytes = if-both (Says b bytes) (nat_lt 0 (prefix_size (b ∷ bytes))) _ _ (λ h. prefix-opens b bytes h)
+    (λ n. if-both (Says b bytes) (is_letter b) _ _ (λ h. h) (λ letter. if-both (Says b bytes)
+    (nat_lt 0 (constant (b ∷ bytes))) _ _ (λ h. (letter, h)) (λ n. if-both (Says b bytes) (is_mark b) _ _
+    (λ h. record { prefix = Bare; rest = bytes; mark_is = h; same = refl }) (λ n. if-both (Says b bytes)
+    (b == slash && begins star bytes) _ _ (λ h. tt) (λ n. if-both (Says b bytes) (b == slash && begins slash bytes) _ _
+    (λ h. tt) (λ n. if-both (Says b bytes) (b == at_sign) _ _ (λ h. (h, refl)) (λ n. if-both (Says b bytes)
+    (b == 124 && (false && not-bar)) _ _ (λ h. tt) (λ n. sign-says b bytes (longest all_signs (b ∷ bytes)) refl))))))))
   where
     not-bar : Bool
     not-bar = not (begins 124 bytes)
@@ -268,28 +236,22 @@ hash-none h e = grind arith
 
 tells-start : (first : Bool) (s : Start) (place b : ℕ) (bytes : List ℕ) → Says b bytes s
     → Tells first (in_code s (in_part first) place (b ∷ bytes))
-tells-start true start.Identifier place b bytes says =
-    tells-one true false (in_part false) place (b ∷ bytes) (identifier (b ∷ bytes)) refl refl
-    (λ simple quiet. identifier-alone b bytes says)
-tells-start false start.Identifier place b bytes says =
-    tells-one false false (in_part false) place (b ∷ bytes) (identifier (b ∷ bytes)) refl refl
-    (λ simple quiet. identifier-alone b bytes says)
-tells-start first start.Constant place b bytes says =
-    tells-one first (in_hash_line (in_part first).part) (moved (in_part first) (passed (in_part first).part)) place
-    (b ∷ bytes)
-    (plain kinds.Constant (constant (b ∷ bytes))) (passed-on first)
-    (no-line first) (λ simple quiet. constant-alone b bytes says.0 says.1)
-tells-start first (start.Quoted mark) place b bytes says =
-    tells-one first (in_hash_line (in_part first).part) (moved (in_part first) (passed (in_part first).part)) place
-    (b ∷ bytes)
-    (string kinds.Quoted (prefix_size (b ∷ bytes) + 1) mark place (b ∷ bytes)) (passed-on first)
-    (no-line first) (λ simple quiet. string-alone mark (b ∷ bytes) place says quiet)
+tells-start true start.Identifier place b bytes says = tells-one true false (in_part false) place (b ∷ bytes)
+    (identifier (b ∷ bytes)) refl refl (λ simple quiet. identifier-alone b bytes says)
+tells-start false start.Identifier place b bytes says = tells-one false false (in_part false) place (b ∷ bytes)
+    (identifier (b ∷ bytes)) refl refl (λ simple quiet. identifier-alone b bytes says)
+tells-start first start.Constant place b bytes says = tells-one first (in_hash_line (in_part first).part) (moved
+    (in_part first) (passed (in_part first).part)) place (b ∷ bytes) (plain kinds.Constant (constant (b ∷ bytes)))
+    (passed-on first) (no-line first) (λ simple quiet. constant-alone b bytes says.0 says.1)
+tells-start first (start.Quoted mark) place b bytes says = tells-one first (in_hash_line (in_part first).part)
+    (moved (in_part first) (passed (in_part first).part)) place (b ∷ bytes)
+    (string kinds.Quoted (prefix_size (b ∷ bytes) + 1) mark place (b ∷ bytes)) (passed-on first) (no-line first)
+    (λ simple quiet. string-alone mark (b ∷ bytes) place says quiet)
 tells-start first (start.Code code) place b bytes says = tells-code first code place b bytes says.0 says.1
-tells-start first (start.Sign sign) place b bytes says =
-    tells-one first (in_hash_line (in_part first).part) (moved (in_part first) (passed (in_part first).part)) place
-    (b ∷ bytes)
-    (plain (kinds.Sign sign) (length (spelling sign))) (passed-on first)
-    (no-line first) (λ simple quiet. sign-alone all_signs (b ∷ bytes) sign says (hash-none (is_hash sign) simple))
+tells-start first (start.Sign sign) place b bytes says = tells-one first (in_hash_line (in_part first).part)
+    (moved (in_part first) (passed (in_part first).part)) place (b ∷ bytes)
+    (plain (kinds.Sign sign) (length (spelling sign))) (passed-on first) (no-line first)
+    (λ simple quiet. sign-alone all_signs (b ∷ bytes) sign says (hash-none (is_hash sign) simple))
 tells-start first start.OtherByte place b bytes says = other (refl, refl)
 tells-start _ _ _ _ _ _ = other tt
 
@@ -304,27 +266,21 @@ tells-section first place bytes = grind (arith, section-other)
 
 tells-text : (first fresh : Bool) (last place b : ℕ) (bytes : List ℕ)
     → Tells first (code_text_apart (in_part first) fresh last place b bytes)
-tells-text true fresh last place b bytes =
-    if-both (Tells true) (b == newline) _ _ (λ h. blank refl) (λ n.
-    if-both (Tells true) (is_space (in_part true).part b bytes) _ _ (λ h. blank refl) (λ n.
-    if-both (Tells true) (b == hash && fresh) _ _ (λ h. other (refl, refl)) (λ n.
-    if-both (Tells true) (b == less && false) _ _ (λ h. other (refl, refl)) (λ n.
-    tells-start true (start_of false b bytes) place b bytes (start-says b bytes)))))
-tells-text false fresh last place b bytes =
-    if-both (Tells false) (b == newline) _ _ (λ h. blank refl) (λ n.
-    if-both (Tells false) (is_space (in_part false).part b bytes) _ _ (λ h. blank refl) (λ n.
-    if-both (Tells false) (b == hash && fresh) _ _ (λ h. other (refl, refl)) (λ n.
-    if-both (Tells false) (b == less && false) _ _ (λ h. other (refl, refl)) (λ n.
-    tells-start false (start_of false b bytes) place b bytes (start-says b bytes)))))
+tells-text true fresh last place b bytes = if-both (Tells true) (b == newline) _ _ (λ h. blank refl)
+    (λ n. if-both (Tells true) (is_space (in_part true).part b bytes) _ _ (λ h. blank refl) (λ n. if-both (Tells true)
+    (b == hash && fresh) _ _ (λ h. other (refl, refl)) (λ n. if-both (Tells true) (b == less && false) _ _
+    (λ h. other (refl, refl)) (λ n. tells-start true (start_of false b bytes) place b bytes (start-says b bytes)))))
+tells-text false fresh last place b bytes = if-both (Tells false) (b == newline) _ _ (λ h. blank refl) (λ n. if-both
+    (Tells false) (is_space (in_part false).part b bytes) _ _ (λ h. blank refl) (λ n. if-both (Tells false)
+    (b == hash && fresh) _ _ (λ h. other (refl, refl)) (λ n. if-both (Tells false) (b == less && false) _ _
+    (λ h. other (refl, refl)) (λ n. tells-start false (start_of false b bytes) place b bytes (start-says b bytes)))))
 
 tells-found : (first fresh : Bool) (last place b : ℕ) (bytes : List ℕ)
     → Tells first (found_apart (in_part first) fresh last place b bytes)
-tells-found true fresh last place b bytes =
-    if-both (Tells true) (b == at_sign && begins_section bytes) _ _ (λ h. tells-section true place bytes)
-    (λ h. tells-text true fresh last place b bytes)
-tells-found false fresh last place b bytes =
-    if-both (Tells false) (b == at_sign && begins_section bytes) _ _ (λ h. tells-section false place bytes)
-    (λ h. tells-text false fresh last place b bytes)
+tells-found true fresh last place b bytes = if-both (Tells true) (b == at_sign && begins_section bytes) _ _
+    (λ h. tells-section true place bytes) (λ h. tells-text true fresh last place b bytes)
+tells-found false fresh last place b bytes = if-both (Tells false) (b == at_sign && begins_section bytes) _ _
+    (λ h. tells-section false place bytes) (λ h. tells-text false fresh last place b bytes)
 
 -- ## All tokens of a part
 
@@ -346,22 +302,18 @@ other-none xs ys is are = grind arith
 other-first : (xs ys rest : List Answer) → IsOther xs → BeginsBefore rest (xs ++ ys) → ⊥
 other-first xs ys rest is begun = grind arith
 
-alone-on : (bytes : List ℕ) (fresh : Bool) (last place taken : ℕ)
-    → AreSimpleTokens (answers bytes (in_part false) fresh last place taken)
-    → AreAlone (answers bytes (in_part false) fresh last place taken)
+alone-on : (bytes : List ℕ) (fresh : Bool) (last place taken : ℕ) → AreSimpleTokens (answers bytes (in_part false) fresh
+    last place taken) → AreAlone (answers bytes (in_part false) fresh last place taken)
 alone-on [] fresh last place taken are = tt
-alone-on (b ∷ bytes) fresh last place (suc taken) are =
-    alone-on bytes (still_fresh fresh b) b (place + 1) taken are
-alone-on (b ∷ bytes) fresh last place zero are =
-    by (found_apart (in_part false) fresh last place b bytes) (tells-found false fresh last place b bytes) are
-    (λ more are. alone-on bytes (still_fresh fresh b) b (place + 1) more are)
+alone-on (b ∷ bytes) fresh last place (suc taken) are = alone-on bytes (still_fresh fresh b) b (place + 1) taken are
+alone-on (b ∷ bytes) fresh last place zero are = by (found_apart (in_part false) fresh last place b bytes) (tells-found
+    false fresh last place b bytes) are (λ more are. alone-on bytes (still_fresh fresh b) b (place + 1) more are)
   where
     on : Where → ℕ → List Answer
     on next more = answers bytes next (still_fresh fresh b) b (place + 1) more
 
-    by : (f : Found) → Tells false f → AreSimpleTokens (joined f on)
-        → ((more : ℕ) → AreSimpleTokens (on (in_part false) more) → AreAlone (on (in_part false) more))
-        → AreAlone (joined f on)
+    by : (f : Found) → Tells false f → AreSimpleTokens (joined f on) → ((more : ℕ) → AreSimpleTokens
+        (on (in_part false) more) → AreAlone (on (in_part false) more)) → AreAlone (joined f on)
     by f (blank e) are later = subst (λ g. AreAlone (joined g on)) (sym e)
         (later 0 (subst (λ g. AreSimpleTokens (joined g on)) e are))
     by f (token t notes e n next line alone) are later =

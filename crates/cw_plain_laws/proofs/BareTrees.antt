@@ -1,31 +1,19 @@
 -- Trees without comments and inner texts: what stands in them, and the translation of simple tokens as one.
-use Rattle.std.proofs.Common.{◌≡◌, ℕ, Bool, true, ◌&&◌, List, [], ◌∷◌, ◌++◌, refl, sym, if◌then◌else◌, ap, subst, ◌∙◌}
-use Rattle.std.proofs.Common.{arith}
-use Rattle.std.specs.List.{All}
-use Rattle.std.proofs.lemmas.List.Elements.{All-append, All-cons, All-nil}
-use Rattle.cw_base.specs.declared.category.Cat.{Cat}
-use Rattle.cw_base.specs.declared.flags.Flags.{Flags}
-use Rattle.cw_lex.specs.Heads.{headed, headed_by, headless}
-use Rattle.cw_lex.specs.Nest.{Nest, End, Leaf, Group, first_nest, leaf, nest, nests}
-use Rattle.cw_names.specs.Names.{Entry}
-use Rattle.cw_names.specs.declared.NameId.{NameId}
-use Rattle.cw_plain.specs.Pieces.{Piece, Source, Stand, control_placed, item_placed, pieces_from, pieces_in}
-use Rattle.cw_plain_laws.proofs.KeptTrees.{OfScrap, end-kept}
-use Rattle.cw_plain_laws.proofs.OwnInks.{IsUnbarred, number-unbarred}
-use Rattle.cw_plain_laws.proofs.Walks.{IsFree}
-use Rattle.cw_plain_laws.specs.PlainLaws.{AreSimpleTokens, BeginsBefore, is_program, is_simple}
+use Rattle.cw_plain_laws.proofs.Terms.{◌≡◌, ℕ, Bool, true, ◌&&◌, List, [], ◌∷◌, ◌++◌, refl, sym, if◌then◌else◌, ap}
+use Rattle.cw_plain_laws.proofs.Terms.{subst, ◌∙◌, arith, All, All-append, All-cons, All-nil, Cat, Flags, headed}
+use Rattle.cw_plain_laws.proofs.Terms.{headed_by, headless, Nest, End, Leaf, Group, first_nest, leaf, nest, nests}
+use Rattle.cw_plain_laws.proofs.Terms.{Entry, NameId, Piece, Source, Stand, control_placed, item_placed, pieces_from}
+use Rattle.cw_plain_laws.proofs.Terms.{pieces_in, AreSimpleTokens, BeginsBefore, is_program, is_simple, Answer, Token}
+use Rattle.cw_plain_laws.proofs.Terms.{Seen, TokKind, LeafForm, word_form, tree_in, Item, SignItem, Open, Close}
+use Rattle.cw_plain_laws.proofs.Terms.{begins_after, flat, is_break, leaf_item, trim_back, trim_front, trimmed_items}
+use Rattle.cw_plain_laws.proofs.Terms.{without_inserted, Sign, Tree, Empty, Then, Sub, Inner, Search, Stopped}
+use Rattle.cw_plain_laws.proofs.Terms.{first_ident, reserve_first, reserved_leaf, search_leaf, Control}
+use Rattle.cw_plain_laws.proofs.{KeptTrees.OfScrap, KeptTrees.end-kept, OwnInks.IsUnbarred, OwnInks.number-unbarred}
+use Rattle.cw_plain_laws.proofs.{Walks.IsFree}
 use Rattle.cw_reduce.specs.Visible.{shown, shown_in, shown_token}
-use Rattle.cw_rules.specs.Answers.{Answer, Token, Seen}
-use Rattle.cw_rules.specs.declared.tokens.TokKind.{TokKind}
-use Rattle.cw_scraps.specs.Leaves.{LeafForm, word_form}
-use Rattle.cw_tokens.specs.Shapes.{tree_in}
 use Rattle.cw_translator.specs.Translating.{Known, Made, NameTexts, begin, end_of, headed_made, leaf_of_name}
 use Rattle.cw_translator.specs.Translating.{leaf_scrap, made, state_in, token_made, translated}
-use Rattle.cw_trees.specs.Flat.{Item, SignItem, Open, Close, begins_after, flat, is_break, leaf_item, trim_back}
-use Rattle.cw_trees.specs.Flat.{trim_front, trimmed_items, without_inserted}
-use Rattle.cw_trees.specs.Tree.{Leaf as TreeLeaf, Sign, Tree, Empty, Then, Sub, Inner, Search, Found, Stopped}
-use Rattle.cw_trees.specs.Tree.{Nothing as no_ident, first_ident, reserve_first, reserved_leaf, search_leaf}
-use Rattle.cw_trees.specs.declared.Control.{Control}
+use Rattle.cw_trees.specs.Tree.{Leaf as TreeLeaf, Found, Nothing as no_ident}
 
 -- ## Trees
 
@@ -113,8 +101,7 @@ AreUnbarred (p ∷ ps) = IsUnbarred p × AreUnbarred ps
 control-unbarred : (c : Control) (stand : Stand) → IsFree c → IsUnbarred (control_placed c stand).piece
 control-unbarred c stand free = grind arith
 
-item-unbarred : (s : Source) (item : Item) (stand : Stand) → BareItem item
-    → IsUnbarred (item_placed s item stand).piece
+item-unbarred : (s : Source) (item : Item) (stand : Stand) → BareItem item → IsUnbarred (item_placed s item stand).piece
 item-unbarred s item stand bare = grind (arith, number-unbarred, control-unbarred)
 
 next-unbarred : (s : Source) (depth : ℕ) (item : Item) (stand : Stand) (rest : Stand → List Piece) → BareItem item
@@ -230,10 +217,9 @@ program-shown is_named k number is = grind arith
 nest-shown : (is_named : ℕ → Bool) (answers : List Answer) → AreSimpleTokens answers
     → shown_in is_named (nest answers) ≡ starts_of answers
 nest-shown is_named [] are = refl
-nest-shown is_named (Token t ∷ answers) are =
-    ap (shown_in is_named) (leaf-first t (nests answers) (nests-simple answers are.1))
-    ∙ ap (λ l. l ++ shown_in is_named (nest answers)) (simple-shown is_named t.kind t.span.start are.0)
-    ∙ ap (λ l. t.span.start ∷ l) (nest-shown is_named answers are.1)
+nest-shown is_named (Token t ∷ answers) are = ap (shown_in is_named)
+    (leaf-first t (nests answers) (nests-simple answers are.1)) ∙ ap (λ l. l ++ shown_in is_named (nest answers))
+    (simple-shown is_named t.kind t.span.start are.0) ∙ ap (λ l. t.span.start ∷ l) (nest-shown is_named answers are.1)
 nest-shown _ _ are = absurd are
 
 pub part-shown : (is_named : ℕ → Bool) (answers rest : List Answer) → BeginsBefore rest answers → AreSimpleTokens rest

@@ -1,19 +1,13 @@
 -- A constant is the same whatever stands behind it that is no letter, digit, dot or mark.
-use Rattle.std.proofs.Common.{◌≡◌, ℕ, ◌+◌, ◌≤◌, Bool, true, false, ◌&&◌, ◌==◌, nat_lt, List, [], ◌∷◌, ◌++◌, length}
-use Rattle.std.proofs.Common.{drop, refl, sym, ap, ◌∙◌, arith, length-drop}
-use Rattle.std.specs.Prelude.{if◌then◌else◌}
-use Rattle.std.proofs.lemmas.Bool.Decides.{nat_tests}
-use Rattle.std.proofs.lemmas.List.{drop-drop}
-use Rattle.cw_rules.specs.declared.classes.Class.{Class}
-use Rattle.cw_rules.specs.declared.classes.Class.TheVariants as classes
-use Rattle.cw_rules.specs.Bytes.{is_in, is_letter, is_letter_of, is_suffix, run, apostrophe, dot, digit_0, begins}
-use Rattle.cw_rules.specs.Bytes.{begins_by}
-use Rattle.cw_rules.specs.Constants.{binary, constant, decimal, digits, exponent, exponent_sign, fraction, digits_go_on}
-use Rattle.cw_rules.specs.Constants.{hexadecimal, is_prefixed, mantissa, more_digits, number, scaled}
-use Rattle.cw_rules.proofs.Ahead.{drop-same}
-use Rattle.cw_rules.proofs.Sizes.{digits-le, mantissa-le, number-le}
-use Rattle.cw_rules.proofs.Choices.{if-same, and-none, or-false, or-second}
+use Rattle.cw_plain_laws.proofs.Terms.{◌≡◌, ℕ, ◌+◌, ◌≤◌, Bool, true, false, ◌&&◌, ◌==◌, nat_lt, List, [], ◌∷◌, ◌++◌}
+use Rattle.cw_plain_laws.proofs.Terms.{length, drop, refl, sym, ap, ◌∙◌, arith, length-drop, if◌then◌else◌, nat_tests}
+use Rattle.cw_plain_laws.proofs.Terms.{drop-drop, Class, is_in, is_letter, is_letter_of, is_suffix, run, apostrophe}
+use Rattle.cw_plain_laws.proofs.Terms.{dot, digit_0, begins, begins_by, binary, constant, decimal, digits, exponent}
+use Rattle.cw_plain_laws.proofs.Terms.{exponent_sign, fraction, digits_go_on, hexadecimal, is_prefixed, mantissa}
+use Rattle.cw_plain_laws.proofs.Terms.{more_digits, number, scaled, drop-same, digits-le, mantissa-le, number-le}
+use Rattle.cw_plain_laws.proofs.Terms.{if-same, and-none, or-false, or-second}
 use Rattle.cw_plain_laws.proofs.Tests.{differs}
+use Rattle.cw_rules.specs.declared.classes.Class.TheVariants as classes
 
 hex-none : (z : ℕ) → is_in classes.Word z ≡ false → is_in classes.HexDigit z ≡ false
 hex-none z e = grind (arith, nat_tests)
@@ -118,8 +112,7 @@ module _ (z : ℕ) (more : List ℕ) (beyond : IsBeyond z) where
 
   -- what stands behind `0` and a letter
   prefixed-same : (letter : ℕ) (class : Class) (f : List ℕ → ℕ) (bs : List ℕ) → is_letter_of letter z ≡ false
-      → is_in class z ≡ false
-      → (is_prefixed letter class bs ≡ true → f (drop 2 bs ++ z ∷ more) ≡ f (drop 2 bs))
+      → is_in class z ≡ false → (is_prefixed letter class bs ≡ true → f (drop 2 bs ++ z ∷ more) ≡ f (drop 2 bs))
       → (if is_prefixed letter class (bs ++ z ∷ more) then 2 + f (drop 2 (bs ++ z ∷ more)) else 0)
       ≡ (if is_prefixed letter class bs then 2 + f (drop 2 bs) else 0)
   prefixed-same letter class f [] none h same = grind (arith, differs, digit-none)
@@ -131,18 +124,15 @@ module _ (z : ℕ) (more : List ℕ) (beyond : IsBeyond z) where
 
   number-same : (bs : List ℕ) → NumberEndsWell bs → number (bs ++ z ∷ more) ≡ number bs
   number-same bs well =
-      let hex : hexadecimal (bs ++ z ∷ more) ≡ hexadecimal bs =
-      prefixed-same 120 classes.HexDigit (scaled classes.HexDigit 112) bs (x-none z beyond.word)
-      (hex-none z beyond.word) (λ e. scaled-same classes.HexDigit 112 (drop 2 bs) (hex-none z beyond.word)
-      (p-none z beyond.word) (well.hexadecimal_end e)) in
-      let two : binary (bs ++ z ∷ more) ≡ binary bs =
-      prefixed-same 98 classes.BinaryDigit (digits classes.BinaryDigit) bs (b-none z beyond.word)
-      (binary-none z beyond.word)
+      let hex : hexadecimal (bs ++ z ∷ more) ≡ hexadecimal bs = prefixed-same 120 classes.HexDigit
+      (scaled classes.HexDigit 112) bs (x-none z beyond.word) (hex-none z beyond.word) (λ e. scaled-same
+      classes.HexDigit 112 (drop 2 bs) (hex-none z beyond.word) (p-none z beyond.word) (well.hexadecimal_end e)) in
+      let two : binary (bs ++ z ∷ more) ≡ binary bs = prefixed-same 98 classes.BinaryDigit
+      (digits classes.BinaryDigit) bs (b-none z beyond.word) (binary-none z beyond.word)
       (λ e. digits-same classes.BinaryDigit (drop 2 bs) (binary-none z beyond.word)) in
       if-same (nat_lt 0 (hexadecimal (bs ++ z ∷ more))) (nat_lt 0 (hexadecimal bs)) _ _ _ _ (ap (nat_lt 0) hex)
-      (λ e. hex)
-      (λ e. if-same (nat_lt 0 (binary (bs ++ z ∷ more))) (nat_lt 0 (binary bs)) _ _ _ _ (ap (nat_lt 0) two) (λ f. two)
-      (λ f. scaled-same classes.Digit 101 bs digit-none (e-none z beyond.word) (well.decimal_end e f)))
+      (λ e. hex) (λ e. if-same (nat_lt 0 (binary (bs ++ z ∷ more))) (nat_lt 0 (binary bs)) _ _ _ _ (ap (nat_lt 0) two)
+      (λ f. two) (λ f. scaled-same classes.Digit 101 bs digit-none (e-none z beyond.word) (well.decimal_end e f)))
 
   pub constant-same : (bs : List ℕ) → NumberEndsWell bs → constant (bs ++ z ∷ more) ≡ constant bs
   constant-same bs well =
@@ -174,36 +164,31 @@ none-more m = grind (arith, none-there)
 
 lone-scaled : (class : Class) (letter : ℕ) (bs : List ℕ) (b : ℕ) → behind_mantissa class bs ≡ b ∷ []
     → is_letter_of letter b ≡ true → scaled class letter bs ≡ mantissa class bs
-lone-scaled class letter bs b behind e =
-    ap (λ n. if nat_lt 0 (mantissa class bs) then mantissa class bs + n else 0)
-    (ap (exponent letter) behind ∙ lone-exponent letter b e)
-    ∙ none-more (mantissa class bs)
+lone-scaled class letter bs b behind e = ap (λ n. if nat_lt 0 (mantissa class bs) then mantissa class bs + n else 0)
+    (ap (exponent letter) behind ∙ lone-exponent letter b e) ∙ none-more (mantissa class bs)
 
 -- a byte behind the number that is no suffix letter
 lone-byte : (bs : List ℕ) (n b : ℕ) → number bs ≡ n → drop n bs ≡ b ∷ [] → is_suffix b ≡ false
     → constant bs ≡ length bs → ⊥
 lone-byte bs n b size behind none whole = grind (arith, lone-suffix b none, none-more n, length-drop n bs)
 
-ends-unless : (letter : ℕ) (r : List ℕ) → ((b : ℕ) → r ≡ b ∷ [] → is_letter_of letter b ≡ true → ⊥)
-    → EndsWell letter r
+ends-unless : (letter : ℕ) (r : List ℕ) → ((b : ℕ) → r ≡ b ∷ [] → is_letter_of letter b ≡ true → ⊥) → EndsWell letter r
 ends-unless letter r not-lone = grind arith
 
 pub whole-ends : (bs : List ℕ) → constant bs ≡ length bs → NumberEndsWell bs
 whole-ends bs whole = record {
   hexadecimal_end = λ prefixed. ends-unless 112 (behind_mantissa classes.HexDigit (drop 2 bs)) (λ b behind letter.
       let m = mantissa classes.HexDigit (drop 2 bs) in
-      let hex : hexadecimal bs ≡ 2 + m =
-      ap (λ t. if t then 2 + scaled classes.HexDigit 112 (drop 2 bs) else 0) prefixed
+      let hex : hexadecimal bs ≡ 2 + m = ap (λ t. if t then 2 + scaled classes.HexDigit 112 (drop 2 bs) else 0) prefixed
       ∙ ap (λ n. 2 + n) (lone-scaled classes.HexDigit 112 (drop 2 bs) b behind letter) in
       let size : number bs ≡ 2 + m = (λ i. if nat_lt 0 (hex i) then hex i else
       (if nat_lt 0 (binary bs) then binary bs else decimal bs)) ∙ there m in
       lone-byte bs (2 + m) b size (after m ∙ behind) (p-suffix b letter) whole);
   decimal_end = λ hex two. ends-unless 101 (behind_mantissa classes.Digit bs) (λ b behind letter.
       let m = mantissa classes.Digit bs in
-      let size : number bs ≡ m =
-      ap (λ t. if t then hexadecimal bs else if nat_lt 0 (binary bs) then binary bs else decimal bs) hex
-      ∙ ap (λ t. if t then binary bs else decimal bs) two
-      ∙ lone-scaled classes.Digit 101 bs b behind letter in
+      let size : number bs ≡ m = ap
+      (λ t. if t then hexadecimal bs else if nat_lt 0 (binary bs) then binary bs else decimal bs) hex
+      ∙ ap (λ t. if t then binary bs else decimal bs) two ∙ lone-scaled classes.Digit 101 bs b behind letter in
       lone-byte bs m b size behind (e-suffix b letter) whole);
 }
   where

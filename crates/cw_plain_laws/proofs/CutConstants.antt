@@ -1,24 +1,13 @@
 -- A constant is a constant by itself: it is the same where what stands behind it is left out, and it ends with a
 -- letter, a digit or a dot.
-use Rattle.std.proofs.Common.{◌≡◌, ◌⊎◌, ℕ, zero, suc, ◌+◌, ◌-◌, ◌<◌, ◌≤◌, Bool, true, false, ◌&&◌, ◌||◌, not, ◌==◌}
-use Rattle.std.proofs.Common.{nat_lt, List, [], ◌∷◌, ◌++◌, length, drop, inl, inr, refl, sym, ap, subst, ◌∙◌, arith}
-use Rattle.std.proofs.Common.{length-drop}
-use Rattle.std.specs.Prelude.{if◌then◌else◌}
-use Rattle.std.proofs.lemmas.Bool.{eqb-true}
-use Rattle.std.proofs.lemmas.Bool.Decides.{nat_tests}
-use Rattle.std.proofs.lemmas.List.{drop-drop}
-use Rattle.cw_plain.specs.Lines.{is_wordy}
-use Rattle.cw_plain_laws.proofs.Again.{last_of}
-use Rattle.cw_plain_laws.proofs.AgainLaws.{run-last}
-use Rattle.cw_plain_laws.proofs.ConstantLaws.{none-there}
-use Rattle.cw_base.proofs.TestLaws.{both-left, both-right}
-use Rattle.cw_rules.proofs.Ahead.{drop-same}
-use Rattle.cw_rules.proofs.Choices.{and-none}
-use Rattle.cw_rules.proofs.Sizes.{digits-le, mantissa-le, number-le}
-use Rattle.cw_rules.specs.Bytes.{apostrophe, begins, begins_by, digit_0, dot, is_in, is_letter_of, run}
-use Rattle.cw_rules.specs.Constants.{binary, constant, decimal, digits, exponent, exponent_sign, fraction, digits_go_on}
-use Rattle.cw_rules.specs.Constants.{hexadecimal, is_prefixed, mantissa, more_digits, number, scaled}
-use Rattle.cw_rules.specs.declared.classes.Class.{Class}
+use Rattle.cw_plain_laws.proofs.Terms.{◌≡◌, ◌⊎◌, ℕ, zero, suc, ◌+◌, ◌-◌, ◌<◌, ◌≤◌, Bool, true, false, ◌&&◌, ◌||◌, not}
+use Rattle.cw_plain_laws.proofs.Terms.{◌==◌, nat_lt, List, [], ◌∷◌, ◌++◌, length, drop, inl, inr, refl, sym, ap, subst}
+use Rattle.cw_plain_laws.proofs.Terms.{◌∙◌, arith, length-drop, if◌then◌else◌, eqb-true, nat_tests, drop-drop, is_wordy}
+use Rattle.cw_plain_laws.proofs.Terms.{both-left, both-right, drop-same, and-none, digits-le, mantissa-le, number-le}
+use Rattle.cw_plain_laws.proofs.Terms.{apostrophe, begins, begins_by, digit_0, dot, is_in, is_letter_of, run, binary}
+use Rattle.cw_plain_laws.proofs.Terms.{constant, decimal, digits, exponent, exponent_sign, fraction, digits_go_on}
+use Rattle.cw_plain_laws.proofs.Terms.{hexadecimal, is_prefixed, mantissa, more_digits, number, scaled, Class}
+use Rattle.cw_plain_laws.proofs.{Again.last_of, AgainLaws.run-last, ConstantLaws.none-there}
 use Rattle.cw_rules.specs.declared.classes.Class.TheVariants as classes
 
 -- ## Numbers under tests
@@ -134,10 +123,9 @@ more-cut class (b ∷ []) r h =
     last-more (is_in class b) (b == apostrophe) (begins_by (is_in class) r) (more_digits class r) (more-some class r) h
 more-cut class (b ∷ c ∷ t) r h = by (digits_go_on class b (c ∷ t)) refl (more-cut class (c ∷ t) r)
   where
-    by : (x : Bool) → digits_go_on class b (c ∷ t) ≡ x
-        → (more_digits class (c ∷ (t ++ r)) ≤ suc (length t)
-        → more_digits class (c ∷ t) ≡ more_digits class (c ∷ (t ++ r)))
-        → more_digits class (b ∷ c ∷ t) ≡ more_digits class (b ∷ c ∷ (t ++ r))
+    by : (x : Bool) → digits_go_on class b (c ∷ t) ≡ x → (more_digits class (c ∷ (t ++ r)) ≤ suc
+        (length t) → more_digits class (c ∷ t) ≡ more_digits class (c ∷ (t ++ r))) → more_digits class
+        (b ∷ c ∷ t) ≡ more_digits class (b ∷ c ∷ (t ++ r))
     by true e cut =
         let most : 1 + more_digits class (c ∷ (t ++ r)) ≤ suc (suc (length t)) =
         subst (λ (x : Bool). counted x (more_digits class (c ∷ (t ++ r))) ≤ suc (suc (length t))) e h in
@@ -168,9 +156,8 @@ record LosesDot (class : Class) (free : Bool) (t r : List ℕ) : Type 0 where
 abbrev dotted : Bool → Bool → Bool → ℕ → ℕ
 dotted here follows free n = if here && (not follows && (free || nat_lt 0 n)) then 1 + n else 0
 
-last-dot : (here follows free : Bool) (n : ℕ) → dotted here follows free n ≤ 1
-    → (dotted here false free 0 ≡ dotted here follows free n)
-    ⊎ ((here ≡ true) × (free ≡ true) × (dotted here follows free n ≡ 0))
+last-dot : (here follows free : Bool) (n : ℕ) → dotted here follows free n ≤ 1 → (dotted here false free 0 ≡ dotted here
+    follows free n) ⊎ ((here ≡ true) × (free ≡ true) × (dotted here follows free n ≡ 0))
 last-dot false follows free n h = inl refl
 last-dot true true true n h = inr (refl, refl, refl)
 last-dot true true false n h = inl refl
@@ -185,8 +172,7 @@ dotted-same : (here follows free : Bool) (n m most : ℕ) → dotted here follow
     → dotted here follows free n ≡ dotted here follows free m
 dotted-same false follows free n m most h same = refl
 dotted-same true true free n m most h same = refl
-dotted-same true false true n m most h same =
-    ap (λ k. 1 + k) (same (let k : 1 + m ≤ suc most = h in omega arith))
+dotted-same true false true n m most h same = ap (λ k. 1 + k) (same (let k : 1 + m ≤ suc most = h in omega arith))
 dotted-same true false false n m most h same = by (nat_lt 0 m) refl h
   where
     by : (t : Bool) → nat_lt 0 m ≡ t → (if t then 1 + m else 0) ≤ suc most
@@ -205,9 +191,8 @@ fraction-cut class free (b ∷ []) r h = elim (last-dot (b == dot) (begins dot r
     none = lost.2;
   })
 ]
-fraction-cut class free (b ∷ c ∷ t) r h =
-    inl (dotted-same (b == dot) (c == dot) free (digits class (c ∷ t)) (digits class (c ∷ (t ++ r))) (suc (length t)) h
-    (digits-cut class (c ∷ t) r))
+fraction-cut class free (b ∷ c ∷ t) r h = inl (dotted-same (b == dot) (c == dot) free (digits class (c ∷ t))
+    (digits class (c ∷ (t ++ r))) (suc (length t)) h (digits-cut class (c ∷ t) r))
 
 -- Some bytes are taken, and the last one is a dot.
 record IsLost (n : ℕ) (t r : List ℕ) : Type 0 where
@@ -226,8 +211,7 @@ tail-same f t r n m e low = sym (ap (λ k. f (drop k (t ++ r))) e) ∙ ap f (dro
 tail-cut : (f : List ℕ → ℕ) → Cuts f → (t r : List ℕ) (n m : ℕ) → n ≡ m → n ≤ length t
     → f (drop m (t ++ r)) ≤ length t - m → f (drop n t) ≡ f (drop m (t ++ r))
 tail-cut f cut t r n m e low most =
-    let all = tail-same f t r n m e low in
-    cut (drop n t) r (omega (arith, length-drop n t, all)) ∙ sym all
+    let all = tail-same f t r n m e low in cut (drop n t) r (omega (arith, length-drop n t, all)) ∙ sym all
 
 -- ## Numbers
 
@@ -336,9 +320,8 @@ abbrev HasSome : Class → (List ℕ → ℕ) → Type 0
 HasSome class f = (r : List ℕ) → begins_by (is_in class) r ≡ true → 1 ≤ f r
 
 -- a digit is wanted behind the letter
-no-digit : (first second digit : Bool) (n m : ℕ) → (digit ≡ true → 1 ≤ n)
-    → (if first && (second && digit) then 2 + n else 0) ≤ 2
-    → (if first && (second && false) then 2 + m else 0) ≡ (if first && (second && digit) then 2 + n else 0)
+no-digit : (first second digit : Bool) (n m : ℕ) → (digit ≡ true → 1 ≤ n) → (if first && (second && digit) then 2 + n
+    else 0) ≤ 2 → (if first && (second && false) then 2 + m else 0) ≡ (if first && (second && digit) then 2 + n else 0)
 no-digit true true true n m some h = absurd (let k : 2 + n ≤ 2 = h in let l : 1 ≤ n = some refl in omega arith)
 no-digit true true false n m some h = refl
 no-digit true false digit n m some h = refl
@@ -346,15 +329,12 @@ no-digit false second digit n m some h = refl
 
 prefixed-cut : (letter : ℕ) (class : Class) (f : List ℕ → ℕ) → HasSome class f → CutsOrLoses f
     → CutsOrLoses (prefixed letter class f)
-prefixed-cut letter class f some cut [] r h =
-    inl (let k : prefixed letter class f r ≤ 0 = h in omega arith)
-prefixed-cut letter class f some cut (b ∷ []) r h =
-    inl (no-prefix-one letter class f b
+prefixed-cut letter class f some cut [] r h = inl (let k : prefixed letter class f r ≤ 0 = h in omega arith)
+prefixed-cut letter class f some cut (b ∷ []) r h = inl (no-prefix-one letter class f b
     ∙ sym (tested-few (is_prefixed letter class (b ∷ r)) (f (drop 2 (b ∷ r))) h))
 prefixed-cut letter class f some cut (b ∷ c ∷ []) r h =
     inl (no-digit (b == digit_0) (is_letter_of letter c) (begins_by (is_in class) r) (f r) (f []) (some r) h)
-prefixed-cut letter class f some cut (b ∷ c ∷ d ∷ t) r h =
-    by (is_prefixed letter class (b ∷ c ∷ d ∷ t)) refl
+prefixed-cut letter class f some cut (b ∷ c ∷ d ∷ t) r h = by (is_prefixed letter class (b ∷ c ∷ d ∷ t)) refl
   where
     by : (x : Bool) → is_prefixed letter class (b ∷ c ∷ d ∷ t) ≡ x
         → (prefixed letter class f (b ∷ c ∷ d ∷ t) ≡ prefixed letter class f (b ∷ c ∷ d ∷ (t ++ r)))
@@ -424,8 +404,7 @@ constant-cut t r whole = by (number-cut t r (behind-first n more (length t) most
     by : (number t ≡ n) ⊎ IsLost n t r → constant t ≡ length t
     by (inl e) = behind-same (number t) n (run classes.Suffix (drop (number t) t)) more e
         (λ some. tail-cut (run classes.Suffix) (run-cut classes.Suffix) t r (number t) n e (number-le t)
-        (behind-more n more (length t) most some))
-        ∙ whole
+        (behind-more n more (length t) most some)) ∙ whole
     by (inr lost) =
         let few : constant (t ++ r) ≡ n = behind-nothing n more lost.some (ap (run classes.Suffix) lost.next) in
         absurd (omega (arith, all, few, lost.size))
@@ -463,9 +442,8 @@ AreWordy class = (z : ℕ) → is_in class z ≡ true → is_wordy z ≡ true
 abbrev EndsWordy : (List ℕ → ℕ) → Type 0
 EndsWordy f = (b : ℕ) (bs : List ℕ) → f (b ∷ bs) ≡ suc (length bs) → is_wordy (last_of b bs) ≡ true
 
-tail-last : (f : List ℕ → ℕ) → EndsWordy f → (n b : ℕ) (bs : List ℕ) → n ≤ suc (length bs)
-    → n + f (drop n (b ∷ bs)) ≡ suc (length bs) → (n ≡ suc (length bs) → is_wordy (last_of b bs) ≡ true)
-    → is_wordy (last_of b bs) ≡ true
+tail-last : (f : List ℕ → ℕ) → EndsWordy f → (n b : ℕ) (bs : List ℕ) → n ≤ suc (length bs) → n + f (drop n (b ∷ bs))
+    ≡ suc (length bs) → (n ≡ suc (length bs) → is_wordy (last_of b bs) ≡ true) → is_wordy (last_of b bs) ≡ true
 tail-last f ends n b bs low whole first = go (drop n (b ∷ bs)) refl
   where
     go : (l : List ℕ) → drop n (b ∷ bs) ≡ l → is_wordy (last_of b bs) ≡ true
@@ -501,8 +479,7 @@ digits-last class wordy b bs e =
     more-last class wordy b bs (tested-some (is_in class b) (more_digits class (b ∷ bs)) (length bs) e).1
 
 fraction-last : (class : Class) → AreWordy class → (free : Bool) → EndsWordy (fraction class free)
-fraction-last class wordy free b [] e =
-    dot-wordy b (both-left (b == dot) (not (begins dot []) && (free || nat_lt 0 0))
+fraction-last class wordy free b [] e = dot-wordy b (both-left (b == dot) (not (begins dot []) && (free || nat_lt 0 0))
     (tested-some ((b == dot) && (not (begins dot []) && (free || nat_lt 0 0))) 1 0 e).0)
 fraction-last class wordy free b (c ∷ bs) e =
     let a = tested-some ((b == dot) && (not (c == dot) && (free || nat_lt 0 (digits class (c ∷ bs)))))
@@ -531,8 +508,7 @@ scaled-last : (class : Class) (letter : ℕ) → AreWordy class → EndsWordy (s
 scaled-last class letter wordy b bs e =
     let m = mantissa class (b ∷ bs) in
     let a = behind-some m (exponent letter (drop m (b ∷ bs))) (length bs) e in
-    tail-last (exponent letter) (exponent-last letter) m b bs (omega (arith, a.1)) a.1
-    (mantissa-last class wordy b bs)
+    tail-last (exponent letter) (exponent-last letter) m b bs (omega (arith, a.1)) a.1 (mantissa-last class wordy b bs)
 
 prefixed-last : (letter : ℕ) (class : Class) (f : List ℕ → ℕ) → HasSome class f → EndsWordy f
     → EndsWordy (prefixed letter class f)
@@ -543,13 +519,10 @@ first-last : (f g : List ℕ → ℕ) → EndsWordy f → EndsWordy g → EndsWo
 first-last f g ends other b bs e = grind (arith, last_of)
 
 number-last : EndsWordy number
-number-last = first-last hexadecimal (first_or binary decimal)
-    (prefixed-last 120 classes.HexDigit (scaled classes.HexDigit 112) (scaled-some classes.HexDigit 112)
-    (scaled-last classes.HexDigit 112 hex-wordy))
-    (first-last binary decimal
-    (prefixed-last 98 classes.BinaryDigit (digits classes.BinaryDigit) (digits-some classes.BinaryDigit)
-    (digits-last classes.BinaryDigit binary-wordy))
-    (scaled-last classes.Digit 101 digit-wordy))
+number-last = first-last hexadecimal (first_or binary decimal) (prefixed-last 120 classes.HexDigit
+    (scaled classes.HexDigit 112) (scaled-some classes.HexDigit 112) (scaled-last classes.HexDigit 112 hex-wordy))
+    (first-last binary decimal (prefixed-last 98 classes.BinaryDigit (digits classes.BinaryDigit) (digits-some
+    classes.BinaryDigit) (digits-last classes.BinaryDigit binary-wordy)) (scaled-last classes.Digit 101 digit-wordy))
 
 suffix-last : EndsWordy (run classes.Suffix)
 suffix-last b bs e = suffix-wordy (last_of b bs) (run-last classes.Suffix b bs e)

@@ -1,26 +1,18 @@
 -- A string that is cut without a note is closed by its last byte; and the longest sign that the bytes begin with is
 -- spelled there.
-use Rattle.std.proofs.Common.{◌≡◌, ℕ, zero, suc, ◌+◌, ◌-◌, ◌≤◌, Bool, true, false, ◌&&◌, ◌||◌, not, ◌==◌, nat_lt, List}
-use Rattle.std.proofs.Common.{[], ◌∷◌, length, take, drop, refl, sym, ap, subst, ◌∙◌, arith, Option, Some, None}
-use Rattle.std.specs.Prelude.{if◌then◌else◌}
-use Rattle.std.proofs.lemmas.Bool.{eqb-true}
-use Rattle.cw_base.proofs.TestLaws.{both-left, both-right}
+use Rattle.cw_plain_laws.proofs.Terms.{◌≡◌, ℕ, zero, suc, ◌+◌, ◌-◌, ◌≤◌, Bool, true, false, ◌&&◌, ◌||◌, not, ◌==◌}
+use Rattle.cw_plain_laws.proofs.Terms.{nat_lt, List, [], ◌∷◌, length, take, drop, refl, sym, ap, subst, ◌∙◌, arith}
+use Rattle.cw_plain_laws.proofs.Terms.{Option, Some, None, if◌then◌else◌, eqb-true, both-left, both-right, is_hash}
+use Rattle.cw_plain_laws.proofs.Terms.{if-both, all_notes, and_last, at_start, ended, extent, goes_on, is_single}
+use Rattle.cw_plain_laws.proofs.Terms.{note_here, note_unless, noted, stepped, takes_next, with_note, begins_with}
+use Rattle.cw_plain_laws.proofs.Terms.{longer, longest, spelling, Inside, Noted}
 use Rattle.cw_base.specs.declared.notes.NoteKind.{NoteKind}
-use Rattle.cw_base.specs.declared.notes.NoteKind.TheVariants as notes
-use Rattle.cw_plain_laws.proofs.Again.{IsAloneText, IsClosed, has_no_note}
-use Rattle.cw_plain_laws.proofs.StringLaws.{inside}
-use Rattle.cw_plain_laws.specs.PlainLaws.{is_hash}
+use Rattle.cw_plain_laws.proofs.{Again.IsAloneText, Again.IsClosed, Again.has_no_note, StringLaws.inside}
 use Rattle.cw_rules.proofs.BodiesAhead.{ended-here, ended-on, noted-on}
-use Rattle.cw_rules.proofs.Choices.{if-both}
 use Rattle.cw_rules.proofs.Inside.{ended-le}
-use Rattle.cw_rules.specs.Bodies.{all_notes, and_last, at_start, ended, extent, goes_on, is_single, note_here}
-use Rattle.cw_rules.specs.Bodies.{note_unless, noted, stepped, takes_next, with_note}
-use Rattle.cw_rules.specs.Bytes.{begins_with}
-use Rattle.cw_rules.specs.Signs.{longer, longest, spelling}
-use Rattle.cw_rules.specs.declared.bodies.Body.TheVariants as bodies
-use Rattle.cw_rules.specs.declared.bodies.Inside.{Inside}
-use Rattle.cw_rules.specs.declared.bodies.Noted.{Noted}
 use Rattle.cw_rules.specs.declared.signs.Sign.{Sign}
+use Rattle.cw_base.specs.declared.notes.NoteKind.TheVariants as notes
+use Rattle.cw_rules.specs.declared.bodies.Body.TheVariants as bodies
 use Rattle.cw_rules.specs.declared.signs.Sign.TheVariants as signs
 use Rattle.cw_rules.specs.declared.tokens.TokKind.TheVariants as kinds
 
@@ -36,20 +28,17 @@ mark-there q b bytes h = eqb-true b q (both-left (b == q) true h)
 no-mark-none : (q k : ℕ) → begins_with (q ∷ []) (drop k []) ≡ true → ⊥
 no-mark-none q k h = let e : true ≡ false = sym h ∙ none-begins q k in cc
 
-no-note : (o : Option NoteKind) (place : ℕ) (more : List Noted) → with_note o place more ≡ []
-    → (o ≡ None) × (more ≡ [])
+no-note : (o : Option NoteKind) (place : ℕ) (more : List Noted) → with_note o place more ≡ [] → (o ≡ None) × (more ≡ [])
 no-note None place more e = (refl, e)
 no-note (Some kind) place more e = absurd cc
 
-no-single : (q braces place last : ℕ) (along : Bool) (b c : ℕ) (bytes : List ℕ)
-    → note_here (inside q braces place last along) b (c ∷ bytes) ≡ None → (more : List ℕ)
-    → has_no_note along b (c ∷ more)
+no-single : (q braces place last : ℕ) (along : Bool) (b c : ℕ) (bytes : List ℕ) → note_here (inside q braces place last
+    along) b (c ∷ bytes) ≡ None → (more : List ℕ) → has_no_note along b (c ∷ more)
 no-single q braces place last true b c bytes e more = tt
 no-single q braces place last false b c bytes e more = by (is_single b (c ∷ bytes)) refl e
   where
-    by : (t : Bool) → is_single b (c ∷ bytes) ≡ t
-        → ◌≡◌ {A = Option NoteKind} (if t then Some notes.AtInString else None) None
-        → is_single b (c ∷ bytes) ≡ false
+    by : (t : Bool) → is_single b (c ∷ bytes) ≡ t → ◌≡◌ {A = Option NoteKind}
+        (if t then Some notes.AtInString else None) None → is_single b (c ∷ bytes) ≡ false
     by true h e = absurd cc
     by false h e = h
 
@@ -57,9 +46,8 @@ stays-here : (along s : Bool) → (along || not s) ≡ false → along ≡ false
 stays-here along s h = grind arith
 
 pub taken-closed : (q braces place last : ℕ) (along : Bool) (bytes : List ℕ) (k : ℕ)
-    → (ended (inside q braces place last along) bytes).place ≡ place + k
-    → noted (inside q braces place last along) bytes ≡ [] → begins_with (q ∷ []) (drop k bytes) ≡ true
-    → IsClosed q last along (take (suc k) bytes)
+    → (ended (inside q braces place last along) bytes).place ≡ place + k → noted (inside q braces place last along)
+    bytes ≡ [] → begins_with (q ∷ []) (drop k bytes) ≡ true → IsClosed q last along (take (suc k) bytes)
 taken-closed q braces place last along [] k size quiet closing = absurd (no-mark-none q k closing)
 taken-closed q braces place last along (b ∷ []) k size quiet closing =
     by (goes_on (inside q braces place last along) (b ∷ [])) k refl size closing
@@ -77,11 +65,10 @@ taken-closed q braces place last along (b ∷ []) k size quiet closing =
     by true (suc k) e size closing = absurd (no-mark-none q k closing)
     by false zero e size closing = (stays-here along _ e, mark-there q b [] closing)
     by false (suc k) e size closing = absurd (no-mark-none q k closing)
-taken-closed q braces place last along (b ∷ c ∷ bytes) k size quiet closing =
-    by (goes_on (inside q braces place last along) (b ∷ c ∷ bytes)) k refl size closing
-    (λ k size quiet closing. taken-closed q
-    (stepped (inside q braces place last along) b (c ∷ bytes)).braces (place + 1) b
-    (not along && takes_next (bodies.Quoted q) b (c ∷ bytes)) (c ∷ bytes) k size quiet closing)
+taken-closed q braces place last along (b ∷ c ∷ bytes) k size quiet closing = by
+    (goes_on (inside q braces place last along) (b ∷ c ∷ bytes)) k refl size closing
+    (λ k size quiet closing. taken-closed q (stepped (inside q braces place last along) b (c ∷ bytes)).braces
+    (place + 1) b (not along && takes_next (bodies.Quoted q) b (c ∷ bytes)) (c ∷ bytes) k size quiet closing)
   where
     i : Inside
     i = inside q braces place last along
@@ -89,12 +76,11 @@ taken-closed q braces place last along (b ∷ c ∷ bytes) k size quiet closing 
     next : Inside
     next = stepped i b (c ∷ bytes)
 
-    by : (t : Bool) (k : ℕ) → goes_on i (b ∷ c ∷ bytes) ≡ t → (ended i (b ∷ c ∷ bytes)).place ≡ place + k
-        → begins_with (q ∷ []) (drop k (b ∷ c ∷ bytes)) ≡ true
-        → ((k : ℕ) → (ended next (c ∷ bytes)).place ≡ (place + 1) + k → noted next (c ∷ bytes) ≡ []
-        → begins_with (q ∷ []) (drop k (c ∷ bytes)) ≡ true
-        → IsClosed q b (not along && takes_next (bodies.Quoted q) b (c ∷ bytes)) (take (suc k) (c ∷ bytes)))
-        → IsClosed q last along (take (suc k) (b ∷ c ∷ bytes))
+    by : (t : Bool) (k : ℕ) → goes_on i (b ∷ c ∷ bytes) ≡ t → (ended i (b ∷ c ∷ bytes)).place ≡ place + k → begins_with
+        (q ∷ []) (drop k (b ∷ c ∷ bytes)) ≡ true → ((k : ℕ) → (ended next (c ∷ bytes)).place ≡ (place + 1) + k → noted
+        next (c ∷ bytes) ≡ [] → begins_with (q ∷ []) (drop k (c ∷ bytes)) ≡ true → IsClosed q b
+        (not along && takes_next (bodies.Quoted q) b (c ∷ bytes)) (take (suc k) (c ∷ bytes))) → IsClosed q last along
+        (take (suc k) (b ∷ c ∷ bytes))
     by true zero e size closing later =
         let same : (ended i (b ∷ c ∷ bytes)).place ≡ (ended next (c ∷ bytes)).place = ap (λ (j : Inside). j.place)
         (ended-on i b (c ∷ bytes) e) in
@@ -122,9 +108,8 @@ was-closed true note place e = refl
 was-closed false note place e = absurd cc
 
 -- A string without a note, as far as it goes, with the byte that closes it.
-pub string-closed : (q place : ℕ) (bytes : List ℕ)
-    → all_notes notes.StringUnended (at_start (bodies.Quoted q) place) bytes ≡ []
-    → IsClosed q 0 false (take (extent (at_start (bodies.Quoted q) place) bytes).size bytes)
+pub string-closed : (q place : ℕ) (bytes : List ℕ) → all_notes notes.StringUnended (at_start (bodies.Quoted q) place)
+    bytes ≡ [] → IsClosed q 0 false (take (extent (at_start (bodies.Quoted q) place) bytes).size bytes)
 string-closed q place bytes e =
     let i : Inside = at_start (bodies.Quoted q) place in
     let n = no-last (noted i bytes) (note_unless (extent i bytes).closed notes.StringUnended (extent i bytes).stop) e in

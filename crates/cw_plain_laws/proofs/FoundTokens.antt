@@ -1,14 +1,11 @@
 -- Each token of a text is found by its number.
-use Rattle.std.proofs.Common.{◌≡◌, ℕ, zero, suc, ◌+◌, ◌<◌, ◌≤◌, Bool, true, false, ◌==◌, List, [], ◌∷◌, ◌++◌, Some}
-use Rattle.std.proofs.Common.{append-nil, append_assoc, ap, arith, drop, refl, subst, sym, take, ◌∙◌, if◌then◌else◌}
-use Rattle.std.proofs.lemmas.Bool.Decides.{nat_tests}
-use Rattle.cw_lex.specs.Lexing.{answers, beginning, fresh_at, last_at, still_fresh, tokens_of}
-use Rattle.cw_lex.specs.Nest.{Nest, End, Leaf, Group, first_nest, group, leaf, nest, nests}
+use Rattle.cw_plain_laws.proofs.Terms.{◌≡◌, ℕ, zero, suc, ◌+◌, ◌<◌, ◌≤◌, Bool, true, false, ◌==◌, List, [], ◌∷◌, ◌++◌}
+use Rattle.cw_plain_laws.proofs.Terms.{Some, append-nil, append_assoc, ap, arith, drop, refl, subst, sym, take, ◌∙◌}
+use Rattle.cw_plain_laws.proofs.Terms.{if◌then◌else◌, nat_tests, answers, beginning, fresh_at, last_at, still_fresh}
+use Rattle.cw_plain_laws.proofs.Terms.{tokens_of, Nest, End, Leaf, Group, first_nest, group, leaf, nest, nests, AreBare}
+use Rattle.cw_plain_laws.proofs.Terms.{AreNotes, TakesAll, bare-all-cut, found-takes, Answer, Token, Begin, Finish}
+use Rattle.cw_plain_laws.proofs.Terms.{Note, Seen, Where, found_apart, Mode}
 use Rattle.cw_print.specs.Found.{numbered}
-use Rattle.cw_rules.proofs.Taking.{AreBare, AreNotes, TakesAll, bare-all-cut, found-takes}
-use Rattle.cw_rules.specs.Answers.{Answer, Token, Begin, Finish, Note, Seen, Where}
-use Rattle.cw_rules.specs.Apart.{found_apart}
-use Rattle.cw_rules.specs.declared.tokens.Mode.{Mode}
 
 -- ## Tokens begin one behind another
 
@@ -36,16 +33,14 @@ whole-rises place more from bytes xs ys takes low rest = grind (arith, notes-ris
 
 answers-rise : (bytes : List ℕ) (w : Where) (fresh : Bool) (last place taken from : ℕ) → from ≤ place + taken
     → RisesFrom from (answers bytes w fresh last place taken)
-answers-rise [] w fresh last place taken from low =
-    subst (RisesFrom from) (append-nil (answers [] w fresh last place taken))
-    (bare-rises place from (answers [] w fresh last place taken) [] (bare-all-cut w.part w.comments place _) tt)
+answers-rise [] w fresh last place taken from low = subst (RisesFrom from) (append-nil (answers [] w fresh last place
+    taken)) (bare-rises place from (answers [] w fresh last place taken) [] (bare-all-cut w.part w.comments place _) tt)
 answers-rise (byte ∷ bytes) w fresh last place zero from low =
     let f = found_apart w fresh last place byte bytes in
     let t = found-takes w fresh last place byte bytes in
     let more = answers bytes f.next (still_fresh fresh byte) byte (place + 1) f.more in
-    subst (RisesFrom from) (sym (ap (λ l. l ++ more) t.split ∙ append_assoc t.first t.rest more))
-    (bare-rises place from t.first (t.rest ++ more) t.bare
-    (whole-rises place f.more from (byte ∷ bytes) t.rest more t.whole (omega arith)
+    subst (RisesFrom from) (sym (ap (λ l. l ++ more) t.split ∙ append_assoc t.first t.rest more)) (bare-rises place from
+    t.first (t.rest ++ more) t.bare (whole-rises place f.more from (byte ∷ bytes) t.rest more t.whole (omega arith)
     (λ least h. answers-rise bytes f.next (still_fresh fresh byte) byte (place + 1) f.more least h)))
 answers-rise (byte ∷ bytes) w fresh last place (suc taken) from low =
     answers-rise bytes w (still_fresh fresh byte) byte (place + 1) taken from (omega (arith, low))
@@ -85,17 +80,15 @@ all-found all from [] rises on = tt
 all-found all from (Token t ∷ answers) rises on = (
   sym (on t.span.start rises.0)
       ∙ chosen (t.span.start == t.span.start) (Some t) (numbered t.span.start answers) (same-number t.span.start),
-  all-found all t.span.end answers rises.2
-      (λ number low. sym (passed (t.span.start == number) (Some t) (numbered number answers)
-      (other-number t.span.start number (omega (arith, rises.1, low))))
+  all-found all t.span.end answers rises.2 (λ number low. sym (passed (t.span.start == number) (Some t)
+      (numbered number answers) (other-number t.span.start number (omega (arith, rises.1, low))))
       ∙ on number (omega (arith, rises.0, rises.1, low))),
 )
 all-found all from (Begin t ∷ answers) rises on = (
   sym (on t.span.start rises.0)
       ∙ chosen (t.span.start == t.span.start) (Some t) (numbered t.span.start answers) (same-number t.span.start),
-  all-found all t.span.end answers rises.2
-      (λ number low. sym (passed (t.span.start == number) (Some t) (numbered number answers)
-      (other-number t.span.start number (omega (arith, rises.1, low))))
+  all-found all t.span.end answers rises.2 (λ number low. sym (passed (t.span.start == number) (Some t)
+      (numbered number answers) (other-number t.span.start number (omega (arith, rises.1, low))))
       ∙ on number (omega (arith, rises.0, rises.1, low))),
 )
 all-found all from (Finish t ∷ answers) rises on = all-found all from answers rises on
@@ -105,8 +98,7 @@ pub tokens-found : (text : List ℕ) (from end : ℕ) (mode : Mode)
     → AllTokens (IsFound (tokens_of text from end mode)) (tokens_of text from end mode)
 tokens-found text from end mode =
     let all = tokens_of text from end mode in
-    all-found all from all
-    (answers-rise (drop from (take end text)) (beginning mode) (fresh_at (take end text) from)
+    all-found all from all (answers-rise (drop from (take end text)) (beginning mode) (fresh_at (take end text) from)
     (last_at (take end text) from) from 0 from (omega arith)) (λ number low. refl)
 
 -- ## Nests

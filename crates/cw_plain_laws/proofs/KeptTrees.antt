@@ -1,25 +1,16 @@
 -- What holds of the trees of scraps holds of the tree that these are reduced to, where joining and reserving keep it.
-use Rattle.std.proofs.Common.{◌≡◌, ℕ, zero, suc, List, [], ◌∷◌, ◌++◌, get_or, map, take, drop, refl, sym, subst, arith}
-use Rattle.std.specs.List.{All}
-use Rattle.std.proofs.lemmas.Bool.{cases_lt}
-use Rattle.std.proofs.lemmas.List.{get_or_past}
-use Rattle.std.proofs.lemmas.List.Elements.{All-head, All-map, All-tail}
-use Rattle.cw_base.specs.declared.flags.Flags.{Flags}
-use Rattle.cw_base.specs.declared.mode.MathMode.{MathMode}
-use Rattle.cw_base.specs.declared.mode.MathMode.TheVariants.{Maybe}
+use Rattle.cw_plain_laws.proofs.Terms.{◌≡◌, ℕ, zero, suc, List, [], ◌∷◌, ◌++◌, get_or, map, take, drop, refl, sym}
+use Rattle.cw_plain_laws.proofs.Terms.{subst, arith, All, cases_lt, get_or_past, All-head, All-map, All-tail, Flags}
+use Rattle.cw_plain_laws.proofs.Terms.{MathMode, Maybe, Scrap, no_scrap, Joined, Whole, Mark, after, blank_and_whole}
+use Rattle.cw_plain_laws.proofs.Terms.{dollar_before, scrap_in_text, joined_tree, needs, toggled, whole, Tree, Empty}
+use Rattle.cw_plain_laws.proofs.Terms.{Then, Sub, Sign, reserve_first, Control}
 use Rattle.cw_scraps.proofs.Keeping.{keeps-all}
 use Rattle.cw_table.proofs.Normals.{steps-none, steps-turn}
+use Rattle.cw_table.specs.{Productions.productions, declared.types.Piece.Piece, declared.types.Row.Row}
 use Rattle.cw_table.specs.Normal.{Place, Nowhere, At, next_place, normal, steps, weight}
-use Rattle.cw_table.specs.Productions.{productions}
 use Rattle.cw_table.specs.Rewriting.{State, joined_of, math_piece, rewrite, rewrite_from}
-use Rattle.cw_table.specs.declared.types.Piece.{Piece}
-use Rattle.cw_table.specs.declared.types.Row.{Row}
-use Rattle.cw_trees.specs.Joining.{Scrap, no_scrap, Joined, Whole, Mark, after, blank_and_whole, dollar_before}
-use Rattle.cw_trees.specs.Joining.{scrap_in_text, joined_tree, needs, toggled, whole}
-use Rattle.cw_trees.specs.Tree.{Tree, Empty, Then, Sub, Sign, reserve_first}
-use Rattle.cw_trees.specs.declared.Control.{Control}
-use Rattle.cw_trees.specs.declared.Control.TheVariants as control
 use Rattle.cw_plain_laws.proofs.Walks.{IsFree}
+use Rattle.cw_trees.specs.declared.Control.TheVariants as control
 
 abbrev pub OfScrap : (Tree → Type 0) → Scrap → Type 0
 OfScrap T scrap = T scrap.tree
@@ -63,18 +54,16 @@ module _ (T : Tree → Type 0) (empty : T Empty) (subs : (a b : Tree) → T a �
   rewritten-kept : (flags : Flags) (row : Row) (place : ℕ) (scraps : List Scrap) → All (OfScrap T) scraps
       → All (OfScrap T) (take place scraps ++ rewrite_from flags row (drop place scraps))
   rewritten-kept flags row place scraps all = keeps-all (OfScrap T) empty (λ s h. reserves s.tree h) (λ cat s h. h)
-      (λ cat ss pieces h. joined-kept Maybe (map (joined_of ss) pieces)
-      (All-map (OfPiece T) (joined_of ss) pieces (λ k d lt. piece-kept ss (get_or pieces k d) h)))
-      flags row place scraps all
+      (λ cat ss pieces h. joined-kept Maybe (map (joined_of ss) pieces) (All-map (OfPiece T) (joined_of ss) pieces
+      (λ k d lt. piece-kept ss (get_or pieces k d) h))) flags row place scraps all
 
   steps-kept : (rows : List Row) (flags : Flags) (n : ℕ) (st : State) → All (OfScrap T) st.scraps
       → All (OfScrap T) (steps rows flags n st).scraps
   steps-kept rows flags zero st all = all
   steps-kept rows flags (suc n) st all = go (next_place rows st) refl (λ s. steps-kept rows flags n s)
     where
-      go : (p : Place) → next_place rows st ≡ p
-          → ((s : State) → All (OfScrap T) s.scraps → All (OfScrap T) (steps rows flags n s).scraps)
-          → All (OfScrap T) (steps rows flags (suc n) st).scraps
+      go : (p : Place) → next_place rows st ≡ p → ((s : State) → All (OfScrap T) s.scraps → All (OfScrap T)
+          (steps rows flags n s).scraps) → All (OfScrap T) (steps rows flags (suc n) st).scraps
       go Nowhere e rec = subst (λ (s : State). All (OfScrap T) s.scraps) (sym (steps-none rows flags (suc n) st e)) all
       go (At i r) e rec = subst (λ (s : State). All (OfScrap T) s.scraps) (sym (steps-turn rows flags n i r st e))
           (rec (rewrite flags r i st) (rewritten-kept flags r i st.scraps all))

@@ -1,36 +1,20 @@
 -- The leaves of tokens, of comments and of section names have the bytes of their tokens.
-use Rattle.std.proofs.Common.{arith, ◌≡◌, ℕ, Bool, true, false, List, [], ◌∷◌, ◌++◌, Option, Some, None, refl, sym, ap}
-use Rattle.std.proofs.Common.{◌∙◌, if◌then◌else◌}
-use Rattle.std.specs.List.{All}
-use Rattle.std.specs.Prelude.{codes}
-use Rattle.std.proofs.lemmas.List.{append_assoc}
-use Rattle.std.proofs.lemmas.List.Elements.{All-head, All-tail}
-use Rattle.cw_base.specs.declared.category.Cat.{Cat}
-use Rattle.cw_base.specs.declared.category.Cat.TheVariants.{Exp}
-use Rattle.cw_base.specs.declared.flags.Flags.{Flags}
-use Rattle.cw_base.specs.declared.mode.MathMode.{MathMode}
-use Rattle.cw_base.specs.declared.mode.MathMode.TheVariants.{Text, Maybe}
-use Rattle.cw_lex.specs.Nest.{IsGroupOf}
-use Rattle.cw_names.specs.declared.NameId.{NameId}
-use Rattle.cw_names.specs.Names.{Entry}
-use Rattle.cw_plain.specs.Pieces.{Piece, Word, Placed, Source, Stand, before, in_name, number_placed, outside}
-use Rattle.cw_plain.specs.Pieces.{pieces_from, placed, token_placed}
-use Rattle.cw_plain_laws.proofs.FoundTokens.{IsFound}
-use Rattle.cw_plain_laws.proofs.WalkLaws.{inner-passed, sign-walks}
-use Rattle.cw_plain_laws.proofs.Walks.{Walks, among, owners}
+use Rattle.cw_plain_laws.proofs.Terms.{arith, ◌≡◌, ℕ, Bool, true, false, List, [], ◌∷◌, ◌++◌, Option, Some, None, refl}
+use Rattle.cw_plain_laws.proofs.Terms.{sym, ap, ◌∙◌, if◌then◌else◌, All, codes, append_assoc, All-head, All-tail, Cat}
+use Rattle.cw_plain_laws.proofs.Terms.{Exp, Flags, MathMode, Text, Maybe, IsGroupOf, NameId, Entry, Piece, Word, Placed}
+use Rattle.cw_plain_laws.proofs.Terms.{Source, Stand, before, in_name, number_placed, outside, pieces_from, placed}
+use Rattle.cw_plain_laws.proofs.Terms.{token_placed, Answer, Seen, Code, TokKind, LeafForm, code_form, sign_mode}
+use Rattle.cw_plain_laws.proofs.Terms.{token_form, word_form, tree_in, Item, SignItem, Close, continues_name, flat}
+use Rattle.cw_plain_laws.proofs.Terms.{struck, Ident, Reserved, Sign, Tree, Then}
+use Rattle.cw_plain_laws.proofs.{FoundTokens.IsFound, WalkLaws.inner-passed, WalkLaws.sign-walks, Walks.Walks}
+use Rattle.cw_plain_laws.proofs.{Walks.among, Walks.owners}
 use Rattle.cw_reduce.proofs.ShownLaws.{struck-parts}
-use Rattle.cw_rules.specs.Answers.{Answer, Seen}
-use Rattle.cw_rules.specs.declared.codes.Code.{Code}
-use Rattle.cw_rules.specs.declared.codes.Code.TheVariants as code
-use Rattle.cw_rules.specs.declared.tokens.TokKind.{TokKind}
-use Rattle.cw_rules.specs.declared.tokens.TokKind.TheVariants as kind
-use Rattle.cw_scraps.specs.Leaves.{LeafForm, code_form, sign_mode, token_form, word_form}
-use Rattle.cw_tokens.specs.Shapes.{tree_in}
 use Rattle.cw_tokens.specs.declared.token.Token.{Token}
 use Rattle.cw_translator.specs.Translating.{CommentItem, Piece as TextPiece, InnerText, Known, comment_rest}
 use Rattle.cw_translator.specs.Translating.{comment_tree, plain_text, texts_made}
-use Rattle.cw_trees.specs.Flat.{Item, SignItem, Close, continues_name, flat, struck}
-use Rattle.cw_trees.specs.Tree.{Source as SourceLeaf, Ident, Reserved, Sign, Tree, Then}
+use Rattle.cw_trees.specs.Tree.{Source as SourceLeaf}
+use Rattle.cw_rules.specs.declared.codes.Code.TheVariants as code
+use Rattle.cw_rules.specs.declared.tokens.TokKind.TheVariants as kind
 use Rattle.cw_trees.specs.declared.Control.TheVariants as control
 
 -- ## What a token prints
@@ -71,9 +55,8 @@ source-walks s number mode t owns walks comments rest = grind (arith, owns-first
 
 ident-walks : (s : Source) (name number : ℕ) (t : Tree) → Owns s number → Walks s t
     → Walks s (Then (Ident name number) t)
-ident-walks s name number t owns walks comments rest =
-    owns-first s number owns (among comments) (pieces_from s (flat t ++ rest))
-    ∙ ap (λ l. number ∷ l) (walks comments rest)
+ident-walks s name number t owns walks comments rest = owns-first s number owns (among comments)
+    (pieces_from s (flat t ++ rest)) ∙ ap (λ l. number ∷ l) (walks comments rest)
 
 reserved-walks : (s : Source) (name number : ℕ) (c : Cat) (t : Tree) → Owns s number → Walks s t
     → Walks s (Then (Reserved name number c) t)
@@ -109,9 +92,8 @@ form-walks s kind.OtherByte text hash_line n names owns = λ rest walks.
     source-walks s n Maybe (tree_in [] rest) (owns refl) walks
 form-walks s (kind.Sign sign) text hash_line n names owns = λ rest walks.
     source-walks s n (sign_mode sign) (tree_in [] rest) (owns refl) walks
-form-walks s kind.HashLine text hash_line n names owns = λ rest walks.
-    sign-walks s control.Break (Then (SourceLeaf n Text) (tree_in [] rest)) tt
-    (source-walks s n Text (tree_in [] rest) (owns refl) walks)
+form-walks s kind.HashLine text hash_line n names owns = λ rest walks. sign-walks s control.Break
+    (Then (SourceLeaf n Text) (tree_in [] rest)) tt (source-walks s n Text (tree_in [] rest) (owns refl) walks)
 form-walks s kind.HashLineEnd text hash_line n names owns = λ rest walks.
     sign-walks s control.Break (tree_in [] rest) tt walks
 form-walks s (kind.Code c) text hash_line n names owns = code-walks s c n owns
@@ -133,21 +115,17 @@ rest-walks : (s : Source) (items : List CommentItem) → All (ItemWalks s) items
     (rest : List Item) → owners (pieces_from s (flat (comment_rest items) ++ rest) (among (long ∷ comments)))
     ≡ struck (comment_rest items) ++ owners (pieces_from s rest (among comments))
 rest-walks s [] all long comments rest = refl
-rest-walks s (TextPiece number ∷ items) all long comments rest =
-    owns-first s number (All-head (ItemWalks s) (TextPiece number) items all) (among (long ∷ comments))
-    (pieces_from s (flat (comment_rest items) ++ rest))
+rest-walks s (TextPiece number ∷ items) all long comments rest = owns-first s number (All-head (ItemWalks s)
+    (TextPiece number) items all) (among (long ∷ comments)) (pieces_from s (flat (comment_rest items) ++ rest))
     ∙ ap (λ l. number ∷ l) (rest-walks s items (All-tail (ItemWalks s) (TextPiece number) items all) long comments rest)
 rest-walks s (InnerText tree ∷ items) all long comments rest =
     let walks : Walks s tree = All-head (ItemWalks s) (InnerText tree) items all in
-    ap (λ l. owners (pieces_from s l (among (long ∷ comments))))
-    (append_assoc (flat tree) (Close ∷ flat (comment_rest items)) rest)
-    ∙ walks (long ∷ comments) (Close ∷ (flat (comment_rest items) ++ rest))
-    ∙ ap (λ l. struck tree ++ l)
-    (rest-walks s items (All-tail (ItemWalks s) (InnerText tree) items all) long comments rest)
+    ap (λ l. owners (pieces_from s l (among (long ∷ comments)))) (append_assoc (flat tree) (Close ∷ flat
+    (comment_rest items)) rest) ∙ walks (long ∷ comments) (Close ∷ (flat (comment_rest items) ++ rest)) ∙ ap
+    (λ l. struck tree ++ l) (rest-walks s items (All-tail (ItemWalks s) (InnerText tree) items all) long comments rest)
     ∙ sym (append_assoc (struck tree) (struck (comment_rest items)) (owners (pieces_from s rest (among comments))))
-    ∙ ap (λ l. l ++ owners (pieces_from s rest (among comments))) (sym (ap (λ (b : Bool). if b then
-    struck (comment_rest items)
-    else struck tree ++ struck (comment_rest items)) (goes-on items)))
+    ∙ ap (λ l. l ++ owners (pieces_from s rest (among comments))) (sym (ap (λ (b : Bool). if b then struck
+    (comment_rest items) else struck tree ++ struck (comment_rest items)) (goes-on items)))
 
 abbrev is_long : TokKind → Bool
 is_long kind.LongComment = true
@@ -189,18 +167,15 @@ name-titled : (s : Source) (t : Seen) (title : List ℕ) → IsFound s.answers t
 name-titled s t title found is e = grind (arith, token-titled)
 
 name-passed : (s : Source) (flags : Flags) (parts : List (List Answer)) (behind : Tree) (known : Known)
-    (comments : List Bool) (rest : List Item)
-    → pieces_from s (flat (texts_made flags parts (Then (Sign control.NameEnd) behind) known).tree ++ rest)
-    (in_name (among comments))
-    ≡ pieces_from s (flat behind ++ rest) (among comments)
+    (comments : List Bool) (rest : List Item) → pieces_from s (flat (texts_made flags parts (Then (Sign control.NameEnd)
+    behind) known).tree ++ rest) (in_name (among comments)) ≡ pieces_from s (flat behind ++ rest) (among comments)
 name-passed s flags [] behind known comments rest = refl
 name-passed s flags (part ∷ parts) behind known comments rest =
     let text = plain_text flags part known in
     let more = texts_made flags parts (Then (Sign control.NameEnd) behind) text.known in
-    ap (λ l. pieces_from s l (record { name = 2; comments = comments }))
-    (append_assoc (flat text.tree) (Close ∷ SignItem control.NameText ∷ flat more.tree) rest)
-    ∙ inner-passed s text.tree 0 comments (Close ∷ SignItem control.NameText ∷ (flat more.tree ++ rest))
-    ∙ name-passed s flags parts behind text.known comments rest
+    ap (λ l. pieces_from s l (record { name = 2; comments = comments })) (append_assoc (flat text.tree)
+    (Close ∷ SignItem control.NameText ∷ flat more.tree) rest) ∙ inner-passed s text.tree 0 comments (Close ∷ SignItem
+    control.NameText ∷ (flat more.tree ++ rest)) ∙ name-passed s flags parts behind text.known comments rest
 
 pub name-walks : (s : Source) (flags : Flags) (t : Seen) (title : List ℕ) (parts : List (List Answer)) (behind : Tree)
     (known : Known) → IsFound s.answers t → is_name t.kind ≡ true → s.titles t.span.start ≡ Some title → Walks s behind

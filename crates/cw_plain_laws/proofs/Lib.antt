@@ -1,4 +1,5 @@
 -- The laws of plain text.
+mod Terms
 pub mod Again
 pub mod Simple
 pub mod Walks

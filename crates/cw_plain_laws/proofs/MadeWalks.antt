@@ -1,47 +1,30 @@
 -- What is made of the tokens of a text has the bytes of its tokens, and so has its whole translation.
-use Rattle.std.proofs.Common.{arith, ◌≡◌, ℕ, Bool, true, false, not, is_some, Option, Some, None, List, [], ◌∷◌, ◌++◌}
-use Rattle.std.proofs.Common.{refl, if◌then◌else◌, ap, subst, ◌∙◌}
-use Rattle.std.specs.List.{All, list_all}
-use Rattle.std.proofs.lemmas.List.{append-nil, append_assoc}
-use Rattle.std.proofs.lemmas.List.Elements.{All-append, All-nil}
-use Rattle.std.proofs.lemmas.Grind.{common_steps}
-use Rattle.cw_base.proofs.TestLaws.{both-left, both-right}
-use Rattle.cw_base.specs.declared.category.Cat.{Cat}
-use Rattle.cw_base.specs.declared.category.Cat.TheVariants.{Exp}
-use Rattle.cw_base.specs.declared.flags.Flags.{Flags}
-use Rattle.cw_base.specs.declared.mode.MathMode.{MathMode}
-use Rattle.cw_base.specs.declared.mode.MathMode.TheVariants.{Text}
-use Rattle.cw_lex.specs.Heads.{Head, Headless, Macro, Format, Silent, Named, Headed, Words, headed, headed_by, headless}
-use Rattle.cw_lex.specs.Heads.{head_behind, head_words, named_headed, no_word, word_before}
-use Rattle.cw_lex.specs.Nest.{Nest, End, Leaf, Group, IsGroupOf, IsWell}
+use Rattle.cw_plain_laws.proofs.Terms.{arith, ◌≡◌, ℕ, Bool, true, false, not, is_some, Option, Some, None, List, []}
+use Rattle.cw_plain_laws.proofs.Terms.{◌∷◌, ◌++◌, refl, if◌then◌else◌, ap, subst, ◌∙◌, All, list_all, append-nil}
+use Rattle.cw_plain_laws.proofs.Terms.{append_assoc, All-append, All-nil, common_steps, both-left, both-right, Cat, Exp}
+use Rattle.cw_plain_laws.proofs.Terms.{Flags, MathMode, Text, Head, Headless, Macro, Format, Silent, Named, Headed}
+use Rattle.cw_plain_laws.proofs.Terms.{Words, headed, headed_by, headless, head_behind, head_words, named_headed}
+use Rattle.cw_plain_laws.proofs.Terms.{no_word, word_before, Nest, End, Leaf, Group, IsGroupOf, IsWell, NameId, Entry}
+use Rattle.cw_plain_laws.proofs.Terms.{Source, Answer, Seen, is_head_sign, TokKind, if-both, LeafForm, names_with}
+use Rattle.cw_plain_laws.proofs.Terms.{token_form, word_form, tree_in, Scrap, Tree, Empty, Then, Sign}
 use Rattle.cw_lex.specs.declared.heads.Wanted.{Wanted}
-use Rattle.cw_names.specs.declared.NameId.{NameId}
-use Rattle.cw_names.specs.Names.{Entry}
-use Rattle.cw_plain.specs.Pieces.{Source}
-use Rattle.cw_plain_laws.proofs.FoundTokens.{AllOf, IsFound}
-use Rattle.cw_plain_laws.proofs.KeptTrees.{OfScrap, end-kept}
+use Rattle.cw_plain_laws.proofs.{FoundTokens.AllOf, FoundTokens.IsFound, KeptTrees.OfScrap, KeptTrees.end-kept}
+use Rattle.cw_plain_laws.proofs.{Walks.Walks}
 use Rattle.cw_plain_laws.proofs.LeafWalks.{FormWalks, ItemWalks, Owns, TokensWalk, comment-walks, form-walks}
 use Rattle.cw_plain_laws.proofs.LeafWalks.{found-owns, is_name, name-walks, source-walks, stays, word-walks}
 use Rattle.cw_plain_laws.proofs.WalkLaws.{empty-walks, reserve-walks, sign-walks, sub-walks}
-use Rattle.cw_plain_laws.proofs.Walks.{Walks}
 use Rattle.cw_reduce.proofs.HeadAnswers.{first-all, head-words-fit, later-all, word_kind}
-use Rattle.cw_rules.specs.Answers.{Answer, Seen, is_head_sign}
-use Rattle.cw_rules.specs.declared.codes.Code.TheVariants as code
-use Rattle.cw_rules.specs.declared.tokens.TokKind.{TokKind}
-use Rattle.cw_rules.specs.declared.tokens.TokKind.TheVariants as kind
-use Rattle.cw_rules.proofs.Choices.{if-both}
-use Rattle.cw_scraps.specs.Leaves.{LeafForm, names_with, token_form, word_form}
 use Rattle.cw_scraps.specs.Words.{is_word}
-use Rattle.cw_tokens.specs.Shapes.{tree_in}
 use Rattle.cw_tokens.specs.declared.token.Token.{Token}
-use Rattle.cw_tokens.specs.declared.token.Token.TheVariants as token
 use Rattle.cw_translator.specs.Translating.{CommentItem, Piece, Known, Made, NameTexts, beside, dead, dollared, end_of}
 use Rattle.cw_translator.specs.Translating.{first_word, form_made, form_tokens, group_made, head_made, headed_made}
 use Rattle.cw_translator.specs.Translating.{later_words, leaf_of_name, leaf_scrap, is_macro, made, name_in_text}
 use Rattle.cw_translator.specs.Translating.{names_in_text, one_item, one_scrap, sign_behind, spelled, state_in}
 use Rattle.cw_translator.specs.Translating.{texts_named, token_made, with_names, word_tokens}
-use Rattle.cw_trees.specs.Joining.{Scrap}
-use Rattle.cw_trees.specs.Tree.{Tree, Empty, Then, Sign, Source as SourceLeaf}
+use Rattle.cw_trees.specs.Tree.{Source as SourceLeaf}
+use Rattle.cw_rules.specs.declared.codes.Code.TheVariants as code
+use Rattle.cw_rules.specs.declared.tokens.TokKind.TheVariants as kind
+use Rattle.cw_tokens.specs.declared.token.Token.TheVariants as token
 use Rattle.cw_trees.specs.declared.Control.TheVariants as control
 
 -- ## Scraps and items
@@ -88,8 +71,7 @@ token-made s name names kind.Text t known e found =
     made-item s (Piece t.span.start) known (found-owns s t found (ap stays e))
 token-made s name names (kind.Code code.SectionName) t known e found = names t known found (ap is_name e)
 token-made s name names (kind.Code code.FileName) t known e found = names t known found (ap is_name e)
-token-made s name names k t known e found =
-    form-made s (token_form k t.text t.hash_line t.span.start known.names)
+token-made s name names k t known e found = form-made s (token_form k t.text t.hash_line t.span.start known.names)
     (with_names (names_with k t.text known.names) known)
     (form-walks s k t.text t.hash_line t.span.start known.names (λ stay. found-owns s t found (ap stays e ∙ stay)))
 
@@ -107,8 +89,7 @@ nest-made s flags name names (Leaf t rest) comment known well all =
 nest-made s flags name names (Group t inner rest) comment known well all =
     let within = made flags name inner known in
     let first = group_made flags t.kind t within in
-    made-beside s first (made flags name rest first.known)
-    (group-made s flags comment t.kind t within refl all.0 well.0
+    made-beside s first (made flags name rest first.known) (group-made s flags comment t.kind t within refl all.0 well.0
     (nest-made s flags name names inner (not comment) known well.1 all.1))
     (nest-made s flags name names rest comment first.known well.2 all.2)
 
@@ -127,9 +108,8 @@ AreTitled s named = (number : ℕ) → is_some (s.titles number) ≡ is_some (na
 
 names-made : (s : Source) (flags : Flags) (named : NameTexts) → AreTitled s named
     → NamesWalk s (leaf_of_name flags named)
-names-made s flags named titled t known found is =
-    named-made s flags (named t.span.start) (s.titles t.span.start) _ _ Empty t known found is refl
-    (titled t.span.start) (empty-walks s)
+names-made s flags named titled t known found is = named-made s flags (named t.span.start)
+    (s.titles t.span.start) _ _ Empty t known found is refl (titled t.span.start) (empty-walks s)
 
 -- ## Heads
 
@@ -181,10 +161,9 @@ headless-found s n all = record { head = tt; rest = all }
 sign-stays : (k : TokKind) → is_head_sign k ≡ true → stays k ≡ true
 sign-stays k e = grind arith
 
-named-found-if : (s : Source) (b : Bool) (t u : Seen) (rest : Nest) → is_name t.kind ≡ true
-    → is_head_sign u.kind ≡ b → AllOf (IsFound s.answers) (Leaf t (Leaf u rest))
-    → HeadedFound s (if b then record { head = Named t.span.start u.span.start; rest = rest }
-    else headless (Leaf t (Leaf u rest)))
+named-found-if : (s : Source) (b : Bool) (t u : Seen) (rest : Nest) → is_name t.kind ≡ true → is_head_sign u.kind ≡ b
+    → AllOf (IsFound s.answers) (Leaf t (Leaf u rest)) → HeadedFound s
+    (if b then record { head = Named t.span.start u.span.start; rest = rest } else headless (Leaf t (Leaf u rest)))
 named-found-if s b t u rest is sign all = grind (arith, sign-stays, headless-found)
 
 named-found : (s : Source) (t : Seen) (rest : Nest) → is_name t.kind ≡ true → AllOf (IsFound s.answers) (Leaf t rest)
@@ -241,9 +220,8 @@ spelled-each s (t ∷ words) names are all =
     let is : is_word t.kind ≡ true = both-left (word_kind t) (list_all word_kind words) are in
     let owns : Owns s t.span.start = found-owns s t all.0 (word-stays t.kind is) in
     each-append s (word_tokens t names) (spelled words (names_with t.kind t.text names)).tokens
-    (word-each s t.kind t.text t.hash_line t.span.start names is owns)
-    (spelled-each s words (names_with t.kind t.text names)
-    (both-right (word_kind t) (list_all word_kind words) are) all.1)
+    (word-each s t.kind t.text t.hash_line t.span.start names is owns) (spelled-each s words
+    (names_with t.kind t.text names) (both-right (word_kind t) (list_all word_kind words) are) all.1)
 
 control-walks : (s : Source) (rest : List Token) → Walks s (tree_in [] rest)
     → Walks s (tree_in [] (token.Control control.Dollar ∷ rest))
@@ -256,10 +234,8 @@ dollared-walks s (t ∷ ts) walks = grind (arith, common_steps, control-walks, t
 -- the names of a format definition, with the dollars of macros of TeX
 names-walk : (s : Source) (tokens : List Token) → EachWalks s tokens → TokensWalk s (names_in_text tokens)
 names-walk s [] each = tokens-none s
-names-walk s (t ∷ ts) each = tokens-append s (name_in_text t) (names_in_text ts)
-    (if-both (TokensWalk s) (is_macro t) (dollared (t ∷ [])) (t ∷ []) (λ h. dollared-walks s (t ∷ []) each.0)
-    (λ h. each.0))
-    (names-walk s ts each.1)
+names-walk s (t ∷ ts) each = tokens-append s (name_in_text t) (names_in_text ts) (if-both (TokensWalk s) (is_macro t)
+    (dollared (t ∷ [])) (t ∷ []) (λ h. dollared-walks s (t ∷ []) each.0) (λ h. each.0)) (names-walk s ts each.1)
 
 break-walks : (s : Source) → TokensWalk s (token.Control control.OptionalBreak ∷ [])
 break-walks s rest walks = sign-walks s control.OptionalBreak (tree_in [] rest) tt walks
@@ -283,11 +259,9 @@ head-made s flags named titled Headless known found = made-none s known
 head-made s flags named titled (Silent words) known found = made-none s _
 head-made s flags named titled (Macro number words) known found =
     let p = spelled words known.names in
-    dead-made s number (dollared p.tokens ++ token.Control control.OptionalBreak ∷ []) _
-    (number-owns s number found.0)
-    (tokens-append s (dollared p.tokens) (token.Control control.OptionalBreak ∷ [])
-    (dollared-walks s p.tokens (each-walk s p.tokens (spelled-each s words known.names found.1.fit found.1.each)))
-    (break-walks s))
+    dead-made s number (dollared p.tokens ++ token.Control control.OptionalBreak ∷ []) _ (number-owns s number found.0)
+    (tokens-append s (dollared p.tokens) (token.Control control.OptionalBreak ∷ []) (dollared-walks s p.tokens
+    (each-walk s p.tokens (spelled-each s words known.names found.1.fit found.1.each))) (break-walks s))
 head-made s flags named titled (Format number words) known found =
     let p = spelled (first_word words) known.names in
     let q = spelled (later_words words) p.names in
@@ -296,10 +270,9 @@ head-made s flags named titled (Format number words) known found =
     dead-made s number (first ++ token.Control control.OptionalBreak ∷ second) _ (number-owns s number found.0)
     (tokens-append s first (token.Control control.OptionalBreak ∷ second)
     (names-walk s p.tokens (spelled-each s (first_word words) known.names (first-all word_kind words found.1.fit)
-    (each-first (IsFound s.answers) words found.1.each)))
-    (tokens-append s (token.Control control.OptionalBreak ∷ []) second (break-walks s)
-    (names-walk s q.tokens (spelled-each s (later_words words) p.names (later-all word_kind words found.1.fit)
-    (each-later (IsFound s.answers) words found.1.each)))))
+    (each-first (IsFound s.answers) words found.1.each))) (tokens-append s (token.Control control.OptionalBreak ∷ [])
+    second (break-walks s) (names-walk s q.tokens (spelled-each s (later_words words) p.names
+    (later-all word_kind words found.1.fit) (each-later (IsFound s.answers) words found.1.each)))))
 head-made s flags named titled (Named number sign) known found =
     let t = found.0.0 in
     let behind = source-walks s sign Text (Then (Sign control.Break) Empty) (number-owns s sign found.1)
@@ -317,8 +290,6 @@ headed-walks s flags named n known titled well all =
     let h = headed n in
     let f = head-found s n all in
     let first = head_made flags named h.head known in
-    made-end s flags (headed_made flags named h known)
-    (made-beside s first (made flags (leaf_of_name flags named) h.rest first.known)
-    (head-made s flags named titled h.head known f.head)
-    (nest-made s flags (leaf_of_name flags named) (names-made s flags named titled) h.rest false first.known well
-    f.rest))
+    made-end s flags (headed_made flags named h known) (made-beside s first (made flags (leaf_of_name flags named)
+    h.rest first.known) (head-made s flags named titled h.head known f.head) (nest-made s flags
+    (leaf_of_name flags named) (names-made s flags named titled) h.rest false first.known well f.rest))

@@ -1,20 +1,12 @@
 -- What is laid out of pieces has the bytes of their tokens.
-use Rattle.std.proofs.Common.{arith, ◌≡◌, ℕ, List, [], ◌∷◌, ◌++◌, Option, map, refl, Bool, ap, subst, sym, ◌∙◌}
-use Rattle.std.proofs.lemmas.List.{append-nil}
-use Rattle.cw_plain.specs.Lines.{Own, Layout, Other, Run, Stretch, behind_piece, behind_run, laid_from, stretches}
-use Rattle.cw_plain.specs.Lines.{with_move}
-use Rattle.cw_plain.specs.Pieces.{Piece, Word, Part, Ending, Opening, Closing, Move, Nothing, Placed, Source, Stand}
-use Rattle.cw_plain.specs.Pieces.{comment_end, control_placed, found_placed, item_placed, number_placed, outside}
-use Rattle.cw_plain.specs.Pieces.{pieces, pieces_from, pieces_in, token_placed}
-use Rattle.cw_plain.specs.Plain.{plain_inks}
-use Rattle.cw_plain_laws.proofs.Walks.{Walks, owners}
-use Rattle.cw_plain_laws.proofs.TrimLaws.{trims-no-bytes}
-use Rattle.cw_plain_laws.specs.OwnLaws.{MayBeAdded, own_ink, own_inks, token_bytes}
-use Rattle.cw_rules.specs.Answers.{Seen}
-use Rattle.cw_rules.specs.declared.tokens.TokKind.{TokKind}
-use Rattle.cw_trees.specs.Flat.{Item, flat, struck, trimmed_items}
-use Rattle.cw_trees.specs.Tree.{Tree}
-use Rattle.cw_trees.specs.declared.Control.{Control}
+use Rattle.cw_plain_laws.proofs.Terms.{arith, ◌≡◌, ℕ, List, [], ◌∷◌, ◌++◌, Option, map, refl, Bool, ap, subst, sym, ◌∙◌}
+use Rattle.cw_plain_laws.proofs.Terms.{append-nil, Own, Layout, Other, Run, Stretch, behind_piece, behind_run}
+use Rattle.cw_plain_laws.proofs.Terms.{laid_from, stretches, with_move, Piece, Word, Part, Ending, Opening, Closing}
+use Rattle.cw_plain_laws.proofs.Terms.{Move, Nothing, Placed, Source, Stand, comment_end, control_placed, found_placed}
+use Rattle.cw_plain_laws.proofs.Terms.{item_placed, number_placed, outside, pieces, pieces_from, pieces_in}
+use Rattle.cw_plain_laws.proofs.Terms.{token_placed, plain_inks, MayBeAdded, own_ink, own_inks, token_bytes, Seen}
+use Rattle.cw_plain_laws.proofs.Terms.{TokKind, Item, flat, struck, trimmed_items, Tree, Control}
+use Rattle.cw_plain_laws.proofs.{Walks.Walks, Walks.owners, TrimLaws.trims-no-bytes}
 
 -- ## Each piece of a number is that of its token
 

@@ -1,13 +1,8 @@
 -- Worked texts: what plain text has of their tokens, and what a scan of it gives.
-use Rattle.std.proofs.Common.{◌≡◌, ◌==◌, ℕ, List, [], ◌∷◌, Option, Some, None, codes, cond, drop, refl}
-use Rattle.cw_plain.specs.Lines.{Own}
-use Rattle.cw_plain.specs.Pieces.{Source}
-use Rattle.cw_plain.specs.Plain.{plain_inks}
-use Rattle.cw_plain_laws.specs.OwnLaws.{own_ink, own_inks}
-use Rattle.cw_plain_laws.specs.PlainLaws.{AreSimpleTokens, BeginsBefore, all_unplaced, part_tokens}
-use Rattle.cw_rules.specs.Answers.{Answer}
-use Rattle.cw_trees.specs.Flat.{SourceItem, IdentItem, SignItem, Open, Close}
-use Rattle.cw_trees.specs.declared.Control.TheVariants.{Break, Cancel, CommentEnd, NameEnd, NameText}
+use Rattle.cw_plain_laws.proofs.Terms.{◌≡◌, ◌==◌, ℕ, List, [], ◌∷◌, Option, Some, None, codes, cond, drop, refl, Own}
+use Rattle.cw_plain_laws.proofs.Terms.{Source, plain_inks, own_ink, own_inks, AreSimpleTokens, BeginsBefore}
+use Rattle.cw_plain_laws.proofs.Terms.{all_unplaced, part_tokens, Answer, SourceItem, IdentItem, SignItem, Open, Close}
+use Rattle.cw_plain_laws.proofs.Terms.{Break, Cancel, CommentEnd, NameEnd, NameText}
 
 abbrev over : List ℕ → (ℕ → Option (List ℕ)) → Source
 over text titles = record { answers = part_tokens text; titles = titles }
@@ -21,11 +16,10 @@ name_at_three : ℕ → Option (List ℕ)
 name_at_three number = cond (number == 3) (Some (codes "a |b| c")) None
 
 -- a comment and the inner text in it, without its end and the bars
-comment : own_inks (plain_inks (over (codes "@c a;/* b |x+y| */") no_titles) (IdentItem 0 3 ∷ SourceItem 4
-    ∷ SignItem Cancel ∷ SourceItem 5 ∷ SourceItem 7 ∷ Open ∷ IdentItem 1 11 ∷ SourceItem 12 ∷ IdentItem 2 13 ∷ Close
-    ∷ SourceItem 15 ∷ SignItem CommentEnd ∷ SignItem Break ∷ [])) ≡ Own 3 (codes "a") ∷ Own 4 (codes ";")
-    ∷ Own 5 (codes "/*") ∷ Own 7 (codes " b ") ∷ Own 11 (codes "x") ∷ Own 12 (codes "+") ∷ Own 13 (codes "y")
-    ∷ Own 15 (codes " ") ∷ []
+comment : own_inks (plain_inks (over (codes "@c a;/* b |x+y| */") no_titles) (IdentItem 0 3 ∷ SourceItem 4 ∷ SignItem
+    Cancel ∷ SourceItem 5 ∷ SourceItem 7 ∷ Open ∷ IdentItem 1 11 ∷ SourceItem 12 ∷ IdentItem 2 13 ∷ Close ∷ SourceItem
+    15 ∷ SignItem CommentEnd ∷ SignItem Break ∷ [])) ≡ Own 3 (codes "a") ∷ Own 4 (codes ";") ∷ Own 5 (codes "/*") ∷ Own
+    7 (codes " b ") ∷ Own 11 (codes "x") ∷ Own 12 (codes "+") ∷ Own 13 (codes "y") ∷ Own 15 (codes " ") ∷ []
 comment = refl
 
 -- a section name, without the inner text in it

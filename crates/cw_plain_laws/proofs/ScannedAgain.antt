@@ -1,34 +1,19 @@
 -- The plain text of a C part of simple tokens is scanned as these tokens.
-use Rattle.std.proofs.Common.{◌≡◌, ℕ, true, false, List, [], ◌∷◌, Option, is_some, refl, sym}
-use Rattle.std.proofs.Common.{ap, subst, ◌∙◌}
-use Rattle.cw_lex.proofs.Nesting.{c-texts-nested}
-use Rattle.cw_lex.specs.Lexing.{tokens_of}
-use Rattle.cw_plain.specs.Lines.{Other, Run, Stretch, stretches, with_move}
-use Rattle.cw_plain.specs.Pieces.{Piece, Word, Part, Ending, Opening, Closing, Move, Nothing, Source, found_placed}
-use Rattle.cw_plain.specs.Pieces.{number_placed, outside, pieces, token_placed}
-use Rattle.cw_plain_laws.proofs.Again.{IsAloneText, alone_token}
-use Rattle.cw_plain_laws.proofs.AloneTokens.{AreAlone, part-alone}
+use Rattle.cw_plain_laws.proofs.Terms.{◌≡◌, ℕ, true, false, List, [], ◌∷◌, Option, is_some, refl, sym, ap, subst, ◌∙◌}
+use Rattle.cw_plain_laws.proofs.Terms.{c-texts-nested, tokens_of, Other, Run, Stretch, stretches, with_move, Piece}
+use Rattle.cw_plain_laws.proofs.Terms.{Word, Part, Ending, Opening, Closing, Move, Nothing, Source, found_placed}
+use Rattle.cw_plain_laws.proofs.Terms.{number_placed, outside, pieces, token_placed, text_source, text_tree}
+use Rattle.cw_plain_laws.proofs.Terms.{AreSimpleTokens, BeginsBefore, PlainScansAgain, is_program, is_simple}
+use Rattle.cw_plain_laws.proofs.Terms.{all_unplaced, begins_section_in, is_section_kind, or-false, translated-shown}
+use Rattle.cw_plain_laws.proofs.Terms.{Answer, Token, Begin, Finish, Note, Seen, CPart, TokKind, name_texts, flat}
+use Rattle.cw_plain_laws.proofs.Terms.{trimmed_items, Control}
+use Rattle.cw_plain_laws.proofs.{Again.IsAloneText, Again.alone_token, AloneTokens.AreAlone, AloneTokens.part-alone}
+use Rattle.cw_plain_laws.proofs.{OwnInks.AreOwn, OwnInks.pieces-own, OwnInks.walked-owners, Simple.AreSimple}
+use Rattle.cw_plain_laws.proofs.{Simple.all_words, SpacedLaws.plain-again, TranslatedWalks.text-walks, Walks.owners}
 use Rattle.cw_plain_laws.proofs.BareTrees.{AreUnbarred, bare-pieces, part-bare, part-shown, starts_of}
 use Rattle.cw_plain_laws.proofs.FoundTokens.{AllTokens, IsFound, tokens-found}
-use Rattle.cw_plain_laws.proofs.OwnInks.{AreOwn, pieces-own, walked-owners}
-use Rattle.cw_plain_laws.proofs.Simple.{AreSimple, all_words}
-use Rattle.cw_plain_laws.proofs.SpacedLaws.{plain-again}
-use Rattle.cw_plain_laws.proofs.TranslatedWalks.{text-walks}
-use Rattle.cw_plain_laws.proofs.Walks.{owners}
-use Rattle.cw_plain_laws.specs.OwnLaws.{text_source, text_tree}
-use Rattle.cw_plain_laws.specs.PlainLaws.{AreSimpleTokens, BeginsBefore, PlainScansAgain, is_program, is_simple}
-use Rattle.cw_plain_laws.specs.PlainLaws.{all_unplaced}
-use Rattle.cw_lex.specs.Nested.{begins_section_in, is_section_kind}
-use Rattle.cw_rules.proofs.Choices.{or-false}
-use Rattle.cw_reduce.proofs.HeadsShown.{translated-shown}
-use Rattle.cw_rules.specs.Answers.{Answer, Token, Begin, Finish, Note, Seen}
 use Rattle.cw_rules.specs.declared.codes.Code.TheVariants as code
-use Rattle.cw_rules.specs.declared.tokens.Mode.TheVariants.{CPart}
-use Rattle.cw_rules.specs.declared.tokens.TokKind.{TokKind}
 use Rattle.cw_rules.specs.declared.tokens.TokKind.TheVariants as kind
-use Rattle.cw_translator.specs.NameParts.{name_texts}
-use Rattle.cw_trees.specs.Flat.{flat, trimmed_items}
-use Rattle.cw_trees.specs.declared.Control.{Control}
 
 -- ## Pieces of simple tokens
 
@@ -85,8 +70,7 @@ first-number n m ns ms e = (cc, cc)
 
 a-word : (s : Source) (n : ℕ) (bytes : List ℕ) (ps : List Piece) (t : Seen) (answers : List Answer) → n ≡ t.span.start
     → Word n bytes ≡ (number_placed s n outside).piece → is_simple t.kind ≡ true → IsAloneText t.kind t.text
-    → t.hash_line ≡ false → IsFound s.answers t → AreWords ps answers
-    → AreWords (Word n bytes ∷ ps) (Token t ∷ answers)
+    → t.hash_line ≡ false → IsFound s.answers t → AreWords ps answers → AreWords (Word n bytes ∷ ps) (Token t ∷ answers)
 a-word s n bytes ps t answers e own is alone line found rest =
     let same : bytes ≡ t.text = word-bytes n t.span.start bytes t.text
     (own ∙ ap (λ m. (number_placed s m outside).piece) e ∙ number-word s t found is) in
@@ -180,11 +164,9 @@ plain-scans-again flags kept uses text span names marks rest begun are =
     let ps = pieces s (trimmed_items (flat tree)) in
     let walks = text-walks flags kept uses text span CPart names marks refl uncut in
     let numbers : owners ps ≡ starts_of rest = walked-owners s tree walks
-    ∙ translated-shown flags named answers names marks
-    (c-texts-nested text span.start span.end CPart refl uncut)
+    ∙ translated-shown flags named answers names marks (c-texts-nested text span.start span.end CPart refl uncut)
     ∙ part-shown (λ number. is_some (named number)) answers rest begun are in
-    let w = words-are s ps rest (pieces-own s (trimmed_items (flat tree)) outside)
-    (bare-pieces s tree outside (part-bare flags named answers names marks rest begun are)) numbers are
-    (part-alone text span.start span.end rest begun are)
-    (rest-found (IsFound s.answers) answers rest begun (tokens-found text span.start span.end CPart)) in
+    let w = words-are s ps rest (pieces-own s (trimmed_items (flat tree)) outside) (bare-pieces s tree outside
+    (part-bare flags named answers names marks rest begun are)) numbers are (part-alone text span.start span.end rest
+    begun are) (rest-found (IsFound s.answers) answers rest begun (tokens-found text span.start span.end CPart)) in
     plain-again ps w.simple ∙ w.words

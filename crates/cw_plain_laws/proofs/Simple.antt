@@ -1,10 +1,6 @@
 -- Pieces of which each word is a token by itself.
-use Rattle.std.proofs.Common.{List, [], ◌∷◌}
-use Rattle.cw_rules.specs.declared.tokens.TokKind.{TokKind}
-use Rattle.cw_plain.specs.Lines.{Stretch, Run, Other}
-use Rattle.cw_plain.specs.Pieces.{Word, Nothing}
+use Rattle.cw_plain_laws.proofs.Terms.{List, [], ◌∷◌, TokKind, Stretch, Run, Other, Word, Nothing, Answer}
 use Rattle.cw_plain_laws.proofs.Again.{IsAlone, alone_token}
-use Rattle.cw_rules.specs.Answers.{Answer}
 
 -- words that are tokens by themselves, runs, and what prints nothing
 abbrev pub IsSimple : Stretch → Type 0

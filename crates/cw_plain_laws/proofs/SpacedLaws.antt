@@ -1,30 +1,21 @@
 -- Plain text of simple tokens is these tokens with white space between them, where they would touch.
-use Rattle.std.proofs.Common.{◌≡◌, ℕ, zero, suc, Bool, true, false, ◌&&◌, ◌||◌, List, [], ◌∷◌, ◌++◌, Option, Some, None}
-use Rattle.std.proofs.Common.{refl, sym, ap, ◌∙◌, arith, cond, length, subst, inl, inr, ◌==◌, if◌then◌else◌}
-use Rattle.std.specs.List.{list_any}
-use Rattle.std.specs.Prelude.{codes, nat_lt}
-use Rattle.std.proofs.lemmas.List.{append-nil, append_assoc, take_all}
-use Rattle.std.proofs.lemmas.Grind.{flat_map-append}
+use Rattle.cw_plain_laws.proofs.Terms.{◌≡◌, ℕ, zero, suc, Bool, true, false, ◌&&◌, ◌||◌, List, [], ◌∷◌, ◌++◌, Option}
+use Rattle.cw_plain_laws.proofs.Terms.{Some, None, refl, sym, ap, ◌∙◌, arith, cond, length, subst, inl, inr, ◌==◌}
+use Rattle.cw_plain_laws.proofs.Terms.{if◌then◌else◌, list_any, codes, nat_lt, append-nil, append_assoc, take_all}
+use Rattle.cw_plain_laws.proofs.Terms.{flat_map-append, TokKind, is_in, is_mark, and-none, at-byte, or-false, Control}
+use Rattle.cw_plain_laws.proofs.Terms.{answers_at, fresh_at, last_at, Piece, Word, Part, Ending, Opening, Closing, Move}
+use Rattle.cw_plain_laws.proofs.Terms.{Nothing, Stretch, Run, Other, Ink, Own, Added, Layout, behind_run, blank_before}
+use Rattle.cw_plain_laws.proofs.Terms.{break_text, clash, indent, ink_bytes, ink_text, is_bracket, is_joining, is_wordy}
+use Rattle.cw_plain_laws.proofs.Terms.{laid, laid_from, last_behind, signs_touch, words_touch, piece_inks, run_text}
+use Rattle.cw_plain_laws.proofs.Terms.{stretches, level_behind, backed, cut_off, all_unplaced, part_tokens, Answer}
 use Rattle.std.proofs.lemmas.List.Concat.{flat_map-cons}
-use Rattle.cw_rules.specs.declared.classes.Class.TheVariants as classes
-use Rattle.cw_rules.specs.declared.tokens.TokKind.{TokKind}
-use Rattle.cw_rules.specs.Bytes.{is_in, is_mark}
-use Rattle.cw_rules.proofs.Choices.{and-none, at-byte, or-false}
-use Rattle.cw_trees.specs.declared.Control.{Control}
 use Rattle.cw_trees.specs.Printing.{is_cancel, strongest, is_backup}
-use Rattle.cw_lex.specs.Lexing.{answers_at, fresh_at, last_at}
-use Rattle.cw_plain.specs.Pieces.{Piece, Word, Part, Ending, Opening, Closing, Move, Nothing}
-use Rattle.cw_plain.specs.Lines.{Stretch, Run, Other, Ink, Own, Added, Layout, at_start, behind_run, blank_before}
-use Rattle.cw_plain.specs.Lines.{break_text, clash, indent, ink_bytes, ink_text, is_bracket, is_joining, is_wordy, laid}
-use Rattle.cw_plain.specs.Lines.{laid_from, last_behind, signs_touch, words_touch, piece_inks, run_text, stretches}
-use Rattle.cw_plain.specs.Lines.{level_behind, backed, cut_off}
+use Rattle.cw_plain.specs.Lines.{at_start}
+use Rattle.cw_plain_laws.proofs.{Simple.AreSimple, Simple.all_words, AgainLaws.again, AgainLaws.white-gives}
+use Rattle.cw_plain_laws.proofs.{Tests.or-case}
 use Rattle.cw_plain_laws.proofs.Again.{IsAlone, IsApart, last_of, Spaced, spaced_text, AreSpaced, AreWhite, words}
 use Rattle.cw_plain_laws.proofs.Again.{in_part, alone_token}
-use Rattle.cw_plain_laws.proofs.Simple.{AreSimple, all_words}
-use Rattle.cw_plain_laws.specs.PlainLaws.{all_unplaced, part_tokens}
-use Rattle.cw_rules.specs.Answers.{Answer}
-use Rattle.cw_plain_laws.proofs.AgainLaws.{again, white-gives}
-use Rattle.cw_plain_laws.proofs.Tests.{or-case}
+use Rattle.cw_rules.specs.declared.classes.Class.TheVariants as classes
 
 -- ## White space
 
@@ -53,10 +44,9 @@ white-run l run = by (list_any is_cancel run)
 -- what begins no word, string, bracket or sign of several bytes
 clash-none : (x z : ℕ) → (is_wordy z || is_mark z) ≡ false → is_bracket z ≡ false → is_joining z ≡ false
     → clash x z ≡ false
-clash-none x z w b j =
-    or-false (words_touch x z) (signs_touch x z) ((λ i. is_wordy x && w i) ∙ and-none (is_wordy x))
-    (or-false (is_bracket x && is_bracket z) (is_joining x && is_joining z)
-    ((λ i. is_bracket x && b i) ∙ and-none (is_bracket x)) ((λ i. is_joining x && j i) ∙ and-none (is_joining x)))
+clash-none x z w b j = or-false (words_touch x z) (signs_touch x z) ((λ i. is_wordy x && w i) ∙ and-none (is_wordy x))
+    (or-false (is_bracket x && is_bracket z) (is_joining x && is_joining z) ((λ i. is_bracket x && b i)
+    ∙ and-none (is_bracket x)) ((λ i. is_joining x && j i) ∙ and-none (is_joining x)))
 
 -- white space touches nothing
 white-free : (x z : ℕ) → is_in classes.White z ≡ true → clash x z ≡ false
@@ -173,17 +163,12 @@ splits l [] are = record {
   tokens_are = refl;
   apart = nothing-apart l.last;
 }
-splits l (Run run ∷ ss) are =
-    subst (λ t. Splits l.last t (all_words ss are.1)) (sym (flat_map-cons ink_bytes (Added (run_text l run))
-    (laid_from (behind_run l run) ss)))
-    (behind-white l.last (run_text l run) (ink_text (laid_from (behind_run l run) ss)) (all_words ss are.1)
-    (white-run l run)
-    (splits (behind_run l run) ss are.1))
-splits l (Other (Word number []) ∷ ss) are =
-    subst (λ t. Splits l.last t (all_words ss are.1))
+splits l (Run run ∷ ss) are = subst (λ t. Splits l.last t (all_words ss are.1)) (sym (flat_map-cons ink_bytes
+    (Added (run_text l run)) (laid_from (behind_run l run) ss))) (behind-white l.last (run_text l run) (ink_text
+    (laid_from (behind_run l run) ss)) (all_words ss are.1) (white-run l run) (splits (behind_run l run) ss are.1))
+splits l (Other (Word number []) ∷ ss) are = subst (λ t. Splits l.last t (all_words ss are.1))
     (sym (bytes-of (piece_inks l.last (Word number [])) (laid_from l ss)
-    ∙ ap (λ t. t ++ ink_text (laid_from l ss)) (empty l.last)))
-    (splits l ss are.1)
+    ∙ ap (λ t. t ++ ink_text (laid_from l ss)) (empty l.last))) (splits l ss are.1)
   where
     empty : (last : Option ℕ) → ink_text (piece_inks last (Word number [])) ≡ []
     empty None = refl
@@ -192,10 +177,9 @@ splits l (Other (Word number (b ∷ bs)) ∷ ss) are =
     let next : Layout = record l { last = last_behind l.last (b ∷ bs) } in
     let rest = ink_text (laid_from next ss) in
     let front = blank_before l.last (b ∷ bs) in
-    subst (λ t. Splits l.last t (alone_token are.0.0 (b ∷ bs) ∷ all_words ss are.1))
-    (sym (bytes-of (piece_inks l.last (Word number (b ∷ bs))) (laid_from next ss)
-    ∙ ap (λ t. t ++ rest) (two front (b ∷ bs) number) ∙ append_assoc front (b ∷ bs) rest))
-    (a-token l.last are.0.0 b bs rest (all_words ss are.1) are.0.1
+    subst (λ t. Splits l.last t (alone_token are.0.0 (b ∷ bs) ∷ all_words ss are.1)) (sym (bytes-of
+    (piece_inks l.last (Word number (b ∷ bs))) (laid_from next ss) ∙ ap (λ t. t ++ rest) (two front (b ∷ bs) number)
+    ∙ append_assoc front (b ∷ bs) rest)) (a-token l.last are.0.0 b bs rest (all_words ss are.1) are.0.1
     (subst (λ last. Splits last rest (all_words ss are.1)) (last-of b bs l.last) (splits next ss are.1)))
   where
     two : (front bytes : List ℕ) (number : ℕ) → ink_text (Added front ∷ Own number bytes ∷ []) ≡ front ++ bytes
@@ -217,5 +201,4 @@ plain-again ps are =
     ap (λ l. all_unplaced (answers_at l (in_part true) 0)) (take_all (length text) text (omega arith))
     ∙ ap (λ l. all_unplaced (answers_at l (in_part true) 0)) s.same
     ∙ white-gives true s.white (spaced_text s.ts) (words s.ts) s.are_white (again true s.ts s.are)
-    (fresh_at (s.white ++ spaced_text s.ts) 0) (last_at (s.white ++ spaced_text s.ts) 0) 0
-    ∙ s.tokens_are
+    (fresh_at (s.white ++ spaced_text s.ts) 0) (last_at (s.white ++ spaced_text s.ts) 0) 0 ∙ s.tokens_are

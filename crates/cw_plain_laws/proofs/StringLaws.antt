@@ -1,19 +1,13 @@
 -- A string that its last byte closes is the same whatever stands behind it.
-use Rattle.std.proofs.Common.{◌≡◌, ℕ, suc, ◌+◌, ◌-◌, Bool, true, false, ◌&&◌, ◌||◌, not, ◌==◌, List, [], ◌∷◌, ◌++◌}
-use Rattle.std.proofs.Common.{length, drop, sym, ap, ◌∙◌, arith, subst}
-use Rattle.std.specs.Prelude.{if◌then◌else◌}
-use Rattle.std.proofs.lemmas.Bool.Decides.{nat_tests}
-use Rattle.cw_rules.specs.declared.bodies.Body.TheVariants as bodies
-use Rattle.cw_rules.specs.declared.bodies.Inside.{Inside}
-use Rattle.cw_rules.specs.declared.tokens.TokKind.TheVariants as kinds
-use Rattle.cw_rules.specs.Answers.{plain}
-use Rattle.cw_rules.specs.Bodies.{at_start, ended, goes_on, note_here, noted, stepped, takes_next, with_note}
-use Rattle.cw_base.specs.Bytes.{backslash, newline}
-use Rattle.cw_rules.specs.Bytes.{apostrophe, at_sign, begins_with}
+use Rattle.cw_plain_laws.proofs.Terms.{◌≡◌, ℕ, suc, ◌+◌, ◌-◌, Bool, true, false, ◌&&◌, ◌||◌, not, ◌==◌, List, [], ◌∷◌}
+use Rattle.cw_plain_laws.proofs.Terms.{◌++◌, length, drop, sym, ap, ◌∙◌, arith, subst, if◌then◌else◌, nat_tests, Inside}
+use Rattle.cw_plain_laws.proofs.Terms.{plain, at_start, ended, goes_on, note_here, noted, stepped, takes_next}
+use Rattle.cw_plain_laws.proofs.Terms.{with_note, backslash, newline, apostrophe, at_sign, begins_with, TokKind}
 use Rattle.cw_rules.specs.Tokens.{string, string_of}
-use Rattle.cw_rules.specs.declared.codes.Code.TheVariants as codes
-use Rattle.cw_rules.specs.declared.tokens.TokKind.{TokKind}
 use Rattle.cw_plain_laws.proofs.Again.{IsClosed, has_no_note}
+use Rattle.cw_rules.specs.declared.bodies.Body.TheVariants as bodies
+use Rattle.cw_rules.specs.declared.tokens.TokKind.TheVariants as kinds
+use Rattle.cw_rules.specs.declared.codes.Code.TheVariants as codes
 
 abbrev pub inside : ℕ → ℕ → ℕ → ℕ → Bool → Inside
 inside q braces place last along = record {
@@ -48,16 +42,13 @@ ends q braces place last along (b ∷ c ∷ bs) k rest size closed =
     let next : Inside = stepped i b (c ∷ (bs ++ rest)) in
     let less : length (c ∷ bs) ≡ suc (k - 1) = omega arith in
     let one : k ≡ suc (k - 1) = omega arith in
-    let later : Ends q (place + 1) (k - 1) next (c ∷ (bs ++ rest)) =
-    ends q next.braces (place + 1) b (not along && takes_next (bodies.Quoted q) b (c ∷ bs)) (c ∷ bs) (k - 1) rest less
-    closed.2 in
+    let later : Ends q (place + 1) (k - 1) next (c ∷ (bs ++ rest)) = ends q next.braces (place + 1) b
+    (not along && takes_next (bodies.Quoted q) b (c ∷ bs)) (c ∷ bs) (k - 1) rest less closed.2 in
     record {
       stop = ap (λ t. (let j : Inside = if t then ended next (c ∷ (bs ++ rest)) else i in j).place)
           closed.0 ∙ later.stop ∙ omega arith;
-      quiet = ap (λ t. if t then
-          with_note (note_here i b (c ∷ (bs ++ rest))) place (noted next (c ∷ (bs ++ rest)))
-          else []) closed.0
-          ∙ ap (λ l. with_note (note_here i b (c ∷ (bs ++ rest))) place l) later.quiet
+      quiet = ap (λ t. if t then with_note (note_here i b (c ∷ (bs ++ rest))) place (noted next (c ∷ (bs ++ rest))) else
+          []) closed.0 ∙ ap (λ l. with_note (note_here i b (c ∷ (bs ++ rest))) place l) later.quiet
           ∙ quiet-here along q braces place last b c bs closed.1 rest;
       closing = subst (λ n. begins_with (q ∷ []) (drop n (b ∷ c ∷ (bs ++ rest))) ≡ true) (sym one) later.closing;
     }

@@ -1,28 +1,14 @@
 -- The plain text of a translation has the bytes of each token that is shown.
-use Rattle.std.proofs.Common.{◌≡◌, ℕ, true, false, List, Option, is_some, subst, arith}
-use Rattle.cw_base.specs.declared.flags.Flags.{Flags}
+use Rattle.cw_plain_laws.proofs.Terms.{◌≡◌, ℕ, true, false, List, Option, is_some, subst, arith, Flags, c-texts-nested}
+use Rattle.cw_plain_laws.proofs.Terms.{headed, without_head, tokens_of, IsWell, nest, IsNested, begins_section_in}
+use Rattle.cw_plain_laws.proofs.Terms.{is_c_mode, Entry, Source, PlainHasEachToken, own_ink, text_source, text_tree}
+use Rattle.cw_plain_laws.proofs.Terms.{translated-shown, Answer, Mode, texts_kept}
 use Rattle.cw_base.specs.declared.span.Span.{Span}
-use Rattle.cw_lex.proofs.HeadNests.{head-leaves}
-use Rattle.cw_lex.proofs.Nesting.{c-texts-nested}
-use Rattle.cw_lex.proofs.Nests.{nest-well}
-use Rattle.cw_lex.specs.Heads.{headed, without_head}
-use Rattle.cw_lex.specs.Lexing.{tokens_of}
-use Rattle.cw_lex.specs.Nest.{IsWell, nest}
-use Rattle.cw_lex.specs.Nested.{IsNested, begins_section_in, is_c_mode}
-use Rattle.cw_names.specs.Names.{Entry}
-use Rattle.cw_plain.specs.Pieces.{Source}
+use Rattle.cw_lex.proofs.{HeadNests.head-leaves, Nests.nest-well}
 use Rattle.cw_plain.specs.Titles.{text_kept}
+use Rattle.cw_plain_laws.proofs.{MadeWalks.AreTitled, MadeWalks.headed-walks, OwnInks.walked-inks, Walks.Walks}
 use Rattle.cw_plain_laws.proofs.FoundTokens.{AllTokens, IsFound, nest-all, tokens-found}
-use Rattle.cw_plain_laws.proofs.MadeWalks.{AreTitled, headed-walks}
-use Rattle.cw_plain_laws.proofs.OwnInks.{walked-inks}
-use Rattle.cw_plain_laws.proofs.Walks.{Walks}
-use Rattle.cw_plain_laws.specs.OwnLaws.{PlainHasEachToken, own_ink, text_source, text_tree}
-use Rattle.cw_reduce.proofs.HeadsShown.{translated-shown}
-use Rattle.cw_rules.specs.Answers.{Answer}
-use Rattle.cw_rules.specs.declared.tokens.Mode.{Mode}
-use Rattle.cw_secnames.specs.Kept.{SecName}
-use Rattle.cw_secnames.specs.Uses.{NameUse}
-use Rattle.cw_translator.specs.NameParts.{texts_kept}
+use Rattle.cw_secnames.specs.{Kept.SecName, Uses.NameUse}
 use Rattle.cw_translator.specs.Translating.{NameTexts, begin, translated}
 
 -- the names of a book have titles where they stand for something

@@ -1,19 +1,16 @@
 -- Trimming takes no token's bytes away.
-use Rattle.std.proofs.Common.{◌≡◌, ℕ, Bool, true, ◌&&◌, List, [], ◌∷◌, refl, if◌then◌else◌, arith}
-use Rattle.cw_base.proofs.TestLaws.{both-left, both-right}
-use Rattle.cw_trees.specs.declared.Control.{Control}
-use Rattle.cw_trees.specs.declared.Control.TheVariants as control
-use Rattle.cw_trees.specs.Flat.{Item, SignItem, begins_after, is_break, is_inserted, trim_back, trim_front}
-use Rattle.cw_trees.specs.Flat.{trimmed_items, without_inserted}
-use Rattle.cw_plain.specs.Pieces.{Piece, Source, Stand, pieces_from, pieces_in}
+use Rattle.cw_plain_laws.proofs.Terms.{◌≡◌, ℕ, Bool, true, ◌&&◌, List, [], ◌∷◌, refl, if◌then◌else◌, arith, both-left}
+use Rattle.cw_plain_laws.proofs.Terms.{both-right, Control, Item, SignItem, begins_after, is_break, is_inserted}
+use Rattle.cw_plain_laws.proofs.Terms.{trim_back, trim_front, trimmed_items, without_inserted, Piece, Source, Stand}
+use Rattle.cw_plain_laws.proofs.Terms.{pieces_from, pieces_in}
 use Rattle.cw_plain_laws.proofs.Walks.{owners}
+use Rattle.cw_trees.specs.declared.Control.TheVariants as control
 
 cons-same : (p : Piece) (xs ys : List Piece) → owners xs ≡ owners ys → owners (p ∷ xs) ≡ owners (p ∷ ys)
 cons-same p xs ys e = grind arith
 
-next-owners : (s : Source) (depth : ℕ) (item : Item) (stand : Stand) (f g : Stand → List Piece)
-    → ((st : Stand) → owners (f st) ≡ owners (g st))
-    → owners (pieces_in s depth item stand f) ≡ owners (pieces_in s depth item stand g)
+next-owners : (s : Source) (depth : ℕ) (item : Item) (stand : Stand) (f g : Stand → List Piece) → ((st : Stand) → owners
+    (f st) ≡ owners (g st)) → owners (pieces_in s depth item stand f) ≡ owners (pieces_in s depth item stand g)
 next-owners s depth item stand f g same = grind (arith, cons-same)
 
 -- the signs that are taken away
@@ -44,9 +41,8 @@ inserted-quiet : (s : Source) (item : Item) (items : List Item) → is_inserted 
 inserted-quiet s item items e = grind (arith, quiet)
 
 -- an item is kept or taken away, and what follows has the same bytes
-either : (s : Source) (taken : Bool) (item : Item) (thin items : List Item)
-    → (taken ≡ true → OwnsSame s (item ∷ items) items) → OwnsSame s thin items
-    → OwnsSame s (if taken then thin else item ∷ thin) (item ∷ items)
+either : (s : Source) (taken : Bool) (item : Item) (thin items : List Item) → (taken ≡ true → OwnsSame s (item ∷ items)
+    items) → OwnsSame s thin items → OwnsSame s (if taken then thin else item ∷ thin) (item ∷ items)
 either s taken item thin items gone same stand = grind (arith, next-owners)
 
 without-owns : (s : Source) (items : List Item) → OwnsSame s (without_inserted items) items
@@ -54,10 +50,9 @@ without-owns s [] stand = refl
 without-owns s (item ∷ items) stand = grind (arith, without-owns s items, either, inserted-quiet)
 
 front-by : (s : Source) (begins : Bool) (item : Item) (items : List Item) (t : Bool) → (begins && is_break item) ≡ t
-    → OwnsSame s (trim_front begins items) items
-    → OwnsSame s (trim_front (begins_after begins item) items) items
-    → OwnsSame s (if t then trim_front begins items
-    else item ∷ trim_front (begins_after begins item) items) (item ∷ items)
+    → OwnsSame s (trim_front begins items) items → OwnsSame s (trim_front (begins_after begins item) items) items
+    → OwnsSame s (if t then trim_front begins items else item ∷ trim_front (begins_after begins item) items)
+    (item ∷ items)
 front-by s begins item items t e gone kept stand = grind (arith, break-quiet, both-right, next-owners)
 
 front-owns : (s : Source) (begins : Bool) (items : List Item) → OwnsSame s (trim_front begins items) items

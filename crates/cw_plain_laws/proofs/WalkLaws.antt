@@ -1,26 +1,23 @@
 -- Trees that are made of trees which have the bytes of their tokens have those of their own.
-use Rattle.std.proofs.Common.{arith, ◌≡◌, ℕ, zero, suc, Bool, List, [], ◌∷◌, ◌++◌, refl, sym, ap, ◌∙◌}
-use Rattle.std.proofs.lemmas.List.{append_assoc}
-use Rattle.cw_trees.specs.declared.Control.{Control}
-use Rattle.cw_trees.specs.Tree.{Leaf, Sign, Tree, Empty, Then, Sub, Inner, Search, Found, Stopped, Nothing as no_ident}
-use Rattle.cw_trees.specs.Tree.{first_ident, reserve_first, reserved_leaf, search_leaf}
-use Rattle.cw_trees.specs.Flat.{Item, IdentItem, ReservedItem, Open, Close, flat, leaf_item}
+use Rattle.cw_plain_laws.proofs.Terms.{arith, ◌≡◌, ℕ, zero, suc, Bool, List, [], ◌∷◌, ◌++◌, refl, sym, ap, ◌∙◌}
+use Rattle.cw_plain_laws.proofs.Terms.{append_assoc, Control, Sign, Tree, Empty, Then, Sub, Inner, Search, Stopped}
+use Rattle.cw_plain_laws.proofs.Terms.{first_ident, reserve_first, reserved_leaf, search_leaf, Item, IdentItem}
+use Rattle.cw_plain_laws.proofs.Terms.{ReservedItem, Open, Close, flat, leaf_item, Piece, Source, Stand, item_placed}
+use Rattle.cw_plain_laws.proofs.Terms.{name_behind, passed, pieces_from, pieces_in}
+use Rattle.cw_trees.specs.Tree.{Leaf, Found, Nothing as no_ident}
 use Rattle.cw_table.proofs.NumberLaws.{struck-reserved}
-use Rattle.cw_plain.specs.Pieces.{Piece, Source, Stand, item_placed, name_behind, passed, pieces_from, pieces_in}
 use Rattle.cw_plain_laws.proofs.Walks.{IsFree, Walks, among, owners}
 
 -- ## The walk over what follows
 
 next-same : (s : Source) (depth : ℕ) (item : Item) (stand : Stand) (f g : Stand → List Piece)
-    → ((st : Stand) → f st ≡ g st)
-    → pieces_in s depth item stand f ≡ pieces_in s depth item stand g
+    → ((st : Stand) → f st ≡ g st) → pieces_in s depth item stand f ≡ pieces_in s depth item stand g
 next-same s zero item stand f g same = ap (λ ps. (item_placed s item stand).piece ∷ ps)
     (same (item_placed s item stand).stand)
 next-same s (suc depth) item stand f g same = same (passed item stand)
 
 prefix-same : (s : Source) (xs ys zs : List Item) → ((st : Stand) → pieces_from s ys st ≡ pieces_from s zs st)
-    → (st : Stand)
-    → pieces_from s (xs ++ ys) st ≡ pieces_from s (xs ++ zs) st
+    → (st : Stand) → pieces_from s (xs ++ ys) st ≡ pieces_from s (xs ++ zs) st
 prefix-same s [] ys zs same st = same st
 prefix-same s (x ∷ xs) ys zs same st = next-same s st.name x st (pieces_from s (xs ++ ys)) (pieces_from s (xs ++ zs))
     (prefix-same s xs ys zs same)
@@ -55,9 +52,8 @@ two s a b c d first second more st = grind (arith, append_assoc, prefix-same)
 is-same : (s : Source) (t : Tree) → IsSame s t t
 is-same s t more st = refl
 
-reserve-sub : (s : Source) (found : Search) (tree rest : Tree) → first_ident tree ≡ found
-    → IsSame s (reserve_first tree) tree → IsSame s (reserve_first rest) rest
-    → IsSame s (reserve_first (Sub tree rest)) (Sub tree rest)
+reserve-sub : (s : Source) (found : Search) (tree rest : Tree) → first_ident tree ≡ found → IsSame s (reserve_first
+    tree) tree → IsSame s (reserve_first rest) rest → IsSame s (reserve_first (Sub tree rest)) (Sub tree rest)
 reserve-sub s (Found n) tree rest e first second more st = grind (arith, two, is-same)
 reserve-sub s Stopped tree rest e first second more st = rw (e, reserve_first) refl
 reserve-sub s no_ident tree rest e first second more st = grind (arith, two, is-same)
@@ -72,11 +68,9 @@ reserve-same s Empty more st = refl
 reserve-same s (Then leaf rest) more st = reserve-then s (search_leaf leaf) leaf rest refl (reserve-same s rest) more st
 reserve-same s (Sub tree rest) more st = reserve-sub s (first_ident tree) tree rest refl (reserve-same s tree)
     (reserve-same s rest) more st
-reserve-same s (Inner tree rest) more st =
-    ap (λ l. pieces_from s l st) (inner-items tree (reserve_first rest) more)
+reserve-same s (Inner tree rest) more st = ap (λ l. pieces_from s l st) (inner-items tree (reserve_first rest) more)
     ∙ prefix-same s (Open ∷ (flat tree ++ Close ∷ [])) (flat (reserve_first rest) ++ more) (flat rest ++ more)
-    (reserve-same s rest more) st
-    ∙ ap (λ l. pieces_from s l st) (sym (inner-items tree rest more))
+    (reserve-same s rest more) st ∙ ap (λ l. pieces_from s l st) (sym (inner-items tree rest more))
 
 -- ## Inner texts of section names
 
@@ -90,16 +84,14 @@ leaf-deep leaf depth = grind arith
 pub inner-passed : (s : Source) (t : Tree) (depth : ℕ) (comments : List Bool) (rest : List Item)
     → pieces_from s (flat t ++ rest) (deep depth comments) ≡ pieces_from s rest (deep depth comments)
 inner-passed s Empty depth comments rest = refl
-inner-passed s (Then leaf more) depth comments rest =
-    ap (λ n. pieces_from s (flat more ++ rest) (record { name = n; comments = comments })) (leaf-deep leaf depth)
-    ∙ inner-passed s more depth comments rest
+inner-passed s (Then leaf more) depth comments rest = ap (λ n. pieces_from s (flat more ++ rest)
+    (record { name = n; comments = comments })) (leaf-deep leaf depth) ∙ inner-passed s more depth comments rest
 inner-passed s (Sub tree more) depth comments rest =
     ap (λ l. pieces_from s l (deep depth comments)) (append_assoc (flat tree) (flat more) rest)
     ∙ inner-passed s tree depth comments (flat more ++ rest) ∙ inner-passed s more depth comments rest
-inner-passed s (Inner tree more) depth comments rest =
-    ap (λ l. pieces_from s l (deep (suc depth) comments)) (append_assoc (flat tree) (Close ∷ flat more) rest)
-    ∙ inner-passed s tree (suc depth) comments (Close ∷ (flat more ++ rest))
-    ∙ inner-passed s more depth comments rest
+inner-passed s (Inner tree more) depth comments rest = ap (λ l. pieces_from s l (deep (suc depth) comments))
+    (append_assoc (flat tree) (Close ∷ flat more) rest)
+    ∙ inner-passed s tree (suc depth) comments (Close ∷ (flat more ++ rest)) ∙ inner-passed s more depth comments rest
 
 -- ## Joining
 

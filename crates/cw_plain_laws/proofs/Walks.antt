@@ -1,10 +1,6 @@
 -- Trees whose pieces have the bytes of their tokens.
-use Rattle.std.proofs.Common.{◌≡◌, ℕ, Bool, List, [], ◌∷◌, ◌++◌}
-use Rattle.cw_trees.specs.Tree.{Tree}
-use Rattle.cw_trees.specs.declared.Control.{Control}
-use Rattle.cw_trees.specs.declared.Control.TheVariants.{CommentEnd}
-use Rattle.cw_trees.specs.Flat.{Item, flat, struck}
-use Rattle.cw_plain.specs.Pieces.{Piece, Word, Part, Source, Stand, pieces_from}
+use Rattle.cw_plain_laws.proofs.Terms.{◌≡◌, ℕ, Bool, List, [], ◌∷◌, ◌++◌, Tree, Control, CommentEnd, Item, flat, struck}
+use Rattle.cw_plain_laws.proofs.Terms.{Piece, Word, Part, Source, Stand, pieces_from}
 
 -- the numbers of the tokens whose bytes stand there, in order
 abbrev pub owners : List Piece → List ℕ
@@ -19,9 +15,8 @@ among comments = record { name = 0; comments = comments }
 
 -- A tree has the bytes of its source tokens, each once and in order, and leads to where it begins.
 abbrev pub Walks : Source → Tree → Type 0
-Walks s tree = (comments : List Bool) (rest : List Item)
-    → owners (pieces_from s (flat tree ++ rest) (among comments))
-    ≡ struck tree ++ owners (pieces_from s rest (among comments))
+Walks s tree = (comments : List Bool) (rest : List Item) → owners
+    (pieces_from s (flat tree ++ rest) (among comments)) ≡ struck tree ++ owners (pieces_from s rest (among comments))
 
 -- signs that stand in no leaf of a comment
 abbrev pub IsFree : Control → Type 0

@@ -1,5 +1,5 @@
 -- The blocks before the rest are checked; each is shorter than what was to come.
-use Rattle.std.proofs.Common.{length}
+use Rattle.cw_log.proofs.Terms.{length}
 use Rattle.cw_log.proofs.CheckLaws.{CheckedSoFar}
 use Rattle.cw_log.proofs.checking.check_log.Given as goal
 

@@ -1,11 +1,7 @@
 -- What is found of the file decides.
-use Rattle.std.proofs.Common.{◌≡◌, ◌≤◌, ◌<◌, ℕ, List, Some, None, length, refl, sym, ap, ◌∙◌, subst}
-use Rattle.std.specs.FinMap.{get}
-use Rattle.cw_run.specs.EmitsLaws.{runs-after, runs-known}
-use Rattle.cw_tool.proofs.Saying.{line-refused}
-use Rattle.cw_log.specs.Check.{check_file, too_long_text}
+use Rattle.cw_log.proofs.Terms.{◌≡◌, ◌≤◌, ◌<◌, ℕ, List, Some, None, length, refl, sym, ap, ◌∙◌, subst, get, runs-after}
+use Rattle.cw_log.proofs.Terms.{runs-known, line-refused, check_file, too_long_text, LOG_LIMIT}
 use Rattle.cw_log.specs.LogFile.{IsFileOf, IsShort}
-use Rattle.cw_log.specs.declared.file.TheConstants.{LOG_LIMIT}
 use Rattle.cw_log.proofs.RunLaws.{check-long}
 use Rattle.cw_log.proofs.command.check.Goals as goal
 
@@ -28,6 +24,5 @@ returns-in-TooLong-clause-runs g c = λ files is.
     let found : (bytes : List ℕ) × (get files word ≡ Some bytes) × (LOG_LIMIT < length bytes) =
     subst (IsFileOf (get files word)) c.in-TooLong.is
     (c.in_ok-read_log.ensures.finds files (c.refuse.ensures.runs.emits.narrows files is)) in
-    runs-after {b = g.D.Desk.told c.read_log.new.desk} c.in_ok-read_log.ensures.same
-    (runs-known (line-refused too_long_text _ refl ∙ (check-long found.0 found.2 ∙ ap (check_file word) (sym found.1)))
-    c.refuse.ensures.runs)
+    runs-after {b = g.D.Desk.told c.read_log.new.desk} c.in_ok-read_log.ensures.same (runs-known (line-refused
+    too_long_text _ refl ∙ (check-long found.0 found.2 ∙ ap (check_file word) (sym found.1))) c.refuse.ensures.runs)

@@ -1,5 +1,5 @@
 -- The bytes so far and what is unread are the file.
-use Rattle.std.proofs.Common.{◌≡◌, ◌+◌, ◌-◌, ◌<◌, ◌≤◌, ◌++◌, length}
+use Rattle.cw_log.proofs.Terms.{◌≡◌, ◌+◌, ◌-◌, ◌<◌, ◌≤◌, ◌++◌, length}
 use Rattle.cw_desk.specs.Meaning.{Files}
 use Rattle.cw_input.specs.Reading.{ReadsOnly}
 use Rattle.cw_log.proofs.file.read_file.Given as goal

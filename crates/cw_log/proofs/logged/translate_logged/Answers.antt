@@ -1,12 +1,7 @@
 -- What a translation tells a log stands in it when the work is taken apart.
-use Rattle.std.proofs.Common.{◌≡◌, ◌++◌, ◌∙◌, List, Some, Result, ap, map, take}
-use Rattle.cw_base.specs.declared.flags.Flags.{Flags}
+use Rattle.cw_log.proofs.Terms.{◌≡◌, ◌++◌, ◌∙◌, List, Some, Result, ap, map, take, Flags, TextLog, Told, State}
+use Rattle.cw_log.proofs.Terms.{HasRecorded, logged, HasLogged, LoggedTexts}
 use Rattle.cw_base.specs.declared.memory.Memory.{Memory}
-use Rattle.cw_leaves.specs.declared.lines.TextLog.{TextLog}
-use Rattle.cw_rewrite.specs.Telling.{Told}
-use Rattle.cw_table.specs.Rewriting.{State}
-use Rattle.cw_translator.specs.Recording.{HasRecorded, logged}
-use Rattle.cw_log.specs.Logged.{HasLogged, LoggedTexts}
 use Rattle.cw_log.proofs.logged.translate_logged.Goals as goal
 
 has-logged : {T : Type 0} (flags : Flags) (states : List State) (before after : Told) (old new : List TextLog)
@@ -25,5 +20,4 @@ has-logged flags states before after old new result same left h =
 pub returns-clause-logged : goal.returns-clause-logged
 returns-clause-logged g c = has-logged _ _ _ _ _ _ _
     (ap (λ (l : LoggedTexts). l.ended) c.replace-recorder.ensures.value)
-    (ap (λ (l : LoggedTexts). l.ended) c.recorder_of.ensures.recorder)
-    c.translate_recorded-done.ensures.text.recorded
+    (ap (λ (l : LoggedTexts). l.ended) c.recorder_of.ensures.recorder) c.translate_recorded-done.ensures.text.recorded

@@ -1,6 +1,5 @@
 -- The names before this one are pushed.
-use Rattle.std.proofs.Common.{◌≡◌, ◌+◌, Some, map, take}
-use Rattle.cw_log.specs.Making.{ident_token}
+use Rattle.cw_log.proofs.Terms.{◌≡◌, ◌+◌, Some, map, take, ident_token}
 use Rattle.cw_log.proofs.making.push_names.Given as goal
 
 abbrev pub invariant-loop-name : goal.invariant-loop-name

@@ -1,5 +1,5 @@
 -- The leaf lines before this one are made.
-use Rattle.std.proofs.Common.{take}
+use Rattle.cw_log.proofs.Terms.{take}
 use Rattle.cw_log.proofs.MadeLines.{MadeSoFar}
 use Rattle.cw_log.proofs.making.scrap_line.Given as goal
 

@@ -1,5 +1,5 @@
 -- The tokens before this one are said. A list refers to earlier lists alone.
-use Rattle.std.proofs.Common.{◌≡◌, ◌+◌, ◌*◌, [], get_or}
+use Rattle.cw_log.proofs.Terms.{◌≡◌, ◌+◌, ◌*◌, [], get_or}
 use Rattle.cw_log.proofs.SayLaws.{SaidSoFar, token_rank}
 use Rattle.cw_log.proofs.telling.+saying.Given as goal
 

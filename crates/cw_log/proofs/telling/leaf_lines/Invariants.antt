@@ -1,7 +1,5 @@
 -- The lines of the scraps before this one are made.
-use Rattle.std.proofs.Common.{◌≡◌, map, take}
-use Rattle.cw_scraps.specs.Lines.{seen}
-use Rattle.cw_leaves.specs.Spelling.{line_of}
+use Rattle.cw_log.proofs.Terms.{◌≡◌, map, take, seen, line_of}
 use Rattle.cw_log.proofs.telling.leaf_lines.Given as goal
 
 abbrev pub invariant-loop-i : goal.invariant-loop-i

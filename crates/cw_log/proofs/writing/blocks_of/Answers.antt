@@ -1,8 +1,5 @@
 -- One block more.
-use Rattle.std.proofs.Common.{◌≤◌, ap, arith, length, ◌∙◌}
-use Rattle.std.specs.List.{flat_map}
-use Rattle.std.proofs.lemmas.List.{take_all}
-use Rattle.cw_log.specs.Writing.{block_bytes}
+use Rattle.cw_log.proofs.Terms.{◌≤◌, ap, arith, length, ◌∙◌, flat_map, take_all, block_bytes}
 use Rattle.cw_log.proofs.WritingLaws.{bytes-more}
 use Rattle.cw_log.proofs.writing.blocks_of.Goals as goal
 

@@ -1,7 +1,5 @@
 -- The blocks of the logs before this one are appended.
-use Rattle.std.proofs.Common.{◌≡◌, take}
-use Rattle.std.specs.List.{flat_map}
-use Rattle.cw_log.specs.Writing.{block_bytes}
+use Rattle.cw_log.proofs.Terms.{◌≡◌, take, flat_map, block_bytes}
 use Rattle.cw_log.proofs.writing.blocks_of.Given as goal
 
 abbrev pub invariant-loop-i : goal.invariant-loop-i

@@ -1,6 +1,5 @@
 -- The blocks of the texts so far are written.
-use Rattle.std.proofs.Common.{length}
-use Rattle.cw_log.specs.Writing.{source_of}
+use Rattle.cw_log.proofs.Terms.{length, source_of}
 use Rattle.cw_log.proofs.WritingLaws.{Written}
 use Rattle.cw_log.proofs.writing.write_texts.Given as goal
 

@@ -1,6 +1,5 @@
 -- Files of right blocks are accepted, and those of webs are such.
-use Rattle.cw_log_laws.proofs.AcceptedLogs.{right-accepted}
-use Rattle.cw_log_laws.proofs.WrittenLogs.{commands-accept, written-accepted}
+use Rattle.cw_log_laws.proofs.{AcceptedLogs.right-accepted, WrittenLogs.commands-accept, WrittenLogs.written-accepted}
 use Rattle.cw_log_laws.proofs.laws.accepted_law.Goals as goal
 
 pub returns-clause-right : goal.returns-clause-right

@@ -1,5 +1,5 @@
-use Rattle.std.proofs.Common.{◌≡◌, ℕ, ◌-◌, ◌≤◌, List, [], ◌∷◌, length, get_or, Option, Some, refl, sym, ap, ◌∙◌, arith}
-use Rattle.cw_plain.specs.Lines.{last_behind}
+use Rattle.cw_plain.proofs.Terms.{◌≡◌, ℕ, ◌-◌, ◌≤◌, List, [], ◌∷◌, length, get_or, Option, Some, refl, sym, ap, ◌∙◌}
+use Rattle.cw_plain.proofs.Terms.{arith, last_behind}
 use Rattle.cw_plain.proofs.blanks.last_behind.Goals as goal
 
 last-at : (last : Option ℕ) (byte : ℕ) (bytes : List ℕ)

@@ -1,5 +1,5 @@
 -- The texts so far are written.
-use Rattle.std.proofs.Common.{length}
+use Rattle.cw_plain.proofs.Terms.{length}
 use Rattle.cw_plain.proofs.FileLaws.{Written}
 use Rattle.cw_plain.proofs.file.write_texts.Given as goal
 

@@ -1,6 +1,5 @@
 -- The blanks so far, with those that are still to come, are those of the level.
-use Rattle.std.proofs.Common.{◌≡◌, ◌++◌}
-use Rattle.cw_plain.specs.Lines.{indent}
+use Rattle.cw_plain.proofs.Terms.{◌≡◌, ◌++◌, indent}
 use Rattle.cw_plain.proofs.lines.put_indent.Given as goal
 
 abbrev pub invariant-loop-left : goal.invariant-loop-left

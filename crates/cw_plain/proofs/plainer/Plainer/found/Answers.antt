@@ -1,19 +1,12 @@
 -- What a token prints is laid.
-use Rattle.std.proofs.Common.{ℕ, Bool, true, false, List, codes, refl, sym, ap}
-use Rattle.cw_rules.specs.Answers.{Answer}
-use Rattle.cw_rules.specs.declared.tokens.TokKind.{TokKind}
-use Rattle.cw_secnames.specs.Kept.{SecName}
-use Rattle.cw_secnames.specs.Uses.{NameUse}
-use Rattle.cw_plain.specs.Laying.{Laying}
-use Rattle.cw_plain.specs.Pieces.{Placed, Stand, Word, in_comment, token_placed}
-use Rattle.cw_plain.specs.Titles.{titles}
-use Rattle.cw_plain.specs.Walking.{Walked}
+use Rattle.cw_plain.proofs.Terms.{ℕ, Bool, true, false, List, codes, refl, sym, ap, Answer, TokKind, Laying, Placed}
+use Rattle.cw_plain.proofs.Terms.{Stand, Word, in_comment, token_placed, titles, Walked}
+use Rattle.cw_secnames.specs.{Kept.SecName, Uses.NameUse}
 use Rattle.cw_plain.proofs.MakingLaws.{laid-makes, other-token}
 use Rattle.cw_plain.proofs.plainer.Plainer.found.Goals as goal
 
 abbrev token_in : ℕ → TokKind → List ℕ → Walked → Placed
-token_in number kind text w =
-    token_placed number (titles w.reads.kept w.reads.uses number) kind text w.walk.stand
+token_in number kind text w = token_placed number (titles w.reads.kept w.reads.uses number) kind text w.walk.stand
 
 -- a walk with these comments open
 abbrev walk_at : List Answer → List SecName → List NameUse → ℕ → List Bool → Laying → Walked
@@ -26,27 +19,22 @@ pub returns-in_ok-begin-in-LongComment-clause-makes : goal.returns-in_ok-begin-i
 returns-in_ok-begin-in-LongComment-clause-makes c =
     let inside = c.self.inside in
     let stand : Stand = record { name = inside.name; comments = inside.comments } in
-    laid-makes _ _ (token_in c.args.number c.args.token.kind c.args.token.text.now)
-    (Word c.args.number (codes "/*")) (in_comment true stand) _ _ _ _ _ c.self.view_is
-    (c.word.ensures c.args.number)
-    (ap (λ k. token_placed c.args.number (titles inside.names.kept.now inside.names.uses.now c.args.number) k
-    c.args.token.text.now stand) (sym c.in-LongComment.is))
-    (ap (λ (comments : List Bool). walk_at inside.finder inside.names.kept.now inside.names.uses.now inside.name
-    comments c.word.new.self)
-    (sym c.in_ok-begin-in-LongComment.ensures))
+    laid-makes _ _ (token_in c.args.number c.args.token.kind c.args.token.text.now) (Word c.args.number (codes "/*"))
+    (in_comment true stand) _ _ _ _ _ c.self.view_is (c.word.ensures c.args.number) (ap (λ k. token_placed c.args.number
+    (titles inside.names.kept.now inside.names.uses.now c.args.number) k c.args.token.text.now stand)
+    (sym c.in-LongComment.is)) (ap (λ (comments : List Bool). walk_at inside.finder inside.names.kept.now
+    inside.names.uses.now inside.name comments c.word.new.self) (sym c.in_ok-begin-in-LongComment.ensures))
 
 pub returns-in_ok-begin-in-ShortComment-clause-makes : goal.returns-in_ok-begin-in-ShortComment-clause-makes
 returns-in_ok-begin-in-ShortComment-clause-makes c =
     let inside = c.self-in-ShortComment.inside in
     let stand : Stand = record { name = inside.name; comments = inside.comments } in
-    laid-makes _ _ (token_in c.args.number c.args.token.kind c.args.token.text.now)
-    (Word c.args.number (codes "//")) (in_comment false stand) _ _ _ _ _ c.self-in-ShortComment.view_is
-    (c.word-in-ShortComment.ensures c.args.number)
+    laid-makes _ _ (token_in c.args.number c.args.token.kind c.args.token.text.now) (Word c.args.number (codes "//"))
+    (in_comment false stand) _ _ _ _ _ c.self-in-ShortComment.view_is (c.word-in-ShortComment.ensures c.args.number)
     (ap (λ k. token_placed c.args.number (titles inside.names.kept.now inside.names.uses.now c.args.number) k
     c.args.token.text.now stand) (sym c.in-ShortComment.is))
     (ap (λ (comments : List Bool). walk_at inside.finder inside.names.kept.now inside.names.uses.now inside.name
-    comments c.word-in-ShortComment.new.self)
-    (sym c.in_ok-begin-in-ShortComment.ensures))
+    comments c.word-in-ShortComment.new.self) (sym c.in_ok-begin-in-ShortComment.ensures))
 
 pub returns-in_default : goal.returns-in_default
 returns-in_default c =
@@ -54,9 +42,8 @@ returns-in_default c =
     let stand : Stand = record { name = inside.name; comments = inside.comments } in
     record {
       reads = ap (λ (w : Walked). w.reads) c.self-in_default.view_is;
-      makes = laid-makes _ _ (token_in c.args.number c.args.token.kind c.args.token.text.now)
-          (Word c.args.number c.args.token.text.now) stand _ _ _ _ _ c.self-in_default.view_is
-          (c.word-in_default.ensures c.args.number)
+      makes = laid-makes _ _ (token_in c.args.number c.args.token.kind c.args.token.text.now) (Word c.args.number
+          c.args.token.text.now) stand _ _ _ _ _ c.self-in_default.view_is (c.word-in_default.ensures c.args.number)
           (other-token c.args.number (titles inside.names.kept.now inside.names.uses.now c.args.number)
           c.args.token.kind c.args.token.text.now stand c.in_default.not-LongComment c.in_default.not-ShortComment
           c.in_default.not-Text c.in_default.not-HeadSign c.in_default.not-Code) refl;

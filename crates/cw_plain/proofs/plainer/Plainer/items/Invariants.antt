@@ -1,7 +1,5 @@
 -- The text so far, with that of the items still to come, is the text of all.
-use Rattle.std.proofs.Common.{◌≡◌, ◌++◌, drop}
-use Rattle.cw_tokens.specs.FlatItems.{items_are}
-use Rattle.cw_plain.specs.Walking.{items_text, source_of}
+use Rattle.cw_plain.proofs.Terms.{◌≡◌, ◌++◌, drop, items_are, items_text, source_of}
 use Rattle.cw_plain.proofs.plainer.Plainer.items.Given as goal
 
 abbrev pub invariant-loop-item : goal.invariant-loop-item

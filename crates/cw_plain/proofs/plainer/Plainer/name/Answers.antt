@@ -1,7 +1,6 @@
 -- A name with a title is a word of its own, and what stands behind it in its leaf is passed.
-use Rattle.std.proofs.Common.{◌≡◌, ℕ, List, [], ◌++◌, codes, option_copied, refl, sym, ap, ◌∙◌}
-use Rattle.cw_plain.specs.Pieces.{Stand, Word, in_name, name_placed, placed}
-use Rattle.cw_plain.specs.Titles.{titles}
+use Rattle.cw_plain.proofs.Terms.{◌≡◌, ℕ, List, [], ◌++◌, codes, option_copied, refl, sym, ap, ◌∙◌, Stand, Word}
+use Rattle.cw_plain.proofs.Terms.{in_name, name_placed, placed, titles}
 use Rattle.cw_plain.proofs.MakingLaws.{laid-makes}
 use Rattle.cw_plain.proofs.plainer.Plainer.name.Goals as goal
 
@@ -19,7 +18,6 @@ returns-clause-makes c =
     let word : c.as_slice.result.now ≡ codes "<" ++ text ++ codes ">" =
     cc (c.in_ok-word.ensures, c.in_ok-append.ensures.ok, c.in_ok-push.ensures.ok, c.as_slice.ensures) in
     laid-makes _ _ (λ w. name_placed c.args.number (titles w.reads.kept w.reads.uses c.args.number) w.walk.stand)
-    (Word c.args.number c.as_slice.result.now) (in_name stand) _ _ _ _ _ c.self.view_is
-    (c.word-4.ensures c.args.number)
+    (Word c.args.number c.as_slice.result.now) (in_name stand) _ _ _ _ _ c.self.view_is (c.word-4.ensures c.args.number)
     (ap (λ (bytes : List ℕ). placed (Word c.args.number bytes) (in_name stand)) word
     ∙ ap (λ t. name_placed c.args.number t stand) (sym (ap option_copied c.in-Some.is) ∙ c.title.ensures)) refl

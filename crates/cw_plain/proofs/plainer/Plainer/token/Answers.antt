@@ -1,9 +1,6 @@
 -- A number without a token prints nothing.
-use Rattle.std.proofs.Common.{List, [], option_map, sym, ap, ◌∙◌}
-use Rattle.cw_rules.specs.Answers.{Answer, seen}
-use Rattle.cw_plain.specs.Pieces.{Stand, Word, found_placed, number_placed}
-use Rattle.cw_plain.specs.Titles.{titles}
-use Rattle.cw_plain.specs.Walking.{Walked, source_of}
+use Rattle.cw_plain.proofs.Terms.{List, [], option_map, sym, ap, ◌∙◌, Answer, seen, Stand, Word, found_placed}
+use Rattle.cw_plain.proofs.Terms.{number_placed, titles, Walked, source_of}
 use Rattle.cw_plain.proofs.MakingLaws.{laid-makes}
 use Rattle.cw_plain.proofs.plainer.Plainer.token.Goals as goal
 
@@ -16,7 +13,6 @@ returns-in-None-clause-makes c =
       walk = record { stand = stand; laying = c.word.new.self };
     } in
     laid-makes _ _ (λ w. number_placed (source_of w.reads) c.args.number w.walk.stand)
-    (Word c.args.number []) stand _ _ _ _ _ c.self.view_is (c.word.ensures c.args.number)
-    (ap (λ found. found_placed c.args.number (titles inside.names.kept.now inside.names.uses.now c.args.number) found
-    stand) (sym (ap (option_map seen) c.in-None.is) ∙ c.find.ensures.found))
-    (ap behind (sym c.find.ensures.same))
+    (Word c.args.number []) stand _ _ _ _ _ c.self.view_is (c.word.ensures c.args.number) (ap
+    (λ found. found_placed c.args.number (titles inside.names.kept.now inside.names.uses.now c.args.number) found stand)
+    (sym (ap (option_map seen) c.in-None.is) ∙ c.find.ensures.found)) (ap behind (sym c.find.ensures.same))
