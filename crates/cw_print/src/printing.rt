@@ -266,7 +266,10 @@ fn print_items<D: Desk>(
 {
     let mut buffer = empty_buffer(alloc, items.len())?;
     let mut printer = Printer::over(alloc, c);
-    printer.print_all(alloc, items, &mut buffer, sheet)
+    let printed = printer.print_all(alloc, items, &mut buffer, sheet);
+    drop(printer);
+    drop(buffer);
+    printed
 }
 
 impl<'s, 'a> KeptText<'s, 'a> {
