@@ -1,11 +1,18 @@
 -- The log of the productions, one production after another.
-use Rattle.cw_rewrite.proofs.Terms.{◌≡◌, ℕ, zero, suc, ◌+◌, ◌<◌, Bool, true, false, eqb, Option, Some, List, [], ◌∷◌}
-use Rattle.cw_rewrite.proofs.Terms.{◌++◌, take, slice_get, refl, sym, ◌∙◌, ap, arith, if◌then◌else◌, Result, OnErr}
-use Rattle.cw_rewrite.proofs.Terms.{Flags, Row, Place, Nowhere, At, next_place, steps, Production, log_of, weight}
-use Rattle.cw_rewrite.proofs.Terms.{productions, State, rewrite, row_numbered, row_of, log-turn-of, steps-none}
-use Rattle.cw_rewrite.proofs.Terms.{steps-turn, append_assoc, EndsWithin, StopsAt, Told, grown_by}
-use Rattle.std.proofs.{Math.Seq.take-length, lemmas.Bool.eqb-true}
-use Rattle.cw_table.specs.Normal.{log, count}
+use Rattle.std.proofs.Common.{◌≡◌, ℕ, zero, suc, ◌+◌, ◌<◌, Bool, true, false, eqb, Option, Some, List, [], ◌∷◌, ◌++◌}
+use Rattle.std.proofs.Common.{take, slice_get, refl, sym, ◌∙◌, ap, arith, if◌then◌else◌}
+use Rattle.std.specs.Prelude.{Result, OnErr}
+use Rattle.std.proofs.Math.Seq.{take-length}
+use Rattle.std.proofs.lemmas.Bool.{eqb-true}
+use Rattle.cw_base.specs.declared.flags.Flags.{Flags}
+use Rattle.cw_table.specs.declared.types.Row.{Row}
+use Rattle.cw_table.specs.Normal.{Place, Nowhere, At, next_place, steps, Production, log_of, log, count, weight}
+use Rattle.cw_table.specs.Productions.{productions}
+use Rattle.cw_table.specs.Rewriting.{State, rewrite}
+use Rattle.cw_table.specs.Rows.{row_numbered, row_of}
+use Rattle.cw_table.proofs.Normals.{log-turn-of, steps-none, steps-turn}
+use Rattle.std.proofs.lemmas.List.{append_assoc}
+use Rattle.cw_rewrite.specs.Telling.{EndsWithin, StopsAt, Told, grown_by}
 
 -- the row of a number has it
 numbered-own : (rows : List Row) (n : ℕ) (row : Row) → row_numbered rows n ≡ Some row → row.number.number ≡ n

@@ -1,16 +1,35 @@
 -- The loop of the reducer, over a line in its store.
-use Rattle.cw_rewrite.proofs.Terms.{◌≡◌, ℕ, zero, suc, ◌+◌, ◌-◌, ◌*◌, ◌^◌, ◌<◌, ◌≤◌, true, Some, None, List, [], ◌∷◌}
-use Rattle.cw_rewrite.proofs.Terms.{◌++◌, length, drop, take, slice_get, refl, sym, ◌∙◌, ap, arith, Flags, Entry}
-use Rattle.cw_rewrite.proofs.Terms.{row_fits, first_of, count, log, weight, steps as steps_done, walk_left, productions}
-use Rattle.cw_rewrite.proofs.Terms.{IsAfter, State, cats_of, rewrite, least, right_of_new, ticks, reservings}
-use Rattle.cw_rewrite.proofs.Terms.{ticks-most, productions-sound, count-weight, count-most, StoredLists, LineEntry}
-use Rattle.cw_rewrite.proofs.Terms.{row_of, state_of, Keeps, entry_cats, IsSoundLine, scraps_of, roots_of, keeps-trans}
-use Rattle.cw_rewrite.proofs.Terms.{words_of, GrowsByProductions, HasNoMore, IsFirst, IsNext, PassesOver}
+use Rattle.std.proofs.Common.{◌≡◌, ℕ, zero, suc, ◌+◌, ◌-◌, ◌*◌, ◌^◌, ◌<◌, ◌≤◌, true, Some, None, List, [], ◌∷◌, ◌++◌}
+use Rattle.std.proofs.Common.{length, drop, take, slice_get, refl, sym, ◌∙◌, ap, arith}
+use Rattle.cw_base.specs.declared.flags.Flags.{Flags}
+use Rattle.cw_names.specs.Names.{Entry}
+use Rattle.cw_table.specs.Fitting.{row_fits, first_of}
+use Rattle.cw_table.specs.Normal.{count, log, weight, steps as steps_done}
+use Rattle.cw_table.specs.NormalWalk.{walk_left}
+use Rattle.cw_table.specs.Productions.{productions}
+use Rattle.cw_table.specs.Reaching.{IsAfter}
+use Rattle.cw_table.specs.Rewriting.{State, cats_of, rewrite}
+use Rattle.cw_table.specs.Safe.{least}
+use Rattle.cw_table.specs.WalkCounts.{right_of_new, ticks, reservings}
+use Rattle.cw_table.proofs.CountLaws.{ticks-most}
+use Rattle.cw_table.proofs.Examples.{productions-sound}
 use Rattle.cw_table.specs.SourceNumbers.{numbers_of}
 use Rattle.cw_table.proofs.NumberLaws.{steps-numbers}
+use Rattle.cw_table.proofs.Normals.{count-weight, count-most}
 use Rattle.cw_tokens.specs.Counting.{token_count}
+use Rattle.cw_tokens.specs.Stored.{StoredLists}
+use Rattle.cw_scraps.specs.declared.line.LineEntry.{LineEntry}
+use Rattle.cw_table.specs.Rows.{row_of}
+use Rattle.cw_scraps.specs.Applying.{state_of}
+use Rattle.cw_scraps.specs.Changing.{Keeps}
+use Rattle.cw_scraps.specs.Inserting.{entry_cats}
+use Rattle.cw_scraps.specs.Lines.{IsSoundLine, scraps_of, roots_of}
 use Rattle.cw_scraps.specs.Marking.{MarkList}
-use Rattle.cw_scraps.proofs.{Productions.cats-same, Reservings.length-scraps}
+use Rattle.cw_scraps.proofs.Applied.{keeps-trans}
+use Rattle.cw_scraps.proofs.Productions.{cats-same}
+use Rattle.cw_scraps.proofs.Reservings.{length-scraps}
+use Rattle.cw_names.specs.Words.{words_of}
+use Rattle.cw_rewrite.specs.Reduction.{GrowsByProductions, HasNoMore, IsFirst, IsNext, PassesOver}
 use Rattle.cw_rewrite.proofs.WalkSteps.{Walks, Rewrites, rewrites, GoesOn, goes-on, WalkEnds, walk-ends, walk-reaches}
 
 -- what holds at each turn; the first values are those with which the reducer was called

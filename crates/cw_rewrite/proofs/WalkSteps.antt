@@ -1,18 +1,41 @@
 -- The walk of the reducer.
-use Rattle.cw_rewrite.proofs.Terms.{◌≡◌, ℕ, zero, suc, ◌+◌, ◌-◌, ◌<◌, ◌≤◌, true, Option, Some, None, List, [], ◌∷◌}
-use Rattle.cw_rewrite.proofs.Terms.{length, ◌++◌, drop, take, get_or, slice_get, unwrap_or, IfSome, MatchOption, refl}
-use Rattle.cw_rewrite.proofs.Terms.{sym, ◌∙◌, ap, arith, list_all, option_map, Flags, Entry, with_category, Search, Row}
-use Rattle.cw_rewrite.proofs.Terms.{row_fits, first_of, window_of, At, next_place, normal, count, log, steps, weight}
-use Rattle.cw_rewrite.proofs.Terms.{is_fine, walk_left, productions, IsAfter, State, cats_of, rewrite, no_row}
-use Rattle.cw_rewrite.proofs.Terms.{row_numbered, row_of, least, right_of_new, ticks_from, ticks, ticks-end, ticks-past}
-use Rattle.cw_rewrite.proofs.Terms.{ticks-taken, none-below-next, productions-sound, productions-numbered, normal-none}
-use Rattle.cw_rewrite.proofs.Terms.{normal-step, count-none, count-step, count-weight, LineEntry, retyped, entry_cats}
-use Rattle.cw_rewrite.proofs.Terms.{no_entry, window-line, words_of, IsFirst}
+use Rattle.std.proofs.Common.{◌≡◌, ℕ, zero, suc, ◌+◌, ◌-◌, ◌<◌, ◌≤◌, true, Option, Some, None, List, [], ◌∷◌, length}
+use Rattle.std.proofs.Common.{◌++◌, drop, take, get_or, slice_get, unwrap_or, IfSome, MatchOption, refl, sym, ◌∙◌, ap}
+use Rattle.std.proofs.Common.{arith}
+use Rattle.std.specs.List.{list_all}
+use Rattle.std.specs.Option.{option_map}
 use Rattle.cw_base.specs.declared.category.Cat.{Cat}
-use Rattle.cw_table.specs.{declared.productions.TheConstants.ROW_COUNT, declared.types.RowNo.RowNo}
-use Rattle.cw_table.proofs.{FirstLaws.first-window, Joining.productions-length, Numbers.first-numbered}
-use Rattle.cw_table.proofs.{Numbers.numbered-row, ScrapFacts.cats-length, StepLaws.steps-next, StepLaws.is-after}
+use Rattle.cw_base.specs.declared.flags.Flags.{Flags}
+use Rattle.cw_names.specs.Names.{Entry, with_category}
+use Rattle.cw_trees.specs.Tree.{Search}
+use Rattle.cw_table.specs.declared.productions.TheConstants.{ROW_COUNT}
+use Rattle.cw_table.specs.declared.types.Row.{Row}
+use Rattle.cw_table.specs.declared.types.RowNo.{RowNo}
+use Rattle.cw_table.specs.Fitting.{row_fits, first_of, window_of}
+use Rattle.cw_table.specs.Normal.{At, next_place, normal, count, log, steps, weight, is_fine}
+use Rattle.cw_table.specs.NormalWalk.{walk_left}
+use Rattle.cw_table.specs.Productions.{productions}
+use Rattle.cw_table.specs.Reaching.{IsAfter}
+use Rattle.cw_table.specs.Rewriting.{State, cats_of, rewrite}
+use Rattle.cw_table.specs.Rows.{no_row, row_numbered, row_of}
+use Rattle.cw_table.specs.Safe.{least}
+use Rattle.cw_table.specs.WalkCounts.{right_of_new, ticks_from, ticks}
+use Rattle.cw_table.proofs.CountLaws.{ticks-end, ticks-past, ticks-taken, none-below-next}
+use Rattle.cw_table.proofs.Examples.{productions-sound, productions-numbered}
+use Rattle.cw_table.proofs.FirstLaws.{first-window}
+use Rattle.cw_table.proofs.Normals.{normal-none, normal-step, count-none, count-step, count-weight}
+use Rattle.cw_table.proofs.Joining.{productions-length}
+use Rattle.cw_table.proofs.Numbers.{first-numbered, numbered-row}
+use Rattle.cw_table.proofs.ScrapFacts.{cats-length}
+use Rattle.cw_table.proofs.StepLaws.{steps-next, is-after}
 use Rattle.cw_table.proofs.WalkLaws.{NoneBelow, Turns, turning, next-nowhere}
+use Rattle.cw_scraps.specs.declared.line.LineEntry.{LineEntry}
+use Rattle.cw_scraps.specs.Applying.{retyped}
+use Rattle.cw_scraps.specs.Inserting.{entry_cats}
+use Rattle.cw_scraps.specs.Lines.{no_entry}
+use Rattle.cw_scraps.proofs.FirstRows.{window-line}
+use Rattle.cw_names.specs.Words.{words_of}
+use Rattle.cw_rewrite.specs.Reduction.{IsFirst}
 use Rattle.cw_rewrite.proofs.LogSteps.{heard-more, heard-next, numbered-number}
 
 -- the number that the window gives is that of the first row that fits

@@ -1,6 +1,9 @@
 -- Each turn rewrites at the next place where a row fits and goes back, and less of the walk is left; behind the last
 -- production no row fits up to the end of the line. Each production is told before it is done.
-use Rattle.cw_rewrite.proofs.Terms.{◌∙◌, ap, arith, keeps-trans, state_of, roots_of}
+use Rattle.std.proofs.Common.{◌∙◌, ap, arith}
+use Rattle.cw_scraps.proofs.Applied.{keeps-trans}
+use Rattle.cw_scraps.specs.Applying.{state_of}
+use Rattle.cw_scraps.specs.Lines.{roots_of}
 use Rattle.cw_rewrite.proofs.LogSteps.{ends-before, ends-behind, stops-before, told-next, told-whole}
 use Rattle.cw_rewrite.proofs.WalkLoop.{turn-next, at-end, not-done, stops, ends, light, few}
 use Rattle.cw_rewrite.proofs.walk.reduce_watched.Goals as goal

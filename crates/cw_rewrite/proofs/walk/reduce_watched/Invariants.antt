@@ -1,6 +1,11 @@
 -- The productions and steps so far are those of the walk up to this place, the line is sound, and each production was
 -- told.
-use Rattle.cw_rewrite.proofs.Terms.{◌≡◌, take, log, walk_left, productions, state_of, grown_by}
+use Rattle.std.proofs.Common.{◌≡◌, take}
+use Rattle.cw_table.specs.Normal.{log}
+use Rattle.cw_table.specs.NormalWalk.{walk_left}
+use Rattle.cw_table.specs.Productions.{productions}
+use Rattle.cw_scraps.specs.Applying.{state_of}
+use Rattle.cw_rewrite.specs.Telling.{grown_by}
 use Rattle.cw_rewrite.proofs.WalkLoop.{InLoop}
 use Rattle.cw_rewrite.proofs.walk.reduce_watched.Given as goal
 

@@ -1,6 +1,11 @@
 -- The row found in the line that is opened is the first that fits in the line itself.
-use Rattle.cw_rewrite.proofs.Terms.{◌≡◌, None, List, drop, subst, arith, MatchOption, first_of, productions, LineEntry}
-use Rattle.cw_rewrite.proofs.Terms.{entry_cats, IsFirst}
+use Rattle.std.proofs.Common.{◌≡◌, None, List, drop, subst, arith}
+use Rattle.std.specs.Prelude.{MatchOption}
+use Rattle.cw_table.specs.Fitting.{first_of}
+use Rattle.cw_table.specs.Productions.{productions}
+use Rattle.cw_scraps.specs.declared.line.LineEntry.{LineEntry}
+use Rattle.cw_scraps.specs.Inserting.{entry_cats}
+use Rattle.cw_rewrite.specs.Reduction.{IsFirst}
 use Rattle.cw_rewrite.proofs.walk.row_at.Goals as goal
 
 pub returns-clause-first : goal.returns-clause-first

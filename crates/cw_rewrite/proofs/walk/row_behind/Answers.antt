@@ -1,5 +1,6 @@
 -- The row found by four categories is the first that fits at the place; two of them may tell that none does.
-use Rattle.cw_rewrite.proofs.Terms.{arith, window-line}
+use Rattle.std.proofs.Common.{arith}
+use Rattle.cw_scraps.proofs.FirstRows.{window-line}
 use Rattle.cw_rewrite.proofs.WalkSteps.{first-line, none-line}
 use Rattle.cw_rewrite.proofs.walk.row_behind.Goals as goal
 
