@@ -113,10 +113,11 @@ impl OpenedFiles {
         false
     }
 
-    /// An error where the file to which a path leads is an input.
+    /// An error where the file to which a path leads is an input. A device or a pipe that was read loses nothing where it
+    /// is written.
     pub(super) fn spare_input(&self, rt: &HostRuntime, path: &str) -> io::Result<()> {
         match fs::metadata(rt, path) {
-            Ok(metadata) if self.has_input(Identity::of(&metadata)) => {
+            Ok(metadata) if metadata.is_file() && self.has_input(Identity::of(&metadata)) => {
                 Err(io::Error::new(ErrorKind::ResourceBusy, IS_INPUT))
             }
             Ok(_) => Ok(()),

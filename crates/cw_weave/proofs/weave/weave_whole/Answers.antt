@@ -27,8 +27,8 @@ pub returns-in-Some-clause-real : goal.returns-in-Some-clause-real
 returns-in-Some-clause-real g c = ok-real c.stop_before_overwriting.result Errors (λ e. cc)
     c.stop_before_overwriting.ensures.exit
 
-pub returns-in-None-clause-runs : goal.returns-in-None-clause-runs
-returns-in-None-clause-runs g c =
+pub returns-clause-runs : goal.returns-clause-runs
+returns-clause-runs g c =
     subst (λ (name : Option (List ℕ)).
     RunsBy (weave_unless name c.args.source.line.now c.args.source.web.now)
     (g.D.Desk.told c.args.desk.now) (g.D.Desk.told c.weave_web.new.desk) c.weave_web.result)
