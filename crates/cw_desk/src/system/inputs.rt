@@ -113,8 +113,8 @@ impl OpenedFiles {
         false
     }
 
-    /// An error where the file to which a path leads is an input. A device or a pipe that was read loses nothing where it
-    /// is written.
+    /// An error where the file to which a path leads is an input. A device or a pipe that was read loses nothing where
+    /// it is written.
     pub(super) fn spare_input(&self, rt: &HostRuntime, path: &str) -> io::Result<()> {
         match fs::metadata(rt, path) {
             Ok(metadata) if metadata.is_file() && self.has_input(Identity::of(&metadata)) => {
