@@ -10,7 +10,8 @@ use Rattle.cw_base.specs.declared.category.Cat.TheVariants.{StructLike, CaseLike
 use Rattle.cw_base.specs.declared.category.Cat.TheVariants.{SizeofLike, TypedefLike, Decl, FnDecl, Function, Stmt, Tag}
 use Rattle.cw_base.specs.declared.category.Cat.TheVariants.{StructHead, ElseHead, Lproc, Rproc, Insert, BeginArg}
 use Rattle.cw_base.specs.declared.category.Cat.TheVariants.{EndArg, Dead, Dot, Dots, Box, TypeofLike}
-use Rattle.cw_base.specs.declared.category.Cat.TheVariants.{TexLike, Colcol, AttrHead, Attr, AlignasLike, End}
+use Rattle.cw_base.specs.declared.category.Cat.TheVariants.{TexLike, Colcol, AttrHead, Attr, AlignasLike}
+use Rattle.cw_base.specs.declared.category.Cat.TheVariants.{HashLike, MdefineLike, Paren, End}
 
 -- every category in the order of its number, and End, which stands past the last scrap
 abbrev pub all_cats : List Cat
@@ -20,7 +21,7 @@ all_cats =
     Comma ∷ Colon ∷ StructLike ∷ CaseLike ∷ ForLike ∷ DoLike ∷ IfLike ∷ DefineLike ∷ SizeofLike ∷
     TypedefLike ∷ Decl ∷ FnDecl ∷ Function ∷ Stmt ∷ Tag ∷ StructHead ∷ ElseHead ∷ Lproc ∷ Rproc ∷
     Insert ∷ BeginArg ∷ EndArg ∷ Dead ∷ Dot ∷ Dots ∷ Box ∷ TypeofLike ∷ TexLike ∷ Colcol ∷ AttrHead ∷ Attr ∷
-    AlignasLike ∷ End ∷ []
+    AlignasLike ∷ HashLike ∷ MdefineLike ∷ Paren ∷ End ∷ []
 
 -- the place of a category in the list of all, and its bit in a set
 abbrev pub number_of : Cat → ℕ
@@ -76,18 +77,23 @@ number_of Colcol = 48
 number_of AttrHead = 49
 number_of Attr = 50
 number_of AlignasLike = 51
-number_of End = 52
+number_of HashLike = 52
+number_of MdefineLike = 53
+number_of Paren = 54
+number_of End = 55
 
 -- the rank of a category: a scrap weighs 4 and its rank, and rewriting lowers the weight
 abbrev pub rank : Cat → ℕ
 rank RawInt = 3
 rank ConstLike = 3
 rank Dots = 3
-rank Box = 2
+rank Box = 3
 rank Cast = 2
 rank IntLike = 2
 rank IfClause = 2
 rank SectionScrap = 2
+rank TexLike = 2
+rank Paren = 2
 rank Exp = 1
 rank DeclHead = 1
 rank ElseLike = 1
@@ -97,6 +103,8 @@ rank RawUbin = 1
 rank Dot = 1
 rank ForLike = 1
 rank Insert = 1
+rank DefineLike = 1
+rank MdefineLike = 1
 rank _ = 0
 
 -- the category that stands past the last scrap, which is that of no name and of no scrap

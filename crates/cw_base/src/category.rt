@@ -60,7 +60,7 @@ pub enum Cat {
     DoLike,
     /// `if`.
     IfLike,
-    /// `define` of a `#` line.
+    /// `define` of a `#` line, for a macro without parameters.
     DefineLike,
     /// `sizeof`, `_Generic` and their kind.
     SizeofLike,
@@ -100,7 +100,7 @@ pub enum Cat {
     Box,
     /// `typeof` and its kind, whose operand makes a type of it.
     TypeofLike,
-    /// A name that is a macro of TeX. It is the category of names alone: the scrap of such a name is an expression.
+    /// A name that is a macro of TeX, and what is set beside expressions without blanks.
     TexLike,
     /// `::`.
     Colcol,
@@ -110,6 +110,12 @@ pub enum Cat {
     Attr,
     /// `alignas` and its kind, whose operand makes an attribute of it.
     AlignasLike,
+    /// The word behind the `#` of a `#` line, but for `define`.
+    HashLike,
+    /// `define` of a `#` line, for a macro with parameters.
+    MdefineLike,
+    /// An expression in parentheses or brackets.
+    Paren,
     /// Stands past the last scrap; the category of no scrap.
     End,
 }
@@ -168,6 +174,9 @@ pub const ALL_CATS: [Cat; Cat::End as usize + 1] = [
     Cat::AttrHead,
     Cat::Attr,
     Cat::AlignasLike,
+    Cat::HashLike,
+    Cat::MdefineLike,
+    Cat::Paren,
     Cat::End,
 ];
 

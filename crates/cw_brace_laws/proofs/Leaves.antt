@@ -1,4 +1,5 @@
 -- The scrap of each token is braced, and holds no text where its category is calm, an operator or a colon.
+use Rattle.cw_rules.specs.declared.tokens.Directive.{Directive}
 use Rattle.cw_brace_laws.proofs.Terms.{◌≡◌, ℕ, Bool, false, Option, Some, None, IfSome, List, [], ◌∷◌, ◌++◌, ◌∙◌, refl}
 use Rattle.cw_brace_laws.proofs.Terms.{arith, MathMode, Entry, TokKind, LeafForm, token_form, is_text, Token}
 use Rattle.cw_brace_laws.proofs.Terms.{form_tokens, leaf_scrap, Tree, EndsAt, IsBraced, IsBracedScrap, depth_of}
@@ -16,13 +17,13 @@ abbrev pub FormBraced : Option LeafForm → Type 0
 FormBraced None = Unit {0}
 FormBraced (Some form) = IsLeafScrap (leaf_scrap form)
 
-pub token-braced : (k : TokKind) (text : List ℕ) (hash_line : Bool) (number : ℕ) (names : List Entry)
-    → FormBraced (token_form k text hash_line number names)
-token-braced k text hash_line number names = grind (arith, nat_tests, ends-math, ends-maybe, quiet-ends)
+pub token-braced : (k : TokKind) (text : List ℕ) (hash_line : Bool) (d : Directive) (number : ℕ) (names : List Entry)
+    → FormBraced (token_form k text hash_line d number names)
+token-braced k text hash_line d number names = grind (arith, nat_tests, ends-math, ends-maybe, quiet-ends)
 
-pub leaf-braced : (k : TokKind) (text : List ℕ) (hash_line : Bool) (number : ℕ) (names : List Entry)
-    → IfSome (token_form k text hash_line number names) (λ form. IsBracedScrap (leaf_scrap form))
-leaf-braced k text hash_line number names = grind (arith, nat_tests, token-braced, leaf-is-braced)
+pub leaf-braced : (k : TokKind) (text : List ℕ) (hash_line : Bool) (d : Directive) (number : ℕ) (names : List Entry)
+    → IfSome (token_form k text hash_line d number names) (λ form. IsBracedScrap (leaf_scrap form))
+leaf-braced k text hash_line d number names = grind (arith, nat_tests, token-braced, leaf-is-braced)
 
 -- ## Words of heads
 
@@ -42,6 +43,6 @@ pub flat-braced : (tokens : List Token) → AreFlat tokens → IsBraced (tree_in
 flat-braced [] all = refl
 flat-braced (token ∷ tokens) all = all.0 (tree_in [] tokens) ∙ flat-braced tokens all.1
 
-pub token-flat : (k : TokKind) (text : List ℕ) (hash_line : Bool) (number : ℕ) (names : List Entry)
-    → AreFlat (form_tokens (token_form k text hash_line number names))
-token-flat k text hash_line number names = grind (arith, nat_tests)
+pub token-flat : (k : TokKind) (text : List ℕ) (hash_line : Bool) (d : Directive) (number : ℕ) (names : List Entry)
+    → AreFlat (form_tokens (token_form k text hash_line d number names))
+token-flat k text hash_line d number names = grind (arith, nat_tests)

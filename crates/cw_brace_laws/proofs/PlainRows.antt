@@ -5,7 +5,7 @@ use Rattle.cw_brace_laws.proofs.Terms.{All-append, All-drop, All-take, AllPass-f
 use Rattle.cw_brace_laws.proofs.Terms.{both-right, not-both, not-true, other-one, unless, in_set, Cat, RawInt, Flags}
 use Rattle.cw_brace_laws.proofs.Terms.{rows-braced, productions-sound, at-cats, cats-get, sound-row, admits_only}
 use Rattle.cw_brace_laws.proofs.Terms.{are_quiet, between, is_quiet, may_stand, row_is_braced, row_fits, insertion_of}
-use Rattle.cw_brace_laws.proofs.Terms.{At, next_place, steps, State, alone, cats_of, new_scrap, reserved_at}
+use Rattle.cw_brace_laws.proofs.Terms.{At, next_place, steps, State, alone, cats_of, new_scrap, worded_at}
 use Rattle.cw_brace_laws.proofs.Terms.{reserved_in, rewrite, rewrite_from, row_pieces, takes_other, with_cat}
 use Rattle.cw_brace_laws.proofs.Terms.{pieces_for, result_at, test, IsSound, Piece, MathScrap, Row, RowResult, Is}
 use Rattle.cw_brace_laws.proofs.Terms.{SameAs, Scrap, no_scrap, HoldsNoText, StandsAt, HasCleanOperators}
@@ -163,9 +163,9 @@ plain-rewritten : (flags : Flags) (row : Row) (scraps : List Scrap) → IsSound 
     → row_is_plain row ≡ true → row_fits row (cats_of scraps) ≡ true → All IsPlainScrap scraps
     → All IsPlainScrap (rewrite_from flags row scraps)
 plain-rewritten flags row scraps sound braced plain fits all = rewritten-keeps IsPlainScrap none-plain reserve-plain
-    types-plain flags row scraps all (new-plain row (reserved_at row.action.reserve scraps)
-    (named-keeps IsPlainScrap none-plain reserve-plain types-plain row.action.reserve scraps all)
-    (fits-at row (reserved_at row.action.reserve scraps) sound (ap (row_fits row) (at-cats row.action.reserve scraps)
+    types-plain flags row scraps all (new-plain row (worded_at row.action scraps)
+    (named-keeps IsPlainScrap none-plain reserve-plain types-plain row.action scraps all)
+    (fits-at row (worded_at row.action scraps) sound (ap (row_fits row) (at-cats row.action scraps)
     ∙ fits)) sound.same_as_tested flags braced plain)
 
 abbrev HasPlainScraps : State → Type 0

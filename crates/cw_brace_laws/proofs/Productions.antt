@@ -5,7 +5,9 @@ use Rattle.cw_brace_laws.proofs.Terms.{if◌then◌else◌, All, list_all, All-a
 use Rattle.cw_brace_laws.proofs.Terms.{All-cons, both-left, both-right, in_set, Cat, RawInt, Flags, at-cats, cats-drop}
 use Rattle.cw_brace_laws.proofs.Terms.{cats-get, sound-row, between, row_is_braced, first_of, row_fits, Place, Nowhere}
 use Rattle.cw_brace_laws.proofs.Terms.{At, next_place, steps, weight, productions, State, cats_of, named_right}
-use Rattle.cw_brace_laws.proofs.Terms.{named_scrap, new_scrap, reserved_at, reserved_in, rewrite, rewrite_from}
+use Rattle.cw_brace_laws.proofs.Terms.{Action, bare_name, bolded, bolded_at, named_scrap, new_scrap, reserved_at}
+use Rattle.cw_brace_laws.proofs.Terms.{reserved_in, rewrite}
+use Rattle.cw_brace_laws.proofs.Terms.{rewrite_from, worded_at}
 use Rattle.cw_brace_laws.proofs.Terms.{row_pieces, search_in, with_cat, test, tests_of, IsSound, row_is_sound, Piece}
 use Rattle.cw_brace_laws.proofs.Terms.{Row, Scrap, no_scrap, Search, Found as FoundName, HoldsNoText, IsBracedScrap}
 use Rattle.cw_brace_laws.proofs.Terms.{HasCleanOperators, IsCleanOperator, PutsCleanOperator, PutsCleanOperators}
@@ -24,50 +26,84 @@ reserve-holds s h m = record { back = reserve-depth s.tree m ∙ (h m).back; beg
 reserve-braced : (s : Scrap) → IsBracedScrap s → IsBracedScrap (reserved_in s)
 reserve-braced s h = grind (arith, nat_tests, reserve-depth, reserve-holds)
 
--- a scrap at a place is as before, or its first identifier was reserved
-set-at : (Q : Scrap → Type 0) → ((s : Scrap) → Q s → Q (reserved_in s)) → (scraps : List Scrap) (n k : ℕ)
-    → Q (get_or scraps k no_scrap) → Q (get_or (set scraps n (reserved_in (get_or scraps n no_scrap))) k no_scrap)
-set-at Q keeps (s ∷ scraps) zero zero h = keeps s h
-set-at Q keeps (s ∷ scraps) (suc n) (suc k) h = set-at Q keeps scraps n k h
-set-at _ _ _ _ _ h = h
+-- what reserving keeps is kept by bold
+bold-keeps : (Q : Scrap → Type 0) → ((s : Scrap) → Q s → Q (reserved_in s)) → (s : Scrap) → Q s → Q (bolded s)
+bold-keeps Q keeps s h = go (bare_name s.tree)
+  where
+    go : (o : Option ℕ) → Q (elim o as (λ _. Scrap) [ Some name ↦ reserved_in s | None ↦ s ])
+    go None = h
+    go (Some name) = keeps s h
 
-clean-scrap : (o : Option ℕ) (scraps : List Scrap) (k : ℕ) → IsCleanOperator (get_or scraps k no_scrap)
+-- a scrap at a place is as before, or it was made another one
+set-at : (Q : Scrap → Type 0) (f : Scrap → Scrap) → ((s : Scrap) → Q s → Q (f s)) → (scraps : List Scrap) (n k : ℕ)
+    → Q (get_or scraps k no_scrap) → Q (get_or (set scraps n (f (get_or scraps n no_scrap))) k no_scrap)
+set-at Q f keeps (s ∷ scraps) zero zero h = keeps s h
+set-at Q f keeps (s ∷ scraps) (suc n) (suc k) h = set-at Q f keeps scraps n k h
+set-at _ _ _ _ _ _ h = h
+
+clean-reserve : (s : Scrap) → IsCleanOperator s → IsCleanOperator (reserved_in s)
+clean-reserve s h e = reserve-holds s (h e)
+
+clean-reserved : (o : Option ℕ) (scraps : List Scrap) (k : ℕ) → IsCleanOperator (get_or scraps k no_scrap)
     → IsCleanOperator (get_or (reserved_at o scraps) k no_scrap)
-clean-scrap None scraps k h = h
-clean-scrap (Some n) scraps k h = set-at IsCleanOperator (λ s g e. reserve-holds s (g e)) scraps n k h
+clean-reserved None scraps k h = h
+clean-reserved (Some n) scraps k h = set-at IsCleanOperator reserved_in clean-reserve scraps n k h
 
-clean-piece : (o : Option ℕ) (scraps : List Scrap) (p : Piece) → PutsCleanOperator scraps p
-    → PutsCleanOperator (reserved_at o scraps) p
-clean-piece o scraps (piece.Scrap k) h = clean-scrap o scraps k h
-clean-piece o scraps (piece.MathScrap k) h = clean-scrap o scraps k h
-clean-piece o scraps _ h = tt
+clean-bolded : (o : Option ℕ) (scraps : List Scrap) (k : ℕ) → IsCleanOperator (get_or scraps k no_scrap)
+    → IsCleanOperator (get_or (bolded_at o scraps) k no_scrap)
+clean-bolded None scraps k h = h
+clean-bolded (Some n) scraps k h =
+    set-at IsCleanOperator bolded (bold-keeps IsCleanOperator clean-reserve) scraps n k h
+
+clean-scrap : (action : Action) (scraps : List Scrap) (k : ℕ) → IsCleanOperator (get_or scraps k no_scrap)
+    → IsCleanOperator (get_or (worded_at action scraps) k no_scrap)
+clean-scrap action scraps k h =
+    clean-bolded action.bold (reserved_at action.reserve scraps) k (clean-reserved action.reserve scraps k h)
+
+clean-piece : (action : Action) (scraps : List Scrap) (p : Piece) → PutsCleanOperator scraps p
+    → PutsCleanOperator (worded_at action scraps) p
+clean-piece action scraps (piece.Scrap k) h = clean-scrap action scraps k h
+clean-piece action scraps (piece.MathScrap k) h = clean-scrap action scraps k h
+clean-piece action scraps _ h = tt
 
 -- ## Keeping
 
 -- What holds of each scrap holds of each that a production leaves, if it holds of the new one.
 module _ (P : Scrap → Type 0) (none : P no_scrap) (reserves : (s : Scrap) → P s → P (reserved_in s))
     (types : (s : Scrap) → P s → P (with_cat RawInt (reserved_in s))) where
-  pub named-keeps : (o : Option ℕ) (scraps : List Scrap) → All P scraps → All P (reserved_at o scraps)
-  named-keeps None scraps all = all
-  named-keeps (Some k) scraps all = All-set P scraps k (reserved_in (get_or scraps k no_scrap))
-      (reserves (get_or scraps k no_scrap) (all-at P none scraps k all)) all
+  set-keeps : (f : Scrap → Scrap) → ((s : Scrap) → P s → P (f s)) → (scraps : List Scrap) (k : ℕ) → All P scraps
+      → All P (set scraps k (f (get_or scraps k no_scrap)))
+  set-keeps f keeps scraps k all = All-set P scraps k (f (get_or scraps k no_scrap))
+      (keeps (get_or scraps k no_scrap) (all-at P none scraps k all)) all
+
+  reserved-keeps : (o : Option ℕ) (scraps : List Scrap) → All P scraps → All P (reserved_at o scraps)
+  reserved-keeps None scraps all = all
+  reserved-keeps (Some k) scraps all = set-keeps reserved_in reserves scraps k all
+
+  bolded-keeps : (o : Option ℕ) (scraps : List Scrap) → All P scraps → All P (bolded_at o scraps)
+  bolded-keeps None scraps all = all
+  bolded-keeps (Some k) scraps all = set-keeps bolded (bold-keeps P reserves) scraps k all
+
+  pub named-keeps : (action : Action) (scraps : List Scrap) → All P scraps → All P (worded_at action scraps)
+  named-keeps action scraps all =
+      bolded-keeps action.bold (reserved_at action.reserve scraps) (reserved-keeps action.reserve scraps all)
 
   right-keeps : (found : Search) (scraps : List Scrap) → All P scraps → All P (named_right found scraps)
   right-keeps (FoundName name) scraps all = All-map P (named_scrap name) scraps (λ k d h. (grind (arith, nat_tests)))
   right-keeps _ _ all = all
 
   pub rewritten-keeps : (flags : Flags) (row : Row) (scraps : List Scrap) → All P scraps
-      → P (new_scrap flags row (reserved_at row.action.reserve scraps)) → All P (rewrite_from flags row scraps)
+      → P (new_scrap flags row (worded_at row.action scraps)) → All P (rewrite_from flags row scraps)
   rewritten-keeps flags row scraps all new =
-      let kept : All P (reserved_at row.action.reserve scraps) = named-keeps row.action.reserve scraps all in
-      All-append P (take row.offset (reserved_at row.action.reserve scraps))
-      (new_scrap flags row (reserved_at row.action.reserve scraps) ∷ named_right (search_in row.action.reserve scraps)
-      (drop (row.offset + row.replaced) (reserved_at row.action.reserve scraps)))
-      (All-take P row.offset (reserved_at row.action.reserve scraps) kept) (All-cons P
-      (new_scrap flags row (reserved_at row.action.reserve scraps)) (named_right (search_in row.action.reserve scraps)
-      (drop (row.offset + row.replaced) (reserved_at row.action.reserve scraps))) new (right-keeps
-      (search_in row.action.reserve scraps) (drop (row.offset + row.replaced) (reserved_at row.action.reserve scraps))
-      (All-drop P (row.offset + row.replaced) (reserved_at row.action.reserve scraps) kept)))
+      let kept : All P (worded_at row.action scraps) = named-keeps row.action scraps all in
+      All-append P (take row.offset (worded_at row.action scraps))
+      (new_scrap flags row (worded_at row.action scraps) ∷ named_right (search_in row.action.reserve scraps)
+      (drop (row.offset + row.replaced) (worded_at row.action scraps)))
+      (All-take P row.offset (worded_at row.action scraps) kept) (All-cons P
+      (new_scrap flags row (worded_at row.action scraps)) (named_right (search_in row.action.reserve scraps)
+      (drop (row.offset + row.replaced) (worded_at row.action scraps))) new (right-keeps
+      (search_in row.action.reserve scraps) (drop (row.offset + row.replaced) (worded_at row.action scraps))
+      (All-drop P (row.offset + row.replaced) (worded_at row.action scraps) kept)))
 
 -- ## One production
 
@@ -85,16 +121,16 @@ rewritten-braced : (flags : Flags) (row : Row) (scraps : List Scrap) → IsSound
     → row_fits row (cats_of scraps) ≡ true → PutsCleanOperators flags row scraps → All IsBracedScrap scraps
     → All IsBracedScrap (rewrite_from flags row scraps)
 rewritten-braced flags row scraps sound braced fits clean all =
-    let named : List Scrap = reserved_at row.action.reserve scraps in
-    let same = at-cats row.action.reserve scraps in
-    let kept : All IsBracedScrap (reserved_at row.action.reserve scraps) =
-    named-keeps IsBracedScrap none-braced reserve-braced types-braced row.action.reserve scraps all in
-    let held : All (PutsCleanOperator (reserved_at row.action.reserve scraps)) (between 0
-    (row_pieces flags row (cats_of (reserved_at row.action.reserve scraps)))) = subst (λ cats. All (PutsCleanOperator
-    (reserved_at row.action.reserve scraps)) (between 0 (row_pieces flags row cats))) (sym same) (λ i d lt. clean-piece
-    row.action.reserve scraps (get_or (between 0 (row_pieces flags row (cats_of scraps))) i d) (clean i d lt)) in
+    let named : List Scrap = worded_at row.action scraps in
+    let same = at-cats row.action scraps in
+    let kept : All IsBracedScrap (worded_at row.action scraps) =
+    named-keeps IsBracedScrap none-braced reserve-braced types-braced row.action scraps all in
+    let held : All (PutsCleanOperator (worded_at row.action scraps)) (between 0
+    (row_pieces flags row (cats_of (worded_at row.action scraps)))) = subst (λ cats. All (PutsCleanOperator
+    (worded_at row.action scraps)) (between 0 (row_pieces flags row cats))) (sym same) (λ i d lt. clean-piece
+    row.action scraps (get_or (between 0 (row_pieces flags row (cats_of scraps))) i d) (clean i d lt)) in
     rewritten-keeps IsBracedScrap none-braced reserve-braced types-braced flags row scraps all (new-braced row
-    (reserved_at row.action.reserve scraps) kept (fits-at row (reserved_at row.action.reserve scraps) sound
+    (worded_at row.action scraps) kept (fits-at row (worded_at row.action scraps) sound
     (ap (row_fits row) same ∙ fits)) sound.same_as_tested flags braced held)
 
 pub production-keeps : (flags : Flags) (row : Row) (place : ℕ) (scraps : List Scrap) → row_is_sound row ≡ true

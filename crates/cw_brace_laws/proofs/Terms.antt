@@ -33,7 +33,8 @@ pub use Rattle.cw_table.specs.Braces.{is_quiet, makes_calm, may_be_calm, may_sta
 pub use Rattle.cw_table.specs.Normal.{normal, Place, Nowhere, At, next_place, steps, weight}
 pub use Rattle.cw_table.specs.Rewriting.{State, cats_of, named_right, named_scrap, new_scrap, reserved_at, reserved_in}
 pub use Rattle.cw_table.specs.Rewriting.{rewrite, rewrite_from, row_pieces, search_in, with_cat, joined_of, alone}
-pub use Rattle.cw_table.specs.Rewriting.{takes_other, math_piece}
+pub use Rattle.cw_table.specs.Rewriting.{takes_other, math_piece, bolded, bolded_at, worded_at}
+pub use Rattle.cw_table.specs.declared.types.Action.{Action}
 pub use Rattle.cw_table.specs.declared.types.Piece.TheVariants.{MathScrap, OpenBrace, CloseBrace, OpenRelation}
 pub use Rattle.cw_table.specs.declared.types.RowResult.TheVariants.{Is, SameAs}
 pub use Rattle.cw_tokens.specs.declared.token.Token.{Token}
@@ -50,5 +51,5 @@ pub use Rattle.cw_trees.specs.Flat.{trim_front, without_inserted}
 pub use Rattle.cw_trees.specs.Joining.{first_mode, after, Scrap, blank_and_whole, scrap_in_text, whole, no_scrap, join}
 pub use Rattle.cw_trees.specs.Joining.{Joined, Whole, Mark, needs, joined_tree, joined_left, joined_right}
 pub use Rattle.cw_trees.specs.Tree.{Leaf, Tree, Empty, Then, Sub, Inner, Search, search_leaf, first_ident}
-pub use Rattle.cw_trees.specs.Tree.{reserve_first, Found, Sign, Source, Ident, Reserved}
+pub use Rattle.cw_trees.specs.Tree.{reserve_first, Found, Sign, Source, Ident, Reserved, bare_name}
 pub use Rattle.cw_trees.specs.declared.Control.{Control}

@@ -110,7 +110,8 @@ names-flat (word ∷ words) all = flat-append
 spelled-flat : (words : List Seen) (names : List Entry) → AreFlat (spelled words names).tokens
 spelled-flat [] names = tt
 spelled-flat (word ∷ words) names = flat-append (word_tokens word names) (spelled words
-    (names_with word.kind word.text names)).tokens (token-flat word.kind word.text word.hash_line word.span.start names)
+    (names_with word.kind word.text names)).tokens
+    (token-flat word.kind word.text word.hash_line word.directive word.span.start names)
     (spelled-flat words (names_with word.kind word.text names))
 
 dead-braced : (number : ℕ) (tokens : List Token) → AreFlat tokens → IsLeafScrap (leaf_scrap (dead number tokens))
@@ -146,8 +147,9 @@ module _ (sound : list_all row_is_sound productions ≡ true) (braced : list_all
   }
   token-made name names (kind.Code code.SectionName) t known clean = names t.span.start known clean
   token-made name names (kind.Code code.FileName) t known clean = names t.span.start known clean
-  token-made name names k t known clean = form-made (token_form k t.text t.hash_line t.span.start known.names) known
-      (names_with k t.text known.names) (token-braced k t.text t.hash_line t.span.start known.names) clean
+  token-made name names k t known clean = form-made
+      (token_form k t.text t.hash_line t.directive t.span.start known.names) known (names_with k t.text known.names)
+      (token-braced k t.text t.hash_line t.directive t.span.start known.names) clean
 
   group-made : (k : TokKind) (t : Seen) (known : Known) (m : Made) → Makes C known m
       → Makes C known (group_made flags k t m)

@@ -1,5 +1,6 @@
 -- The laws of braces.
 use Rattle.std.specs.Prelude.{◌≡◌, ℕ, Bool, true, IfSome, List, ◌++◌, take, drop, All}
+use Rattle.cw_rules.specs.declared.tokens.Directive.{Directive}
 use Rattle.cw_base.specs.declared.flags.Flags.{Flags}
 use Rattle.cw_table.specs.Braces.{row_is_braced}
 use Rattle.cw_table.specs.Fitting.{row_fits}
@@ -22,8 +23,8 @@ use Rattle.cw_trees.specs.Tree.{Tree}
 
 -- the scrap of a token that makes one
 abbrev pub LeavesAreBraced : Type 0
-LeavesAreBraced = (kind : TokKind) (text : List ℕ) (hash_line : Bool) (number : ℕ) (names : List Entry)
-    → IfSome (token_form kind text hash_line number names) (λ form. IsBracedScrap (leaf_scrap form))
+LeavesAreBraced = (kind : TokKind) (text : List ℕ) (hash_line : Bool) (d : Directive) (number : ℕ) (names : List Entry)
+    → IfSome (token_form kind text hash_line d number names) (λ form. IsBracedScrap (leaf_scrap form))
 
 -- One production, of a row that keeps the law of rows, keeps the braces of all scraps.
 abbrev pub ProductionsKeepBraces : Type 0

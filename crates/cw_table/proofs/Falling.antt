@@ -6,7 +6,7 @@ use Rattle.cw_table.proofs.Terms.{length-take-le, get_or_past, list_all, nat_tes
 use Rattle.cw_table.proofs.Terms.{CatSet, Flags, rank, may_be_bare, in_set, Maybe, bare_name, Scrap, no_scrap, join}
 use Rattle.cw_table.proofs.Terms.{Piece, Row, RowResult, Is, SameAs, empty, tests_of, test, result_at, all_hold}
 use Rattle.cw_table.proofs.Terms.{row_fits, scraps_in, numbers_from, result_from, IsLowering, IsSound, cats_of}
-use Rattle.cw_table.proofs.Terms.{row_pieces, joined_of, alone, with_cat, new_scrap, reserved_at, rewrite_from, State}
+use Rattle.cw_table.proofs.Terms.{row_pieces, joined_of, alone, with_cat, new_scrap, worded_at, rewrite_from, State}
 use Rattle.cw_table.proofs.Terms.{rewrite, rank_with, weight_of, weight, fine_with, is_fine}
 use Rattle.cw_table.proofs.ScrapFacts.{all-append, all-take, all-drop, all-get, rank_with-none, rank_with-least}
 use Rattle.cw_table.proofs.ScrapFacts.{rank-most, joined-bare, weight-append, weight-split, weight-least, weight-one}
@@ -210,8 +210,8 @@ new-fine f r xs s fits fine = go (alone r.replaced (row_pieces f r (cats_of xs))
 
 -- Rewriting as a whole. The identifier is reserved first, which changes no category and raises no weight.
 at-fits : (r : Row) (ps : List Scrap) → row_fits r (cats_of ps) ≡ true
-    → row_fits r (cats_of (reserved_at r.action.reserve ps)) ≡ true
-at-fits r ps fits = ap (λ cs. row_fits r cs) (at-cats r.action.reserve ps) ∙ fits
+    → row_fits r (cats_of (worded_at r.action ps)) ≡ true
+at-fits r ps fits = ap (λ cs. row_fits r cs) (at-cats r.action ps) ∙ fits
 
 parts-weight : (o k : ℕ) (qs : List Scrap) → (weight (take o qs) + weight (take k (drop o qs)))
     + weight (drop (o + k) qs) ≡ weight qs

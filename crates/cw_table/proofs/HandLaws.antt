@@ -24,6 +24,7 @@ no_head = record {
   other_count = 0;
   underline = None;
   reserve = None;
+  bold = None;
 }
 
 -- the data at a place, as a row

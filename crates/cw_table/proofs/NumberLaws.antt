@@ -1,11 +1,12 @@
 -- Productions keep the numbers of the source tokens, in order.
-use Rattle.cw_table.proofs.Terms.{◌≡◌, ℕ, zero, suc, ◌+◌, true, Option, List, [], ◌∷◌, ◌++◌, map, get_or, take, drop}
+use Rattle.cw_table.proofs.Terms.{◌≡◌, ℕ, zero, suc, ◌+◌, true, List, [], ◌∷◌, ◌++◌, map, get_or, take, drop}
 use Rattle.cw_table.proofs.Terms.{set, refl, sym, ◌∙◌, ap, drop-drop, arith, append_assoc, take-append-drop, list_all}
 use Rattle.cw_table.proofs.Terms.{nat_tests, Cat, Flags, MathMode, Leaf, Tree, Empty, Then, Sub, Inner, Search}
 use Rattle.cw_table.proofs.Terms.{reserved_leaf, reserve_first, Scrap, no_scrap, Joined, Whole, Mark, needs, after}
 use Rattle.cw_table.proofs.Terms.{toggled, joined_tree, Piece, Row, result_at, scraps_in, numbers_from, row_is_sound}
 use Rattle.cw_table.proofs.Terms.{IsSound, cats_of, row_pieces, math_piece, joined_of, new_from, new_scrap, search_in}
-use Rattle.cw_table.proofs.Terms.{reserved_in, reserved_at, named_scrap, named_right, rewrite_from, State, rewrite}
+use Rattle.cw_table.proofs.Terms.{Action, reserved_in, bolded, worded_at, named_scrap, named_right, rewrite_from, State}
+use Rattle.cw_table.proofs.Terms.{rewrite}
 use Rattle.cw_table.proofs.Terms.{Place, Nowhere, At, next_place, weight, is_fine, steps}
 use Rattle.cw_trees.specs.Flat.{leaf_numbers, is_name_text, continues_name, struck}
 use Rattle.cw_table.specs.{Normal.normal, SourceNumbers.numbers_of}
@@ -36,13 +37,18 @@ struck-reserved (Then leaf rest) = grind (arith, nat_tests, struck-reserved rest
 struck-reserved (Sub tree rest) = grind (arith, nat_tests, struck-reserved tree, struck-reserved rest)
 struck-reserved (Inner tree rest) = grind (arith, nat_tests, struck-reserved rest, continues-reserved)
 
-numbers-set : (xs : List Scrap) (k : ℕ) → numbers_of (set xs k (reserved_in (get_or xs k no_scrap))) ≡ numbers_of xs
-numbers-set [] k = refl
-numbers-set (x ∷ xs) zero = ap (λ ns. ns ++ numbers_of xs) (struck-reserved x.tree)
-numbers-set (x ∷ xs) (suc k) = ap (λ ns. struck x.tree ++ ns) (numbers-set xs k)
+struck-bolded : (s : Scrap) → struck (bolded s).tree ≡ struck s.tree
+struck-bolded s = grind (arith, nat_tests, struck-reserved)
 
-numbers-at : (o : Option ℕ) (xs : List Scrap) → numbers_of (reserved_at o xs) ≡ numbers_of xs
-numbers-at x1 xs = grind (arith, nat_tests, numbers-set)
+numbers-set : (f : Scrap → Scrap) → ((s : Scrap) → struck (f s).tree ≡ struck s.tree) → (xs : List Scrap) (k : ℕ)
+    → numbers_of (set xs k (f (get_or xs k no_scrap))) ≡ numbers_of xs
+numbers-set f keeps [] k = refl
+numbers-set f keeps (x ∷ xs) zero = ap (λ ns. ns ++ numbers_of xs) (keeps x)
+numbers-set f keeps (x ∷ xs) (suc k) = ap (λ ns. struck x.tree ++ ns) (numbers-set f keeps xs k)
+
+numbers-at : (action : Action) (xs : List Scrap) → numbers_of (worded_at action xs) ≡ numbers_of xs
+numbers-at action xs =
+    grind (arith, nat_tests, numbers-set reserved_in (λ s. struck-reserved s.tree), numbers-set bolded struck-bolded)
 
 numbers-named : (name : ℕ) (s : Scrap) → struck (named_scrap name s).tree ≡ struck s.tree
 numbers-named name s = grind (arith, nat_tests, struck-reserved)
@@ -116,20 +122,20 @@ from-numbers : (flags : Flags) (row : Row) (xs : List Scrap) → IsSound row →
 from-numbers flags row xs s = grind (
   arith,
   nat_tests,
-  numbers-append (take row.offset (reserved_at row.action.reserve xs))
-      (new_scrap flags row (reserved_at row.action.reserve xs) ∷ named_right (search_in row.action.reserve xs)
-      (drop (row.offset + row.replaced) (reserved_at row.action.reserve xs))),
-  new-numbers (result_at row.result (cats_of (reserved_at row.action.reserve xs))) row.replaced
-      (row_pieces flags row (cats_of (reserved_at row.action.reserve xs))) (reserved_at row.action.reserve xs),
-  numbers_at (reserved_at row.action.reserve xs),
-  pieces-whole flags row (cats_of (reserved_at row.action.reserve xs)) s,
-  run-numbers (reserved_at row.action.reserve xs) row.offset row.replaced,
+  numbers-append (take row.offset (worded_at row.action xs))
+      (new_scrap flags row (worded_at row.action xs) ∷ named_right (search_in row.action.reserve xs)
+      (drop (row.offset + row.replaced) (worded_at row.action xs))),
+  new-numbers (result_at row.result (cats_of (worded_at row.action xs))) row.replaced
+      (row_pieces flags row (cats_of (worded_at row.action xs))) (worded_at row.action xs),
+  numbers_at (worded_at row.action xs),
+  pieces-whole flags row (cats_of (worded_at row.action xs)) s,
+  run-numbers (worded_at row.action xs) row.offset row.replaced,
   numbers-right (search_in row.action.reserve xs)
-      (drop (row.offset + row.replaced) (reserved_at row.action.reserve xs)),
-  drop-drop row.replaced row.offset (reserved_at row.action.reserve xs),
-  numbers-split row.replaced (drop row.offset (reserved_at row.action.reserve xs)),
-  numbers-split row.offset (reserved_at row.action.reserve xs),
-  numbers-at row.action.reserve xs,
+      (drop (row.offset + row.replaced) (worded_at row.action xs)),
+  drop-drop row.replaced row.offset (worded_at row.action xs),
+  numbers-split row.replaced (drop row.offset (worded_at row.action xs)),
+  numbers-split row.offset (worded_at row.action xs),
+  numbers-at row.action xs,
 )
 
 pub rewrite-numbers : (flags : Flags) (row : Row) (place : ℕ) (st : State) → IsSound row

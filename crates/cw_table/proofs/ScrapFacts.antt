@@ -4,8 +4,9 @@ use Rattle.cw_table.proofs.Terms.{◌++◌, map, length, get_or, take, drop, set
 use Rattle.cw_table.proofs.Terms.{zero-add, take-append-drop, list_all, nat_tests, both, both-left, both-right, Cat}
 use Rattle.cw_table.proofs.Terms.{End, rank, MathMode, Source, Ident, Reserved, Sign, Tree, Empty, Then, Sub, Inner}
 use Rattle.cw_table.proofs.Terms.{bare_name, Search, reserve_first, Scrap, no_scrap, Joined, Whole, Mark, toggled}
-use Rattle.cw_table.proofs.Terms.{joined_tree, needs, is_exp, cats_of, reserved_in, reserved_at, is_bare_name}
-use Rattle.cw_table.proofs.Terms.{named_scrap, named_right, rank_with, weight_of, weight, fine_with, is_fine}
+use Rattle.cw_table.proofs.Terms.{joined_tree, needs, Action, is_exp, cats_of, reserved_in, bolded, worded_at}
+use Rattle.cw_table.proofs.Terms.{is_bare_name, named_scrap, named_right, rank_with, weight_of, weight, fine_with}
+use Rattle.cw_table.proofs.Terms.{is_fine}
 
 -- tests of lists
 
@@ -35,6 +36,11 @@ pub all-get : {A : Type 0} (p : A → Bool) (xs : List A) (n : ℕ) (d : A) → 
 all-get p [] n d k h = absurd (omega arith)
 all-get p (x ∷ xs) zero d k h = both-left (p x) _ h
 all-get p (x ∷ xs) (suc n) d k h = all-get p xs n d (omega arith) (both-right (p x) _ h)
+
+pub fine-at : (xs : List Scrap) (n : ℕ) → list_all is_fine xs ≡ true → is_fine (get_or xs n no_scrap) ≡ true
+fine-at [] n h = refl
+fine-at (x ∷ xs) zero h = both-left _ _ h
+fine-at (x ∷ xs) (suc n) h = fine-at xs n (both-right _ _ h)
 
 pub all-map : {A : Type 0} (p : A → Bool) (f : A → A) → ((x : A) → p x ≡ true → p (f x) ≡ true) → (xs : List A)
     → list_all p xs ≡ true → list_all p (map f xs) ≡ true
@@ -126,27 +132,47 @@ reserved-fine s = ap (λ b. fine_with s.cat b) (reserve-bare s.tree)
 pub reserved-weight : (s : Scrap) → weight_of (reserved_in s) ≤ weight_of s
 reserved-weight s = grind (arith, nat_tests, reserve-bare, rank_with-none, rank_with-least)
 
-set-cats : (xs : List Scrap) (n : ℕ) → cats_of (set xs n (reserved_in (get_or xs n no_scrap))) ≡ cats_of xs
-set-cats [] n = refl
-set-cats (x ∷ xs) zero = refl
-set-cats (x ∷ xs) (suc n) = ap (λ cs. x.cat ∷ cs) (set-cats xs n)
+bolded-cat : (s : Scrap) → (bolded s).cat ≡ s.cat
+bolded-cat s = grind (arith, nat_tests)
 
-set-weight : (xs : List Scrap) (n : ℕ) → weight (set xs n (reserved_in (get_or xs n no_scrap))) ≤ weight xs
-set-weight [] n = omega arith
-set-weight (x ∷ xs) zero = omega (arith, reserved-weight x)
-set-weight (x ∷ xs) (suc n) = omega (arith, set-weight xs n)
+bolded-fine : (s : Scrap) → is_fine s ≡ true → is_fine (bolded s) ≡ true
+bolded-fine s h = grind (arith, nat_tests, reserved-fine)
 
-pub at-cats : (o : Option ℕ) (xs : List Scrap) → cats_of (reserved_at o xs) ≡ cats_of xs
-at-cats x1 xs = grind (arith, nat_tests, set-cats)
+bolded-weight : (s : Scrap) → weight_of (bolded s) ≤ weight_of s
+bolded-weight s = grind (arith, nat_tests, reserved-weight)
 
-pub at-weight : (o : Option ℕ) (xs : List Scrap) → weight (reserved_at o xs) ≤ weight xs
-at-weight x1 xs = grind (arith, nat_tests, set-weight)
+-- in one of the scraps something is done that changes no category, raises no weight and keeps it fine
+module _ (f : Scrap → Scrap) where
+  set-cats : ((s : Scrap) → (f s).cat ≡ s.cat) → (xs : List Scrap) (n : ℕ)
+      → cats_of (set xs n (f (get_or xs n no_scrap))) ≡ cats_of xs
+  set-cats keeps [] n = refl
+  set-cats keeps (x ∷ xs) zero = ap (λ c. c ∷ cats_of xs) (keeps x)
+  set-cats keeps (x ∷ xs) (suc n) = ap (λ cs. x.cat ∷ cs) (set-cats keeps xs n)
 
-pub at-fine : (o : Option ℕ) (xs : List Scrap) → list_all is_fine xs ≡ true → list_all is_fine (reserved_at o xs) ≡ true
-at-fine x1 xs h = grind (arith, nat_tests, all-set, reserved-fine)
+  set-weight : ((s : Scrap) → weight_of (f s) ≤ weight_of s) → (xs : List Scrap) (n : ℕ)
+      → weight (set xs n (f (get_or xs n no_scrap))) ≤ weight xs
+  set-weight falls [] n = omega arith
+  set-weight falls (x ∷ xs) zero = omega (arith, falls x)
+  set-weight falls (x ∷ xs) (suc n) = omega (arith, set-weight falls xs n)
 
-pub at-length : (o : Option ℕ) (xs : List Scrap) → length (reserved_at o xs) ≡ length xs
-at-length o xs = sym (cats-length (reserved_at o xs)) ∙ ap length (at-cats o xs) ∙ cats-length xs
+  set-fine : ((s : Scrap) → is_fine s ≡ true → is_fine (f s) ≡ true) → (xs : List Scrap) (n : ℕ)
+      → list_all is_fine xs ≡ true → list_all is_fine (set xs n (f (get_or xs n no_scrap))) ≡ true
+  set-fine keeps xs n h = all-set is_fine xs n (f (get_or xs n no_scrap)) (keeps _ (fine-at xs n h)) h
+
+pub at-cats : (action : Action) (xs : List Scrap) → cats_of (worded_at action xs) ≡ cats_of xs
+at-cats action xs = grind (arith, nat_tests, set-cats reserved_in (λ s. refl), set-cats bolded bolded-cat)
+
+pub at-weight : (action : Action) (xs : List Scrap) → weight (worded_at action xs) ≤ weight xs
+at-weight action xs =
+    grind (arith, nat_tests, set-weight reserved_in reserved-weight, set-weight bolded bolded-weight)
+
+pub at-fine : (action : Action) (xs : List Scrap) → list_all is_fine xs ≡ true
+    → list_all is_fine (worded_at action xs) ≡ true
+at-fine action xs h =
+    grind (arith, nat_tests, set-fine reserved_in (λ s h. reserved-fine s), set-fine bolded bolded-fine)
+
+pub at-length : (action : Action) (xs : List Scrap) → length (worded_at action xs) ≡ length xs
+at-length action xs = sym (cats-length (worded_at action xs)) ∙ ap length (at-cats action xs) ∙ cats-length xs
 
 -- the scraps to the right
 exp-named : (c : Cat) (b : Option ℕ) (name : ℕ) → (is_exp c && is_bare_name name b) ≡ true → rank_with c b ≡ 4

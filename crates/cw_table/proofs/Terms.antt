@@ -36,19 +36,20 @@ pub use Rattle.cw_table.specs.Fitting.{all_hold, first_of, row_fits, seen, windo
 pub use Rattle.cw_table.specs.Normal.{Production, rank_with, weight_of, weight, fine_with, is_fine, Place, Nowhere, At}
 pub use Rattle.cw_table.specs.Normal.{least_place, next_place, steps, log_of, normal, log, count}
 pub use Rattle.cw_table.specs.NormalWalk.{walk_left, Position, positions_of, turns, walk_of, walked_of}
-pub use Rattle.cw_table.specs.Rewriting.{State, cats_of, row_pieces, joined_of, alone, with_cat, new_scrap, reserved_at}
+pub use Rattle.cw_table.specs.Rewriting.{State, cats_of, row_pieces, joined_of, alone, with_cat, new_scrap, worded_at}
 pub use Rattle.cw_table.specs.Rewriting.{rewrite_from, rewrite, math_piece, new_from, search_in, reserved_in}
-pub use Rattle.cw_table.specs.Rewriting.{named_scrap, named_right, is_bare_name}
+pub use Rattle.cw_table.specs.Rewriting.{bolded, named_scrap, named_right, is_bare_name}
 pub use Rattle.cw_table.specs.Rows.{tests_of, empty, test, result_at, no_row, pieces_for, row_numbered, row_of, joins}
 pub use Rattle.cw_table.specs.Rows.{replaces_all, only}
 pub use Rattle.cw_table.specs.Safe.{Pair, SafeIsSound, brings, is_hazard, least, members, pairs_by, pairs_of, reserves}
 pub use Rattle.cw_table.specs.Safe.{safe, sees_moved, suits_after, suits_before, rewritten, suits_at}
 pub use Rattle.cw_table.specs.Sound.{IsSound, row_is_sound, IsLowering, is_blank, is_exp, is_used, lowers}
-pub use Rattle.cw_table.specs.Sound.{reserve_is_good, result_is_good, same_numbers, sound_parts, underline_is_good}
+pub use Rattle.cw_table.specs.Sound.{names_replaced, result_is_good, same_numbers, sound_parts, underline_is_good}
 pub use Rattle.cw_table.specs.Sound.{without_end, scraps_in, numbers_from, result_from, are_numbered, counts_parts}
 pub use Rattle.cw_table.specs.Sound.{marks_parts, pieces_parts, result_parts, scrap_in, tests_parts}
 pub use Rattle.cw_table.specs.declared.productions.TheConstants.{TESTS, USUAL, OTHER, HEADS, ROW_COUNT}
 pub use Rattle.cw_table.specs.declared.productions.TheConstants.{USUAL_INSERTIONS, OTHER_INSERTIONS}
+pub use Rattle.cw_table.specs.declared.types.Action.{Action}
 pub use Rattle.cw_table.specs.declared.types.RowResult.TheVariants.{Is, SameAs}
 pub use Rattle.cw_trees.specs.Joining.{Scrap, whole, no_scrap, join, Joined, Whole, Mark, needs, after, toggled}
 pub use Rattle.cw_trees.specs.Joining.{joined_tree}

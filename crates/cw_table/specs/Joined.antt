@@ -20,6 +20,7 @@ joined tests usual other head = record {
     choice = head.choice;
     underline = head.underline;
     reserve = head.reserve;
+    bold = head.bold;
   };
 }
 

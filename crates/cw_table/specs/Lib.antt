@@ -15,3 +15,4 @@ pub mod Reaching
 pub mod SourceNumbers
 pub mod NormalLaws
 pub mod Braces
+pub mod Reserving

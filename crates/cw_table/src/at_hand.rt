@@ -91,6 +91,14 @@ impl RowAtHand {
         HEADS[self.index].reserve
     }
 
+    /// The tested scrap that becomes a reserved word in the new tree, where it is one identifier alone.
+    #[inline(always)]
+    pub fn bold(&self) -> Option<u8>
+        ensures { result ≡ self.now.action.bold }
+    {
+        HEADS[self.index].bold
+    }
+
     /// The number of pieces of its usual translation, or of the other one.
     #[inline(always)]
     pub fn piece_count(&self, other: bool) -> usize

@@ -47,7 +47,8 @@ impl Piece {
 impl Row {
     ghost use Rattle.std.specs.Prelude.{drop};
     ghost use Rattle.cw_table.specs.Sound.{IsSound, counts_parts, holds_replaced, is_blank, lowers, lowers_all};
-    ghost use Rattle.cw_table.specs.Sound.{marks_parts, pieces_parts, result_is_good, result_parts, row_is_sound};
+    ghost use Rattle.cw_table.specs.Sound.{marks_parts, names_replaced, pieces_parts, result_is_good, result_parts};
+    ghost use Rattle.cw_table.specs.Sound.{row_is_sound};
     ghost use Rattle.cw_table.specs.Sound.{tests_parts, without_end};
 
     /// Whether the row is a good one by itself: it has from one to four tests, the replaced scraps are
@@ -165,12 +166,20 @@ impl Row {
             None => true,
             Some(k) => k < self.test_count && !self.test_at(k as usize).has(Cat::End),
         };
-        let reserve = match self.action.reserve {
+        underline
+            && self.replaces_named(self.action.reserve)
+            && self.replaces_named(self.action.bold)
+    }
+
+    // Whether a scrap that the row names, if it names one, is one that it replaces.
+    fn replaces_named(&self, named: Option<u8>) -> bool
+        ensures { result ≡ names_replaced self.now named }
+    {
+        match named {
             None => true,
             Some(k) => self.offset <= k
                 && (k as usize) < self.offset as usize + self.replaced as usize,
-        };
-        underline && reserve
+        }
     }
 
     fn has_sound_counts(&self) -> bool

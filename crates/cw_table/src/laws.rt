@@ -1,5 +1,6 @@
 //! The laws of rewriting, of safe distances, and of the walk with a pointer.
 ghost use Rattle.cw_table.specs.Braces.{OperatorsStandInThree, RowsAreBraced};
+ghost use Rattle.cw_table.specs.Reserving.{OneReserves, ThreeSetBold};
 ghost use Rattle.cw_table.specs.SourceNumbers.{NormalKeepsNumbers, StepsKeepNumbers};
 ghost use Rattle.cw_table.specs.NormalLaws.{CountAtMostEight, CountAtMostWeight, LeastIsSafe, NormalIsDone};
 ghost use Rattle.cw_table.specs.NormalLaws.{NormalStays, SafeReachesFar, StaysFine, TicksAtMost, TurnsAtMost};
@@ -42,4 +43,11 @@ pub fn walk_laws()
 pub fn braces_law()
     ensures rows { RowsAreBraced }
     ensures operators { OperatorsStandInThree }
+{}
+
+/// The law of reserved words: one production makes a name a type from then on, and three print a tag as a reserved
+/// word and reserve nothing. It does nothing: what it ensures is for proofs.
+pub fn reserving_law()
+    ensures one { OneReserves }
+    ensures bold { ThreeSetBold }
 {}

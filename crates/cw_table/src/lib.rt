@@ -14,7 +14,7 @@ mod types;
 
 pub use at_hand::RowAtHand;
 pub use back::step_back;
-pub use laws::{braces_law, distance_laws, rewriting_laws, walk_laws};
+pub use laws::{braces_law, distance_laws, reserving_law, rewriting_laws, walk_laws};
 pub use masks::{first_of_four, first_production, may_fit};
 pub use productions::{ROW_COUNT, table};
 pub use ranks::rank;

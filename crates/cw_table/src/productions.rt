@@ -18,23 +18,25 @@ macro_rules! productions {
             1: [any but RawUbin Ubinop ConstLike Dot], [Insert]; 0 + 2 => same 0; [0 1];
             2: [BeginArg], [EndArg]; 0 + 2 => is Exp; [0 1];
             3: [any but BeginArg], [EndArg]; 0 + 2 => is EndArg; [0 1];
-            4: [Exp], [Lbrace IntLike Decl]; 0 + 1 => is FnDecl;
-                [Wall Cancel Indent Indent 0] or Indent [0] underline 0;
+            4: [Exp], [Lbrace]; 0 + 1 => is FnDecl; [Wall Cancel Indent Indent 0] or Indent [0] underline 0;
             5: [Exp], [Unop]; 0 + 2 => is Exp; [0 1];
-            6: [Exp], [Binop Ubinop Colcol Dots], [Exp]; 0 + 3 => is Exp; [0 1 2];
-            7: [Exp], [Comma], [Exp]; 0 + 3 => is Exp; [0 1 OptionalLineBreak9 2];
+            6: [Exp Paren], [Binop Ubinop Colcol Dots], [Exp Paren]; 0 + 3 => is Exp; [0 1 2];
+            7: [Exp], [Comma], [Exp Paren]; 0 + 3 => is Exp; [0 1 OptionalLineBreak9 2];
             8: [Exp Attr], [Semi]; 0 + 2 => is Stmt; [0 1];
             9: [Exp], [Colon], [not Binop Colon]; 0 + 2 => is Tag; [0 Wall Cancel 1] underline 0;
             10: [Exp], [Rbrace]; 0 + 1 => is Stmt; [0];
-            11: [Exp], [Exp Cast]; 0 + 2 => is Exp; [0 1];
-            12: [Lpar], [Exp Ubinop], [Rpar]; 0 + 3 => is Exp; [0 1 2];
-            13: [Lpar], [Rpar]; 0 + 2 => is Exp; [0 ThinSpace 1];
+            11: [Exp], [Paren Cast]; 0 + 2 => is Exp; [0 1];
+            12: [Lpar], [Exp Paren Ubinop Binop Unop Question Comma Colon Colcol Tag IfClause IfLike ElseLike
+                ForLike DoLike CaseLike SizeofLike TypeofLike AlignasLike StructLike TypedefLike], [Rpar];
+                0 + 3 => is Paren;
+                [0 1 2];
+            13: [Lpar], [Rpar]; 0 + 2 => is Paren; [0 ThinSpace 1];
             14: [Lpar], [DeclHead IntLike Cast], [Rpar]; 0 + 3 => is Cast; [0 1 2];
-            15: [Lpar], [DeclHead IntLike Exp], [Comma]; 0 + 3 => is Lpar; [0 1 2 OptionalLineBreak9];
+            15: [Lpar], [DeclHead IntLike Exp Paren], [Comma]; 0 + 3 => is Lpar; [0 1 2 OptionalLineBreak9];
             16: [Lpar], [Stmt Decl]; 0 + 2 => is Lpar; [0 1 Blank];
-            17: [Unop Colcol], [Exp IntLike]; 0 + 2 => same 1; [0 1];
+            17: [Unop Colcol], [Exp IntLike Paren]; 0 + 2 => same 1; [0 1];
             18: [Ubinop], [Cast], [Rpar]; 0 + 2 => is Cast; [OpenBrace 0 CloseBrace 1];
-            19: [Ubinop], [Exp IntLike]; 0 + 2 => same 1; [OpenBrace 0 CloseBrace 1];
+            19: [Ubinop], [Exp IntLike Paren]; 0 + 2 => same 1; [OpenBrace 0 CloseBrace 1];
             20: [Ubinop], [Binop]; 0 + 2 => is Binop; [OpenRelation 0 OpenBrace 1 CloseBrace CloseBrace];
             21: [Binop], [Binop]; 0 + 2 => is Binop;
                 [OpenRelation OpenBrace 0 CloseBrace OpenBrace 1 CloseBrace CloseBrace];
@@ -42,25 +44,25 @@ macro_rules! productions {
             23: [Cast], [Exp]; 0 + 2 => is Exp; [0 Blank 1];
             24: [Cast], [Semi Comma Binop Question Colon]; 0 + 1 => is Exp; [0];
             25: [SizeofLike], [Cast]; 0 + 2 => is Exp; [0 1];
-            26: [SizeofLike], [Exp]; 0 + 2 => is Exp; [0 Blank 1];
-            27: [IntLike], [IntLike StructLike]; 0 + 2 => same 1; [0 Blank 1];
-            28: [IntLike], [Exp], [RawInt StructLike]; 0 + 2 => is IntLike; [0 1];
+            26: [SizeofLike], [Exp Paren]; 0 + 2 => is Exp; [0 Blank 1];
+            27: [IntLike], [IntLike StructLike TypedefLike]; 0 + 2 => same 1; [0 Blank 1];
+            28: [IntLike], [Exp], [RawInt IntLike ConstLike StructLike]; 0 + 2 => is IntLike; [0 Blank 1];
             29: [IntLike], [Exp Ubinop Colon]; 0 + 1 => is DeclHead; [0 Blank];
             30: [IntLike], [Semi Binop]; 0 + 1 => is DeclHead; [0];
             31: [DeclHead], [Comma]; 0 + 2 => is DeclHead; [0 1 Blank];
             32: [DeclHead], [Ubinop]; 0 + 2 => is DeclHead; [0 OpenBrace 1 CloseBrace];
-            33: [DeclHead], [Exp], [not Lpar Exp Cast]; 0 + 2 => is DeclHead; [0 1] underline 1;
+            33: [DeclHead], [Exp], [not Lpar Exp Cast Paren TexLike Box]; 0 + 2 => is DeclHead; [0 1] underline 1;
             34: [DeclHead], [Binop Colon], [Exp], [Comma Semi Rpar End]; 0 + 3 => is DeclHead; [0 1 2];
             35: [DeclHead], [Cast]; 0 + 2 => is DeclHead; [0 1];
-            36: [DeclHead], [Lbrace IntLike Decl]; 0 + 1 => is FnDecl; [Wall Indent Indent 0] or Indent [0];
+            36: [DeclHead], [Lbrace]; 0 + 1 => is FnDecl; [Wall Indent Indent 0] or Indent [0];
             37: [DeclHead], [Semi]; 0 + 2 => is Decl; [0 1];
             38: [Decl], [Decl]; 0 + 2 => is Decl; [0 Break 1];
             39: [Decl], [Stmt Function]; 0 + 2 => same 1; [0 BigBreak 1] or Separate [0 Break 1];
             40: [StructLike], [Lbrace]; 0 + 2 => is StructHead; [0 Blank 1];
-            41: [StructLike], [Exp IntLike], [Semi]; 0 + 2 => is DeclHead; [0 Blank 1] underline 1 reserve 1;
+            41: [StructLike], [Exp IntLike], [Semi]; 0 + 2 => is DeclHead; [0 Blank 1] underline 1 bold 1;
             42: [StructLike], [Exp IntLike], [Lbrace]; 0 + 3 => is StructHead;
-                [0 Blank 1 Blank 2] underline 1 reserve 1;
-            43: [StructLike], [Exp IntLike], [not Semi Lbrace]; 0 + 2 => is IntLike; [0 Blank 1];
+                [0 Blank 1 Blank 2] underline 1 bold 1;
+            43: [StructLike], [Exp IntLike], [not Semi Lbrace]; 0 + 2 => is IntLike; [0 Blank 1] bold 1;
             44: [StructHead], [Decl Stmt Function], [Rbrace]; 0 + 3 => is IntLike;
                 [0 Indent Break 1 Outdent Break 2];
             45: [StructHead], [Rbrace]; 0 + 2 => is IntLike; [0 ThinSpace 1];
@@ -72,7 +74,7 @@ macro_rules! productions {
                 [Break 0 Indent Break 1 Break Backup 2 Outdent Break];
             51: [Lbrace], [Exp], [Rbrace]; 0 + 3 => is Exp; [0 1 2];
             52: [Lbrace], [Exp], [Comma], [Rbrace]; 0 + 4 => is Exp; [0 1 2 3];
-            53: [IfLike], [Exp Cast]; 0 + 2 => is IfClause; [0 Blank 1];
+            53: [IfLike], [Exp Cast Paren]; 0 + 2 => is IfClause; [0 Blank 1];
             54: [ElseLike ForLike], [Lbrace]; 0 + 1 => is ElseHead; [0];
             55: [ElseLike ForLike], [Stmt Function]; 0 + 2 => is Stmt;
                 [Break 0 OptionalBreak Indent 1 Outdent Break];
@@ -90,21 +92,23 @@ macro_rules! productions {
             63: [IfHead], [Stmt Exp], [not ElseLike]; 0 + 1 => is ElseHead; [0];
             64: [DoLike], [Stmt Exp], [ElseLike], [Semi]; 0 + 4 => is Stmt;
                 [0 OptionalBreak Wall Cancel 1 Cancel Wall OptionalBreak 2 3];
-            65: [ForLike], [Exp Cast]; 0 + 2 => is ElseLike; [0 Blank 1];
+            65: [ForLike], [Exp Cast Paren]; 0 + 2 => is ElseLike; [0 Blank 1];
             66: [CaseLike], [Semi]; 0 + 2 => is Stmt; [0 1];
             67: [CaseLike], [Colon]; 0 + 2 => is Tag; [0 1];
-            68: [CaseLike], [Exp]; 0 + 2 => is Exp; [0 Blank 1];
+            68: [CaseLike], [Exp Paren]; 0 + 2 => is Exp; [0 Blank 1];
             69: [Tag], [Tag]; 0 + 2 => is Tag; [0 OptionalBreak 1];
             70: [Tag], [Stmt Decl Function]; 0 + 2 => same 1; [Break Backup 0 OptionalBreak 1];
             71: [Stmt], [Decl Function]; 0 + 2 => same 1; [0 BigBreak 1];
             72: [Stmt], [Stmt]; 0 + 2 => is Stmt; [0 Break 1] or Force [0 OptionalBreak 1];
             73: [Semi]; 0 + 1 => is Stmt; [Blank 0];
-            74: [Lproc], [DefineLike], [Exp]; 0 + 2 => is Lproc; [0 1] underline 2;
-            75: [Lproc], [DefineLike IfLike ElseLike]; 0 + 2 => is Lproc; [0 1];
+            74: [Lproc], [DefineLike], [Exp]; 0 + 3 => is Lproc; [0 1 Blank 2 OptionalBreak] underline 2;
+            75: [Lproc], [HashLike TypedefLike]; 0 + 2 => is Lproc; [0 1];
             76: [Lproc], [Rproc]; 0 + 2 => is Insert; [Inserted 0 1];
-            77: [Lproc], [Exp Function Stmt Decl DeclHead IntLike], [Rproc]; 0 + 3 => is Insert;
+            77: [Lproc], [Exp Function Stmt Decl DeclHead IntLike FnDecl Cast Attr Tag IfClause SizeofLike
+                TypeofLike AlignasLike StructLike CaseLike IfLike ElseLike ForLike DoLike Unop Binop Ubinop
+                Question Comma Semi Colon Rpar Lbrace Rbrace], [Rproc]; 0 + 3 => is Insert;
                 [Inserted 0 Blank 1 2];
-            78: [Lproc], [Exp], [Exp], [Rproc Insert]; 0 + 2 => is Lproc; [0 Blank 1 OptionalBreak];
+            78: [MdefineLike], [Exp], [Paren Cast]; 0 + 3 => is HashLike; [0 Blank 1 2 OptionalBreak] underline 1;
             79: [SectionScrap], [Semi]; 0 + 2 => is Stmt; [0 1 Break];
             80: [SectionScrap], [not RawInt IntLike ConstLike StructLike TypedefLike DeclHead StructHead FnDecl
                 IfLike ForLike DoLike CaseLike ElseLike]; 0 + 1 => is Exp;
@@ -112,9 +116,9 @@ macro_rules! productions {
             81: [Insert], [any but RawInt IntLike ConstLike StructLike TypedefLike DeclHead StructHead RawUbin
                 Ubinop Dot]; 0 + 2 => same 1;
                 [0 1];
-            82: [TypedefLike], [IntLike Cast], [Comma Semi]; 1 + 1 => is Exp; [1];
+            82: [TypedefLike], [IntLike Cast], [Comma Semi]; 0 + 2 => is TypedefLike; [0 Blank 1];
             83: [TypedefLike], [IntLike]; 0 + 2 => is TypedefLike; [0 Blank 1];
-            84: [TypedefLike], [Exp], [not Lpar Exp Cast]; 0 + 2 => is TypedefLike;
+            84: [TypedefLike], [Exp], [not Lpar Exp Cast Paren TexLike Box]; 0 + 2 => is TypedefLike;
                 [0 Blank 1] underline 1 reserve 1;
             85: [TypedefLike], [Comma]; 0 + 2 => is TypedefLike; [0 1 Blank];
             86: [TypedefLike], [Semi]; 0 + 2 => is Decl; [0 1];
@@ -126,7 +130,7 @@ macro_rules! productions {
             92: [ConstLike]; 0 + 1 => is IntLike; [0];
             93: [Cast], [Lbrace], [Rbrace]; 0 + 3 => is Exp; [0 1 ThinSpace 2];
             94: [Cast], [Lbrace], [Exp], [Rbrace]; 0 + 4 => is Exp; [0 1 2 3];
-            95: [Lbrace Comma], [Dot], [Exp]; 1 + 2 => is Exp; [OpenBrace 1 CloseBrace 2];
+            95: [Lbrace Comma], [Dot], [Exp RawInt IntLike]; 1 + 2 => is Exp; [OpenBrace 1 CloseBrace 2];
             96: [Lpar], [Tag], [Exp], [Comma Rpar]; 1 + 2 => is Exp; [1 Blank 2];
             97: [Dot]; 0 + 1 => is Binop; [0];
             98: [Stmt Decl Function ElseLike IfClause], [Exp], [End Rproc ElseLike]; 1 + 1 => is Stmt; [1];
@@ -140,7 +144,7 @@ macro_rules! productions {
                 [OpenBrace 0 CloseBrace OpenBrace 1 CloseBrace];
             105: [Exp], [Stmt Function]; 0 + 2 => same 1; [0 Break 1] or Force [0 OptionalBreak 1];
             106: [StructHead], [Exp], [Comma], [Rbrace]; 1 + 2 => is Stmt; [1 2];
-            107: [Binop], [IntLike]; 1 + 1 => is Exp; [1];
+            107: [Binop Question CaseLike], [IntLike]; 1 + 1 => is Exp; [1];
             108: [FnDecl], [Lbrace], [Exp], [Rbrace]; 1 + 3 => is Stmt;
                 [Break 1 Indent Break 2 Break Backup 3 Outdent Break];
             109: [DeclHead Exp], [Binop], [Stmt]; 0 + 3 => same 0; [0 1 2];
@@ -152,27 +156,56 @@ macro_rules! productions {
                 SectionScrap Lbrace Rbrace Box]; 0 + 2 => same 1;
                 [0 1];
             113: [Box], [not RawInt IntLike ConstLike StructLike TypedefLike DeclHead StructHead FnDecl CaseLike
-                ElseLike SectionScrap Lbrace Rbrace Box]; 0 + 1 => is Exp;
+                ElseLike SectionScrap Lbrace Rbrace Box]; 0 + 1 => is TexLike;
                 [0];
             114: [AttrHead], [Exp], [Rpar], [Rpar]; 0 + 4 => is Attr; [0 1 2 3];
-            115: [AlignasLike], [Exp Cast]; 0 + 2 => is Attr; [0 1];
-            116: [Exp DeclHead StructLike FnDecl], [Attr]; 0 + 2 => same 0; [0 Blank 1];
+            115: [AlignasLike], [Exp Cast Paren]; 0 + 2 => is Attr; [0 1];
+            116: [Exp DeclHead IntLike StructLike TypedefLike FnDecl], [Attr]; 0 + 2 => same 0; [0 Blank 1];
             117: [Attr], [any but RawUbin Ubinop ConstLike Dot]; 0 + 2 => same 1; [0 Blank 1];
-            118: [TypeofLike], [Exp Cast IntLike]; 0 + 2 => is IntLike; [0 Blank 1];
+            118: [TypeofLike], [Exp Cast IntLike Paren]; 0 + 2 => is IntLike; [0 Blank 1];
             119: [SizeofLike], [ConstLike]; 0 + 2 => is SizeofLike; [0 Blank 1];
             120: [Colon Colcol Binop], [Colon]; 0 + 2 => same 0; [0 1];
             121: [DeclHead], [Colon], [IntLike RawInt ConstLike], [Lbrace]; 0 + 4 => is StructHead;
                 [0 1 Blank 2 Blank 3] underline 0;
             122: [Stmt Function], [Binop], [not Colon]; 0 + 2 => is Stmt; [0 Blank 1];
             123: [Binop], [Exp], [End Rpar Rproc]; 0 + 2 => is Exp; [0 1];
-            124: [Exp], [Binop Comma], [End Rpar Rproc]; 0 + 2 => is Exp; [0 1];
+            124: [Exp], [Binop Comma Colcol], [End Rpar Rproc]; 0 + 2 => is Exp; [0 1];
             125: [CaseLike], [CaseLike ForLike DoLike]; 0 + 2 => is Exp; [0 Blank 1];
-            126: [Lbrace Lpar Lproc], [Exp Stmt Decl Function], [End]; 0 + 2 => is Exp; [0 Blank 1];
+            126: [Lbrace Lpar Lproc], [Exp], [End Rproc]; 0 + 2 => is Paren; [0 Blank 1];
             127: [Insert], [RawInt IntLike ConstLike StructLike TypedefLike DeclHead StructHead]; 0 + 1 => is Decl;
                 [0];
             128: [Lproc], [Exp], [RawInt IntLike ConstLike StructLike TypedefLike Lbrace ForLike DoLike CaseLike];
                 0 + 2 => is Lproc;
                 [0 Blank 1 OptionalBreak];
+            129: [Exp], [Decl], [Lbrace]; 0 + 1 => is FnDecl;
+                [Wall Cancel Indent Indent 0] or Indent [0] underline 0;
+            130: [DeclHead], [Decl], [Lbrace]; 0 + 1 => is FnDecl; [Wall Indent Indent 0] or Indent [0];
+            131: [Exp DeclHead], [Decl], [not Lbrace RawInt IntLike ConstLike StructLike DeclHead Decl TypeofLike];
+                0 + 2 => is Decl;
+                [0 Blank 1];
+            132: [Lpar], [Exp], [IntLike]; 1 + 2 => is IntLike; [1 Blank 2];
+            133: [DeclHead], [FnDecl]; 0 + 2 => is FnDecl; [0 Break 1];
+            134: [Lbrace StructHead], [Stmt Decl Function], [End Rproc]; 0 + 2 => is Stmt;
+                [0 Indent Break 1 Outdent];
+            135: [DefineLike MdefineLike], [not Exp BeginArg]; 0 + 1 => is HashLike; [0];
+            136: [Exp], [Exp]; 0 + 2 => is Exp; [0 Blank 1];
+            137: [Exp Dots DeclHead IntLike Cast Stmt Decl Function FnDecl Comma Binop Ubinop Unop Question Colon
+                Tag IfClause IfLike ElseLike CaseLike DoLike ForLike SizeofLike TypeofLike AlignasLike StructLike
+                TypedefLike Lbrace Rbrace Attr], [Exp DeclHead IntLike Cast Stmt Decl Function FnDecl Comma Binop
+                Ubinop Unop Question Colon Tag IfClause IfLike ElseLike CaseLike DoLike ForLike SizeofLike
+                TypeofLike AlignasLike StructLike TypedefLike Lbrace Rbrace Attr], [Rpar Rproc]; 0 + 2 => is Exp;
+                [0 Blank 1];
+            138: [Rbrace Lproc], [Exp Stmt Decl Function], [End]; 0 + 2 => is Stmt; [0 Break 1];
+            139: [Stmt Decl Function], [DeclHead IntLike TypedefLike], [End]; 0 + 2 => is Decl; [0 Break 1];
+            140: [Exp TexLike], [TexLike]; 0 + 2 => is TexLike; [0 1];
+            141: [TexLike], [Exp]; 0 + 2 => is Exp; [0 1];
+            142: [Paren TexLike]; 0 + 1 => is Exp; [0];
+            143: [Comma], [Lbrace], [Rbrace]; 1 + 2 => is Exp; [1 ThinSpace 2];
+            144: [Binop Comma Cast], [Lbrace], [Lbrace], [Rbrace]; 2 + 2 => is Exp; [2 ThinSpace 3];
+            145: [AttrHead], [Rpar], [Rpar]; 0 + 3 => is Attr; [0 ThinSpace 1 2];
+            146: [Question], [Colon]; 0 + 2 => is Binop; [0 1];
+            147: [Lpar], [Rproc]; 0 + 2 => is Rproc; [0 1];
+            148: [Lbrace Comma Question CaseLike], [Binop], [Exp]; 1 + 2 => is Exp; [1 2];
         }
     };
 }
@@ -190,6 +223,7 @@ pub(crate) struct Head {
     pub(crate) other_count: u8,
     pub(crate) underline: Option<u8>,
     pub(crate) reserve: Option<u8>,
+    pub(crate) bold: Option<u8>,
 }
 
 macro_rules! set {
@@ -291,42 +325,42 @@ macro_rules! perhaps {
 macro_rules! tests_of {
     ($($number:literal: $([$($test:tt)+]),+; $offset:literal + $replaced:literal => $how:tt $what:tt;
         [$($usual:tt)+] $(or $choice:ident [$($other:tt)+])? $(underline $underline:literal)?
-        $(reserve $reserve:literal)?;)+
+        $(reserve $reserve:literal)? $(bold $bold:literal)?;)+
     ) => { [$(tests!($([$($test)+]),+)),+] };
 }
 
 macro_rules! usual_of {
     ($($number:literal: $([$($test:tt)+]),+; $offset:literal + $replaced:literal => $how:tt $what:tt;
         [$($usual:tt)+] $(or $choice:ident [$($other:tt)+])? $(underline $underline:literal)?
-        $(reserve $reserve:literal)?;)+
+        $(reserve $reserve:literal)? $(bold $bold:literal)?;)+
     ) => { [$(pieces!(piece $($usual)+)),+] };
 }
 
 macro_rules! usual_insertions_of {
     ($($number:literal: $([$($test:tt)+]),+; $offset:literal + $replaced:literal => $how:tt $what:tt;
         [$($usual:tt)+] $(or $choice:ident [$($other:tt)+])? $(underline $underline:literal)?
-        $(reserve $reserve:literal)?;)+
+        $(reserve $reserve:literal)? $(bold $bold:literal)?;)+
     ) => { [$(pieces!(insertion $($usual)+)),+] };
 }
 
 macro_rules! other_of {
     ($($number:literal: $([$($test:tt)+]),+; $offset:literal + $replaced:literal => $how:tt $what:tt;
         [$($usual:tt)+] $(or $choice:ident [$($other:tt)+])? $(underline $underline:literal)?
-        $(reserve $reserve:literal)?;)+
+        $(reserve $reserve:literal)? $(bold $bold:literal)?;)+
     ) => { [$(pieces_or!(piece [$($usual)+] $([$($other)+])?)),+] };
 }
 
 macro_rules! other_insertions_of {
     ($($number:literal: $([$($test:tt)+]),+; $offset:literal + $replaced:literal => $how:tt $what:tt;
         [$($usual:tt)+] $(or $choice:ident [$($other:tt)+])? $(underline $underline:literal)?
-        $(reserve $reserve:literal)?;)+
+        $(reserve $reserve:literal)? $(bold $bold:literal)?;)+
     ) => { [$(pieces_or!(insertion [$($usual)+] $([$($other)+])?)),+] };
 }
 
 macro_rules! heads_of {
     ($($number:literal: $([$($test:tt)+]),+; $offset:literal + $replaced:literal => $how:tt $what:tt;
         [$($usual:tt)+] $(or $choice:ident [$($other:tt)+])? $(underline $underline:literal)?
-        $(reserve $reserve:literal)?;)+
+        $(reserve $reserve:literal)? $(bold $bold:literal)?;)+
     ) => {
         [$(Head {
             number: $number,
@@ -339,12 +373,13 @@ macro_rules! heads_of {
             other_count: count_or!([$($usual)+] $([$($other)+])?),
             underline: perhaps!($($underline)?),
             reserve: perhaps!($($reserve)?),
+            bold: perhaps!($($bold)?),
         }),+]
     };
 }
 
 /// How many productions there are.
-pub const ROW_COUNT: usize = 128;
+pub const ROW_COUNT: usize = 148;
 
 static TESTS: [[CatSet; 4]; ROW_COUNT] = productions!(tests_of);
 
@@ -389,6 +424,7 @@ fn row_at(i: usize) -> Row
             choice: head.choice,
             underline: head.underline,
             reserve: head.reserve,
+            bold: head.bold,
         },
     }
 }

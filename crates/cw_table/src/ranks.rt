@@ -17,8 +17,9 @@ pub(crate) fn rank_of(cat: Cat) -> u8
     ensures { result ≡ spec.rank cat }
 {
     match cat {
-        Cat::RawInt | Cat::ConstLike | Cat::Dots => 3,
-        Cat::Cast | Cat::IntLike | Cat::IfClause | Cat::SectionScrap | Cat::Box => 2,
+        Cat::RawInt | Cat::ConstLike | Cat::Dots | Cat::Box => 3,
+        Cat::Cast | Cat::IntLike | Cat::IfClause | Cat::SectionScrap | Cat::TexLike | Cat::Paren =>
+            2,
         Cat::Exp
         | Cat::DeclHead
         | Cat::ElseLike
@@ -27,6 +28,8 @@ pub(crate) fn rank_of(cat: Cat) -> u8
         | Cat::RawUbin
         | Cat::Dot
         | Cat::ForLike
+        | Cat::DefineLike
+        | Cat::MdefineLike
         | Cat::Insert => 1,
         _ => 0,
     }

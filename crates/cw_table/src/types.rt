@@ -109,6 +109,8 @@ pub struct Action {
     pub underline: Option<u8>,
     /// The tested scrap whose first identifier becomes a reserved word.
     pub reserve: Option<u8>,
+    /// The tested scrap that becomes a reserved word in the new tree, where it is one identifier alone.
+    pub bold: Option<u8>,
 }
 
 /// One production.

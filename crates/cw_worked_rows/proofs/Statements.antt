@@ -1,10 +1,10 @@
 -- Worked statements: labels, conditions, loops, and what stands before them.
-use Rattle.cw_worked_rows.proofs.Terms.{[], ◌∷◌, ◌++◌, codes, refl, RawInt, Exp, Semi, Binop, Lpar, Rpar, Lbrace}
-use Rattle.cw_worked_rows.proofs.Terms.{Rbrace, Colon, CaseLike, ForLike, DoLike, IfLike, ElseLike, AttrHead, Math}
-use Rattle.cw_worked_rows.proofs.Terms.{Maybe}
+use Rattle.cw_worked_rows.proofs.Terms.{[], ◌∷◌, ◌++◌, codes, refl, Exp, Math, Maybe, AttrHead, Binop, CaseLike, Colon}
+use Rattle.cw_worked_rows.proofs.Terms.{DoLike, ElseLike, ForLike, HashLike, IfLike, Lbrace, Lpar, RawInt, Rbrace, Rpar}
+use Rattle.cw_worked_rows.proofs.Terms.{Semi}
 use Rattle.cw_table.specs.{Productions.productions, Normal.normal, Normal.log}
 use Rattle.cw_worked_rows.proofs.Worked.{sign, ident, word, section_name, tex_box, invisible_semicolon, no_break}
-use Rattle.cw_worked_rows.proofs.Worked.{macro_head, AreWorked, part}
+use Rattle.cw_worked_rows.proofs.Worked.{hash_line, line_end, macro_head, AreWorked, part}
 
 statements : AreWorked (
     -- `[[fallthrough]];`
@@ -80,11 +80,28 @@ statements : AreWorked (
     (codes "\\&{if} (\\|x)\\1\\5\\.{FOO}(\\|y)\\2\\6\n\\&{else}\\1\\5\\.{BAR}(\\|z);\\2")
     -- `@t\4@>if(a)b;`
     ∷ part (tex_box 0 ∷ word IfLike 0 1 ∷ sign Lpar Maybe 2 ∷ ident 1 3 ∷ sign Rpar Maybe 4 ∷ ident 2 5
-    ∷ sign Semi Maybe 6 ∷ []) (113 ∷ 12 ∷ 53 ∷ 8 ∷ 60 ∷ 55 ∷ 105 ∷ []) "\\hbox{\\4}~if~(~a~)~b~;"
+    ∷ sign Semi Maybe 6 ∷ []) (113 ∷ 142 ∷ 12 ∷ 53 ∷ 8 ∷ 60 ∷ 55 ∷ 105 ∷ []) "\\hbox{\\4}~if~(~a~)~b~;"
     (codes "\\hbox{\\4}\\6\n\\&{if} (\\|a)\\1\\5\\|b;\\2")
     -- `@<x@>@;@+break;`
     ∷ part (section_name 0 ∷ invisible_semicolon ∷ no_break ∷ word CaseLike 0 1 ∷ sign Semi Maybe 2 ∷ [])
     (79 ∷ 1 ∷ 66 ∷ 72 ∷ []) "\\X1:x\\X~break~;" (codes "\\X1:x\\X\\5\\&{break};")
+    -- `f(){a;}`
+    ∷ part (ident 0 0 ∷ sign Lpar Maybe 1 ∷ sign Rpar Maybe 2 ∷ sign Lbrace Math 3 ∷ ident 1 4 ∷ sign Semi Maybe 5
+    ∷ sign Rbrace Math 6 ∷ []) (13 ∷ 11 ∷ 4 ∷ 8 ∷ 50 ∷ 47 ∷ []) "f~(~)~\\{~a~;~\\}"
+    (codes "\\1\\1\\|f(\\,)\\2\\2\\6\n${}\\{\\1{}$\\6\n\\|a;\\6\n\\4${}\\}\\2{}$")
+    -- `if(a)b;`
+    ∷ part (word IfLike 0 0 ∷ sign Lpar Maybe 1 ∷ ident 1 2 ∷ sign Rpar Maybe 3 ∷ ident 2 4 ∷ sign Semi Maybe 5 ∷ [])
+    (12 ∷ 53 ∷ 8 ∷ 60 ∷ 55 ∷ []) "if~(~a~)~b~;" (codes "\\&{if} (\\|a)\\1\\5\\|b;\\2")
+    -- `while(a)b;`
+    ∷ part (word ForLike 0 0 ∷ sign Lpar Maybe 1 ∷ ident 1 2 ∷ sign Rpar Maybe 3 ∷ ident 2 4 ∷ sign Semi Maybe 5 ∷ [])
+    (12 ∷ 65 ∷ 8 ∷ 55 ∷ []) "while~(~a~)~b~;" (codes "\\&{while} (\\|a)\\1\\5\\|b;\\2")
+    -- `@d begin if(x){a;`
+    ∷ part (macro_head 0 0 ∷ word IfLike 1 2 ∷ sign Lpar Maybe 3 ∷ ident 2 4 ∷ sign Rpar Maybe 5 ∷ sign Lbrace Math 6
+    ∷ ident 3 7 ∷ sign Semi Maybe 8 ∷ []) (12 ∷ 53 ∷ 57 ∷ 8 ∷ 134 ∷ 63 ∷ 56 ∷ []) "\\D~begin~if~(~x~)~\\{~a~;"
+    (codes "\\4\\D$\\\\{begin}$\\6\n\\&{if} (\\|x)\\5${}\\{\\1{}$\\6\n\\|a;\\2")
+    -- `}`, then `#endif`, then `a;`
+    ∷ part (sign Rbrace Math 0 ∷ hash_line 1 ∷ word HashLike 0 2 ∷ line_end ∷ ident 1 3 ∷ sign Semi Maybe 4 ∷ [])
+    (75 ∷ 76 ∷ 1 ∷ 8 ∷ 138 ∷ []) "\\}~\\8\\#~endif~a~;" (codes "$\\}{}$\\6\n\\8\\#\\&{endif}\\6\n\\|a;")
     ∷ [])
 unfolding log normal productions
 statements = (refl, refl)

@@ -6,4 +6,6 @@ pub use Rattle.cw_base.specs.declared.category.Cat.TheVariants.{RawInt, Exp, Sem
 pub use Rattle.cw_base.specs.declared.category.Cat.TheVariants.{Colon, CaseLike, SizeofLike, Colcol, RawUbin, Lbrace}
 pub use Rattle.cw_base.specs.declared.category.Cat.TheVariants.{Rbrace, IfLike, DefineLike, ForLike, DoLike, ElseLike}
 pub use Rattle.cw_base.specs.declared.category.Cat.TheVariants.{AttrHead, ConstLike, AlignasLike}
+pub use Rattle.cw_base.specs.declared.category.Cat.TheVariants.{Dot, HashLike, IntLike, MdefineLike, Question}
+pub use Rattle.cw_base.specs.declared.category.Cat.TheVariants.{StructLike, TypedefLike, Unop}
 pub use Rattle.cw_base.specs.declared.mode.MathMode.TheVariants.{Text, Math, Maybe}

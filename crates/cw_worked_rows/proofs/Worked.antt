@@ -27,7 +27,7 @@ word c name n = scrap c Maybe (Then (Reserved name n c) Empty)
 
 -- a name that prints as a macro of TeX
 abbrev pub tex_macro : ℕ → ℕ → Scrap
-tex_macro name n = scrap cat.Exp Math (Then (Reserved name n cat.TexLike) Empty)
+tex_macro name n = scrap cat.TexLike Math (Then (Reserved name n cat.TexLike) Empty)
 
 abbrev pub section_name : ℕ → Scrap
 section_name n = scrap cat.SectionScrap Maybe (Then (Source n Maybe) (Then (Sign NameEnd) Empty))
