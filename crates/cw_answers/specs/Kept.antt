@@ -11,6 +11,7 @@ seen_at text s = record {
   text = slice_range text s.start s.end;
   span = record { start = s.start; end = s.end };
   hash_line = s.hash_line;
+  directive = s.directive;
 }
 
 -- the answer that a kept one stands for

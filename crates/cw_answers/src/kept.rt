@@ -4,13 +4,14 @@ ghost use Rattle.cw_rules.specs.Answers.{Answer, Gives, seen};
 ghost use Rattle.cw_answers.specs.Kept.{seen_at, answer_at, IsWithin, LiesIn, StandsIn};
 
 use cw_base::{Memory, NoteKind, Span};
-use cw_lex::{Lexed, Tok, TokKind};
+use cw_lex::{Directive, Lexed, Tok, TokKind};
 
 /// A token, by where its bytes lie in the text.
 #[derive(Clone, Copy)]
 pub(crate) struct Stretch {
     kind: TokKind,
     hash_line: bool,
+    directive: Directive,
     start: u32,
     end: u32,
 }
@@ -43,6 +44,7 @@ impl Stretch {
         Stretch {
             kind: token.kind,
             hash_line: token.hash_line,
+            directive: token.directive,
             start: token.span.start as u32,
             end: token.span.end as u32,
         }
@@ -61,6 +63,7 @@ impl Stretch {
             text: &text[start..end],
             span: Span { start, end },
             hash_line: self.hash_line,
+            directive: self.directive,
         }
     }
 }

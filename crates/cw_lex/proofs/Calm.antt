@@ -5,7 +5,8 @@ use Rattle.std.proofs.{lemmas.List.drop_all, lemmas.Bool.Decides.nat_tests}
 use Rattle.cw_rules.specs.declared.classes.Class.TheVariants as classes
 use Rattle.cw_rules.specs.declared.{parts.Part.Part, parts.Opened.Opened}
 use Rattle.cw_rules.specs.{Answers.note_answers, Bytes.is_in, Bytes.run, Pending.pending_notes, Tokens.all_cut}
-use Rattle.cw_rules.specs.Tokens.{is_code, is_code_part, in_hash_line, behind_include, passed, ends_at_bar, part_cut}
+use Rattle.cw_rules.specs.Tokens.{is_code, is_code_part, in_hash_line, behind_hash, behind_include, passed, ends_at_bar}
+use Rattle.cw_rules.specs.Tokens.{part_cut}
 use Rattle.cw_lex.specs.{declared.state.State.State, Lexing.answers_at, Lexing.last_at, Calm.is_calm_part, Calm.is_calm}
 use Rattle.cw_lex.specs.Coming.{where_of, coming, ends_line, is_white_here}
 use Rattle.cw_lex.proofs.{White.white-found, HeadSpaces.skip-run, HeadSpaces.run-byte}
@@ -19,6 +20,7 @@ pub record IsSettled (part : Part) : Type 0 where
   pub same : passed part ≡ part
   pub hash_line : in_hash_line part ≡ false
   pub include : behind_include part ≡ false
+  pub hash : behind_hash part ≡ false
 
 settled : (part : Part) → is_calm_part part ≡ true → IsSettled part
 settled part h = grind arith

@@ -8,11 +8,11 @@ use Rattle.cw_rules.specs.declared.{codes.Code.Code, codes.Effect.Effect, bodies
 use Rattle.cw_rules.specs.declared.{parts.Opened.Opened, tokens.Mode.Mode, tokens.TokKind.TokKind}
 use Rattle.cw_rules.specs.{Bodies.one_note, Bodies.note_unless, Bodies.noted, Apart.found_apart, Bytes.at_sign}
 use Rattle.cw_rules.specs.Codes.{is_section, begins_section, effect_in_c, code_at}
-use Rattle.cw_rules.specs.Tokens.{parameter_follows, parameter, format_name, one, skipped_byte, identifier, piece_start}
+use Rattle.cw_rules.specs.Tokens.{parameter_follows, parameter, format_name, one, skipped_byte, piece_start}
 use Rattle.cw_rules.specs.Tokens.{passed, moved, in_hash_line, ends_at_bar, line_end, comment_begin, comment_end}
 use Rattle.cw_rules.specs.Tokens.{inner_cut, comment_cut, part_cut, inner_or_none, all_cut, inner_end, effect_in}
 use Rattle.cw_rules.specs.Tokens.{code_token, control_or_plain, head_text, section, section_code, behind_word}
-use Rattle.cw_rules.specs.Tokens.{is_include, may_head, takes_hash_line, name_follows, macro_name}
+use Rattle.cw_rules.specs.Tokens.{directive_at, is_include, may_head, takes_hash_line, name_follows, macro_name, word}
 use Rattle.cw_rules.specs.Apart.{behind_head_apart, code_text_apart, comment_text_apart, part_text_apart, in_text_apart}
 use Rattle.cw_rules.specs.Answers.{Answer, Note, Where, Cut, Found, before, note_answers, plain}
 use Rattle.cw_lex.specs.Lexing.{answers, joined, tokens_of, still_fresh}
@@ -21,6 +21,7 @@ use Rattle.cw_lex.specs.Nested.{is_section_kind, is_section_answer, begins_secti
 use Rattle.cw_rules.proofs.Choices.{if-both, or-false, or-first, or-second}
 use Rattle.cw_rules.specs.declared.codes.Code.TheVariants as code
 use Rattle.cw_rules.specs.declared.codes.Effect.TheVariants as effects
+use Rattle.cw_rules.specs.declared.parts.Behind.TheVariants as behinds
 use Rattle.cw_rules.specs.declared.parts.Part.TheVariants as parts
 use Rattle.cw_rules.specs.declared.tokens.Mode.TheVariants as modes
 use Rattle.cw_rules.specs.declared.tokens.TokKind.TheVariants as kind
@@ -223,12 +224,13 @@ other-tex : (b t : Bool) → (b ≡ true → t ≡ true) → t ≡ false → fal
 other-tex b t f e = grind arith
 
 word-c : (p : Part) (bytes : List ℕ) → is_c p ≡ true → is_c (behind_word p bytes) ≡ true
-word-c p bytes h = if-both (λ (q : Part). is_c q ≡ true) (in_hash_line p && is_include bytes) (parts.Plain true true)
+word-c p bytes h = if-both (λ (q : Part). is_c q ≡ true) (in_hash_line p && is_include bytes) (parts.Plain true
+    behinds.Include)
     (passed p) (λ e. refl) (λ e. passed-c p h)
 
 word-tex : (p : Part) (bytes : List ℕ) → in_tex (behind_word p bytes) ≡ in_tex p
 word-tex p bytes = if-both (λ (q : Part). in_tex q ≡ in_tex p) (in_hash_line p && is_include bytes) (parts.Plain true
-    true) (passed p) (λ e. hash-tex p (both-left (in_hash_line p) (is_include bytes) e)) (λ e. passed-tex p)
+    behinds.Include) (passed p) (λ e. hash-tex p (both-left (in_hash_line p) (is_include bytes) e)) (λ e. passed-tex p)
 
 -- no section code
 plain-code : (byte : ℕ) (bytes : List ℕ) → (byte == at_sign && begins_section bytes) ≡ false → (byte == at_sign) ≡ true
@@ -251,11 +253,12 @@ rule-goes P w fresh last place byte bytes section p inner goes ends _ (LineEnd h
 rule-goes P w fresh last place byte bytes section p inner goes ends _ (Space line h) =
     goes (skipped_byte w) (skip-goes w p inner)
 rule-goes P w fresh last place byte bytes section p inner goes ends _ (HashLine h takes first) =
-    goes _ (one-goes (in_tex w.part) true (moved w (parts.Plain true false)) place (byte ∷ bytes)
+    goes _ (one-goes (in_tex w.part) true (moved w (parts.Plain true behinds.Hash)) place (byte ∷ bytes)
     (plain kind.HashLine 1) (takes-tex w.part w.comments takes) refl refl inner)
 rule-goes P w fresh last place byte bytes section p inner goes ends _ (Word bare h) = goes _
     (one-goes (in_tex w.part) (in_hash_line w.part) (moved w (behind_word w.part (byte ∷ bytes))) place (byte ∷ bytes)
-    (identifier (byte ∷ bytes)) (word-tex w.part (byte ∷ bytes)) refl (word-c w.part (byte ∷ bytes) p) inner)
+    (word (directive_at w.part (byte ∷ bytes)) (byte ∷ bytes)) (word-tex w.part (byte ∷ bytes)) refl (word-c w.part
+    (byte ∷ bytes) p) inner)
 rule-goes P w fresh last place byte bytes section p inner goes ends _ (Passed cut k) =
     goes _ (one-goes (in_tex w.part) (in_hash_line w.part) (moved w (passed w.part)) place (byte ∷ bytes) cut
     (passed-tex w.part) (passed-in-c w fresh place byte bytes section cut k) (passed-c w.part p) inner)

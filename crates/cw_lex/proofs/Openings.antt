@@ -7,7 +7,7 @@ use Rattle.std.proofs.{lemmas.Bool.eqb-true, lemmas.Bool.Decides.nat_tests}
 use Rattle.std.proofs.lemmas.List.{drop-drop, take-take, take_all, drop_all}
 use Rattle.cw_base.proofs.TestLaws.{both-left, both-right, not-both}
 use Rattle.cw_rules.specs.declared.{codes.Code.Code, tokens.Mode.Mode, tokens.TokKind.TokKind}
-use Rattle.cw_rules.specs.Answers.{Answer, Token, Finish, Note, Seen, Where, Cut, Found, note_answers, token_of}
+use Rattle.cw_rules.specs.Answers.{Answer, Token, Finish, Note, Seen, Where, Cut, Found, note_answers, cut_token}
 use Rattle.cw_rules.specs.{Answers.has_sign, Answers.is_head_sign, Bytes.at_sign, Bytes.greater, Bytes.begins}
 use Rattle.cw_rules.specs.{Codes.code_at, Codes.is_section, Codes.begins_section, Tokens.all_cut, Tokens.section}
 use Rattle.cw_rules.specs.{Tokens.section_code, Apart.in_text_apart, Apart.found_apart}
@@ -454,7 +454,7 @@ ends-at-sections text start mode xs t ys e k =
     let code = section_code (64 ∷ s.behind) in
     let cut = all_cut s.next.part s.next.comments s.end s.end in
     let alone = ap note_answers (section-code-is (64 ∷ s.behind)).notes in
-    let same = same-token s.end s.end cut s.front (token_of false code.kind s.end code.size (64 ∷ s.behind)) t
+    let same = same-token s.end s.end cut s.front (cut_token false code s.end (64 ∷ s.behind)) t
     (note_answers code.notes) s.notes (bare-all-cut s.next.part s.next.comments s.end s.end) s.bare
     (ap (λ (f : Found). f.answers) (sym is) ∙ s.found-is) in
     let none : s.notes ≡ [] = sym same.behind ∙ alone in (

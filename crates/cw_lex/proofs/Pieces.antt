@@ -4,6 +4,7 @@ use Rattle.std.proofs.lemmas.Bool.Decides.{nat_tests}
 use Rattle.cw_base.proofs.TestLaws.{or-true}
 use Rattle.cw_rules.specs.declared.bodies.Body.TheVariants as bodies
 use Rattle.cw_rules.specs.declared.{bodies.Inside.Inside, parts.Part.Part, parts.Opened.Opened}
+use Rattle.cw_rules.specs.declared.tokens.Directive.TheVariants as directives
 use Rattle.cw_rules.specs.declared.tokens.TokKind.TheVariants as kinds
 use Rattle.cw_rules.specs.{Bodies.stops, Bodies.ended, Bodies.extent, Bodies.noted, Answers.Found, Cuttings.bytes_at}
 use Rattle.cw_rules.specs.Tokens.{in_hash_line, is_deep, one, piece}
@@ -20,12 +21,18 @@ piece_found part rest comment place inside end bytes = one (in_hash_line part) (
     braces = end.braces;
     inner = false;
   } ∷ rest;
-}) place bytes (record { kind = kinds.Text; size = end.place - place; notes = noted inside bytes })
+}) place bytes (record {
+  kind = kinds.Text;
+  directive = directives.No;
+  size = end.place - place;
+  notes = noted inside
+      bytes;
+})
 
 abbrev piece_by : Part → List Opened → Opened → ℕ → Inside → List ℕ → Found
 piece_by part rest comment place i bytes = one (in_hash_line part)
     (record { part = part; comments = record comment { braces = (ended i bytes).braces } ∷ rest }) place bytes
-    (record { kind = kinds.Text; size = (extent i bytes).size; notes = noted i bytes })
+    (record { kind = kinds.Text; directive = directives.No; size = (extent i bytes).size; notes = noted i bytes })
 
 pub piece-found : (text : List ℕ) (part : Part) (comments rest : List Opened) (comment : Opened) (place : ℕ)
     (deep : Bool) (end : Inside) → place < length text → comments ≡ comment ∷ rest → deep ≡ is_deep part comments

@@ -4,6 +4,7 @@ use Rattle.std.proofs.Common.{◌&&◌, ◌||◌, ◌==◌, nat_lt, List, ◌∷
 use Rattle.std.proofs.Common.{◌∙◌, if◌then◌else◌}
 use Rattle.cw_rules.specs.declared.classes.Class.TheVariants as classes
 use Rattle.cw_rules.specs.declared.{parts.Part.Part, parts.Opened.Opened, parts.Start.Start, signs.Sign.Sign}
+use Rattle.cw_rules.specs.declared.parts.Behind.TheVariants as behinds
 use Rattle.cw_rules.specs.declared.parts.Part.TheVariants as parts
 use Rattle.cw_rules.specs.declared.parts.Start.TheVariants as start
 use Rattle.cw_rules.specs.declared.tokens.TokKind.TheVariants as kinds
@@ -86,7 +87,7 @@ string-is bars b bs letter digit quoted =
 -- behind no `include` of a `#` line the part is the next
 word-passed : (part : Part) (bytes : List ℕ) → (in_hash_line part && is_include bytes) ≡ false → behind_word part bytes
     ≡ passed part
-word-passed part bytes h = ap (λ t. if t then parts.Plain true true else passed part) h
+word-passed part bytes h = ap (λ t. if t then parts.Plain true behinds.Include else passed part) h
 
 -- ## Tokens
 

@@ -8,6 +8,7 @@ use Rattle.std.proofs.lemmas.List.{drop-drop, length-take}
 use Rattle.cw_base.proofs.TestLaws.{both-right, one-failed-left, one-failed-right, not-both}
 use Rattle.cw_rules.specs.declared.{bodies.Noted.Noted, codes.Code.Code, codes.Effect.Effect, tokens.TokKind.TokKind}
 use Rattle.cw_rules.specs.Answers.{Answer, Token, Begin, Finish, Note, Seen, Where, Cut, Found, note_answers, token_of}
+use Rattle.cw_rules.specs.{Answers.cut_token}
 use Rattle.cw_rules.specs.{Answers.plain, Answers.has_sign, Bodies.at_start, Bodies.extent, Bytes.at_sign, Bytes.equals}
 use Rattle.cw_rules.specs.{Bytes.run, Bytes.begins, Bytes.is_in, Order.Covers, Apart.found_apart}
 use Rattle.cw_base.specs.Text.{bar}
@@ -30,6 +31,7 @@ use Rattle.cw_rules.specs.declared.bodies.Body.TheVariants as bodies
 use Rattle.cw_rules.specs.declared.classes.Class.TheVariants as classes
 use Rattle.cw_rules.specs.declared.codes.Code.TheVariants as at
 use Rattle.cw_rules.specs.declared.codes.Effect.TheVariants as effects
+use Rattle.cw_rules.specs.declared.parts.Behind.TheVariants as behinds
 use Rattle.cw_rules.specs.declared.parts.Part.TheVariants as parts
 use Rattle.cw_rules.specs.declared.tokens.Mode.TheVariants as modes
 use Rattle.cw_rules.specs.declared.tokens.TokKind.TheVariants as kinds
@@ -82,7 +84,7 @@ signed (b ∷ bs) fresh last place h = by (is_in classes.Blank b) refl (signed b
             let next : is_signed bs ≡ true = grind (arith, nat_tests) in
             (λ i. has_sign (joined (if k i && begins_section bs then section head place bs else
             (if e i then record { answers = []; more = 0; next = head } else one false
-            (moved head (parts.Plain false false)) place (b ∷ bs)
+            (moved head (parts.Plain false behinds.Other)) place (b ∷ bs)
             (plain kinds.HeadSign (if begins equals bs then 2 else 1))))
             (λ next more. answers bs next (still_fresh fresh b) b (place + 1) more)))
             ∙ rec next
@@ -261,7 +263,7 @@ module _ (text : List ℕ) (place : ℕ) (within : place < length text) (quiet :
   token-goes : (cut : Cut) → here ≡ one false tex place (byte ∷ behind) cut → (is_name_kind cut.kind ≡ true
       → begins_section_in (tokens_of text place (place + cut.size) modes.Inner) ≡ false) → GoesOn text place
   token-goes cut e name =
-      let t = token_of false cut.kind place cut.size (byte ∷ behind) in
+      let t = cut_token false cut place (byte ∷ behind) in
       let takes = found-takes tex (fresh_at text place) (last_at text place) place byte behind in
       let b = begun place (byte ∷ behind) here.more takes.first takes.rest [] t (note_answers cut.notes) takes.bare
       takes.whole (sym takes.split ∙ ap (λ (f : Found). f.answers) e) in
@@ -285,7 +287,7 @@ module _ (text : List ℕ) (place : ℕ) (within : place < length text) (quiet :
       let bs = drop 2 (byte ∷ behind) in
       let x = extent (at_start bodies.SectionName (place + 2)) bs in
       let cut = section_name c place (byte ∷ behind) in
-      let t = token_of false cut.kind place cut.size (byte ∷ behind) in
+      let t = cut_token false cut place (byte ∷ behind) in
       let to : next ≡ place + (2 + x.size) = omega (arith, ap (λ (f : Found). f.more) e) in
       let two : drop (place + 2) text ≡ bs = sym (drop-drop 2 place text) ∙ ap (drop 2) (drop-here text place within) in
       let at-next : drop next text ≡ drop x.size bs =

@@ -1,6 +1,7 @@
 -- Calm C text: no note is left, a token leaves all as it is, and a line's end ends nothing.
 use Rattle.std.specs.Prelude.{◌≡◌, ℕ, Bool, true, false, ◌&&◌, List, [], ◌∷◌}
 use Rattle.cw_rules.specs.declared.parts.Part.{Part}
+use Rattle.cw_rules.specs.declared.parts.Behind.TheVariants as behinds
 use Rattle.cw_rules.specs.declared.parts.Part.TheVariants as parts
 use Rattle.cw_rules.specs.declared.parts.Opened.{Opened}
 use Rattle.cw_rules.specs.Pending.{no_notes}
@@ -10,7 +11,7 @@ use Rattle.cw_lex.specs.Coming.{IsReady}
 
 -- C text outside `#` lines, behind its first token
 abbrev pub is_calm_part : Part → Bool
-is_calm_part (parts.Plain false false) = true
+is_calm_part (parts.Plain false behinds.Other) = true
 is_calm_part parts.Definition = true
 is_calm_part parts.TexInner = true
 is_calm_part parts.Inner = true

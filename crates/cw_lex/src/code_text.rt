@@ -8,9 +8,9 @@ ghost use Rattle.cw_lex.specs.Lexing.{fresh_at, last_at, spot_at, answers_at};
 ghost use Rattle.cw_rules.specs.Tokens.{code_text, in_code, start_of, code_by, effect_in, line_end, part_line_end};
 ghost use Rattle.cw_rules.specs.Tokens.{comment_end, inner_cut, takes_hash_line, behind_include};
 ghost use Rattle.cw_rules.specs.Tokens.{in_hash_line};
-ghost use Rattle.cw_rules.specs.Tokens.{ends_at_bar, one, moved, closes_on_line, is_include, behind_word};
+ghost use Rattle.cw_rules.specs.Tokens.{ends_at_bar, one, moved, closes_on_line, is_include, behind_word, word};
 ghost use Rattle.cw_rules.specs.Tokens.{passed};
-ghost use Rattle.cw_lex.specs.Coming.{where_of, coming, found_at, ends_line};
+ghost use Rattle.cw_lex.specs.Coming.{where_of, coming, found_at, ends_line, IsNested};
 ghost use Rattle.cw_rules.specs.Cuttings.{bytes_at, cut_of};
 ghost use Rattle.cw_rules.specs.Tokens.{is_code, is_code_part};
 ghost use Rattle.cw_lex.specs.Coming.{is_white_here, IsClear, IsReady, CanStep};
@@ -22,7 +22,7 @@ use crate::comment_text::{begin_comment, end_inner};
 use crate::giving::{give, give_string, token};
 use crate::plain::begins_c;
 use crate::state::{Clear, State};
-use crate::{Code, Lexed, TokKind};
+use crate::{Code, Directive, Lexed, Tok, TokKind};
 use cw_base::NoteKind;
 use cw_rules::classes::{
     Class, begins, begins_with, from, is_blank, is_digit, is_letter, is_mark, run,
@@ -30,7 +30,8 @@ use cw_rules::classes::{
 use cw_rules::codes::Effect;
 use cw_rules::constants::constant;
 use cw_rules::cuttings::{Cutting, code_token, dropped_code, include_name, note_unless, plain};
-use cw_rules::parts::{Opened, Part, Start};
+use cw_rules::directives::directive_at;
+use cw_rules::parts::{Behind, Opened, Part, Start};
 use cw_rules::pending::Pending;
 use cw_rules::prefixes::prefix_size;
 use cw_rules::signs::sign_at;
@@ -124,7 +125,7 @@ pub(crate) fn code_text<'a>(text: &'a [u8], state: &mut State) -> Lexed<'a>
     if begins_hash_line(text, state) {
         let next = Part::Plain {
             hash_line: true,
-            include: false,
+            behind: Behind::Hash,
         };
         return give(text, state, next, true, plain(TokKind::HashLine, 1));
     }
@@ -227,7 +228,7 @@ fn end_hash_line<'a>(text: &'a [u8], state: &mut State) -> Lexed<'a>
 {
     let next = Part::Plain {
         hash_line: false,
-        include: false,
+        behind: Behind::Other,
     };
     give(text, state, next, true, plain(TokKind::HashLineEnd, 1))
 }
@@ -369,7 +370,39 @@ fn identifier<'a>(text: &'a [u8], state: &mut State) -> Lexed<'a>
     let bytes = from(text, state.at);
     let size = run(Class::Word, bytes);
     let next = behind_word(state.part, bytes, size);
-    give_code(text, state, next, plain(TokKind::Identifier, size))
+    let directive = directive_at(state.part, bytes);
+    give_word(text, state, next, directive, size)
+}
+
+// Answers an identifier of this size, which may be a word of a directive.
+fn give_word<'a>(
+    text: &'a [u8],
+    state: &mut State,
+    part: Part,
+    directive: Directive,
+    size: usize,
+) -> Lexed<'a>
+    requires step { CanStep text.now state.old }
+    requires nested { IsNested part state.old.comments }
+    requires some { 0 < size }
+    requires within { state.old.at + size ≤ length text.now }
+    requires size { size ≡ run Class.Word (bytes_at text.now state.old.at) }
+    requires found { found_at text.now (where_of state.old) state.old.at ≡
+        one (in_hash_line state.old.part) (moved (where_of state.old) part) state.old.at
+        (bytes_at text.now state.old.at) (word directive (bytes_at text.now state.old.at)) }
+    ensures gives { Gives (coming text.now state.old) result (coming text.now state.new) }
+    ensures ready { IsReady text.now state.new }
+{
+    let token = token(
+        text,
+        state.at,
+        size,
+        TokKind::Identifier,
+        state.part.in_hash_line(),
+    );
+    state.at += size;
+    state.part = part;
+    Lexed::Token(Tok { directive, ..token })
 }
 
 // The part behind an identifier of this size.
@@ -381,7 +414,7 @@ fn behind_word(part: Part, bytes: &[u8], size: usize) -> Part
     if is_include_word(part, bytes, size) {
         return Part::Plain {
             hash_line: true,
-            include: true,
+            behind: Behind::Include,
         };
     }
     part.passed()
@@ -444,7 +477,7 @@ fn code_in_code<'a>(text: &'a [u8], state: &mut State, code: Code) -> Lexed<'a>
         Effect::BeginsC => {
             let next = Part::Plain {
                 hash_line: false,
-                include: false,
+                behind: Behind::Other,
             };
             give(text, state, next, false, plain(TokKind::Code(code), 2))
         }

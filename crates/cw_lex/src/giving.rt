@@ -8,14 +8,14 @@ ghost use Rattle.cw_lex.specs.Coming.{where_of, coming, found_at, IsNested, IsRe
 ghost use Rattle.cw_rules.specs.Cuttings.{bytes_at, cut_of, IsCut};
 
 use crate::state::State;
-use crate::{Lexed, Tok, TokKind};
+use crate::{Directive, Lexed, Tok, TokKind};
 use cw_base::{NoteKind, Span};
 use cw_rules::classes::from;
 use cw_rules::cuttings::{Cutting, string};
 use cw_rules::parts::Part;
 use cw_rules::prefixes::prefix_size;
 
-/// The token of this size at a place.
+/// The token of this size at a place, which is no word of a directive.
 pub(crate) fn token<'a>(
     text: &'a [u8],
     at: usize,
@@ -34,6 +34,7 @@ pub(crate) fn token<'a>(
             end: at + size,
         },
         hash_line,
+        directive: Directive::No,
     }
 }
 

@@ -13,7 +13,7 @@ mod plain;
 mod short;
 mod state;
 
-pub use cw_rules::{Code, Lexed, Mode, Sign, Tok, TokKind};
+pub use cw_rules::{Code, Directive, Lexed, Mode, Sign, Tok, TokKind};
 pub use heads::Wanted;
 pub use laws::{limbo_law, nest_law, nesting_law, openings_law, parts_law, tex_texts_law};
 pub use lexer::Lexer;

@@ -14,7 +14,7 @@ use crate::{Code, Lexed, Sign, TokKind};
 use cw_rules::classes::{Class, begins, from, is_letter, run};
 use cw_rules::codes::Effect;
 use cw_rules::cuttings::{alone, code_token, dropped, dropped_code, is_head, plain};
-use cw_rules::parts::Part;
+use cw_rules::parts::{Behind, Part};
 use memchr::memchr2;
 
 /// Limbo.
@@ -95,7 +95,7 @@ pub(crate) fn tex_text<'a>(text: &'a [u8], state: &mut State) -> Lexed<'a>
         Effect::BeginsC => {
             let next = Part::Plain {
                 hash_line: false,
-                include: false,
+                behind: Behind::Other,
             };
             give(text, state, next, false, plain(TokKind::Code(code), 2))
         }
@@ -139,7 +139,7 @@ pub(crate) fn head_text<'a>(text: &'a [u8], state: &mut State) -> Lexed<'a>
     };
     let next = Part::Plain {
         hash_line: false,
-        include: false,
+        behind: Behind::Other,
     };
     give(text, state, next, false, plain(TokKind::HeadSign, size))
 }

@@ -8,7 +8,7 @@ ghost use Rattle.cw_lex.specs.Calm.{is_calm_part, is_calm, IsCalm};
 use crate::Code;
 use crate::comments::Comments;
 use cw_rules::codes::Effect;
-use cw_rules::parts::Part;
+use cw_rules::parts::{Behind, Part};
 use cw_rules::pending::Pending;
 
 /// A stretch of the text without `>` and line ends, up to the next of them or the text's end.
@@ -45,7 +45,7 @@ pub(crate) fn is_calm_part(part: Part) -> bool
         part,
         Part::Plain {
             hash_line: false,
-            include: false,
+            behind: Behind::Other,
         } | Part::Definition
             | Part::TexInner
             | Part::Inner

@@ -2,7 +2,7 @@
 use Rattle.std.specs.Prelude.{◌≡◌, ℕ, nat_eq, List, [], ◌∷◌, ◌++◌, codes, map, Option, Some, None, if◌then◌else◌}
 use Rattle.cw_base.specs.declared.category.Cat.{Cat}
 use Rattle.cw_base.specs.declared.category.Cat.TheVariants.{RawInt, IntLike, ConstLike, StructLike, CaseLike, ForLike}
-use Rattle.cw_base.specs.declared.category.Cat.TheVariants.{DoLike, IfLike, ElseLike, DefineLike, SizeofLike}
+use Rattle.cw_base.specs.declared.category.Cat.TheVariants.{DoLike, IfLike, ElseLike, HashLike, DefineLike, SizeofLike}
 use Rattle.cw_base.specs.declared.category.Cat.TheVariants.{TypedefLike, TypeofLike, AlignasLike}
 use Rattle.cw_base.specs.declared.category.Cat.TheVariants.{TexLike, Exp}
 use Rattle.cw_names.specs.declared.entry.EntryKind.{EntryKind}
@@ -42,19 +42,16 @@ c_words =
     words_with AlignasLike (codes "alignas" ∷ codes "_Alignas" ∷ codes "__attribute__" ∷ codes "_Pragma" ∷ []) ++
     words_with TexLike (codes "TeX" ∷ codes "NULL" ∷ [])
 
--- The words that are reserved in a `#` line only, with their categories there.
-abbrev pub hash_line_words : List Entry
+-- The words that are reserved in a `#` line only.
+abbrev pub hash_line_words : List (List ℕ)
 hash_line_words =
-    words_with IfLike (codes "elif" ∷ codes "elifdef" ∷ codes "elifndef" ∷ codes "embed" ∷ codes "error"
-    ∷ codes "ifdef" ∷ codes "ifndef" ∷ codes "include" ∷ codes "line" ∷ codes "pragma" ∷ codes "undef"
-    ∷ codes "warning" ∷ []) ++
-    words_with ElseLike (codes "endif" ∷ []) ++
-    words_with DefineLike (codes "define" ∷ []) ++
-    words_with SizeofLike (codes "defined" ∷ [])
+    codes "elif" ∷ codes "elifdef" ∷ codes "elifndef" ∷ codes "embed" ∷ codes "error" ∷ codes "ifdef"
+    ∷ codes "ifndef" ∷ codes "include" ∷ codes "line" ∷ codes "pragma" ∷ codes "undef" ∷ codes "warning"
+    ∷ codes "endif" ∷ codes "define" ∷ codes "defined" ∷ []
 
 -- The built-in words, with which the names begin. Those of `#` lines are ordinary identifiers elsewhere.
 abbrev pub built_in_words : List Entry
-built_in_words = c_words ++ map (λ (entry : Entry). record entry { category = Exp }) hash_line_words
+built_in_words = c_words ++ words_with Exp hash_line_words
 
 -- What entries are found by, without their categories.
 abbrev pub words_of : List Entry → List (EntryKind × List ℕ)
@@ -64,11 +61,25 @@ words_of entries = map (λ entry. (entry.kind, entry.text)) entries
 unfoldable pub BeginsWithWords : List Entry → Type 0
 BeginsWithWords entries = (later : List (EntryKind × List ℕ)) × (words_of entries ≡ words_of built_in_words ++ later)
 
--- The category that a word has in a `#` line whatever it has elsewhere.
+-- the category of the first of these words that is the word
 abbrev pub category_among : List Entry → List ℕ → Option Cat
 category_among [] word = None
 category_among (entry ∷ entries) word = if pointwise nat_eq word entry.text then Some entry.category else category_among
     entries word
 
+-- The words that are reserved directly behind the `#` of a `#` line, with their categories there. The `define` of a
+-- macro with parameters has another.
+abbrev pub directive_words : List Entry
+directive_words =
+    words_with HashLike (codes "elif" ∷ codes "elifdef" ∷ codes "elifndef" ∷ codes "else" ∷ codes "embed"
+    ∷ codes "endif" ∷ codes "error" ∷ codes "if" ∷ codes "ifdef" ∷ codes "ifndef" ∷ codes "include" ∷ codes "line"
+    ∷ codes "pragma" ∷ codes "undef" ∷ codes "warning" ∷ []) ++
+    words_with DefineLike (codes "define" ∷ [])
+
+-- The category that a word has directly behind the `#` of a `#` line, whatever it has elsewhere.
+abbrev pub directive_category : List ℕ → Option Cat
+directive_category word = category_among directive_words word
+
+-- The category that a word has anywhere in a `#` line, whatever it has elsewhere.
 abbrev pub hash_line_category : List ℕ → Option Cat
-hash_line_category word = category_among hash_line_words word
+hash_line_category word = category_among (words_with SizeofLike (codes "defined" ∷ [])) word

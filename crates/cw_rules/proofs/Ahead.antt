@@ -3,7 +3,7 @@ use Rattle.std.proofs.Common.{◌≡◌, ℕ, zero, suc, ◌+◌, ◌≤◌, Boo
 use Rattle.std.proofs.Common.{◌∷◌, ◌++◌, codes, length, slice_index, take, drop, refl, sym, ap, ◌∙◌, arith}
 use Rattle.std.specs.Prelude.{if◌then◌else◌}
 use Rattle.std.specs.List.{list_any}
-use Rattle.cw_rules.specs.declared.{classes.Class.Class, signs.Sign.Sign}
+use Rattle.cw_rules.specs.declared.{classes.Class.Class, parts.Part.Part, signs.Sign.Sign}
 use Rattle.cw_rules.specs.declared.classes.Class.TheVariants as classes
 use Rattle.cw_rules.specs.declared.parts.Start.TheVariants as start
 use Rattle.cw_rules.specs.Bytes.{apostrophe, is_mark, star, plus, minus, slash, at_sign, left_paren, right_paren, comma}
@@ -12,6 +12,8 @@ use Rattle.cw_base.specs.Text.{bar}
 use Rattle.cw_rules.specs.{Signs.all_signs, Signs.spelling, Signs.longer, Signs.longest, Prefixes.prefix_size}
 use Rattle.cw_rules.specs.{Codes.code_at, Codes.begins_section, Tokens.parameter_follows, Tokens.depth_size}
 use Rattle.cw_rules.specs.{Tokens.is_include}
+use Rattle.cw_rules.specs.Tokens.{behind_space, is_define, begins_parameters, has_parameters}
+use Rattle.cw_rules.specs.Tokens.{defines_macro, directive_at}
 use Rattle.cw_rules.specs.Constants.{more_digits, digits, fraction, exponent_sign, exponent, mantissa, scaled}
 use Rattle.cw_rules.specs.Constants.{is_prefixed, hexadecimal, binary, decimal, number, constant}
 use Rattle.cw_rules.specs.Tokens.{start_of, sign_or_other, is_signed, behind_white, name_follows, is_parameter}
@@ -237,6 +239,35 @@ module _ (s : Stop) (more : List ℕ) where
 
   pub include-same : (bs : List ℕ) → is_include (bs ++ byte_of s ∷ more) ≡ is_include bs
   include-same bs = λ i. with-same (codes "include") bs refl refl i && run-same classes.Word bs refl refl i == 7
+
+  -- ## Words of directives
+
+  space-same : (last : ℕ) (bs : List ℕ) → behind_space last (bs ++ byte_of s ∷ more)
+      ≡ behind_space last bs ++ byte_of s ∷ more
+  space-same last [] = grind (arith, nat_tests, byte_of)
+  space-same last (b ∷ bs) = grind (arith, nat_tests, begins-same, space-same b bs)
+
+  has-same : (bs : List ℕ) → has_parameters (bs ++ byte_of s ∷ more) ≡ has_parameters bs
+  has-same bs = ap begins_parameters (space-same 0 bs)
+      ∙ (λ i. begins_by-same is_letter (behind_space 0 bs) refl refl i && paren-same (behind_space 0 bs) i)
+
+  is_define-same : (bs : List ℕ) → is_define (bs ++ byte_of s ∷ more) ≡ is_define bs
+  is_define-same bs = λ i. with-same (codes "define") bs refl refl i && run-same classes.Word bs refl refl i == 6
+
+  defines-same : (bs : List ℕ) → defines_macro (bs ++ byte_of s ∷ more) ≡ defines_macro bs
+  defines-same bs = ap (λ t. t && has_parameters (drop 6 (bs ++ byte_of s ∷ more))) (is_define-same bs)
+      ∙ by (is_define bs) refl
+    where
+      fits : is_define bs ≡ true → 6 ≤ length bs
+      fits h = grind (arith, nat_tests, run-le classes.Word bs)
+
+      by : (t : Bool) → is_define bs ≡ t → (t && has_parameters (drop 6 (bs ++ byte_of s ∷ more)))
+          ≡ (t && has_parameters (drop 6 bs))
+      by true e = ap has_parameters (drop-same 6 bs (byte_of s ∷ more) (fits e)) ∙ has-same (drop 6 bs)
+      by false e = refl
+
+  pub directive-same : (part : Part) (bs : List ℕ) → directive_at part (bs ++ byte_of s ∷ more) ≡ directive_at part bs
+  directive-same part bs = grind (arith, defines-same)
 
   pub depth-same : (bs : List ℕ) → depth_size (bs ++ byte_of s ∷ more) ≡ depth_size bs
   depth-same bs = λ i. if begins-same star bs refl refl i then 1 else run-same classes.Digit bs refl refl i

@@ -15,7 +15,7 @@ use Rattle.cw_rules.specs.Bytes.{quote, apostrophe, star, slash, less, greater, 
 use Rattle.cw_rules.proofs.StringPrefixes.{prefix-below, prefix-mark}
 use Rattle.cw_rules.specs.Bodies.{at_start, stops, extent, ended, noted, one_note, note_unless}
 use Rattle.cw_rules.specs.Answers.{Answer, Where, Cut, Found, before, plain, dropped}
-use Rattle.cw_rules.specs.Tokens.{sign_or_other, identifier, string, string_of, closes_on_line, include_name}
+use Rattle.cw_rules.specs.Tokens.{sign_or_other, word, directive_at, string, string_of, closes_on_line, include_name}
 use Rattle.cw_rules.specs.Tokens.{section_name, is_name, is_quote, control_or_plain, code_token, dropped_code}
 use Rattle.cw_rules.specs.Tokens.{is_signed, is_head, in_hash_line, passed, moved, one, comment_begin, comment_closed}
 use Rattle.cw_rules.specs.Tokens.{piece_start, piece, effect_in, may_head, code_by, in_code, start_of}
@@ -23,15 +23,18 @@ use Rattle.cw_rules.specs.Apart.{comment_text_apart, code_text_apart, in_text_ap
 use Rattle.cw_rules.proofs.{Choices.if-both, Sizes.run-le, IncludeEnds.greater-stops}
 use Rattle.cw_rules.proofs.Ahead.{Stop, At, Bar, byte_of, of-both, IsApart, apart-on, drop-same, take-same, begins-same}
 use Rattle.cw_rules.proofs.Ahead.{run-same, constant-same, prefix-same, start_of-same, signed-same, include-same}
+use Rattle.cw_rules.proofs.Ahead.{directive-same}
 use Rattle.cw_rules.proofs.BodiesAhead.{IsFree, body-same, extent-same, all_notes-same}
 use Rattle.cw_base.specs.declared.notes.NoteKind.TheVariants as notes
 use Rattle.cw_rules.specs.declared.bodies.Body.TheVariants as bodies
 use Rattle.cw_rules.specs.declared.classes.Class.TheVariants as classes
 use Rattle.cw_rules.specs.declared.codes.Code.TheVariants as at
 use Rattle.cw_rules.specs.declared.codes.Effect.TheVariants as effects
+use Rattle.cw_rules.specs.declared.parts.Behind.TheVariants as behinds
 use Rattle.cw_rules.specs.declared.parts.Part.TheVariants as parts
 use Rattle.cw_rules.specs.declared.parts.Start.TheVariants as start
 use Rattle.cw_rules.specs.declared.signs.Sign.TheVariants as signs
+use Rattle.cw_rules.specs.declared.tokens.Directive.TheVariants as directives
 use Rattle.cw_rules.specs.declared.tokens.TokKind.TheVariants as kinds
 
 -- two cuts that are the same where the first has no more than so many bytes
@@ -162,7 +165,7 @@ module _ (s : Stop) (more : List ℕ) (free : IsFree s more) where
             let e = extent-same s more i bs free tt fits in
             let m = all_notes-same s more notes.ControlTextUnended i bs free tt
             (λ before. control-over s more before free) fits in
-            λ j. record { kind = kinds.Code c; size = 2 + e.size j; notes = m j };
+            λ j. record { kind = kinds.Code c; directive = directives.No; size = 2 + e.size j; notes = m j };
       }) (λ t. record { same = λ h. refl })
 
   name-local : (c : Code) (place byte next : ℕ) (bs : List ℕ) → CutLocal (suc (suc (length bs)))
@@ -176,6 +179,7 @@ module _ (s : Stop) (more : List ℕ) (free : IsFree s more) where
         ∙ take-same (extent i bs).inner_size bs (byte_of s ∷ more) e.short in
         λ j. record {
           kind = kinds.Code c;
+          directive = directives.No;
           size = 2 + e.size j;
           notes = one_note (note_unless (e.closed j) notes.NameUnended place)
               ++ (one_note (note_unless (not (is_void (name j))) notes.NameEmpty place) ++ e.notes j);
@@ -259,12 +263,18 @@ module _ (s : Stop) (more : List ℕ) (free : IsFree s more) where
       → (is_code_start b ≡ true → 0 < length bs) → Local (length bs) (in_code b (record { part = part; comments = cs })
       place (byte ∷ (bs ++ byte_of s ∷ more))) (in_code b (record { part = part; comments = cs }) place (byte ∷ bs))
   begun-local start.Identifier part cs place byte bs q k = one-local (in_hash_line part) _ _ place byte bs
-      (identifier (byte ∷ (bs ++ byte_of s ∷ more))) (identifier (byte ∷ bs)) (λ h. (
+      (word (directive_at part (byte ∷ (bs ++ byte_of s ∷ more))) (byte ∷ (bs ++ byte_of s ∷ more)))
+      (word (directive_at part (byte ∷ bs)) (byte ∷ bs)) (λ h. (
         ap (λ t. record {
-          part = if in_hash_line part && t then parts.Plain true true else passed part;
+          part = if in_hash_line part && t then parts.Plain true behinds.Include else passed part;
           comments = cs;
         }) (include-same s more (byte ∷ bs)),
-        ap (plain kinds.Identifier) (run-same s more classes.Word (byte ∷ bs) refl refl),
+        (λ j. record {
+          kind = kinds.Identifier;
+          directive = directive-same s more part (byte ∷ bs) j;
+          size = run-same s more classes.Word (byte ∷ bs) refl refl j;
+          notes = [];
+        }),
       ))
   begun-local start.Constant part cs place byte bs q k = simple-local (in_hash_line part) _ place byte bs _ _
       (ap (plain kinds.Constant) (constant-same s more (byte ∷ bs)))
@@ -322,7 +332,7 @@ module _ (s : Stop) (more : List ℕ) (free : IsFree s more) where
           let far : (ended i (bs ++ byte_of s ∷ more)).place ≤ (place + 1) + n =
           greater-stops i (bs ++ byte_of s ∷ more) n refl (λ a. absurd cc) full in
           let b = body-same s more i bs (omega (arith, r.1)) in
-          λ j. record { kind = kinds.IncludeName; size = 1 + (r.0 j + 1); notes = b.notes j }
+          λ j. record { kind = kinds.IncludeName; directive = directives.No; size = 1 + (r.0 j + 1); notes = b.notes j }
       same least (inr r) = absurd (omega (arith, r.1, least))
 
   include-or : (hash_line behind : Bool) (next : Where) (place byte : ℕ) (bs : List ℕ) (f g : Found)
@@ -403,9 +413,16 @@ module _ (s : Stop) (more : List ℕ) (free : IsFree s more) where
       let i = piece_start part cs c place in
       one-local (in_hash_line part) _ _ place byte bs (record {
         kind = kinds.Text;
+        directive = directives.No;
         size = (extent i (byte ∷ (bs ++ byte_of s ∷ more))).size;
         notes = noted i (byte ∷ (bs ++ byte_of s ∷ more));
-      }) (record { kind = kinds.Text; size = (extent i (byte ∷ bs)).size; notes = noted i (byte ∷ bs) })
+      }) (record {
+        kind = kinds.Text;
+        directive = directives.No;
+        size = (extent i (byte ∷ bs)).size;
+        notes = noted i
+            (byte ∷ bs);
+      })
       (λ h. let e = extent-same s more i (byte ∷ bs) free tt h in (
         (λ j. record {
           part = part;
@@ -416,7 +433,7 @@ module _ (s : Stop) (more : List ℕ) (free : IsFree s more) where
             inner = c.inner;
           } ∷ cs;
         }),
-        (λ j. record { kind = kinds.Text; size = e.size j; notes = e.notes j }),
+        (λ j. record { kind = kinds.Text; directive = directives.No; size = e.size j; notes = e.notes j }),
       ))
 
   closed-local : (part : Part) (c : Opened) (cs : List Opened) (place byte : ℕ) (bs : List ℕ) → Local (length bs)

@@ -11,10 +11,12 @@ use Rattle.cw_rules.specs.{Bytes.at_sign, Bytes.run, Codes.code_at, Tokens.dropp
 use Rattle.cw_rules.specs.{Signs.spelling, Bodies.one_note, Bodies.note_unless}
 use Rattle.cw_rules.specs.Tokens.{is_head_part, one, skipped_byte, passed, moved, in_hash_line, line_end, comment_end}
 use Rattle.cw_rules.specs.Tokens.{inner_cut, behind_inner, code_token, alone_size, behind_word, is_include, identifier}
+use Rattle.cw_rules.specs.Tokens.{word, directive_at}
 use Rattle.cw_rules.proofs.Choices.{if-both}
 use Rattle.cw_base.specs.declared.notes.NoteKind.TheVariants as notes
 use Rattle.cw_rules.specs.declared.classes.Class.TheVariants as classes
 use Rattle.cw_rules.specs.declared.codes.Code.TheVariants as at
+use Rattle.cw_rules.specs.declared.parts.Behind.TheVariants as behinds
 use Rattle.cw_rules.specs.declared.parts.Part.TheVariants as parts
 use Rattle.cw_rules.specs.declared.tokens.TokKind.TheVariants as kinds
 use Rattle.cw_rules.specs.declared.signs.Sign.TheVariants as signs
@@ -124,7 +126,7 @@ passed-limbo p h = grind (arith, nat_tests)
 
 word-limbo : (p : Part) (bytes : List ℕ) → is_limbo p ≡ false → is_limbo (behind_word p bytes) ≡ false
 word-limbo p bytes h = if-both (λ (q : Part). is_limbo q ≡ false) (in_hash_line p && is_include bytes)
-    (parts.Plain true true) (passed p) (λ e. refl) (λ e. passed-limbo p h)
+    (parts.Plain true behinds.Include) (passed p) (λ e. refl) (λ e. passed-limbo p h)
 
 inner-limbo : (p : Part) (cs : List Opened) → is_limbo p ≡ false → is_limbo (behind_inner p cs).part ≡ false
 inner-limbo p x2 h = grind (arith, nat_tests, passed-limbo)
@@ -140,7 +142,8 @@ line-tells : (part : Part) (cs : List Opened) (last place byte : ℕ) (bytes : L
 line-tells part [] last place byte bytes =
     let w : Where = record { part = part; comments = [] } in
     if-both (Tells w byte bytes) (in_hash_line part && not (last == backslash)) _ _
-    (λ e. other-tells w byte bytes true (record { part = parts.Plain false false; comments = [] }) place (newline ∷ [])
+    (λ e. other-tells w byte bytes true (record { part = parts.Plain false behinds.Other; comments = [] }) place
+    (newline ∷ [])
     (plain kinds.HashLineEnd 1) refl refl (λ h. refl)) (λ e. same-tells w byte bytes)
 line-tells part (c ∷ cs) last place byte bytes =
     let w : Where = record { part = part; comments = c ∷ cs } in
@@ -179,10 +182,10 @@ code-tells : (w : Where) (fresh : Bool) (last place byte : ℕ) (bytes : List �
 code-tells w fresh last place byte bytes _ (LineEnd h) = line-tells w.part w.comments last place byte bytes
 code-tells w fresh last place byte bytes _ (Space line h) = same-tells w byte bytes
 code-tells w fresh last place byte bytes _ (HashLine h takes first) = other-tells w byte bytes true
-    (moved w (parts.Plain true false)) place (byte ∷ bytes) (plain kinds.HashLine 1) refl refl (λ h. refl)
+    (moved w (parts.Plain true behinds.Hash)) place (byte ∷ bytes) (plain kinds.HashLine 1) refl refl (λ h. refl)
 code-tells w fresh last place byte bytes _ (Word bare h) =
     other-tells w byte bytes (in_hash_line w.part) (moved w (behind_word w.part (byte ∷ bytes))) place (byte ∷ bytes)
-    (identifier (byte ∷ bytes)) refl refl (word-limbo w.part (byte ∷ bytes))
+    (word (directive_at w.part (byte ∷ bytes)) (byte ∷ bytes)) refl refl (word-limbo w.part (byte ∷ bytes))
 code-tells w fresh last place byte bytes _ (Passed cut p) = cut-tells w fresh place byte bytes cut p
 code-tells w fresh last place byte bytes _ (Heading at e name may headed) = stands-tells w byte bytes
     (in_hash_line w.part) (moved w parts.Head) place (byte ∷ bytes) (code_at bytes) (code_token (code_at bytes) place

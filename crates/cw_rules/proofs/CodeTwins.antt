@@ -13,6 +13,7 @@ use Rattle.cw_rules.proofs.{Choices.if-both, Choices.and-none, Taking.AreNotes}
 use Rattle.cw_rules.proofs.CodeStarts.{is_definition_code, code_in, is_limbo, is_head_where}
 use Rattle.cw_base.specs.declared.notes.NoteKind.TheVariants as notes
 use Rattle.cw_rules.specs.declared.codes.Code.TheVariants as at
+use Rattle.cw_rules.specs.declared.parts.Behind.TheVariants as behinds
 use Rattle.cw_rules.specs.declared.parts.Part.TheVariants as parts
 
 abbrev pub is_program_code : Code → Bool
@@ -193,23 +194,25 @@ code-name : (c : Code) (part : Part) (cs : List Opened) (place : ℕ) (bytes : L
     → is_head_where (name_found c (record { part = part; comments = cs }) place bytes).next ≡ true
     → Twin (name_found c (record { part = part; comments = cs }) place bytes) (at_program c place bytes)
 code-name at.SectionName parts.Definition [] place bytes n o h = headed-twin (is_head place (bytes)) definition
-    (moved program (parts.Plain false false)) place bytes (code_token at.SectionName place bytes) refl h
+    (moved program (parts.Plain false behinds.Other)) place bytes (code_token at.SectionName place bytes) refl h
 code-name at.SectionName parts.Begin [] place bytes n o h = headed-twin (is_head place (bytes))
-    (moved program (parts.Plain false false)) (moved program (parts.Plain false false)) place bytes
+    (moved program (parts.Plain false behinds.Other)) (moved program (parts.Plain false behinds.Other)) place bytes
     (code_token at.SectionName place bytes) refl h
 code-name at.SectionName part cs place bytes n o h = wrong _ h (not-head part cs o)
 code-name at.FileName parts.Definition [] place bytes n o h = headed-twin (is_head place (bytes)) definition
-    (moved program (parts.Plain false false)) place bytes (code_token at.FileName place bytes) refl h
+    (moved program (parts.Plain false behinds.Other)) place bytes (code_token at.FileName place bytes) refl h
 code-name at.FileName parts.Begin [] place bytes n o h = headed-twin (is_head place (bytes)) (moved program (parts.Plain
-    false false)) (moved program (parts.Plain false false)) place bytes (code_token at.FileName place bytes) refl h
+    false behinds.Other)) (moved program (parts.Plain false behinds.Other)) place bytes (code_token at.FileName place
+    bytes) refl h
 code-name at.FileName part cs place bytes n o h = wrong _ h (not-head part cs o)
 code-name _ part cs place bytes n o h = absurd cc
 
 tex-name : (c : Code) (place : ℕ) (bytes : List ℕ) → is_name c ≡ true → is_head_where (tex_by (effect_in_tex c) c tex
     place bytes).next ≡ true → Twin (tex_by (effect_in_tex c) c tex place bytes) (at_program c place bytes)
 tex-name at.SectionName place bytes n h = headed-twin (is_head place bytes) tex
-    (moved program (parts.Plain false false)) place bytes (code_token at.SectionName place bytes) refl h
-tex-name at.FileName place bytes n h = headed-twin (is_head place bytes) tex (moved program (parts.Plain false false))
+    (moved program (parts.Plain false behinds.Other)) place bytes (code_token at.SectionName place bytes) refl h
+tex-name at.FileName place bytes n h = headed-twin (is_head place bytes) tex (moved program (parts.Plain false
+    behinds.Other))
     place bytes (code_token at.FileName place bytes) refl h
 tex-name _ place bytes n h = absurd cc
 

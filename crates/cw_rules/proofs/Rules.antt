@@ -15,14 +15,16 @@ use Rattle.cw_rules.specs.Codes.{code_at, effect_in_limbo, effect_in_tex}
 use Rattle.cw_rules.specs.{Constants.constant, Prefixes.prefix_size, Signs.all_signs, Signs.longest, Signs.spelling}
 use Rattle.cw_rules.specs.Tokens.{alone_size, behind_format, behind_include, behind_white, behind_word, closes_on_line}
 use Rattle.cw_rules.specs.Tokens.{code_by, code_token, comment_begin, comment_closed, comment_end, dropped_code}
-use Rattle.cw_rules.specs.Tokens.{effect_in, ends_at_bar, format_name, identifier, in_code, in_hash_line, include_name}
-use Rattle.cw_rules.specs.Tokens.{inner_begin, inner_end, is_code_part, is_deep, is_head, is_name, is_space, limbo_by}
+use Rattle.cw_rules.specs.Tokens.{directive_at, effect_in, ends_at_bar, format_name, identifier, in_code, in_hash_line}
+use Rattle.cw_rules.specs.Tokens.{include_name, inner_begin, inner_end, is_code_part, is_deep, is_head, is_name}
+use Rattle.cw_rules.specs.Tokens.{is_space, limbo_by}
 use Rattle.cw_rules.specs.Tokens.{limbo_text, line_end, macro_name, may_head, moved, name_follows, one, parameter}
-use Rattle.cw_rules.specs.Tokens.{parameter_follows, passed, piece, sign_or_other, skipped_byte, string}
+use Rattle.cw_rules.specs.Tokens.{parameter_follows, passed, piece, sign_or_other, skipped_byte, string, word}
 use Rattle.cw_rules.{specs.Tokens.takes_hash_line, specs.Tokens.tex_by, specs.Tokens.with_inner, proofs.Choices.if-both}
 use Rattle.cw_base.specs.declared.notes.NoteKind.TheVariants as notes
 use Rattle.cw_rules.specs.declared.classes.Class.TheVariants as classes
 use Rattle.cw_rules.specs.declared.codes.Effect.TheVariants as effects
+use Rattle.cw_rules.specs.declared.parts.Behind.TheVariants as behinds
 use Rattle.cw_rules.specs.declared.parts.Part.TheVariants as parts
 use Rattle.cw_rules.specs.declared.parts.Start.TheVariants as start
 use Rattle.cw_rules.specs.declared.signs.Sign.TheVariants as signs
@@ -73,18 +75,18 @@ pub data IsPassed (w : Where) (fresh : Bool) (place byte : ℕ) (bytes : List �
 pub data BeginsPart (place : ℕ) : Effect → Part → Type 0 where
   Macro : BeginsPart place effects.Defines (parts.MacroName place)
   Format : BeginsPart place effects.Formats (parts.FormatName place false false)
-  CPart : BeginsPart place effects.BeginsC (parts.Plain false false)
+  CPart : BeginsPart place effects.BeginsC (parts.Plain false behinds.Other)
 
 pub data CodeRule (w : Where) (fresh : Bool) (last place byte : ℕ) (bytes : List ℕ) : Found → Type 0 where
   LineEnd : (byte == newline) ≡ true → CodeRule w fresh last place byte bytes (line_end w.part w.comments last place)
   Space : (byte == newline) ≡ false → is_space w.part byte bytes ≡ true
       → CodeRule w fresh last place byte bytes (skipped_byte w)
   HashLine : (byte == hash) ≡ true → takes_hash_line w.part w.comments ≡ true → fresh ≡ true
-      → CodeRule w fresh last place byte bytes (one true (moved w (parts.Plain true false)) place (byte ∷ bytes)
+      → CodeRule w fresh last place byte bytes (one true (moved w (parts.Plain true behinds.Hash)) place (byte ∷ bytes)
       (plain kinds.HashLine 1))
   Word : nat_lt 0 (prefix_size (byte ∷ bytes)) ≡ false → is_letter byte ≡ true
       → CodeRule w fresh last place byte bytes (one (in_hash_line w.part) (moved w (behind_word w.part (byte ∷ bytes)))
-      place (byte ∷ bytes) (identifier (byte ∷ bytes)))
+      place (byte ∷ bytes) (word (directive_at w.part (byte ∷ bytes)) (byte ∷ bytes)))
   Passed : (cut : Cut) → IsPassed w fresh place byte bytes cut
       → CodeRule w fresh last place byte bytes (one (in_hash_line w.part) (moved w (passed w.part)) place (byte ∷ bytes)
       cut)
@@ -281,7 +283,7 @@ pub data PartRule (fresh : Bool) (last place byte : ℕ) (bytes : List ℕ) : Pa
   Blank : is_in classes.Blank byte ≡ true
       → PartRule fresh last place byte bytes parts.Head (skipped_byte (within parts.Head))
   HeadSign : is_in classes.Blank byte ≡ false
-      → PartRule fresh last place byte bytes parts.Head (one false (within (parts.Plain false false)) place
+      → PartRule fresh last place byte bytes parts.Head (one false (within (parts.Plain false behinds.Other)) place
       (byte ∷ bytes) (plain kinds.HeadSign (if begins equals bytes then 2 else 1)))
   White : (part : Part) → is_in classes.White byte ≡ true → IsWanted (byte ∷ bytes) part
       → PartRule fresh last place byte bytes part (skipped_byte (within part))

@@ -10,6 +10,7 @@ use Rattle.cw_rules.specs.declared.classes.Class.TheVariants as classes
 use Rattle.cw_rules.specs.declared.{codes.Code.Code, codes.Effect.Effect, parts.Part.Part, parts.Opened.Opened}
 use Rattle.cw_rules.specs.declared.codes.Code.TheVariants as at
 use Rattle.cw_rules.specs.declared.codes.Effect.TheVariants as effects
+use Rattle.cw_rules.specs.declared.parts.Behind.TheVariants as behinds
 use Rattle.cw_rules.specs.declared.parts.Part.TheVariants as parts
 use Rattle.cw_rules.specs.declared.signs.Sign.TheVariants as signs
 use Rattle.cw_rules.specs.declared.tokens.TokKind.TheVariants as kinds
@@ -70,7 +71,8 @@ module _ (more : List ℕ) (code : begins greater more ≡ false) where
           (plain (kinds.Code c) 2) (plain (kinds.Code c) 2) refl
       by effects.Formats c = simple-local At more code false (moved w (parts.FormatName place false false)) place byte
           (next ∷ bs) (plain (kinds.Code c) 2) (plain (kinds.Code c) 2) refl
-      by effects.BeginsC c = simple-local At more code false (moved w (parts.Plain false false)) place byte (next ∷ bs)
+      by effects.BeginsC c = simple-local At more code false (moved w (parts.Plain false behinds.Other)) place byte
+          (next ∷ bs)
           (plain (kinds.Code c) 2) (plain (kinds.Code c) 2) refl
 
   tex_text-local : (w : Where) (place byte : ℕ) (bs : List ℕ)
@@ -155,8 +157,8 @@ module _ (more : List ℕ) (code : begins greater more ≡ false) where
       place byte bs
   part_text-local parts.Begin fresh last place byte bs = code_text-local At more code parts.Begin [] fresh last place
       byte bs
-  part_text-local (parts.Plain hash_line include) fresh last place byte bs =
-      code_text-local At more code (parts.Plain hash_line include) [] fresh last place byte bs
+  part_text-local (parts.Plain hash_line behind) fresh last place byte bs =
+      code_text-local At more code (parts.Plain hash_line behind) [] fresh last place byte bs
   part_text-local parts.Definition fresh last place byte bs = code_text-local At more code parts.Definition [] fresh
       last place byte bs
   part_text-local parts.Inner fresh last place byte bs = code_text-local At more code parts.Inner [] fresh last place

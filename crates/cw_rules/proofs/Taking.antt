@@ -15,12 +15,15 @@ use Rattle.cw_rules.specs.Codes.{code_at, begins_section, has_control_text}
 use Rattle.cw_rules.specs.Bodies.{stops, goes_on, extent, ended, noted}
 use Rattle.cw_rules.specs.Tokens.{in_hash_line, is_space, is_deep, passed, one, skipped_byte, comment_end, inner_cut}
 use Rattle.cw_rules.specs.Tokens.{comment_cut, part_cut, inner_or_none, all_cut, section, section_code, line_end}
-use Rattle.cw_rules.specs.Tokens.{identifier, alone_size, control_or_plain, code_token, dropped_code, comment_begin}
+use Rattle.cw_rules.specs.Tokens.{identifier, word, directive_at, alone_size, control_or_plain, code_token}
+use Rattle.cw_rules.specs.Tokens.{dropped_code, comment_begin}
 use Rattle.cw_rules.specs.Tokens.{inner_begin, inner_end, piece_start, piece, comment_closed}
 use Rattle.cw_rules.proofs.{Inside.ended-some, Choices.if-both, Choices.or-false, Choices.at-byte}
 use Rattle.cw_rules.specs.declared.classes.Class.TheVariants as classes
+use Rattle.cw_rules.specs.declared.parts.Behind.TheVariants as behinds
 use Rattle.cw_rules.specs.declared.parts.Part.TheVariants as parts
 use Rattle.cw_rules.specs.declared.signs.Sign.TheVariants as signs
+use Rattle.cw_rules.specs.declared.tokens.Directive.TheVariants as directives
 use Rattle.cw_rules.specs.declared.tokens.TokKind.TheVariants as kinds
 use Rattle.cw_rules.proofs.Rules.{IsPassed, Constant, Standing, Dropping, OfSign, CodeRule, LineEnd, Space, HashLine}
 use Rattle.cw_rules.proofs.Rules.{Word, Passed, Heading, Beginning, Comment, InnerEnd, CommentRule, Closed, EndedLine}
@@ -209,8 +212,8 @@ code-takes w fresh last place byte bytes _ (LineEnd h) = at-byte (λ b. Takes pl
     (line_end w.part w.comments last place)) byte newline h (line_end-takes w.part w.comments last place bytes)
 code-takes w fresh last place byte bytes _ (Space line h) =
     skipped-takes place (byte ∷ bytes) w (space-space w.part byte bytes h)
-code-takes w fresh last place byte bytes _ (Word bare h) =
-    one-takes _ _ place (byte ∷ bytes) (identifier (byte ∷ bytes)) (identifier-some byte bytes h)
+code-takes w fresh last place byte bytes _ (Word bare h) = one-takes _ _ place (byte ∷ bytes)
+    (word (directive_at w.part (byte ∷ bytes)) (byte ∷ bytes)) (identifier-some byte bytes h)
 code-takes w fresh last place byte bytes _ (Passed cut p) =
     one-takes _ _ place (byte ∷ bytes) cut (passed-some w fresh place byte bytes cut p).is
 code-takes w fresh last place byte bytes _ (Heading at e name may headed) = one-takes _ _ place (byte ∷ bytes)
@@ -239,7 +242,13 @@ piece-takes part comments c place byte bytes section closes line opens =
     let far : place < (ended i (byte ∷ bytes)).place = ended-some i (byte ∷ bytes) on in
     let some : 0 < ((ended i (byte ∷ bytes)).place - place) + 0 = omega arith in
     one-takes (in_hash_line part) _ place (byte ∷ bytes)
-    (record { kind = kinds.Text; size = (extent i (byte ∷ bytes)).size; notes = noted i (byte ∷ bytes) }) some
+    (record {
+      kind = kinds.Text;
+      directive = directives.No;
+      size = (extent i (byte ∷ bytes)).size;
+      notes = noted i
+          (byte ∷ bytes);
+    }) some
 
 closed-takes : (part : Part) (c : Opened) (comments : List Opened) (place : ℕ) (bytes : List ℕ)
     → Takes place bytes (comment_closed part c comments place bytes)
@@ -295,7 +304,7 @@ part-takes fresh last place byte bytes _ _ (TexText at h) =
 part-takes fresh last place byte bytes _ _ (Blank h) =
     skipped-takes place (byte ∷ bytes) (within parts.Head) (blank-space byte bytes h)
 part-takes fresh last place byte bytes _ _ (HeadSign h) = if-both (λ n. Takes place (byte ∷ bytes)
-    (one false (within (parts.Plain false false)) place (byte ∷ bytes) (plain kinds.HeadSign n)))
+    (one false (within (parts.Plain false behinds.Other)) place (byte ∷ bytes) (plain kinds.HeadSign n)))
     (begins equals bytes) 2 1 (λ h. one-takes false _ place (byte ∷ bytes) (plain kinds.HeadSign 2) (omega arith))
     (λ h. one-takes false _ place (byte ∷ bytes) (plain kinds.HeadSign 1) (omega arith))
 part-takes fresh last place byte bytes _ _ (White part h wanted) =

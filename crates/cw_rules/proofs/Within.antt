@@ -28,6 +28,7 @@ use Rattle.cw_rules.specs.declared.codes.Code.TheVariants as at
 use Rattle.cw_rules.specs.declared.codes.Effect.TheVariants as effects
 use Rattle.cw_rules.specs.declared.parts.Part.TheVariants as parts
 use Rattle.cw_rules.specs.declared.parts.Start.TheVariants as start
+use Rattle.cw_rules.specs.declared.tokens.Directive.TheVariants as directives
 use Rattle.cw_rules.specs.declared.tokens.TokKind.TheVariants as kinds
 
 -- What is found at a place fits in so many bytes.
@@ -182,6 +183,7 @@ piece-fits part comments c place byte bytes =
     let i = piece_start part comments c place in
     one-fits _ _ place (byte ∷ bytes) (record {
       kind = kinds.Text;
+      directive = directives.No;
       size = (extent i (byte ∷ bytes)).size;
       notes = noted i (byte ∷ bytes);
     }) (suc (length bytes)) (extent-le i (byte ∷ bytes)) (omega arith)

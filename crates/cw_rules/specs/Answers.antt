@@ -5,6 +5,8 @@ use Rattle.cw_base.specs.declared.span.Span.{Span}
 use Rattle.cw_rules.specs.declared.bodies.Noted.{Noted}
 use Rattle.cw_rules.specs.declared.parts.Part.{Part}
 use Rattle.cw_rules.specs.declared.parts.Opened.{Opened}
+use Rattle.cw_rules.specs.declared.tokens.Directive.{Directive}
+use Rattle.cw_rules.specs.declared.tokens.Directive.TheVariants.{No}
 use Rattle.cw_rules.specs.declared.tokens.TokKind.{TokKind}
 use Rattle.cw_rules.specs.declared.tokens.TokKind.TheVariants as kinds
 use Rattle.cw_rules.specs.declared.tokens.Tok.{Tok}
@@ -17,9 +19,16 @@ pub record Seen : Type 0 where
   pub text : List ℕ
   pub span : Span
   pub hash_line : Bool
+  pub directive : Directive
 
 abbrev pub seen : Tok → Seen
-seen t = record { kind = t.kind; text = t.text.now; span = t.span; hash_line = t.hash_line }
+seen t = record {
+  kind = t.kind;
+  text = t.text.now;
+  span = t.span;
+  hash_line = t.hash_line;
+  directive = t.directive;
+}
 
 pub data Answer : Type 0 where
   Token : (token : Seen) → Answer
@@ -48,9 +57,10 @@ pub record Spot : Type 0 where
   pub last : ℕ
   pub place : ℕ
 
--- A token with its size and its notes.
+-- A token with its size and its notes, and whether it is a word of a directive.
 pub record Cut : Type 0 where
   pub kind : TokKind
+  pub directive : Directive
   pub size : ℕ
   pub notes : List Noted
 
@@ -68,7 +78,7 @@ abbrev pub note_answers : List Noted → List Answer
 note_answers [] = []
 note_answers (n ∷ notes) = Note n.kind n.place ∷ note_answers notes
 
--- a token of this size at a place
+-- a token of this size at a place, which is no word of a directive
 abbrev pub token_of : Bool → TokKind → ℕ → ℕ → List ℕ → Seen
 token_of hash_line kind place size bytes =
     record {
@@ -76,16 +86,27 @@ token_of hash_line kind place size bytes =
       text = take size bytes;
       span = record { start = place; end = place + size };
       hash_line = hash_line;
+      directive = No;
     }
+
+-- the token of a cut
+abbrev pub cut_token : Bool → Cut → ℕ → List ℕ → Seen
+cut_token hash_line cut place bytes =
+    record (token_of hash_line cut.kind place cut.size bytes) { directive = cut.directive }
 
 -- a cut without notes
 abbrev pub plain : TokKind → ℕ → Cut
-plain kind size = record { kind = kind; size = size; notes = [] }
+plain kind size = record { kind = kind; directive = No; size = size; notes = [] }
 
 -- a cut that is dropped, with the note why before its own
 abbrev pub dropped : NoteKind → ℕ → Cut → Cut
 dropped note place cut =
-    record { kind = kinds.Dropped; size = cut.size; notes = record { kind = note; place = place } ∷ cut.notes }
+    record {
+      kind = kinds.Dropped;
+      directive = No;
+      size = cut.size;
+      notes = record { kind = note; place = place } ∷ cut.notes;
+    }
 
 -- ## The sign of a named C part
 

@@ -15,6 +15,7 @@ use Rattle.cw_rules.specs.declared.codes.Code.{Code}
 use Rattle.cw_rules.specs.declared.codes.Code.TheVariants as at
 use Rattle.cw_rules.specs.declared.codes.Effect.{Effect}
 use Rattle.cw_rules.specs.declared.codes.Effect.TheVariants as effects
+use Rattle.cw_rules.specs.declared.parts.Behind.TheVariants.{Hash, Include, Other}
 use Rattle.cw_rules.specs.declared.parts.Part.{Part}
 use Rattle.cw_rules.specs.declared.parts.Part.TheVariants as parts
 use Rattle.cw_rules.specs.declared.parts.Opened.{Opened}
@@ -22,6 +23,8 @@ use Rattle.cw_rules.specs.declared.parts.Start.{Start}
 use Rattle.cw_rules.specs.declared.parts.Start.TheVariants as start
 use Rattle.cw_rules.specs.declared.signs.Sign.{Sign}
 use Rattle.cw_rules.specs.declared.signs.Sign.TheVariants as signs
+use Rattle.cw_rules.specs.declared.tokens.Directive.{Directive}
+use Rattle.cw_rules.specs.declared.tokens.Directive.TheVariants.{No, Word, Macro}
 use Rattle.cw_rules.specs.declared.tokens.TokKind.{TokKind}
 use Rattle.cw_rules.specs.declared.tokens.TokKind.TheVariants as kinds
 use Rattle.cw_base.specs.Bytes.{newline, backslash}
@@ -39,7 +42,7 @@ use Rattle.cw_rules.specs.Bodies.{at_start, extent, noted, ended, one_note, note
 use Rattle.cw_rules.specs.Names.{is_void}
 use Rattle.cw_rules.specs.Answers.{Answer, Token, Begin, Finish, Note, Where, Spot, Cut, Found, before}
 use Rattle.cw_rules.specs.Answers.{note_answers}
-use Rattle.cw_rules.specs.Answers.{token_of, plain, dropped}
+use Rattle.cw_rules.specs.Answers.{token_of, cut_token, plain, dropped}
 
 -- ## Tokens, by their classes
 
@@ -51,6 +54,7 @@ identifier bytes = plain kinds.Identifier (run classes.Word bytes)
 abbrev pub string_of : TokKind → ℕ → Inside → List ℕ → Cut
 string_of kind opening i bytes = record {
   kind = kind;
+  directive = No;
   size = opening + (extent i bytes).size;
   notes = all_notes notes.StringUnended i bytes;
 }
@@ -66,6 +70,7 @@ closes_on_line bytes = begins greater (drop (run classes.IncludeName bytes) byte
 abbrev pub include_name : ℕ → List ℕ → Cut
 include_name place bytes = record {
   kind = kinds.IncludeName;
+  directive = No;
   size = 1 + (run classes.IncludeName (drop 1 bytes) + 1);
   notes = noted (at_start bodies.IncludeName (place + 1)) (drop 1 bytes);
 }
@@ -74,6 +79,7 @@ include_name place bytes = record {
 abbrev pub control_text_of : Code → Inside → List ℕ → Cut
 control_text_of code i bytes = record {
   kind = kinds.Code code;
+  directive = No;
   size = 2 + (extent i bytes).size;
   notes = all_notes notes.ControlTextUnended i bytes;
 }
@@ -85,6 +91,7 @@ control_text code place bytes = control_text_of code (at_start bodies.ControlTex
 abbrev pub section_name_of : Code → ℕ → Inside → List ℕ → Cut
 section_name_of code place i bytes = record {
   kind = kinds.Code code;
+  directive = No;
   size = 2 + (extent i bytes).size;
   notes = one_note (note_unless (extent i bytes).closed notes.NameUnended place) ++
       (one_note (note_unless (not (is_void (take (extent i bytes).inner_size bytes))) notes.NameEmpty place)
@@ -154,7 +161,7 @@ is_head place bytes = is_head_by (extent (at_start bodies.SectionName (place + 2
 -- C text goes on in a part, or in the innermost comment.
 abbrev pub is_code_part : Part → Bool
 is_code_part parts.Begin = true
-is_code_part (parts.Plain hash_line include) = true
+is_code_part (parts.Plain hash_line behind) = true
 is_code_part parts.Definition = true
 is_code_part parts.TexInner = true
 is_code_part parts.Inner = true
@@ -174,17 +181,21 @@ is_tex_inner parts.TexInner = true
 is_tex_inner part = false
 
 abbrev pub in_hash_line : Part → Bool
-in_hash_line (parts.Plain hash_line include) = hash_line
+in_hash_line (parts.Plain hash_line behind) = hash_line
 in_hash_line part = false
 
 abbrev pub behind_include : Part → Bool
-behind_include (parts.Plain hash_line include) = include
+behind_include (parts.Plain hash_line Include) = true
 behind_include part = false
+
+abbrev pub behind_hash : Part → Bool
+behind_hash (parts.Plain hash_line Hash) = true
+behind_hash part = false
 
 -- the part behind a token of C text
 abbrev pub passed : Part → Part
-passed parts.Begin = parts.Plain false false
-passed (parts.Plain hash_line include) = parts.Plain hash_line false
+passed parts.Begin = parts.Plain false Other
+passed (parts.Plain hash_line behind) = parts.Plain hash_line Other
 passed part = part
 
 -- The depth of C text in which no comment is open: inner C text of TeX text, and that of a section name, have depth 1.
@@ -214,7 +225,7 @@ with_inner c inner = record c { inner = inner }
 -- a token, and where the text goes on
 abbrev pub one : Bool → Where → ℕ → List ℕ → Cut → Found
 one hash_line next place bytes cut = record {
-  answers = Token (token_of hash_line cut.kind place cut.size bytes) ∷ note_answers cut.notes;
+  answers = Token (cut_token hash_line cut place bytes) ∷ note_answers cut.notes;
   more = cut.size - 1;
   next = next;
 }
@@ -276,7 +287,7 @@ section w place bytes =
 abbrev pub part_line_end : Part → ℕ → ℕ → Found
 part_line_end part last place =
     if in_hash_line part && not (last == backslash)
-    then one true (record { part = parts.Plain false false; comments = [] }) place (newline ∷ [])
+    then one true (record { part = parts.Plain false Other; comments = [] }) place (newline ∷ [])
     (plain kinds.HashLineEnd 1)
     else skipped_byte (record { part = part; comments = [] })
 
@@ -312,7 +323,36 @@ abbrev pub is_include : List ℕ → Bool
 is_include bytes = begins_with (codes "include") bytes && run classes.Word bytes == 7
 
 abbrev pub behind_word : Part → List ℕ → Part
-behind_word part bytes = if in_hash_line part && is_include bytes then parts.Plain true true else passed part
+behind_word part bytes = if in_hash_line part && is_include bytes then parts.Plain true Include else passed part
+
+-- Directly behind the `#` of a `#` line a word is one of a directive. It is the `define` of a macro with parameters
+-- where white space, an identifier and directly `(` follow. White space is blanks, and a backslash with the line end
+-- behind it. `last` is the byte before.
+abbrev pub is_line_space : ℕ → ℕ → List ℕ → Bool
+is_line_space last byte bytes = is_in classes.Blank byte
+    || (byte == backslash && begins newline bytes || byte == newline && last == backslash)
+
+abbrev pub behind_space : ℕ → List ℕ → List ℕ
+behind_space last [] = []
+behind_space last (byte ∷ bytes) = if is_line_space last byte bytes then behind_space byte bytes else byte ∷ bytes
+
+abbrev pub is_define : List ℕ → Bool
+is_define bytes = begins_with (codes "define") bytes && run classes.Word bytes == 6
+
+abbrev pub begins_parameters : List ℕ → Bool
+begins_parameters bytes = begins_by is_letter bytes && begins left_paren (drop (run classes.Word bytes) bytes)
+
+abbrev pub has_parameters : List ℕ → Bool
+has_parameters bytes = begins_parameters (behind_space 0 bytes)
+
+abbrev pub defines_macro : List ℕ → Bool
+defines_macro bytes = is_define bytes && has_parameters (drop 6 bytes)
+
+abbrev pub directive_at : Part → List ℕ → Directive
+directive_at part bytes = if behind_hash part then (if defines_macro bytes then Macro else Word) else No
+
+abbrev pub word : Directive → List ℕ → Cut
+word directive bytes = record (identifier bytes) { directive = directive }
 
 -- A comment begins.
 abbrev pub comment_begin : Bool → Where → ℕ → List ℕ → Found
@@ -368,13 +408,13 @@ code_by effects.Defines code w place bytes = one false (moved w (parts.MacroName
     (plain (kinds.Code code) 2)
 code_by effects.Formats code w place bytes = one false (moved w (parts.FormatName place false false)) place bytes
     (plain (kinds.Code code) 2)
-code_by effects.BeginsC code w place bytes = one false (moved w (parts.Plain false false)) place bytes
+code_by effects.BeginsC code w place bytes = one false (moved w (parts.Plain false Other)) place bytes
     (plain (kinds.Code code) 2)
 
 -- The token that begins at a byte of C text.
 abbrev pub in_code : Start → Where → ℕ → List ℕ → Found
 in_code start.Identifier w place bytes = one (in_hash_line w.part) (moved w (behind_word w.part bytes)) place bytes
-    (identifier bytes)
+    (word (directive_at w.part bytes) bytes)
 in_code start.Constant w place bytes = one (in_hash_line w.part) (moved w (passed w.part)) place bytes
     (plain kinds.Constant (constant bytes))
 in_code (start.Quoted quote) w place bytes = one (in_hash_line w.part) (moved w (passed w.part)) place bytes
@@ -391,7 +431,7 @@ in_code start.OtherByte w place bytes = one (in_hash_line w.part) (moved w (pass
 -- A `#` begins a `#` line as the first byte of its line that isn't blank, in a C part and outside its comments.
 abbrev pub takes_hash_line : Part → List Opened → Bool
 takes_hash_line parts.Begin [] = true
-takes_hash_line (parts.Plain hash_line include) [] = not hash_line
+takes_hash_line (parts.Plain hash_line behind) [] = not hash_line
 takes_hash_line part comments = false
 
 -- White space is skipped: blanks, and in a `#` line a backslash at a line's end.
@@ -405,7 +445,7 @@ code_text here byte bytes =
     if byte == newline then line_end w.part w.comments here.last here.place
     else if is_space w.part byte bytes then skipped_byte w
     else if byte == hash && (takes_hash_line w.part w.comments && here.fresh)
-    then one true (moved w (parts.Plain true false)) here.place (byte ∷ bytes) (plain kinds.HashLine 1)
+    then one true (moved w (parts.Plain true Hash)) here.place (byte ∷ bytes) (plain kinds.HashLine 1)
     else if byte == less && (behind_include w.part && closes_on_line bytes)
     then one (in_hash_line w.part) (moved w (passed w.part)) here.place (byte ∷ bytes)
     (include_name here.place (byte ∷ bytes))
@@ -428,7 +468,7 @@ piece part comments c place bytes =
     let i = piece_start part comments c place in
     one (in_hash_line part)
     (record { part = part; comments = record c { braces = (ended i bytes).braces } ∷ comments })
-    place bytes (record { kind = kinds.Text; size = (extent i bytes).size; notes = noted i bytes })
+    place bytes (record { kind = kinds.Text; directive = No; size = (extent i bytes).size; notes = noted i bytes })
 
 abbrev pub comment_closed : Part → Opened → List Opened → ℕ → List ℕ → Found
 comment_closed part c comments place bytes = record {
@@ -473,7 +513,7 @@ tex_by effects.Defines code w place bytes = one false (moved w (parts.MacroName 
     (plain (kinds.Code code) 2)
 tex_by effects.Formats code w place bytes = one false (moved w (parts.FormatName place false false)) place bytes
     (plain (kinds.Code code) 2)
-tex_by effects.BeginsC code w place bytes = one false (moved w (parts.Plain false false)) place bytes
+tex_by effects.BeginsC code w place bytes = one false (moved w (parts.Plain false Other)) place bytes
     (plain (kinds.Code code) 2)
 
 abbrev pub tex_text : Where → ℕ → ℕ → List ℕ → Found
@@ -486,7 +526,7 @@ tex_text w place byte bytes =
 abbrev pub head_text : Where → ℕ → ℕ → List ℕ → Found
 head_text w place byte bytes =
     if is_in classes.Blank byte then skipped_byte w
-    else one false (moved w (parts.Plain false false)) place (byte ∷ bytes)
+    else one false (moved w (parts.Plain false Other)) place (byte ∷ bytes)
     (plain kinds.HeadSign (if begins equals bytes then 2 else 1))
 
 -- White space may stand before what the head of a definition wants. Where something else follows, the head is improper,

@@ -6,6 +6,7 @@ pub mod classes;
 pub mod codes;
 pub mod constants;
 pub mod cuttings;
+pub mod directives;
 mod names;
 pub mod parts;
 pub mod pending;
@@ -15,4 +16,4 @@ pub mod tokens;
 
 pub use codes::Code;
 pub use signs::Sign;
-pub use tokens::{Lexed, Mode, Tok, TokKind};
+pub use tokens::{Directive, Lexed, Mode, Tok, TokKind};

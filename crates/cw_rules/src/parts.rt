@@ -1,9 +1,20 @@
 //! The parts of a text in which the scanner may stand.
 ghost use Rattle.std.specs.Prelude.{◌≡◌, true};
-ghost use Rattle.cw_rules.specs.Tokens.{in_hash_line, behind_include, passed, first_depth};
+ghost use Rattle.cw_rules.specs.Tokens.{in_hash_line, behind_hash, behind_include, passed, first_depth};
 ghost use Rattle.cw_rules.specs.Tokens.{is_code_part};
 
 use crate::{Code, Sign};
+
+/// What stands directly before a place of a C part, where that matters.
+#[derive(Clone, Copy, PartialEq, Eq)]
+pub enum Behind {
+    /// The `#` that begins a `#` line.
+    Hash,
+    /// The word `include` of a `#` line, behind which the name of a file may follow.
+    Include,
+    /// Anything else.
+    Other,
+}
 
 /// What is scanned where no comment is open, with what the head of a definition still wants.
 #[derive(Clone, Copy)]
@@ -16,10 +27,10 @@ pub enum Part {
     TexInner,
     /// The first byte of a C part, where its code or its head may stand.
     Begin,
-    /// A C part: in a `#` line or not, and directly behind the word `include` there or not.
+    /// A C part: in a `#` line or not, and what stands directly before.
     Plain {
         hash_line: bool,
-        include: bool,
+        behind: Behind,
     },
     /// The C text of a definition.
     Definition,
@@ -104,14 +115,30 @@ impl Part {
         }
     }
 
+    /// Whether the `#` of a `#` line stands directly before.
+    pub fn behind_hash(self) -> bool
+        ensures { result ≡ behind_hash self }
+    {
+        matches!(
+            self,
+            Part::Plain {
+                behind: Behind::Hash,
+                ..
+            }
+        )
+    }
+
     /// Whether the word `include` of a `#` line stands directly before.
     pub fn behind_include(self) -> bool
         ensures { result ≡ behind_include self }
     {
-        match self {
-            Part::Plain { include, .. } => include,
-            _ => false,
-        }
+        matches!(
+            self,
+            Part::Plain {
+                behind: Behind::Include,
+                ..
+            }
+        )
     }
 
     // Whether the part stays the same behind a token of C text.
@@ -121,7 +148,7 @@ impl Part {
     {
         match self {
             Part::Begin => false,
-            Part::Plain { include, .. } => !include,
+            Part::Plain { behind, .. } => matches!(behind, Behind::Other),
             _ => true,
         }
     }
@@ -134,11 +161,11 @@ impl Part {
         match self {
             Part::Begin => Part::Plain {
                 hash_line: false,
-                include: false,
+                behind: Behind::Other,
             },
             Part::Plain { hash_line, .. } => Part::Plain {
                 hash_line,
-                include: false,
+                behind: Behind::Other,
             },
             _ => self,
         }

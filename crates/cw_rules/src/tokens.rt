@@ -39,6 +39,18 @@ pub enum TokKind {
     InnerText,
 }
 
+/// Whether an identifier is a word of a directive.
+#[derive(Clone, Copy, Debug, PartialEq, Eq)]
+pub enum Directive {
+    /// It doesn't stand directly behind the `#` of a `#` line.
+    No,
+    /// It stands there.
+    Word,
+    /// It stands there and is the `define` of a macro with parameters: behind it follow white space, an identifier and,
+    /// directly behind that, `(`.
+    Macro,
+}
+
 /// One token.
 #[derive(Clone, Copy)]
 pub struct Tok<'a> {
@@ -50,6 +62,8 @@ pub struct Tok<'a> {
     pub span: Span,
     /// Whether the token stands in a `#` line.
     pub hash_line: bool,
+    /// Whether it is a word of a directive, as identifiers alone are.
+    pub directive: Directive,
 }
 
 /// One answer of the scanner.

@@ -1,11 +1,12 @@
 -- A line's end finishes inner C text of a short comment, with a note that its bar is missing, and takes no byte.
-use Rattle.std.proofs.Common.{ℕ, List, [], ◌∷◌, ◌++◌, None, drop, refl, sym, ap, ◌∙◌}
+use Rattle.std.proofs.Common.{ℕ, ◌≤◌, false, List, [], ◌∷◌, ◌++◌, None, drop, refl, sym, ap, ◌∙◌, arith}
 use Rattle.cw_lex.specs.{declared.state.State.State, Lexing.last_at, Coming.found_at}
 use Rattle.cw_rules.specs.declared.tokens.TokKind.TheVariants as kinds
 use Rattle.cw_rules.specs.Answers.{before, Finish, note_answers, token_of}
 use Rattle.cw_rules.specs.Pending.{pending_notes}
 use Rattle.cw_rules.specs.Tokens.{passed, in_hash_line, inner_cut, comment_end, line_end}
 use Rattle.cw_lex.proofs.{Steps.zero-gives, Lines.found-comment-line, Lines.in_hash_line-passed}
+use Rattle.cw_lex.proofs.States.{ready-top, top-within}
 use Rattle.cw_lex.proofs.code_text.cut_inner.Goals as goal
 
 pub returns-clause-gives : goal.returns-clause-gives
@@ -32,3 +33,13 @@ returns-clause-gives c =
     comment.braces s.at comment.long rest c.requires.newline c.requires.short) ∙ (λ i. found_at text (record
     { part = sym c.passed-state.ensures.value i; comments = sym c.set_top.ensures i }) s.at)) ∙ (λ i. before (Finish
     (token i) ∷ note i) (found_at text (record { part = c.passed-state.result; comments = c.set_top.new.self }) s.at)))
+
+pub returns-clause-ready : goal.returns-clause-ready
+returns-clause-ready c =
+    let s = c.args.state.now in
+    let comment = c.args.comment in
+    let ready = c.requires.step.ready in
+    let braces : comment.braces ≤ s.at = top-within s.at s.comments comment _ ready.braces c.requires.top in
+    ready-top c.args.text.now s c.passed-state.result comment (record comment { inner = false }) c.set_top.new.self _
+    s.at ready c.requires.top c.passed-state.ensures.code braces (omega (arith, ready.depth)) c.set_top.ensures
+    (omega arith) ready.within tt
