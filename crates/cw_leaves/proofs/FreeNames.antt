@@ -1,10 +1,13 @@
 -- Other names leave the log as it is, where no two become one.
-use Rattle.cw_leaves.proofs.Terms.{◌≡◌, ℕ, zero, suc, ◌+◌, Bool, Option, List, [], ◌∷◌, ◌++◌, refl, sym, ◌∙◌, ap, map}
-use Rattle.cw_leaves.proofs.Terms.{take, drop, get_or, if◌then◌else◌, arith, map-append, map-set, take-map, drop-map}
-use Rattle.cw_leaves.proofs.Terms.{get_or-map, Flags, Piece, Row, Place, Nowhere, At, least_place, Production}
+use Rattle.cw_leaves.proofs.Terms.{◌≡◌, ℕ, zero, suc, ◌+◌, Bool, Option, Some, None, List, [], ◌∷◌, ◌++◌, refl, sym}
+use Rattle.cw_leaves.proofs.Terms.{◌∙◌, ap, map}
+use Rattle.cw_leaves.proofs.Terms.{take, drop, set, get_or, if◌then◌else◌, arith, map-append, map-set, take-map}
+use Rattle.cw_leaves.proofs.Terms.{drop-map}
+use Rattle.cw_leaves.proofs.Terms.{get_or-map, Flags, Action, Piece, Row, Place, Nowhere, At, least_place, Production}
 use Rattle.cw_base.specs.declared.category.Cat.TheVariants.{RawInt}
 use Rattle.cw_leaves.specs.Sights.{Sight, no_sight, seen_cats, heard_all, seen_as, seen_new, seen_reserved}
-use Rattle.cw_leaves.specs.Sights.{seen_reserved_at, seen_named, seen_named_by, names_at, seen_rewritten_from}
+use Rattle.cw_leaves.specs.Sights.{seen_bolded, seen_bolded_at, seen_worded_at, seen_reserved_at, seen_named}
+use Rattle.cw_leaves.specs.Sights.{seen_named_by, names_at, seen_rewritten_from}
 use Rattle.cw_leaves.specs.Sights.{seen_rewritten, seen_weight, seen_log_of, seen_log, renamed_heard, renamed}
 use Rattle.cw_leaves.specs.Sights.{without_first}
 
@@ -25,6 +28,25 @@ without-renamed : {M N : Type 0} (f : M → N) (names : List M)
     → map f (without_first names) ≡ without_first (map f names)
 without-renamed f names = grind arith
 
+bolded-renamed : {M N : Type 0} (f : M → N) (s : Sight M) → renamed f (seen_bolded s) ≡ seen_bolded (renamed f s)
+bolded-renamed f s = grind (arith, without-renamed)
+
+bolded-at-renamed : {M N : Type 0} (f : M → N) (o : Option ℕ) (ss : List (Sight M))
+    → map (renamed f) (seen_bolded_at o ss) ≡ seen_bolded_at o (map (renamed f) ss)
+bolded-at-renamed f None ss = refl
+bolded-at-renamed f (Some k) ss = map-set (renamed f) ss k (seen_bolded (get_or ss k no_sight))
+    ∙ ap (set (map (renamed f) ss) k) (bolded-renamed f (get_or ss k no_sight)
+    ∙ ap seen_bolded (sym (get-renamed f ss k)))
+
+reserved-at-renamed : {M N : Type 0} (f : M → N) (o : Option ℕ) (ss : List (Sight M))
+    → map (renamed f) (seen_reserved_at o ss) ≡ seen_reserved_at o (map (renamed f) ss)
+reserved-at-renamed f o ss = grind (arith, map-set, without-renamed, get-renamed)
+
+worded-renamed : {M N : Type 0} (f : M → N) (a : Action) (ss : List (Sight M))
+    → map (renamed f) (seen_worded_at a ss) ≡ seen_worded_at a (map (renamed f) ss)
+worded-renamed f a ss = bolded-at-renamed f a.bold (seen_reserved_at a.reserve ss)
+    ∙ ap (seen_bolded_at a.bold) (reserved-at-renamed f a.reserve ss)
+
 turned-renamed : {M N : Type 0} (f : M → N) (b : Bool) (s : Sight M) → renamed f (if b then seen_as RawInt
     (seen_reserved s) else s) ≡ (if b then seen_as RawInt (seen_reserved (renamed f s)) else renamed f s)
 turned-renamed f b s = grind (arith, without-renamed)
@@ -43,9 +65,9 @@ rewritten-from-renamed : {M N : Type 0} (same : M → M → Bool) (other : N →
     → ((a b : M) → other (f a) (f b) ≡ same a b) → (flags : Flags) (r : Row) (ss : List (Sight M))
     → map (renamed f) (seen_rewritten_from same flags r ss) ≡ seen_rewritten_from other flags r (map (renamed f) ss)
 rewritten-from-renamed {M} {N} same other f free flags r ss =
-    let named : List (Sight M) = seen_reserved_at r.action.reserve ss in
-    let seen : List (Sight N) = seen_reserved_at r.action.reserve (map (renamed f) ss) in
-    let is : map (renamed f) named ≡ seen = (grind (arith, map-set, without-renamed, get-renamed)) in
+    let named : List (Sight M) = seen_worded_at r.action ss in
+    let seen : List (Sight N) = seen_worded_at r.action (map (renamed f) ss) in
+    let is : map (renamed f) named ≡ seen = worded-renamed f r.action ss in
     let later : List (Sight M) = drop (r.offset + r.replaced) named in
     let names : List M = names_at r.action.reserve ss in
     map-append (renamed f) (take r.offset named) (seen_new flags r named ∷ seen_named_by same names later)

@@ -36,8 +36,8 @@ a-case-like-leaf : leaf_line names (scrap cats.Dead (Then (Ident 0 1) (Then (Res
     (Then (Ident 2 3) Empty)))) ≡ record { kind = leaf.C; cat = cats.Dead; names = codes "a" ∷ [] }
 a-case-like-leaf = refl
 
--- a name that is a macro of TeX is an expression of which no name is told
-a-macro-of-tex : leaf_line names (scrap cats.Exp (Then (Reserved 0 1 cats.TexLike) Empty)) ≡ sign cats.Exp
+-- a name that is a macro of TeX has a category of its own, and no name of it is told
+a-macro-of-tex : leaf_line names (scrap cats.TexLike (Then (Reserved 0 1 cats.TexLike) Empty)) ≡ sign cats.TexLike
 a-macro-of-tex = refl
 
 -- identifiers of inner texts are not told

@@ -1,15 +1,19 @@
 -- A production changes what is seen of scraps as it changes the scraps, and so the two have the same log.
-use Rattle.cw_leaves.proofs.Terms.{◌≡◌, ℕ, zero, suc, ◌+◌, eqb, None, List, [], ◌∷◌, ◌++◌, refl, sym, ◌∙◌, ap, map}
-use Rattle.cw_leaves.proofs.Terms.{take, drop, get_or, arith, map-append, map-set, take-map, drop-map, get_or-map}
+use Rattle.cw_leaves.proofs.Terms.{◌≡◌, ℕ, zero, suc, ◌+◌, eqb, Option, Some, None, List, [], ◌∷◌, ◌++◌, refl, sym, ◌∙◌}
+use Rattle.cw_leaves.proofs.Terms.{ap, map}
+use Rattle.cw_leaves.proofs.Terms.{take, drop, set, get_or, arith, map-append, map-set, take-map, drop-map, get_or-map}
 use Rattle.cw_leaves.proofs.Terms.{Flags, MathMode, Tree, Empty, Then, Sub, Inner, Source, Reserved, Sign, search_sign}
 use Rattle.cw_leaves.proofs.Terms.{reserve_first, bare_name, Scrap, no_scrap, Joined, Whole, Mark, joined_tree, needs}
-use Rattle.cw_leaves.proofs.Terms.{after, Piece, Row, Place, Nowhere, At, least_place, weight, Production, log_of}
+use Rattle.cw_leaves.proofs.Terms.{after, Action, Piece, Row, Place, Nowhere, At, least_place, weight, Production}
+use Rattle.cw_leaves.proofs.Terms.{log_of}
 use Rattle.cw_trees.specs.Tree.{Ident}
-use Rattle.cw_table.specs.Rewriting.{cats_of, joined_of, new_scrap, search_in, reserved_in, reserved_at, named_scrap}
-use Rattle.cw_table.specs.Rewriting.{named_right, rewrite_from, State, rewrite}
+use Rattle.cw_table.specs.Rewriting.{cats_of, joined_of, new_scrap, search_in, reserved_in, reserved_at, bolded}
+use Rattle.cw_table.specs.Rewriting.{bolded_at}
+use Rattle.cw_table.specs.Rewriting.{worded_at, named_scrap, named_right, rewrite_from, State, rewrite}
 use Rattle.cw_table.specs.Normal.{log}
 use Rattle.cw_leaves.specs.Sights.{Heard, silence, followed, told_by, heard, Sight, sight, no_sight, seen_cats}
 use Rattle.cw_leaves.specs.Sights.{heard_all, seen_new, seen_reserved, seen_reserved_at, seen_named, seen_named_by}
+use Rattle.cw_leaves.specs.Sights.{seen_bolded, seen_bolded_at, seen_worded_at}
 use Rattle.cw_leaves.specs.Sights.{names_at, seen_rewritten_from, seen_rewritten, seen_weight, seen_log_of, seen_log}
 use Rattle.cw_leaves.proofs.SightFacts.{first-heard, heard-reserved, heard-toggled}
 
@@ -59,6 +63,22 @@ seen-cats (s ∷ ss) = ap (λ cs. s.cat ∷ cs) (seen-cats ss)
 reserved-seen : (s : Scrap) → sight (reserved_in s) ≡ seen_reserved (sight s)
 reserved-seen s = grind (arith, reserve-bare, heard-reserved)
 
+bolded-seen : (s : Scrap) → sight (bolded s) ≡ seen_bolded (sight s)
+bolded-seen s = grind (arith, reserved-seen)
+
+reserved-at-seen : (o : Option ℕ) (ss : List Scrap)
+    → map sight (reserved_at o ss) ≡ seen_reserved_at o (map sight ss)
+reserved-at-seen o ss = grind (arith, map-set, reserve-bare, heard-reserved, get-sight)
+
+bolded-at-seen : (o : Option ℕ) (ss : List Scrap) → map sight (bolded_at o ss) ≡ seen_bolded_at o (map sight ss)
+bolded-at-seen None ss = refl
+bolded-at-seen (Some k) ss = map-set sight ss k (bolded (get_or ss k no_scrap)) ∙ ap (set (map sight ss) k)
+    (bolded-seen (get_or ss k no_scrap) ∙ ap seen_bolded (sym (get-sight ss k)))
+
+worded-seen : (a : Action) (ss : List Scrap) → map sight (worded_at a ss) ≡ seen_worded_at a (map sight ss)
+worded-seen a ss = bolded-at-seen a.bold (reserved_at a.reserve ss)
+    ∙ ap (seen_bolded_at a.bold) (reserved-at-seen a.reserve ss)
+
 all-named : (n : ℕ) (ss : List Scrap) → map sight (map (named_scrap n) ss) ≡ map (seen_named eqb n) (map sight ss)
 all-named n [] = refl
 all-named n (s ∷ ss) = grind (arith, all-named n ss, reserved-seen)
@@ -67,9 +87,9 @@ all-named n (s ∷ ss) = grind (arith, all-named n ss, reserved-seen)
 from-seen : (f : Flags) (r : Row) (ss : List Scrap)
     → map sight (rewrite_from f r ss) ≡ seen_rewritten_from eqb f r (map sight ss)
 from-seen f r ss =
-    let named : List Scrap = reserved_at r.action.reserve ss in
-    let seen : List (Sight ℕ) = seen_reserved_at r.action.reserve (map sight ss) in
-    let same : map sight named ≡ seen = (grind (arith, map-set, reserve-bare, heard-reserved, get-sight)) in
+    let named : List Scrap = worded_at r.action ss in
+    let seen : List (Sight ℕ) = seen_worded_at r.action (map sight ss) in
+    let same : map sight named ≡ seen = worded-seen r.action ss in
     let later : List Scrap = drop (r.offset + r.replaced) named in
     map-append sight (take r.offset named) (new_scrap f r named ∷ named_right (search_in r.action.reserve ss) later)
     ∙ (ap (λ xs. xs ++ sight (new_scrap f r named) ∷ map sight (named_right (search_in r.action.reserve ss) later))

@@ -5,10 +5,10 @@ use Rattle.cw_logtext.proofs.Terms.{IsTrue, eqb_tells, Cat, End, all_cats, numbe
 pub at-number : (c : Cat) → get_or all_cats (number_of c) End ≡ c
 at-number c = grind arith
 
-pub within : (c : Cat) → number_of c < 53
+pub within : (c : Cat) → number_of c < 56
 within c = grind arith
 
-pub no-cat : (name : List ℕ) (count : ℕ) → ((i : ℕ) → i < count → name ≢ cat_text (get_or all_cats i End)) → 53 ≤ count
+pub no-cat : (name : List ℕ) (count : ℕ) → ((i : ℕ) → i < count → name ≢ cat_text (get_or all_cats i End)) → 56 ≤ count
     → (cat : Cat) → name ≢ cat_text cat
 no-cat name count none all cat is =
     none (number_of cat) (omega (arith, within cat, all)) (is ∙ ap cat_text (sym (at-number cat)))

@@ -152,7 +152,7 @@ module _ (k : LeafKind) (c : Cat) (line : List ℕ) where
 
 -- of some category
 abbrev OfSomeCat : LeafKind → List ℕ → Type 0
-OfSomeCat k line = Upto 52 (λ n. LeafBy k (get_or all_cats n cats.End) line)
+OfSomeCat k line = Upto 55 (λ n. LeafBy k (get_or all_cats n cats.End) line)
 
 of_some_cat : (k : LeafKind) (line : List ℕ) → Known (OfSomeCat k line)
 of_some_cat k line = grind (arith, upto, leaf_by, behind_in)

@@ -42,8 +42,8 @@ head-text = refl
 
 -- the last row of the table, and a category that is of names alone
 abbrev last : Block
-last = record { leaves = sign cats.TexLike ∷ sign cats.Attr ∷ []; items = item 128 16777215 ∷ [] }
+last = record { leaves = sign cats.TexLike ∷ sign cats.Attr ∷ []; items = item 148 16777215 ∷ [] }
 
-last-text : log_text (last ∷ []) ≡ codes "text 2\ns tex_like\ns attr\nP128 16777215\nend\n"
+last-text : log_text (last ∷ []) ≡ codes "text 2\ns tex_like\ns attr\nP148 16777215\nend\n"
 unfolding digits
 last-text = refl

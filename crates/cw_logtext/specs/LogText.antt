@@ -83,6 +83,9 @@ cat_text cat.Colcol = codes "colcol"
 cat_text cat.AttrHead = codes "attr_head"
 cat_text cat.Attr = codes "attr"
 cat_text cat.AlignasLike = codes "alignas_like"
+cat_text cat.HashLike = codes "hash_like"
+cat_text cat.MdefineLike = codes "mdefine_like"
+cat_text cat.Paren = codes "paren"
 cat_text cat.End = codes "end"
 
 abbrev pub blank_and : List ℕ → List ℕ

@@ -4,7 +4,7 @@ use Rattle.cw_scraps.proofs.Terms.{drop, set, Option, Some, None, unwrap_or, ref
 use Rattle.cw_scraps.proofs.Terms.{option_to_list, map-append, drop-map, append_assoc, take_at, drop_at}
 use Rattle.cw_scraps.proofs.Terms.{take-append-drop, length-append, length-take, length-take-le, length-drop, All-drop}
 use Rattle.cw_scraps.proofs.Terms.{RawInt, Flags, NameId, Entry, with_category, Search, Found, Scrap, Row, row_fits}
-use Rattle.cw_scraps.proofs.Terms.{is_fine, cats_of, new_scrap, search_in, reserved_at, named_right, rewrite_from}
+use Rattle.cw_scraps.proofs.Terms.{is_fine, cats_of, new_scrap, search_in, worded_at, named_right, rewrite_from}
 use Rattle.cw_scraps.proofs.Terms.{found_names, with_type, rewrite, falls, Falls, Token, token_count, IsTied}
 use Rattle.cw_scraps.proofs.Terms.{StoredLists, LineEntry, scraps_of, roots_of, AreRoots, IsNamedBelow, IsSoundLine}
 use Rattle.cw_scraps.proofs.Terms.{entry_cats, Changes, Keeps, Replaces, named_by, productions, no_row, row_numbered}
@@ -70,7 +70,7 @@ pub record Applies (flags : Flags) (row : Row) (place : ℕ) (old : List (List T
 
 module _ (flags : Flags) (row : Row) (place : ℕ) (l0 l1 l2 l3 : List (List Token)) (line0 line1 line2 : List LineEntry)
     (reserved : Option NameId) (f : FitsAt flags row (drop place line0)) (tied : IsTied l0) (tied2 : IsTied l2)
-    (e1 : scraps_of l1 line0 ≡ take place (scraps_of l0 line0) ++ reserved_at row.action.reserve
+    (e1 : scraps_of l1 line0 ≡ take place (scraps_of l0 line0) ++ worded_at row.action
     (drop place (scraps_of l0 line0))) (ch1 : Changes l0 l1 (roots_of line0))
     (r : Replaces flags row place l1 line0 l2 line1)
     (e3 : scraps_of l3 line2 ≡ take (place + row.offset + 1) (scraps_of l2 line1) ++ map (named_by reserved)
@@ -81,10 +81,10 @@ module _ (flags : Flags) (row : Row) (place : ℕ) (l0 l1 l2 l3 : List (List Tok
   front = take place (scraps_of l0 line0)
 
   abbrev named : List Scrap
-  named = reserved_at row.action.reserve (drop place (scraps_of l0 line0))
+  named = worded_at row.action (drop place (scraps_of l0 line0))
 
   abbrev rest : List Scrap
-  rest = drop (row.offset + row.replaced) (reserved_at row.action.reserve (drop place (scraps_of l0 line0)))
+  rest = drop (row.offset + row.replaced) (worded_at row.action (drop place (scraps_of l0 line0)))
 
   front-length : length front ≡ place
   front-length = grind (arith, length-take-le, place-inside, length-scraps)

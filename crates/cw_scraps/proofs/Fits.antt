@@ -39,6 +39,7 @@ pub record FitsAt (flags : Flags) (row : Row) (entries : List LineEntry) : Type 
   pub result_there : (k : ℕ) → row.result ≡ SameAs k → k < length entries
   pub underline_there : (k : ℕ) → row.action.underline ≡ Some k → k < length entries
   pub reserve_there : (k : ℕ) → row.action.reserve ≡ Some k → k < length entries
+  pub bold_there : (k : ℕ) → row.action.bold ≡ Some k → k < length entries
   pub kept_at : (k : ℕ) → alone row.replaced (pieces_at flags row entries) ≡ Some k
       → (row.replaced ≡ 1) × (k ≡ row.offset)
 
@@ -59,6 +60,7 @@ fits-at flags row entries sound fits =
       underline_there = λ k e. let h : k < length (entry_cats entries) =
           there row (entry_cats entries) k s fits (s.underline_tested k e) (s.underline_not_end k e) in omega arith;
       reserve_there = λ k e. let h : k < row.offset + row.replaced = s.reserve_below k e in omega arith;
+      bold_there = λ k e. let h : k < row.offset + row.replaced = s.bold_below k e in omega arith;
       kept_at = λ k e. alone-at flags row (entry_cats entries) k s e;
     }
 

@@ -5,9 +5,11 @@ use Rattle.cw_scraps.proofs.Terms.{get_or_past, All-append, All-take, All-drop, 
 use Rattle.cw_scraps.proofs.Terms.{All-tail, cases_lt, Cat, RawInt, Flags, MathMode, Text, Math, Maybe, Leaf, Tree}
 use Rattle.cw_scraps.proofs.Terms.{Empty, Then, Sub, Inner, bare_name, Search, Found, Nothing, or_else, search_leaf}
 use Rattle.cw_scraps.proofs.Terms.{first_ident, reserve_first, Scrap, no_scrap, scrap_agrees, Joined, Whole, Mark}
-use Rattle.cw_scraps.proofs.Terms.{needs, after, toggled, joined_tree, join, Agrees, Piece, Row, result_at, is_exp}
+use Rattle.cw_scraps.proofs.Terms.{needs, after, toggled, joined_tree, join, Agrees, Action, Piece, Row, result_at}
+use Rattle.cw_scraps.proofs.Terms.{is_exp}
 use Rattle.cw_scraps.proofs.Terms.{cats_of, row_pieces, math_piece, joined_of, alone, with_cat, new_from, new_scrap}
-use Rattle.cw_scraps.proofs.Terms.{search_in, reserved_in, reserved_at, is_bare_name, named_scrap, named_right}
+use Rattle.cw_scraps.proofs.Terms.{search_in, reserved_in, reserved_at, bolded, bolded_at, worded_at, is_bare_name}
+use Rattle.cw_scraps.proofs.Terms.{named_scrap, named_right}
 use Rattle.cw_scraps.proofs.Terms.{rewrite_from, leaf_named_below, IsNamedBelow, piece_agrees}
 use Rattle.cw_scraps.proofs.ModeLaw.{join-agrees, agrees-same, reserve-reads}
 use Rattle.cw_table.specs.declared.types.Piece.TheVariants as piece
@@ -23,6 +25,19 @@ module _ (P : Scrap → Type 0) (none : P no_scrap) (reserves : (s : Scrap) → 
   in_named None scraps all = all
   in_named (Some k) scraps all = All-set P scraps k (reserved_in (get_or scraps k no_scrap))
       (reserves (get_or scraps k no_scrap) (at scraps k all)) all
+
+  in_bold : (b : Option ℕ) (s : Scrap) → bare_name s.tree ≡ b → P s → P (bolded s)
+  in_bold (Some name) s e h = rw (e, bolded) (reserves s h)
+  in_bold None s e h = rw (e, bolded) h
+
+  in_worded : (action : Action) (scraps : List Scrap) → All P scraps → All P (worded_at action scraps)
+  in_worded action scraps all = go action.bold (reserved_at action.reserve scraps)
+      (in_named action.reserve scraps all)
+    where
+      go : (named : Option ℕ) (ss : List Scrap) → All P ss → All P (bolded_at named ss)
+      go None ss held = held
+      go (Some k) ss held = All-set P ss k (bolded (get_or ss k no_scrap))
+          (in_bold (bare_name (get_or ss k no_scrap).tree) (get_or ss k no_scrap) refl (at ss k held)) held
 
   in_new : (o : Option ℕ) (cat : Cat) (n : ℕ) (pieces : List Piece) (scraps : List Scrap) → alone n pieces ≡ o
       → All P scraps → P (new_from cat n pieces scraps)
@@ -45,21 +60,21 @@ module _ (P : Scrap → Type 0) (none : P no_scrap) (reserves : (s : Scrap) → 
   pub keeps-all : (flags : Flags) (row : Row) (place : ℕ) (scraps : List Scrap) → All P scraps
       → All P (take place scraps ++ rewrite_from flags row (drop place scraps))
   keeps-all flags row place scraps all =
-      let named : All P (reserved_at row.action.reserve (drop place scraps)) = in_named row.action.reserve
+      let named : All P (worded_at row.action (drop place scraps)) = in_worded row.action
       (drop place scraps) (All-drop P place scraps all) in
       All-append P (take place scraps) (rewrite_from flags row (drop place scraps)) (All-take P place scraps all)
-      (All-append P (take row.offset (reserved_at row.action.reserve (drop place scraps))) (new_scrap flags row
-      (reserved_at row.action.reserve (drop place scraps)) ∷ named_right (search_in row.action.reserve
-      (drop place scraps)) (drop (row.offset + row.replaced) (reserved_at row.action.reserve (drop place scraps))))
-      (All-take P row.offset (reserved_at row.action.reserve (drop place scraps)) named) (All-cons P (new_scrap flags
-      row (reserved_at row.action.reserve (drop place scraps))) (named_right (search_in row.action.reserve
-      (drop place scraps)) (drop (row.offset + row.replaced) (reserved_at row.action.reserve (drop place scraps))))
-      (in_new (alone row.replaced (row_pieces flags row (cats_of (reserved_at row.action.reserve (drop place scraps)))))
-      (result_at row.result (cats_of (reserved_at row.action.reserve (drop place scraps)))) row.replaced
-      (row_pieces flags row (cats_of (reserved_at row.action.reserve (drop place scraps))))
-      (reserved_at row.action.reserve (drop place scraps)) refl named) (in_right (search_in row.action.reserve
-      (drop place scraps)) (drop (row.offset + row.replaced) (reserved_at row.action.reserve (drop place scraps)))
-      (All-drop P (row.offset + row.replaced) (reserved_at row.action.reserve (drop place scraps)) named))))
+      (All-append P (take row.offset (worded_at row.action (drop place scraps))) (new_scrap flags row
+      (worded_at row.action (drop place scraps)) ∷ named_right (search_in row.action.reserve
+      (drop place scraps)) (drop (row.offset + row.replaced) (worded_at row.action (drop place scraps))))
+      (All-take P row.offset (worded_at row.action (drop place scraps)) named) (All-cons P (new_scrap flags
+      row (worded_at row.action (drop place scraps))) (named_right (search_in row.action.reserve
+      (drop place scraps)) (drop (row.offset + row.replaced) (worded_at row.action (drop place scraps))))
+      (in_new (alone row.replaced (row_pieces flags row (cats_of (worded_at row.action (drop place scraps)))))
+      (result_at row.result (cats_of (worded_at row.action (drop place scraps)))) row.replaced
+      (row_pieces flags row (cats_of (worded_at row.action (drop place scraps))))
+      (worded_at row.action (drop place scraps)) refl named) (in_right (search_in row.action.reserve
+      (drop place scraps)) (drop (row.offset + row.replaced) (worded_at row.action (drop place scraps)))
+      (All-drop P (row.offset + row.replaced) (worded_at row.action (drop place scraps)) named))))
 
 -- modes
 all-at : (P : Scrap → Type 0) → P no_scrap → (scraps : List Scrap) (k : ℕ) → All P scraps → P (get_or scraps k no_scrap)

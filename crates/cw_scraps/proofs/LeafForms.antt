@@ -8,7 +8,7 @@ use Rattle.cw_scraps.proofs.Terms.{reads_sign, fine_with, Token, shape, ref_of, 
 use Rattle.cw_scraps.proofs.Terms.{unfolded-old, unfolded-new, LineEntry, seen, roots_of, AreRoots, IsNamedBelow}
 use Rattle.cw_scraps.proofs.Terms.{IsSoundLine, LeafForm, source, code_form, form_of, word_form, word_cat, own_cat}
 use Rattle.cw_scraps.proofs.Terms.{token_form, MakesLeaf, HasForm, entry_of}
-use Rattle.cw_rules.specs.{declared.codes.Code.Code, declared.tokens.TokKind.TokKind}
+use Rattle.cw_rules.specs.declared.{codes.Code.Code, tokens.Directive.Directive, tokens.TokKind.TokKind}
 use Rattle.cw_names.specs.declared.entry.EntryKind.{EntryKind}
 use Rattle.cw_tokens.specs.declared.token.Token.TheVariants.{Control as ControlOf}
 use Rattle.cw_scraps.specs.declared.leaves.Leaf.{Leaf}
@@ -21,21 +21,22 @@ plain-form : (c : Cat) (name : NameId) (number : ℕ) → (c ≡ cat.TexLike →
 plain-form c name number other = grind arith
 
 -- the form of an identifier
-pub word-has : (k : TokKind) (text : List ℕ) (hash : Bool) (number : ℕ) (names names' : List Entry) (name : NameId)
-    (own c : Cat) (leaf : Leaf) (old new : List (List Token)) → k ≡ kind.Identifier → name.index
+pub word-has : (k : TokKind) (text : List ℕ) (hash : Bool) (d : Directive) (number : ℕ) (names names' : List Entry)
+    (name : NameId) (own c : Cat) (leaf : Leaf) (old new : List (List Token)) → k ≡ kind.Identifier → name.index
     ≡ place_of ident_kind text names → names' ≡ with_entry ident_kind text names → option_map (λ entry. entry.category)
-    (slice_get names' name.index) ≡ Some own → c ≡ word_cat hash text own → HasForm (word_form c name number) leaf old
-    new → IfSome (token_form k text hash number names) (λ form. HasForm form leaf old new)
-word-has k text hash number names names' name own c leaf old new is at grown value cat_is has =
+    (slice_get names' name.index) ≡ Some own → c ≡ word_cat hash d text own → HasForm (word_form c name number) leaf old
+    new → IfSome (token_form k text hash d number names) (λ form. HasForm form leaf old new)
+word-has k text hash d number names names' name own c leaf old new is at grown value cat_is has =
     let same_name : name ≡ record { index = place_of ident_kind text names } = ap (λ i. record { index = i }) at in
     let same_own : own_cat (with_entry ident_kind text names) (place_of ident_kind text names) ≡ own = ap
     (λ o. unwrap_or o cat.Exp) (ap (λ es. option_map (λ entry. entry.category) (slice_get es (place_of ident_kind text
     names))) (sym grown) ∙ (ap (λ i. option_map (λ entry. entry.category) (slice_get names' i)) (sym at) ∙ value)) in
-    let form : word_form c name number ≡ word_form (word_cat hash text (own_cat (with_entry ident_kind text names)
+    let form : word_form c name number ≡ word_form (word_cat hash d text (own_cat (with_entry ident_kind text names)
     (place_of ident_kind text names))) (record { index = place_of ident_kind text names }) number = ap
-    (λ x. word_form x name number) (cat_is ∙ ap (word_cat hash text) (sym same_own)) ∙ ap (λ x. word_form (word_cat hash
-    text (own_cat (with_entry ident_kind text names) (place_of ident_kind text names))) x number) same_name in
-    subst (λ q. IfSome (token_form q text hash number names) (λ form. HasForm form leaf old new)) (sym is)
+    (λ x. word_form x name number) (cat_is ∙ ap (word_cat hash d text) (sym same_own)) ∙ ap (λ x. word_form
+    (word_cat hash d text (own_cat (with_entry ident_kind text names) (place_of ident_kind text names))) x number)
+    same_name in
+    subst (λ q. IfSome (token_form q text hash d number names) (λ form. HasForm form leaf old new)) (sym is)
     (subst (λ x. HasForm x leaf old new) form has)
 
 -- the scrap of a macro of TeX, and of every other identifier
@@ -45,7 +46,7 @@ module _ (c : Cat) (name : NameId) (number : ℕ) (word : Token) (leaf : Leaf) (
   form-lists : new ≡ old ++ (word_form c name number).tokens ∷ []
   form-lists = lists ∙ ap (λ ts. old ++ ts ∷ []) (sym tokens)
 
-  pub macro-has : c ≡ cat.TexLike → leaf.cat ≡ cat.Exp → leaf.left ≡ Math → leaf.right ≡ Math
+  pub macro-has : c ≡ cat.TexLike → leaf.cat ≡ cat.TexLike → leaf.left ≡ Math → leaf.right ≡ Math
       → HasForm (word_form c name number) leaf old new
   macro-has is cat_is left right = grind (arith, form-lists)
 
@@ -96,10 +97,10 @@ form-good : (count : ℕ) (k : TokKind) (number : ℕ) → IfSome (form_of k num
 form-good count k number = grind (arith, source-good, plain-ref, control-text, code-good)
 
 -- the name of an identifier is one of the names behind the token
-pub token-good : (count : ℕ) (k : TokKind) (text : List ℕ) (hash : Bool) (number : ℕ) (names : List Entry)
-    → (k ≡ kind.Identifier → place_of ident_kind text names < count)
-    → IfSome (token_form k text hash number names) (IsGood count)
-token-good count k text hash number names h = grind (arith, word-good, form-good)
+pub token-good : (count : ℕ) (k : TokKind) (text : List ℕ) (hash : Bool) (d : Directive) (number : ℕ)
+    (names : List Entry) → (k ≡ kind.Identifier → place_of ident_kind text names < count)
+    → IfSome (token_form k text hash d number names) (IsGood count)
+token-good count k text hash d number names h = grind (arith, word-good, form-good)
 
 pub more-named : (m n : ℕ) (t : Tree) → m ≤ n → IsNamedBelow m t → IsNamedBelow n t
 more-named m n Empty le h = h
@@ -163,11 +164,11 @@ pub length-entry : (k : EntryKind) (text : List ℕ) (names : List Entry)
 length-entry k text names = grind (arith, length-append)
 
 -- the list of a scrap is one of the store
-pub token-some : (k : TokKind) (text : List ℕ) (hash : Bool) (number : ℕ) (names : List Entry) → MakesLeaf k
-    → IsSome (token_form k text hash number names)
-token-some k text hash number names h = grind (arith, code-some)
+pub token-some : (k : TokKind) (text : List ℕ) (hash : Bool) (d : Directive) (number : ℕ) (names : List Entry)
+    → MakesLeaf k → IsSome (token_form k text hash d number names)
+token-some k text hash d number names h = grind (arith, code-some)
 
-pub list-there : (k : TokKind) (text : List ℕ) (hash : Bool) (number : ℕ) (names : List Entry) (leaf : Leaf)
-    (old new : List (List Token)) → MakesLeaf k → IfSome (token_form k text hash number names)
+pub list-there : (k : TokKind) (text : List ℕ) (hash : Bool) (d : Directive) (number : ℕ) (names : List Entry)
+    (leaf : Leaf) (old new : List (List Token)) → MakesLeaf k → IfSome (token_form k text hash d number names)
     (λ form. HasForm form leaf old new) → leaf.list.index < length new
-list-there k text hash number names leaf old new makes has = grind (arith, token-some, length-append)
+list-there k text hash d number names leaf old new makes has = grind (arith, token-some, length-append)

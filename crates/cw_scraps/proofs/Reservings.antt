@@ -3,8 +3,10 @@ use Rattle.cw_scraps.proofs.Terms.{◌≡◌, ℕ, zero, suc, ◌+◌, ◌-◌, 
 use Rattle.cw_scraps.proofs.Terms.{set, get_or, Option, Some, inl, inr, refl, sym, ap, ◌∙◌, subst, arith}
 use Rattle.cw_scraps.proofs.Terms.{get_or-set_same, get_or-set_other, get_or-drop, get_or-take, get_or-map}
 use Rattle.cw_scraps.proofs.Terms.{get_or_append_left, get_or-append_right, length-set, length-map, length-drop}
-use Rattle.cw_scraps.proofs.Terms.{length-append, length-take-le, ext_get_or, cases_eq, cases_lt, NameId, Scrap}
-use Rattle.cw_scraps.proofs.Terms.{no_scrap, reserved_in, reserved_at, Token, unfolded, IsTied, Reserves, LineEntry}
+use Rattle.cw_scraps.proofs.Terms.{length-append, length-take-le, ext_get_or, cases_eq, cases_lt, NameId, Tree}
+use Rattle.cw_scraps.proofs.Terms.{bare_name, option_map, is_some, true, Scrap, bolded}
+use Rattle.cw_scraps.proofs.Terms.{no_scrap, reserved_in, reserved_at, bolded_at, Token, unfolded, IsTied, Reserves}
+use Rattle.cw_scraps.proofs.Terms.{LineEntry}
 use Rattle.cw_scraps.proofs.Terms.{seen, scraps_of, roots_of, no_entry, AreRoots, IsOutside, Changes, named_by, Turns}
 use Rattle.cw_scraps.proofs.Buildings.{root-entry, length-roots}
 use Rattle.cw_scraps.proofs.Changings.{changes-trans, changes-more, roots-stay, root-outside, trees-outside}
@@ -87,6 +89,23 @@ reserve-scraps old new line place k tied roots h r = ext_get_or no_scrap (scraps
               ∙ (sym (seen-get old line i hi) ∙ sym (get_or-set_other (scraps_of old line) (place + k) i
               (reserved_in (get_or (scraps_of old line) (place + k) no_scrap)) no_scrap ne)))
         ]
+
+-- the same for a scrap that is exactly an identifier
+bolded-is : (s : Scrap) (tree : Tree) (o : Option NameId) → s.tree ≡ tree
+    → o ≡ option_map (λ name. record { index = name }) (bare_name tree) → is_some o ≡ true → bolded s ≡ reserved_in s
+bolded-is s tree o same is some = grind arith
+
+pub bold-scraps : (old new : List (List Token)) (line : List LineEntry) (place k : ℕ) (o : Option NameId) → IsTied old
+    → AreRoots old (roots_of line) → place + k < length line → o ≡ option_map (λ name. record { index = name })
+    (bare_name (unfolded old (get_or line (place + k) no_entry).list.index)) → is_some o ≡ true
+    → Reserves old new (get_or line (place + k) no_entry).list.index
+    → scraps_of new line ≡ take place (scraps_of old line) ++ bolded_at (Some k) (drop place (scraps_of old line))
+bold-scraps old new line place k o tied roots h is some r =
+    let at : get_or (drop place (scraps_of old line)) k no_scrap ≡ seen old (get_or line (place + k) no_entry) =
+    get_or-drop place (scraps_of old line) k no_scrap ∙ seen-get old line (place + k) h in
+    reserve-scraps old new line place k tied roots h r ∙ ap (λ s. take place (scraps_of old line) ++ set
+    (drop place (scraps_of old line)) k s) (sym (bolded-is (get_or (drop place (scraps_of old line)) k no_scrap)
+    (unfolded old (get_or line (place + k) no_entry).list.index) o (ap (λ (s : Scrap). s.tree) at) is some))
 
 -- One scrap more to the right is turned.
 module _ (name : Option NameId) (old_lists : List (List Token)) (old : List LineEntry) (start i : ℕ)

@@ -3,7 +3,7 @@ pub use Rattle.std.proofs.{lemmas.Bool.cases_lt, lemmas.Bool.cases_eq, lemmas.Bo
 pub use Rattle.std.proofs.{lemmas.Grind.common_steps}
 pub use Rattle.std.proofs.Common.{◌≡◌, ℕ, suc, ◌+◌, ◌-◌, ◌*◌, ◌<◌, ◌≤◌, List, [], ◌∷◌, ◌++◌, length, map, drop, get_or}
 pub use Rattle.std.proofs.Common.{Option, Some, None, refl, sym, ap, ◌∙◌, subst, option_map, arith, Bool, true, false}
-pub use Rattle.std.proofs.Common.{inl, inr, zero, take, set, ◌⊎◌, ◌&&◌, IfSome, IsSome, unwrap_or, not}
+pub use Rattle.std.proofs.Common.{inl, inr, zero, take, set, ◌⊎◌, ◌&&◌, IfSome, IsSome, is_some, unwrap_or, not}
 pub use Rattle.std.proofs.lemmas.List.{append_assoc, append-nil, length-append, length_push, get_or_past, length-drop}
 pub use Rattle.std.proofs.lemmas.List.{length-take, get_or-drop, get_or-set_same, get_or-set_other, get_or-take}
 pub use Rattle.std.proofs.lemmas.List.{get_or-map, get_or_append_left, get_or-append_right, length-set, length-map}
@@ -35,8 +35,10 @@ pub use Rattle.cw_table.proofs.Falling.{hold-at, room, alone-at, pieces-whole, f
 pub use Rattle.cw_table.proofs.FirstLaws.{length-tests_of, first-window}
 pub use Rattle.cw_table.specs.{Fitting.row_fits, Fitting.first_of, Fitting.window_of, Normal.fine_with, Normal.is_fine}
 pub use Rattle.cw_table.specs.{Productions.productions, declared.types.Piece.Piece, declared.types.Row.Row}
+pub use Rattle.cw_table.specs.declared.types.Action.{Action}
 pub use Rattle.cw_table.specs.{declared.types.RowResult.TheVariants.SameAs}
 pub use Rattle.cw_table.specs.Rewriting.{alone, takes_other, reserved_in, reserved_at, cats_of, row_pieces, math_piece}
+pub use Rattle.cw_table.specs.Rewriting.{bolded, bolded_at, worded_at}
 pub use Rattle.cw_table.specs.Rewriting.{joined_of, with_cat, new_from, new_scrap, search_in, is_bare_name, named_scrap}
 pub use Rattle.cw_table.specs.Rewriting.{named_right, rewrite_from, found_names, with_type, rewrite, is_stmt}
 pub use Rattle.cw_table.specs.Rows.{pieces_for, test, tests_of, result_at, no_row, row_numbered, row_of}

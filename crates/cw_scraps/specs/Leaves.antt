@@ -9,12 +9,14 @@ use Rattle.cw_rules.specs.declared.codes.Code.{Code}
 use Rattle.cw_rules.specs.declared.codes.Code.TheVariants as code
 use Rattle.cw_rules.specs.declared.signs.Sign.{Sign}
 use Rattle.cw_rules.specs.declared.signs.Sign.TheVariants as sign
+use Rattle.cw_rules.specs.declared.tokens.Directive.{Directive}
+use Rattle.cw_rules.specs.declared.tokens.Directive.TheVariants as directive
 use Rattle.cw_rules.specs.declared.tokens.TokKind.{TokKind}
 use Rattle.cw_rules.specs.declared.tokens.TokKind.TheVariants as kind
 use Rattle.cw_names.specs.declared.NameId.{NameId}
 use Rattle.cw_names.specs.declared.entry.EntryKind.TheVariants.{Ident as ident_kind}
 use Rattle.cw_names.specs.Names.{Entry, place_of, with_entry}
-use Rattle.cw_names.specs.Words.{hash_line_category}
+use Rattle.cw_names.specs.Words.{directive_category, hash_line_category}
 use Rattle.cw_trees.specs.declared.Control.TheVariants as control
 use Rattle.cw_tokens.specs.declared.token.Token.{Token}
 use Rattle.cw_tokens.specs.declared.token.Token.TheVariants.{Source, Ident, Reserved, Control}
@@ -134,26 +136,32 @@ form_of kind.HashLineEnd number = Some (record { cat = cat.Rproc; mode = Text; t
 form_of (kind.Code c) number = code_form c number
 form_of _ number = None
 
--- An identifier. One of another category than exp is a reserved word; a macro of TeX is an expression in math.
+-- An identifier. One of another category than exp is a reserved word; a macro of TeX is in math.
 abbrev pub word_form : Cat → NameId → ℕ → LeafForm
 word_form cat.Exp name number = record { cat = cat.Exp; mode = Maybe; tokens = Ident name number ∷ [] }
 word_form cat.TexLike name number =
-    record { cat = cat.Exp; mode = Math; tokens = Reserved name number cat.TexLike ∷ [] }
+    record { cat = cat.TexLike; mode = Math; tokens = Reserved name number cat.TexLike ∷ [] }
 word_form c name number = record { cat = c; mode = Maybe; tokens = Reserved name number c ∷ [] }
 
--- the category of an identifier: in a `#` line the words of such lines have one of their own
-abbrev pub word_cat : Bool → List ℕ → Cat → Cat
-word_cat headed text own = if headed then unwrap_or (hash_line_category text) own else own
+-- The category of an identifier that has one of its own: in a `#` line, and directly behind its `#`, the words of such
+-- lines have others.
+abbrev pub cat_in_line : Bool → List ℕ → Cat → Cat
+cat_in_line hash_line text own = if hash_line then unwrap_or (hash_line_category text) own else own
+
+abbrev pub word_cat : Bool → Directive → List ℕ → Cat → Cat
+word_cat hash_line directive.No text own = cat_in_line hash_line text own
+word_cat hash_line directive.Word text own = unwrap_or (directive_category text) (cat_in_line hash_line text own)
+word_cat hash_line directive.Macro text own = cat.MdefineLike
 
 abbrev pub own_cat : List Entry → ℕ → Cat
 own_cat names index = unwrap_or (option_map (λ entry. entry.category) (slice_get names index)) cat.Exp
 
--- The form of a token that stands in a `#` line or not, where these are the names before it.
-abbrev pub token_form : TokKind → List ℕ → Bool → ℕ → List Entry → Option LeafForm
-token_form kind.Identifier text hash_line number names =
-    Some (word_form (word_cat hash_line text (own_cat (with_entry ident_kind text names)
+-- The form of a token, which may stand in a `#` line and be a word of a directive, where these are the names before it.
+abbrev pub token_form : TokKind → List ℕ → Bool → Directive → ℕ → List Entry → Option LeafForm
+token_form kind.Identifier text hash_line d number names =
+    Some (word_form (word_cat hash_line d text (own_cat (with_entry ident_kind text names)
     (place_of ident_kind text names))) (record { index = place_of ident_kind text names }) number)
-token_form k text hash_line number names = form_of k number
+token_form k text hash_line d number names = form_of k number
 
 -- the names after a token: those with that of an identifier
 abbrev pub names_with : TokKind → List ℕ → List Entry → List Entry
@@ -162,7 +170,7 @@ names_with _ text names = names
 
 -- a token makes a scrap of its own
 abbrev pub MakesLeaf : TokKind → Type 0
-MakesLeaf k = IsSome (token_form k [] false 0 [])
+MakesLeaf k = IsSome (token_form k [] false directive.No 0 [])
 
 -- the scrap has the form, and its list is the one that is new in the store
 pub record HasForm (form : LeafForm) (leaf : Leaf) (old new : List (List Token)) : Type 0 where

@@ -14,7 +14,7 @@ use crate::PRODUCTION_TOKENS;
 use crate::line::ScrapLine;
 use crate::marks::Marks;
 use crate::producing::produce;
-use crate::reserving::{Turning, named_ident, reserve_named, turn_right};
+use crate::reserving::{Turning, named_ident, reserve_words, turn_right};
 use cw_base::{Cat, Flags, Ledger, Memory, Steps};
 use cw_names::{NameId, Names};
 use cw_table::{ROW_COUNT, RowAtHand, RowNo, Table};
@@ -39,6 +39,7 @@ struct AtHand<'a> {
     flags: &'a Flags,
     underline: Option<u8>,
     reserve: Option<u8>,
+    bold: Option<u8>,
 }
 
 impl ScrapLine {
@@ -129,14 +130,16 @@ impl ScrapLine {
         let row = RowAtHand::of(production.row);
         let underline = row.underline();
         let reserve = row.reserve();
-        match (underline, reserve) {
-            (None, None) => {
+        let bold = row.bold();
+        match (underline, reserve, bold) {
+            (None, None, None) => {
                 let at_hand = AtHand {
                     row: &row,
                     place: production.place,
                     flags: production.flags,
                     underline: None,
                     reserve: None,
+                    bold: None,
                 };
                 self.apply_naming(&at_hand, names, marks, store, steps);
             }
@@ -178,11 +181,12 @@ impl ScrapLine {
             flags: production.flags,
             underline: row.underline(),
             reserve: row.reserve(),
+            bold: row.bold(),
         };
         self.apply_naming(&at_hand, names, marks, store, steps);
     }
 
-    /// The same, where the two scraps that the row names are given: of a row that names none no more is
+    /// The same, where the scraps that the row names are given: of a row that names none no more is
     /// left than the production.
     #[inline(always)]
     fn apply_naming<L: Ledger>(
@@ -195,6 +199,7 @@ impl ScrapLine {
     )
         requires underline { production.now.underline ≡ production.now.row.now.action.underline }
         requires reserve { production.now.reserve ≡ production.now.row.now.action.reserve }
+        requires bold { production.now.bold ≡ production.now.row.now.action.bold }
         requires row { row_is_sound production.now.row.now ≡ true }
         requires fits { row_fits production.now.row.now
             (drop production.now.place (cats_of (scraps_of store.old.lists self.old))) ≡ true }
@@ -209,7 +214,7 @@ impl ScrapLine {
         let place = production.place;
         let reserve = production.reserve;
         let marked = named_ident(self, place, production.underline, names, store);
-        let reserved = reserve_named(self, place, reserve, names, store);
+        let reserved = reserve_words(self, place, reserve, production.bold, names, store);
         produce(self, place, row, production.flags, store);
         let _length = self.len();
         let right = place + row.offset() as usize + 1;

@@ -3,7 +3,7 @@ ghost use Rattle.std.specs.Prelude.{◌≡◌, ◌≢◌, ◌+◌, ◌^◌, ◌<
 ghost use Rattle.std.specs.Prelude.{OnOk, OnErr, nat_eq};
 ghost use Rattle.std.specs.Cmp.Lexicographic.{pointwise};
 ghost use Rattle.std.specs.Option.{option_to_list};
-ghost use Rattle.cw_names.specs.Words.{hash_line_category};
+ghost use Rattle.cw_names.specs.Words.{directive_category, hash_line_category};
 ghost use Rattle.cw_base.specs.declared.category.Cat.TheVariants as Cats;
 ghost use Rattle.cw_base.specs.declared.mode.MathMode.TheVariants as MathMode;
 ghost use Rattle.cw_rules.specs.declared.codes.Code.TheVariants as Code;
@@ -12,10 +12,10 @@ ghost use Rattle.cw_tokens.specs.Shapes.{ref_of, shape};
 ghost use Rattle.cw_scraps.specs.declared.line.LineEntry.{LineEntry};
 ghost use Rattle.cw_scraps.specs.Lines.{IsSoundLine};
 ghost use Rattle.cw_scraps.specs.Leaves.{MakesLeaf, HasForm, entry_of, token_form, names_with, form_of, code_form};
-ghost use Rattle.cw_scraps.specs.Leaves.{sign_cat, sign_mode, word_cat, word_form, source};
+ghost use Rattle.cw_scraps.specs.Leaves.{cat_in_line, sign_cat, sign_mode, word_cat, word_form, source};
 
 use cw_base::{Cat, MathMode, Memory};
-use cw_lex::{Code, Sign, Tok, TokKind};
+use cw_lex::{Code, Directive, Sign, Tok, TokKind};
 use cw_names::{EntryKind, NameId, Names};
 use cw_tokens::{ListId, Token, TokenStore};
 use cw_trees::Control;
@@ -38,8 +38,9 @@ pub fn scrap_of(token: &Tok, names: &mut Names, store: &mut TokenStore) -> Resul
     requires kind { MakesLeaf token.now.kind }
     requires start { token.now.span.start < 2 ^ 32 }
     requires idle { store.old.building ≡ None }
-    ensures form { IfOk result (λ leaf. IfSome (token_form token.now.kind token.now.text.now token.now.hash_line
-        token.now.span.start names.old) (λ form. HasForm form leaf store.old.lists store.new.lists)) }
+    ensures form { IfOk result (λ leaf. IfSome (token_form token.now.kind token.now.text.now
+        token.now.hash_line token.now.directive token.now.span.start names.old)
+        (λ form. HasForm form leaf store.old.lists store.new.lists)) }
     ensures real { IfOk result (λ leaf. leaf.cat ≢ Cats.End) }
     ensures names { OnOk result (names.new ≡ names_with token.now.kind token.now.text.now names.old) }
     ensures idle { store.new.building ≡ None }
@@ -56,7 +57,7 @@ pub fn scrap_of(token: &Tok, names: &mut Names, store: &mut TokenStore) -> Resul
         TokKind::Identifier => {
             store.reserve(6)?;
             let name = names.find_or_add(EntryKind::Ident, token.text)?;
-            let cat = word_cat(token.hash_line, token.text, names.category(name));
+            let cat = word_cat(token, names.category(name));
             Ok(word_leaf(cat, name, number, store))
         }
         kind => {
@@ -68,8 +69,25 @@ pub fn scrap_of(token: &Tok, names: &mut Names, store: &mut TokenStore) -> Resul
 
 /// The category of an identifier that has a category of its own.
 #[inline(always)]
-pub(crate) fn word_cat(hash_line: bool, text: &[u8], own: Cat) -> Cat
-    ensures cat { result ≡ word_cat hash_line text.now own }
+pub(crate) fn word_cat(word: &Tok, own: Cat) -> Cat
+    ensures cat { result ≡ word_cat word.now.hash_line word.now.directive word.now.text.now own }
+    ensures real { own ≢ Cats.End → result ≢ Cats.End }
+{
+    match word.directive {
+        Directive::No => cat_in_line(word.hash_line, word.text, own),
+        Directive::Word => directive_category(word.text).unwrap_or(cat_in_line(
+            word.hash_line,
+            word.text,
+            own,
+        )),
+        Directive::Macro => Cat::MdefineLike,
+    }
+}
+
+/// The same of an identifier that doesn't stand directly behind the `#` of a `#` line.
+#[inline(always)]
+fn cat_in_line(hash_line: bool, text: &[u8], own: Cat) -> Cat
+    ensures cat { result ≡ cat_in_line hash_line text.now own }
     ensures real { own ≢ Cats.End → result ≢ Cats.End }
 {
     if hash_line {
@@ -85,16 +103,31 @@ fn is_word(text: &[u8], word: &[u8]) -> bool
     text == word
 }
 
-/// The category that a word has in a `#` line whatever it has elsewhere.
+/// The category that a word has anywhere in a `#` line, whatever it has elsewhere.
 fn hash_line_category(text: &[u8]) -> Option<Cat>
     ensures cat { result ≡ hash_line_category text.now }
+    ensures real { IfSome result (λ cat. cat ≢ Cats.End) }
+{
+    if is_word(text, b"defined") {
+        Some(Cat::SizeofLike)
+    } else {
+        None
+    }
+}
+
+/// The category that a word has directly behind the `#` of a `#` line, whatever it has elsewhere.
+fn directive_category(text: &[u8]) -> Option<Cat>
+    ensures cat { result ≡ directive_category text.now }
     ensures real { IfSome result (λ cat. cat ≢ Cats.End) }
 {
     if is_word(text, b"elif")
         || is_word(text, b"elifdef")
         || is_word(text, b"elifndef")
+        || is_word(text, b"else")
         || is_word(text, b"embed")
+        || is_word(text, b"endif")
         || is_word(text, b"error")
+        || is_word(text, b"if")
         || is_word(text, b"ifdef")
         || is_word(text, b"ifndef")
         || is_word(text, b"include")
@@ -103,13 +136,9 @@ fn hash_line_category(text: &[u8]) -> Option<Cat>
         || is_word(text, b"undef")
         || is_word(text, b"warning")
     {
-        Some(Cat::IfLike)
-    } else if is_word(text, b"endif") {
-        Some(Cat::ElseLike)
+        Some(Cat::HashLike)
     } else if is_word(text, b"define") {
         Some(Cat::DefineLike)
-    } else if is_word(text, b"defined") {
-        Some(Cat::SizeofLike)
     } else {
         None
     }
@@ -140,7 +169,7 @@ fn word_leaf(cat: Cat, name: NameId, number: u32, store: &mut TokenStore) -> Lea
     store.begin();
     store.push(token_of_word(cat, name, number));
     match cat {
-        Cat::TexLike => ended(Cat::Exp, MathMode::Math, store),
+        Cat::TexLike => ended(Cat::TexLike, MathMode::Math, store),
         _ => ended(cat, MathMode::Maybe, store),
     }
 }

@@ -1,7 +1,7 @@
 //! Reserving: identifiers of one name become reserved words.
 ghost use Rattle.std.specs.Prelude.{◌≡◌, ℕ, ◌+◌, ◌-◌, ◌<◌, ◌≤◌, ◌++◌, [], ◌∷◌, ◌&&◌, length, take, drop, map};
 ghost use Rattle.std.specs.Prelude.{option_map};
-ghost use Rattle.cw_table.specs.Rewriting.{search_in, reserved_at, is_bare_name};
+ghost use Rattle.cw_table.specs.Rewriting.{search_in, reserved_at, bolded_at, is_bare_name};
 ghost use Rattle.cw_tokens.specs.References.{IsTied};
 ghost use Rattle.cw_tokens.specs.Walking.{found_name};
 ghost use Rattle.cw_scraps.specs.Lines.{seen, scraps_of, roots_of, AreRoots};
@@ -34,7 +34,7 @@ pub fn named_ident(
 }
 
 /// Reserves the first identifier of the scrap that a row names, if it names one.
-pub fn reserve_named(
+fn reserve_named(
     line: &ScrapLine,
     place: usize,
     named: Option<u8>,
@@ -58,6 +58,64 @@ pub fn reserve_named(
         Some(k) => store.reserve_ident(line.entry(place + k as usize).list, names),
         None => None,
     }
+}
+
+/// Reserves the scrap that a row names, if it names one and that scrap is exactly an identifier.
+fn bold_named(
+    line: &ScrapLine,
+    place: usize,
+    named: Option<u8>,
+    names: &Names,
+    store: &mut TokenStore,
+)
+    requires named { (k : ℕ) → named ≡ Some k → place + k < length line.now }
+    requires idle { store.old.building ≡ None }
+    requires roots { AreRoots store.old.lists (roots_of line.now) }
+    ensures scraps { scraps_of store.new.lists line.now ≡ take place (scraps_of store.old.lists line.now) ++
+        bolded_at named (drop place (scraps_of store.old.lists line.now)) }
+    ensures lists { Changes store.old.lists store.new.lists (roots_of line.now) }
+    ensures idle { store.new.building ≡ None }
+    ensures spare { store.new.spare ≡ store.old.spare }
+{
+    let _length = line.len();
+    store.tied_law();
+    match named {
+        Some(k) => {
+            let list = line.entry(place + k as usize).list;
+            if store.bare_name(list).is_some() {
+                let _name = store.reserve_ident(list, names);
+            }
+        }
+        None => {}
+    }
+}
+
+/// Reserves the first identifier of a scrap that a row names, and answers its name; and another scrap that it names,
+/// if that is exactly an identifier.
+pub fn reserve_words(
+    line: &ScrapLine,
+    place: usize,
+    reserve: Option<u8>,
+    bold: Option<u8>,
+    names: &Names,
+    store: &mut TokenStore,
+) -> Option<NameId>
+    requires place { place ≤ length line.now }
+    requires reserve { (k : ℕ) → reserve ≡ Some k → place + k < length line.now }
+    requires bold { (k : ℕ) → bold ≡ Some k → place + k < length line.now }
+    requires idle { store.old.building ≡ None }
+    requires roots { AreRoots store.old.lists (roots_of line.now) }
+    ensures name { result ≡ found_name (search_in reserve (drop place (scraps_of store.old.lists line.now))) }
+    ensures scraps { scraps_of store.new.lists line.now ≡ take place (scraps_of store.old.lists line.now) ++
+        bolded_at bold (reserved_at reserve (drop place (scraps_of store.old.lists line.now))) }
+    ensures lists { Changes store.old.lists store.new.lists (roots_of line.now) }
+    ensures tied { IsTied store.old.lists }
+    ensures idle { store.new.building ≡ None }
+    ensures spare { store.new.spare ≡ store.old.spare }
+{
+    let reserved = reserve_named(line, place, reserve, names, store);
+    bold_named(line, place, bold, names, store);
+    reserved
 }
 
 fn has_name(bare: Option<NameId>, name: NameId) -> bool

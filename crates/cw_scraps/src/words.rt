@@ -15,7 +15,7 @@ pub fn word_token(word: &Tok, names: &mut Names) -> Result<Token, Memory>
     requires kind { is_word word.now.kind ≡ true }
     requires start { word.now.span.start < 2 ^ 32 }
     ensures token { IfOk result (λ token. option_map (λ form. form.tokens) (token_form word.now.kind word.now.text.now
-        word.now.hash_line word.now.span.start names.old) ≡ Some (token ∷ [])) }
+        word.now.hash_line word.now.directive word.now.span.start names.old) ≡ Some (token ∷ [])) }
     ensures names { OnOk result (names.new ≡ names_with word.now.kind word.now.text.now names.old) }
     ensures no_names { OnErr result (names.new ≡ names.old) }
 {
@@ -24,7 +24,7 @@ pub fn word_token(word: &Tok, names: &mut Names) -> Result<Token, Memory>
         TokKind::Sign(sign) => Ok(Token::Source(number, sign_mode(sign))),
         _ => {
             let name = names.find_or_add(EntryKind::Ident, word.text)?;
-            let cat = word_cat(word.hash_line, word.text, names.category(name));
+            let cat = word_cat(word, names.category(name));
             Ok(token_of_word(cat, name, number))
         }
     }

@@ -6,8 +6,9 @@ use Rattle.cw_scraps.proofs.leaves.scrap_of.Goals as goal
 
 pub returns-in_ok-name-in-Identifier-clause-form : goal.returns-in_ok-name-in-Identifier-clause-form
 returns-in_ok-name-in-Identifier-clause-form c = word-has c.args.token.now.kind c.args.token.now.text.now
-    c.args.token.now.hash_line c.args.token.now.span.start c.args.names.now c.find_or_add.new.self
-    c.in_ok-name-in-Identifier.name c.category.result c.word_cat-cat.result c.word_leaf.result c.args.store.now.lists
+    c.args.token.now.hash_line c.args.token.now.directive c.args.token.now.span.start c.args.names.now
+    c.find_or_add.new.self c.in_ok-name-in-Identifier.name c.category.result c.word_cat-cat.result
+    c.word_leaf.result c.args.store.now.lists
     c.word_leaf.new.store.lists c.in-Identifier.is c.in_ok-name-in-Identifier.ensures.id
     c.in_ok-name-in-Identifier.ensures.ok c.category.ensures.value c.word_cat-cat.ensures.cat
     (rw c.in_ok-reserve-in-Identifier.ensures.lists at c.word_leaf.ensures.form)

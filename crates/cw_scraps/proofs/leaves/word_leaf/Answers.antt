@@ -1,4 +1,4 @@
--- A macro of TeX is an expression in math; every other identifier has the category of its name, in either mode.
+-- An identifier has the category of its name. A macro of TeX is in math, every other identifier in either mode.
 use Rattle.cw_scraps.proofs.Terms.{◌≡◌, Option, Some, List, [], ◌∷◌, ◌++◌, ap, length, option_map, ◌∙◌, option_to_list}
 use Rattle.cw_scraps.proofs.Terms.{Token}
 use Rattle.cw_scraps.proofs.LeafForms.{macro-has, plain-has}

@@ -1,7 +1,7 @@
 -- The six steps of a production, one after another, are one production with its marks and its reserving.
-use Rattle.cw_scraps.proofs.Terms.{◌≡◌, ◌+◌, ◌≤◌, length, drop, sym, ap, ◌∙◌, arith, search_in, scraps_of, retyped}
+use Rattle.cw_scraps.proofs.Terms.{◌≡◌, ◌+◌, ◌<◌, ◌≤◌, length, drop, sym, ap, ◌∙◌, arith, search_in, scraps_of, retyped}
 use Rattle.cw_scraps.proofs.Terms.{retyped_by}
-use Rattle.cw_scraps.proofs.Fits.{fits-at, behind}
+use Rattle.cw_scraps.proofs.Fits.{fits-at, behind, place-inside}
 use Rattle.cw_scraps.proofs.Applied.{marked-named, fits-line, right-inside, reserved-there, applies, retyped-is}
 use Rattle.cw_scraps.proofs.Applied.{state-is, sound-after, ticked-is}
 use Rattle.cw_scraps.proofs.line.ScrapLine.apply_naming.Goals as goal
@@ -13,12 +13,26 @@ named_ident-marked-requires-clause-named g c =
     c.args.store.now.lists c.args.self.now c.args.production.now.place c.requires.fits) in
     λ k e. behind c.args.self.now c.args.production.now.place k (f.underline_there k (sym c.requires.underline ∙ e))
 
-pub reserve_named-reserved-requires-clause-named : goal.reserve_named-reserved-requires-clause-named
-reserve_named-reserved-requires-clause-named g c =
+pub reserve_words-reserved-requires-clause-reserve : goal.reserve_words-reserved-requires-clause-reserve
+reserve_words-reserved-requires-clause-reserve g c =
     let f = fits-at c.args.production.now.flags.now c.args.production.now.row.now
     (drop c.args.production.now.place c.args.self.now) c.requires.row (fits-line c.args.production.now.row.now
     c.args.store.now.lists c.args.self.now c.args.production.now.place c.requires.fits) in
     λ k e. behind c.args.self.now c.args.production.now.place k (f.reserve_there k (sym c.requires.reserve ∙ e))
+
+pub reserve_words-reserved-requires-clause-bold : goal.reserve_words-reserved-requires-clause-bold
+reserve_words-reserved-requires-clause-bold g c =
+    let f = fits-at c.args.production.now.flags.now c.args.production.now.row.now
+    (drop c.args.production.now.place c.args.self.now) c.requires.row (fits-line c.args.production.now.row.now
+    c.args.store.now.lists c.args.self.now c.args.production.now.place c.requires.fits) in
+    λ k e. behind c.args.self.now c.args.production.now.place k (f.bold_there k (sym c.requires.bold ∙ e))
+
+pub reserve_words-reserved-requires-clause-place : goal.reserve_words-reserved-requires-clause-place
+reserve_words-reserved-requires-clause-place g c =
+    let f = fits-at c.args.production.now.flags.now c.args.production.now.row.now
+    (drop c.args.production.now.place c.args.self.now) c.requires.row (fits-line c.args.production.now.row.now
+    c.args.store.now.lists c.args.self.now c.args.production.now.place c.requires.fits) in
+    let inside : c.args.production.now.place < length c.args.self.now = place-inside _ _ _ _ f in omega arith
 
 pub produce-requires-clause-fits : goal.produce-requires-clause-fits
 produce-requires-clause-fits g c = fits-line c.args.production.now.row.now c.args.store.now.lists c.args.self.now
@@ -31,7 +45,7 @@ overflow_add-right g c =
     c.args.store.now.lists c.args.self.now c.args.production.now.place c.requires.fits) in
     let h : c.args.production.now.place + c.args.production.now.row.now.offset + 1 ≤ length c.produce.new.line =
     right-inside c.args.production.now.flags.now c.args.production.now.row.now c.args.production.now.place
-    c.reserve_named-reserved.new.store.lists c.args.self.now c.produce.new.store.lists c.produce.new.line f
+    c.reserve_words-reserved.new.store.lists c.args.self.now c.produce.new.store.lists c.produce.new.line f
     c.produce.ensures.replaced in
     omega (arith, c.len-length.ensures, c.len-length.type_inv)
 
@@ -42,7 +56,7 @@ overflow_add-right-2 g c =
     c.args.store.now.lists c.args.self.now c.args.production.now.place c.requires.fits) in
     let h : c.args.production.now.place + c.args.production.now.row.now.offset + 1 ≤ length c.produce.new.line =
     right-inside c.args.production.now.flags.now c.args.production.now.row.now c.args.production.now.place
-    c.reserve_named-reserved.new.store.lists c.args.self.now c.produce.new.store.lists c.produce.new.line f
+    c.reserve_words-reserved.new.store.lists c.args.self.now c.produce.new.store.lists c.produce.new.line f
     c.produce.ensures.replaced in
     omega (arith, c.len-length.ensures, c.len-length.type_inv)
 
@@ -52,7 +66,7 @@ turn_right-requires-clause-start g c =
     (drop c.args.production.now.place c.args.self.now) c.requires.row (fits-line c.args.production.now.row.now
     c.args.store.now.lists c.args.self.now c.args.production.now.place c.requires.fits) in
     rw c.offset.ensures (right-inside c.args.production.now.flags.now c.args.production.now.row.now
-    c.args.production.now.place c.reserve_named-reserved.new.store.lists c.args.self.now c.produce.new.store.lists
+    c.args.production.now.place c.reserve_words-reserved.new.store.lists c.args.self.now c.produce.new.store.lists
     c.produce.new.line f c.produce.ensures.replaced)
 
 pub mark-requires : goal.mark-requires
@@ -61,8 +75,8 @@ mark-requires g c = λ id e. marked-named c.args.production.now.underline _ c.na
 
 pub retype-requires : goal.retype-requires
 retype-requires g c = λ id e. reserved-there c.args.names.now c.args.production.now.row.now.action.reserve
-    c.args.production.now.place (scraps_of c.args.store.now.lists c.args.self.now) c.reserve_named-reserved.result id
-    c.requires.sound.named (rw c.requires.reserve at c.reserve_named-reserved.ensures.name) e
+    c.args.production.now.place (scraps_of c.args.store.now.lists c.args.self.now) c.reserve_words-reserved.result id
+    c.requires.sound.named (rw c.requires.reserve at c.reserve_words-reserved.ensures.name) e
 
 pub returns : goal.returns
 returns g c =
@@ -70,15 +84,16 @@ returns g c =
     (drop c.args.production.now.place c.args.self.now) c.requires.row (fits-line c.args.production.now.row.now
     c.args.store.now.lists c.args.self.now c.args.production.now.place c.requires.fits) in
     let a = applies c.args.production.now.flags.now c.args.production.now.row.now c.args.production.now.place
-    c.args.store.now.lists c.reserve_named-reserved.new.store.lists c.produce.new.store.lists
+    c.args.store.now.lists c.reserve_words-reserved.new.store.lists c.produce.new.store.lists
     c.turn_right.new.store.lists c.args.self.now c.produce.new.line c.turn_right.new.line
-    c.reserve_named-reserved.result f c.reserve_named-reserved.ensures.tied c.produce.ensures.tied
-    (rw c.requires.reserve at c.reserve_named-reserved.ensures.scraps) c.reserve_named-reserved.ensures.lists
-    c.produce.ensures.replaced (rw c.offset.ensures at c.turn_right.ensures.scraps) c.turn_right.ensures.same_roots
-    c.turn_right.ensures.lists (rw c.requires.reserve at c.reserve_named-reserved.ensures.name) in
+    c.reserve_words-reserved.result f c.reserve_words-reserved.ensures.tied c.produce.ensures.tied
+    (rw (c.requires.reserve, c.requires.bold) at c.reserve_words-reserved.ensures.scraps)
+    c.reserve_words-reserved.ensures.lists c.produce.ensures.replaced
+    (rw c.offset.ensures at c.turn_right.ensures.scraps) c.turn_right.ensures.same_roots c.turn_right.ensures.lists
+    (rw c.requires.reserve at c.reserve_words-reserved.ensures.name) in
     let named : c.retype.new.names ≡ retyped (search_in c.args.production.now.row.now.action.reserve (drop
     c.args.production.now.place (scraps_of c.args.store.now.lists c.args.self.now))) c.args.names.now = c.retype.ensures
-    ∙ (ap (λ n. retyped_by n c.args.names.now) (rw c.requires.reserve at c.reserve_named-reserved.ensures.name)
+    ∙ (ap (λ n. retyped_by n c.args.names.now) (rw c.requires.reserve at c.reserve_words-reserved.ensures.name)
     ∙ retyped-is (search_in c.args.production.now.row.now.action.reserve
     (drop c.args.production.now.place (scraps_of c.args.store.now.lists c.args.self.now))) c.args.names.now) in
     record {
@@ -94,7 +109,7 @@ returns g c =
       few = a.few;
       spare = omega (
         arith,
-        c.reserve_named-reserved.ensures.spare,
+        c.reserve_words-reserved.ensures.spare,
         c.produce.ensures.spare,
         c.turn_right.ensures.spare,
       );
