@@ -129,7 +129,7 @@ module _ {wanted₀ : Wanted} {all : List Answer} {names₀ : List Entry} {token
     word-within = grind (arith, seen, answer_words, all-words, behind)
 
     pub reads-word : (token : StoredToken) (tokens' : List StoredToken) → option_map (λ form. form.tokens)
-        (token_form t.kind t.text.now t.hash_line t.span.start names) ≡ Some (token ∷ [])
+        (token_form t.kind t.text.now t.hash_line t.directive t.span.start names) ≡ Some (token ∷ [])
         → tokens' ≡ tokens ++ token ∷ [] → ReadsWords wanted₀ all names₀ tokens₀ next new names' tokens'
     reads-word token tokens' form pushed = record {
       first = r.first ++ seen t ∷ [];
@@ -139,7 +139,7 @@ module _ {wanted₀ : Wanted} {all : List Answer} {names₀ : List Entry} {token
         pushed,
         r.tokens_are,
         append_assoc tokens₀ (spelled r.first names₀).tokens (token ∷ []),
-        ← form-is (token_form t.kind t.text.now t.hash_line t.span.start names) token form,
+        ← form-is (token_form t.kind t.text.now t.hash_line t.directive t.span.start names) token form,
         behind,
       );
       left = sym there ∙ r.left;

@@ -1,5 +1,6 @@
 -- What the head of a definition makes: the tokens of its list, and its scrap. They refer to no list, and their names
 -- are names. Behind that, what stands behind heads, as they are read.
+use Rattle.cw_rules.specs.declared.tokens.Directive.{Directive}
 use Rattle.cw_reduce.proofs.Terms.{list_all, ltb-true, both-left, both-right, Cat, NameId, is_entry}
 use Rattle.cw_reduce.proofs.Terms.{with_entry, Ident as ident_kind, word_form, is_word, names-grow, Wanted, nest}
 use Rattle.cw_reduce.proofs.Terms.{IsNested, ListId, HeadRead, empty-line, keeps-itself, err-if, err-ok, on-err, Token}
@@ -102,9 +103,10 @@ place-there : (text : List ℕ) (names : List Entry)
     → place_of ident_kind text names < length (with_entry ident_kind text names)
 place-there text names = grind (arith, place_of, ident_kind, ltb-true, prefix_len-le-length, is_entry, length-append)
 
-kind-named : (k : TokKind) (text : List ℕ) (hash_line : Bool) (n : ℕ) (names : List Entry) → is_word k ≡ true
-    → AreNamed (length (names_with k text names)) (form_tokens (token_form k text hash_line n names))
-kind-named k text hash_line n names h = grind (arith, form-named, place_of, ident_kind, place-there)
+kind-named : (k : TokKind) (text : List ℕ) (hash_line : Bool) (d : Directive) (n : ℕ) (names : List Entry)
+    → is_word k ≡ true → AreNamed (length (names_with k text names))
+    (form_tokens (token_form k text hash_line d n names))
+kind-named k text hash_line d n names h = grind (arith, form-named, place_of, ident_kind, place-there)
 
 pub spelled-grow : (words : List Seen) (names : List Entry) → length names ≤ length (spelled words names).names
 spelled-grow [] names = omega arith
@@ -119,8 +121,8 @@ spelled-named (word ∷ words) names h =
     let n = names_with word.kind word.text names in
     named-append (length (spelled words n).names) (word_tokens word names) (spelled words n).tokens
     (more-named (length n) (length (spelled words n).names) (spelled-grow words n) (word_tokens word names) (kind-named
-    word.kind word.text word.hash_line word.span.start names (both-left (word_kind word) (list_all word_kind words) h)))
-    (spelled-named words n (both-right (word_kind word) (list_all word_kind words) h))
+    word.kind word.text word.hash_line word.directive word.span.start names (both-left (word_kind word)
+    (list_all word_kind words) h))) (spelled-named words n (both-right (word_kind word) (list_all word_kind words) h))
 
 -- each word is one token
 record IsOne (ts : List StoredToken) : Type 0 where
@@ -130,9 +132,9 @@ record IsOne (ts : List StoredToken) : Type 0 where
 form-one : (c : Cat) (name : NameId) (number : ℕ) → IsOne (word_form c name number).tokens
 form-one c name number = grind arith
 
-kind-one : (k : TokKind) (text : List ℕ) (hash_line : Bool) (n : ℕ) (names : List Entry) → is_word k ≡ true
-    → IsOne (form_tokens (token_form k text hash_line n names))
-kind-one k text hash_line n names h = grind (arith, form-one)
+kind-one : (k : TokKind) (text : List ℕ) (hash_line : Bool) (d : Directive) (n : ℕ) (names : List Entry)
+    → is_word k ≡ true → IsOne (form_tokens (token_form k text hash_line d n names))
+kind-one k text hash_line d n names h = grind (arith, form-one)
 
 -- the first of them, the break, and the others
 pub break-behind : (words : List Seen) (names : List Entry) → list_all word_kind words ≡ true → names_in_text (spelled
@@ -141,8 +143,8 @@ pub break-behind : (words : List Seen) (names : List Entry) → list_all word_ki
 break-behind [] names h = refl
 break-behind (word ∷ words) names h =
     let n = names_with word.kind word.text names in
-    by (word_tokens word names) (spelled words n).tokens (kind-one word.kind word.text word.hash_line word.span.start
-    names (both-left (word_kind word) (list_all word_kind words) h))
+    by (word_tokens word names) (spelled words n).tokens (kind-one word.kind word.text word.hash_line
+    word.directive word.span.start names (both-left (word_kind word) (list_all word_kind words) h))
   where
     by : (ts us : List StoredToken) → IsOne ts
         → names_in_text (ts ++ []) ++ token.Control control.OptionalBreak ∷ names_in_text us ≡ with_break (ts ++ us)
@@ -374,7 +376,13 @@ module _ (rest new : List Answer) (t : Tok) (g : Gives (without_notes rest) (lex
 -- a name of another kind than text stands in C text
 abbrev NestedOf : TokKind → Seen → List Answer → Type 0
 NestedOf k name list =
-    IsNested (Token (record { kind = k; text = name.text; span = name.span; hash_line = name.hash_line }) ∷ list)
+    IsNested (Token (record {
+      kind = k;
+      text = name.text;
+      span = name.span;
+      hash_line = name.hash_line;
+      directive = name.directive;
+    }) ∷ list)
 
 nested-by : (k : TokKind) (name : Seen) (rest ahead : List Answer) → NestedOf k name rest → IsNested ahead
     → NestedOf k name ahead

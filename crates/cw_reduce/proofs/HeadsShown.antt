@@ -3,6 +3,7 @@
 use Rattle.std.proofs.Common.{if◌then◌else◌}
 use Rattle.std.proofs.lemmas.Bool.Decides.{nat_tests}
 use Rattle.std.proofs.lemmas.Grind.{common_steps}
+use Rattle.cw_rules.specs.declared.tokens.Directive.{Directive}
 use Rattle.cw_reduce.proofs.Terms.{◌≡◌, ℕ, Bool, true, false, Option, Some, List, [], ◌∷◌, ◌++◌, refl, ap, ◌∙◌}
 use Rattle.cw_reduce.proofs.Terms.{list_all, append-nil, Cat, Flags, MathMode, Text, Math, Span, Answer, Seen}
 use Rattle.cw_reduce.proofs.Terms.{is_head_sign, Wanted, TokKind, Head, Headless, Macro, Format, Silent, Named, Headed}
@@ -57,15 +58,15 @@ sign-spells : (s : Sign) (n : ℕ) → Spells Math Math (token.Source n (sign_mo
 sign-spells s n = grind (arith, reads, tree_in, sign-math)
 
 -- identifiers and signs in math
-kind-spells : (k : TokKind) (text : List ℕ) (hash_line : Bool) (n : ℕ) (names : List Entry) → is_word k ≡ true
-    → Spells Math Math (form_tokens (token_form k text hash_line n names)) (n ∷ [])
-kind-spells k text hash_line n names h = grind (arith, word-spells, sign-spells)
+kind-spells : (k : TokKind) (text : List ℕ) (hash_line : Bool) (d : Directive) (n : ℕ) (names : List Entry)
+    → is_word k ≡ true → Spells Math Math (form_tokens (token_form k text hash_line d n names)) (n ∷ [])
+kind-spells k text hash_line d n names h = grind (arith, word-spells, sign-spells)
 
 spelled-spells : (words : List Seen) (names : List Entry) → list_all word_kind words ≡ true
     → Spells Math Math (spelled words names).tokens (starts words)
 spelled-spells [] names h = spells-none Math
-spelled-spells (word ∷ words) names h = spells-append (kind-spells word.kind word.text word.hash_line word.span.start
-    names (both-left (word_kind word) (list_all word_kind words) h))
+spelled-spells (word ∷ words) names h = spells-append (kind-spells word.kind word.text word.hash_line
+    word.directive word.span.start names (both-left (word_kind word) (list_all word_kind words) h))
     (spelled-spells words _ (both-right (word_kind word) (list_all word_kind words) h))
 
 dollared-spells : (tokens : List Token) (numbers : List ℕ) → Spells Math Math tokens numbers
@@ -88,9 +89,9 @@ name_kind word = is_name word.kind
 word-in-text : (c : Cat) (name : NameId) (n : ℕ) → Spells Text Text (names_in_text (word_form c name n).tokens) (n ∷ [])
 word-in-text c name n = grind arith
 
-name-in-text : (k : TokKind) (text : List ℕ) (hash_line : Bool) (n : ℕ) (names : List Entry) → is_name k ≡ true
-    → Spells Text Text (names_in_text (form_tokens (token_form k text hash_line n names))) (n ∷ [])
-name-in-text k text hash_line n names h = grind (arith, word-in-text)
+name-in-text : (k : TokKind) (text : List ℕ) (hash_line : Bool) (d : Directive) (n : ℕ) (names : List Entry)
+    → is_name k ≡ true → Spells Text Text (names_in_text (form_tokens (token_form k text hash_line d n names))) (n ∷ [])
+name-in-text k text hash_line d n names h = grind (arith, word-in-text)
 
 names-spell : (words : List Seen) (names : List Entry) → list_all name_kind words ≡ true
     → Spells Text Text (names_in_text (spelled words names).tokens) (starts words)
@@ -98,8 +99,9 @@ names-spell [] names h = spells-none Text
 names-spell (word ∷ words) names h =
     let n = names_with word.kind word.text names in
     rw (names-append (word_tokens word names) (spelled words n).tokens)
-    (spells-append (name-in-text word.kind word.text word.hash_line word.span.start names (both-left (name_kind word)
-    (list_all name_kind words) h)) (names-spell words n (both-right (name_kind word) (list_all name_kind words) h)))
+    (spells-append (name-in-text word.kind word.text word.hash_line word.directive word.span.start names
+    (both-left (name_kind word) (list_all name_kind words) h))
+    (names-spell words n (both-right (name_kind word) (list_all name_kind words) h)))
 
 -- the tokens of heads
 pub macro-spells : (words : List Seen) (names : List Entry) → list_all word_kind words ≡ true → Spells Text Text

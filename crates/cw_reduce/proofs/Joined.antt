@@ -75,7 +75,7 @@ pub step-token : (k : TokKind) (token : Seen) (a : Progress) → after_token k t
 step-token kind.Text token a = rw (extended-item (Piece token.span.start) a.known a.frames)
 step-token (kind.Code code.SectionName) token a = rw (extended-nothing a.frames a.known)
 step-token (kind.Code code.FileName) token a = rw (extended-nothing a.frames a.known)
-step-token k token a = at-form (token_form k token.text token.hash_line token.span.start a.known.names)
+step-token k token a = at-form (token_form k token.text token.hash_line token.directive token.span.start a.known.names)
     (with_names (names_with k token.text a.known.names) a.known) a.frames
 
 -- A comment and an inner text.

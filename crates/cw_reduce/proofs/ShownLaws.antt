@@ -1,5 +1,6 @@
 -- What the trees of translations show, each token once and in order, and how they are read: from text they end in text,
 -- and so does each inner text in them. The texts that end began with fine scraps.
+use Rattle.cw_rules.specs.declared.tokens.Directive.{Directive}
 use Rattle.cw_reduce.proofs.Terms.{Bool, false, not, is_some, list_all, both, Cat, SectionScrap, MathMode, Code, NameId}
 use Rattle.cw_reduce.proofs.Terms.{continues_name, struck, productions-sound, code_form, word_form, list_if, InnersRead}
 use Rattle.cw_reduce.proofs.Terms.{zero, get_or_past, All-map, cases_lt, Dead, ReadsInText, Row}
@@ -72,9 +73,9 @@ word-shown c name n = grind arith
 code-shown : (c : Code) (n : ℕ) → IsShownForm (is_shown_code c) n (code_form c n)
 code-shown c n = grind arith
 
-pub token-shown : (k : TokKind) (text : List ℕ) (hash_line : Bool) (n : ℕ) (names : List Entry)
-    → is_text_kind k ≡ false → IsShownForm (is_shown k) n (token_form k text hash_line n names)
-token-shown k text hash_line n names h = grind (arith, word-shown, code-shown)
+pub token-shown : (k : TokKind) (text : List ℕ) (hash_line : Bool) (d : Directive) (n : ℕ) (names : List Entry)
+    → is_text_kind k ≡ false → IsShownForm (is_shown k) n (token_form k text hash_line d n names)
+token-shown k text hash_line d n names h = grind (arith, word-shown, code-shown)
 
 abbrev pub item_numbers : List CommentItem → List ℕ
 item_numbers [] = []

@@ -91,7 +91,7 @@ definition_row = row unnamed definition_answers
 abbrev counts : Ended → List ℕ
 counts t = scraps_in t.known.ended ∷ productions_in start_flags t.known.ended ∷ []
 
--- Of a text that ends in `} ;` three scraps are left, and `a;@+break;` stands in one line. A parenthesis behind a blank
+-- Of `) } ;` two scraps are left, a tag is in bold, and `a;@+break;` stands in one line. A parenthesis behind a blank
 -- begins no parameters, and a number is no second name. Then a section name in a text, one at its head, one with two
 -- inner texts, and the numbers of scraps and productions.
 abbrev rows : Rows
@@ -99,12 +99,12 @@ rows = c_row "@c int a=b+c, *d;" ((8, "\\K") ∷ []) "\\&{int} \\|a${}\\K\\|b+\\
     "@c if(a)b; /* c */ else d;" ((11, "\\C{") ∷ (13, " c ") ∷ [])
     "\\&{if} (\\|a)\\1\\5\\|b;\\C{ c }\\2\\6\n\\&{else}\\1\\5\\|d;\\2" ∷ c_row "@c a; /* b |x /* c |y| */| */"
     ((6, "\\C{") ∷ (8, " b ") ∷ (14, "\\C{") ∷ (16, " c ") ∷ []) "\\|a;\\C{ b \\PB{\\|x\\C{ c \\PB{\\|y} }} }" ∷ c_row
-    "@c ) } ; @;" ((5, "\\}") ∷ []) ") $\\}$ ;" ∷ c_row "@c @[int@]=x; @]" ((10, "\\K") ∷ []) "$\\&{int}\\K\\|x;$"
+    "@c ) } ; @;" ((5, "\\}") ∷ []) ") $\\}{}$\\6\n;" ∷ c_row "@c @[int@]=x; @]" ((10, "\\K") ∷ []) "$\\&{int}\\K\\|x;$"
     ∷ c_row "@c x=a?b:c;" ((4, "\\K") ∷ (6, "\\?") ∷ []) "$\\|x\\K\\|a\\?\\|b:\\|c;$" ∷ c_row
     "@c struct s p={.x=1,.y=2};" ((13, "\\K") ∷ (14, "\\{") ∷ (17, "\\K") ∷ (18, "\\T{1}") ∷ (22, "\\K") ∷ (
       23,
       "\\T{2}",
-    ) ∷ (24, "\\}") ∷ []) "\\&{struct} \\|s \\|p${}\\K\\{{.}\\|x\\K\\T{1},\\39{.}\\|y\\K\\T{2}\\};$" ∷ c_row
+    ) ∷ (24, "\\}") ∷ []) "\\&{struct} \\&{s} \\|p${}\\K\\{{.}\\|x\\K\\T{1},\\39{.}\\|y\\K\\T{2}\\};$" ∷ c_row
     "@c x=(int){1};" ((4, "\\K") ∷ (10, "\\{") ∷ (11, "\\T{1}") ∷ (12, "\\}") ∷ []) "$\\|x\\K(\\&{int})\\{\\T{1}\\};$"
     ∷ c_row "@c _Generic(x,default:2);" ((22, "\\T{2}") ∷ []) "\\&{\\_Generic} ${}(\\|x,\\39{}$\\&{default}: \\T{2});"
     ∷ c_row "@c a.b;" [] "$\\|a.\\|b;$" ∷ c_row "@c a;@+break;" [] "\\|a;\\5\\&{break};" ∷ definition_row "@d n 3"
@@ -132,14 +132,14 @@ found : map (λ row. row.0) rows ≡ map (λ row. row.1) rows
 unfolding translated normal log count positions looks productions
 found = refl
 
--- A macro of TeX is an expression in math. Boxes, dots, attributes and the signs of two bytes have rows of their own.
+-- A macro of TeX, or a box, is in math, and an expression where none stands beside it. Dots, attributes and the signs
+-- of two bytes have rows of their own.
 abbrev logged : List (String × List ℕ)
 logged = ("@c struct s p={.x=1,.y=2};", 43 ∷ 29 ∷ 33 ∷ 95 ∷ 6 ∷ 95 ∷ 7 ∷ 6 ∷ 51 ∷ 34 ∷ 37 ∷ [])
     ∷ ("@c x=(int){1};", 89 ∷ 14 ∷ 94 ∷ 6 ∷ 8 ∷ []) ∷ ("@c _Generic(x,default:2);", 15 ∷ 67 ∷ 96 ∷ 12 ∷ 26 ∷ 8 ∷ [])
-    ∷ ("@c a.b;", 97 ∷ 6 ∷ 8 ∷ []) ∷ ("@c i=i+1;", 6 ∷ 6 ∷ 8 ∷ []) ∷ ("@c a=NULL;", 6 ∷ 8 ∷ []) ∷ (
+    ∷ ("@c a.b;", 97 ∷ 6 ∷ 8 ∷ []) ∷ ("@c i=i+1;", 6 ∷ 6 ∷ 8 ∷ []) ∷ ("@c a=NULL;", 142 ∷ 6 ∷ 8 ∷ []) ∷ (
       "@c a=@t$b$@>;",
-      113
-          ∷ 6 ∷ 8 ∷ [],
+      113 ∷ 142 ∷ 6 ∷ 8 ∷ [],
     ) ∷ ("@c f(int a,...);", 89 ∷ 29 ∷ 33 ∷ 15 ∷ 111 ∷ 14 ∷ 11 ∷ 8 ∷ []) ∷ (
       "@c [[a]] int b;",
       114 ∷ 117

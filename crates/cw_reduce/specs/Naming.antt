@@ -1,5 +1,6 @@
 -- The answers over a text, in which section names have the answers of their inner texts.
 use Rattle.std.specs.Prelude.{Bool, true, false, List, [], ◌∷◌, ◌++◌, Option, Some, None}
+use Rattle.cw_rules.specs.declared.tokens.Directive.TheVariants.{No}
 use Rattle.cw_rules.specs.Answers.{Answer, Token, Begin, Finish, Note, Seen}
 use Rattle.cw_lex.specs.Limbo.{is_name_kind}
 use Rattle.cw_lex.specs.Nested.{is_section_kind}
@@ -12,7 +13,13 @@ use Rattle.cw_translator.specs.Translating.{NameTexts}
 
 -- An inner text of a name begins and ends like one of a comment.
 abbrev pub text_token : Seen
-text_token = record { kind = kind.InnerText; text = []; span = record { start = 0; «end» = 0 }; hash_line = false }
+text_token = record {
+  kind = kind.InnerText;
+  text = [];
+  span = record { start = 0; «end» = 0 };
+  hash_line = false;
+  directive = No;
+}
 
 abbrev pub text_answers : List Answer → List Answer
 text_answers text = Begin text_token ∷ (text ++ Finish text_token ∷ [])

@@ -1,6 +1,7 @@
 -- Whether the C part of a section is printed.
 use Rattle.std.specs.Prelude.{ℕ, Bool, true, false, ◌||◌, is_some, List, [], if◌then◌else◌}
 use Rattle.std.specs.List.{list_any}
+use Rattle.cw_rules.specs.declared.tokens.Directive.TheVariants.{No}
 use Rattle.cw_rules.specs.Answers.{Answer, Token, Begin, Finish, Note}
 use Rattle.cw_rules.specs.declared.tokens.Mode.TheVariants.{CPart}
 use Rattle.cw_rules.specs.declared.tokens.TokKind.{TokKind}
@@ -18,7 +19,7 @@ is_kept uses place = is_some (name_at place uses)
 
 -- a token other than a section name has a form of its own
 abbrev pub has_form : TokKind → Bool
-has_form kind = is_some (token_form kind [] false 0 [])
+has_form kind = is_some (token_form kind [] false No 0 [])
 
 -- A section name makes a scrap where the book has a name for it, and another token where it has a form. Codes of
 -- definitions don't stand in a C part; they would begin a head.

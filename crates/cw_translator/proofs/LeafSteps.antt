@@ -24,7 +24,7 @@ form_behind k token p o =
     record { frames = with_form o p.frames; known = with_names (names_with k token.text p.known.names) p.known }
 
 after-leaf : (k : TokKind) (token : Seen) (p : Progress) (form : LeafForm) → MakesLeaf k
-    → token_form k token.text token.hash_line token.span.start p.known.names ≡ Some form
+    → token_form k token.text token.hash_line token.directive token.span.start p.known.names ≡ Some form
     → after_token k token p ≡ form_behind k token p (Some form)
 after-leaf k token p form makes is = grind arith
 
@@ -99,12 +99,13 @@ pub record LeafStep (k : TokKind) (token : Seen) (old new : StoredLists) (names 
 
 module _ (k : TokKind) (token : Seen) (old new : StoredLists) (names names' : List Entry) (t t' : Translator)
     (leaf : Leaf) (is : IsTranslating old names t) (tied : IsTied old.lists) (makes : MakesLeaf k)
-    (idle : new.building ≡ None) (has : IfSome (token_form k token.text token.hash_line token.span.start names)
-    (λ form. HasForm form leaf old.lists new.lists)) (named : names' ≡ names_with k token.text names)
+    (idle : new.building ≡ None) (has : IfSome (token_form k token.text token.hash_line token.directive
+    token.span.start names) (λ form. HasForm form leaf old.lists new.lists))
+    (named : names' ≡ names_with k token.text names)
     (sound : (line : List LineEntry) → IsSoundLine old names line → IsSoundLine new names' (line ++ entry_of leaf ∷ []))
     (made : t'.nesting ≡ with_entry (entry_of leaf) t.nesting) (counts : Same t t') where
   abbrev form_of : Option LeafForm
-  form_of = token_form k token.text token.hash_line token.span.start names
+  form_of = token_form k token.text token.hash_line token.directive token.span.start names
 
   formed : (form : LeafForm) × (form_of ≡ Some form) × HasForm form leaf old.lists new.lists
   formed = grind (arith, formed-by, token-some)
@@ -114,7 +115,8 @@ module _ (k : TokKind) (token : Seen) (old new : StoredLists) (names names' : Li
 
   plain : (p x : ℕ) → token_ref (slice_get form.tokens p) ≡ Some x → ⊥
   plain = (subst (λ o. IfSome o (IsGood (place_of ident_kind token.text names + 1))) formed.1 (token-good (place_of
-      ident_kind token.text names + 1) k token.text token.hash_line token.span.start names (λ e. omega arith))).plain
+      ident_kind token.text names + 1) k token.text token.hash_line token.directive token.span.start names
+      (λ e. omega arith))).plain
 
   ends : Ends old new [] leaf.list.index
   ends = record {

@@ -48,7 +48,7 @@ with_made frames m = record { frames = extended m frames; known = m.known }
 abbrev pub after_token : TokKind → Seen → Progress → Progress
 after_token kind.Text token p = record { frames = with_item (Piece token.span.start) p.frames; known = p.known }
 after_token k token p = record {
-  frames = with_form (token_form k token.text token.hash_line token.span.start p.known.names) p.frames;
+  frames = with_form (token_form k token.text token.hash_line token.directive token.span.start p.known.names) p.frames;
   known = with_names (names_with k token.text p.known.names) p.known;
 }
 

@@ -132,7 +132,7 @@ token_made name kind.Text token known = one_item (Piece token.span.start) known
 token_made name (kind.Code code.SectionName) token known = name token.span.start known
 token_made name (kind.Code code.FileName) token known = name token.span.start known
 token_made name k token known =
-    form_made (token_form k token.text token.hash_line token.span.start known.names)
+    form_made (token_form k token.text token.hash_line token.directive token.span.start known.names)
     (with_names (names_with k token.text known.names) known)
 
 -- what begins and ends: an inner text of a comment, and a comment
@@ -205,7 +205,8 @@ form_tokens None = []
 form_tokens (Some form) = form.tokens
 
 abbrev pub word_tokens : Seen → List Entry → List Token
-word_tokens word names = form_tokens (token_form word.kind word.text word.hash_line word.span.start names)
+word_tokens word names =
+    form_tokens (token_form word.kind word.text word.hash_line word.directive word.span.start names)
 
 abbrev pub spelled : List Seen → List Entry → Spelled
 spelled [] names = record { tokens = []; names = names }
