@@ -39,10 +39,10 @@ use Rattle.cw_laws.proofs.ProseLaws.{no-prose, no-refs}
 use Rattle.cw_laws.proofs.QuietParts.{quiet-text}
 
 -- a piece that leaves nothing that is looked at
-record LeavesNothing (looked_at : List State → List State) (before : List Entry) (d : Done ℕ) : Type 0 where
-  names : d.names ≡ before
-  marks : d.marks ≡ []
-  ended : looked_at d.ended ≡ looked_at []
+pub record LeavesNothing (looked_at : List State → List State) (before : List Entry) (d : Done ℕ) : Type 0 where
+  pub names : d.names ≡ before
+  pub marks : d.marks ≡ []
+  pub ended : looked_at d.ended ≡ looked_at []
 
 module _ (looked_at : List State → List State)
     (apart : (xs ys : List State) → looked_at (xs ++ ys) ≡ looked_at xs ++ looked_at ys) where
@@ -146,7 +146,7 @@ module _ (looked_at : List State → List State)
 
   -- ## Sections
 
-  section-left : (s : Setting) (n : ℕ) (section : Section) (b : Bool) (names : List Entry) → ((ns : List Entry) → b
+  pub section-left : (s : Setting) (n : ℕ) (section : Section) (b : Bool) (names : List Entry) → ((ns : List Entry) → b
       ≡ false → LeavesNothing looked_at ns (ref_done s (text_ref n modes.CPart section.c_part) ns))
       → LeaveTheSame looked_at (section_done (at_section s n) section names)
       (refs_done s (section_refs b s.text s.book.name_uses n section) names)
@@ -164,7 +164,7 @@ module _ (looked_at : List State → List State)
       (first_opening (beside_in t section)) (printed_definitions s.text section.definitions) ns) (λ ms. part-left s n
       section b (ending t section) ms (none ms))) (refs-joined s ds part ns))) (refs-joined s ps (ds ++ part) names)
 
-  sections-left : (s : Setting) (test : Section → Bool) (P : Section → Type 0)
+  pub sections-left : (s : Setting) (test : Section → Bool) (P : Section → Type 0)
       → ((n : ℕ) (section : Section) → P section → test section ≡ false → (ns : List Entry) → LeavesNothing looked_at ns
       (ref_done s (text_ref n modes.CPart section.c_part) ns)) → (n : ℕ) (sections : List Section) → All P sections
       → (names : List Entry) → LeaveTheSame looked_at (sections_done s n sections names)
@@ -194,8 +194,8 @@ every-text-is-woven lines flags = sections-left (λ ended. ended) (λ xs ys. ref
 no-scrap : (a b : Bool) → (a || b) ≡ false → b ≡ false
 no-scrap a b h = grind (arith, nat_tests)
 
-unprinted : NestsAreWell → CTextsAreNested → (s : Setting) (n : ℕ) (section : Section) → IsWholeSection s.text section
-    → is_printed s.text s.book.name_uses section ≡ false → (names : List Entry)
+pub unprinted : NestsAreWell → CTextsAreNested → (s : Setting) (n : ℕ) (section : Section)
+    → IsWholeSection s.text section → is_printed s.text s.book.name_uses section ≡ false → (names : List Entry)
     → LeavesNothing with_scraps names (ref_done s (text_ref n modes.CPart section.c_part) names)
 unprinted well nested s n section whole is names = grind (
   arith,

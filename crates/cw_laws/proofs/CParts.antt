@@ -15,7 +15,8 @@ use Rattle.cw_rules.specs.Bytes.{apostrophe, at_sign, equals, hash, less, begins
 use Rattle.cw_rules.specs.Codes.{begins_section, code_at, effect_in_c, effect_at_begin, has_control_text}
 use Rattle.cw_rules.specs.{Prefixes.prefix_size, Signs.all_signs, Signs.spelling}
 use Rattle.cw_rules.specs.Tokens.{all_cut, alone_size, behind_include, behind_word, closes_on_line, code_token}
-use Rattle.cw_rules.specs.Tokens.{comment_begin, control_or_plain, control_text, effect_in, ends_at_bar, identifier}
+use Rattle.cw_rules.specs.Tokens.{comment_begin, control_or_plain, control_text, effect_in, ends_at_bar, directive_at}
+use Rattle.cw_rules.specs.Tokens.{word}
 use Rattle.cw_rules.specs.Tokens.{in_hash_line, include_name, inner_end, is_include, is_name, is_quote, line_end}
 use Rattle.cw_rules.specs.Tokens.{may_head, moved, one, passed, piece_start, section, section_code, section_name}
 use Rattle.cw_rules.specs.Tokens.{string, comment_cut, inner_or_none, part_cut, takes_hash_line}
@@ -31,9 +32,11 @@ use Rattle.cw_laws.proofs.LongestSigns.{Fits, longest-fits}
 use Rattle.cw_rules.specs.declared.classes.Class.TheVariants as classes
 use Rattle.cw_rules.specs.declared.codes.Code.TheVariants as code
 use Rattle.cw_rules.specs.declared.codes.Effect.TheVariants as effects
+use Rattle.cw_rules.specs.declared.parts.Behind.TheVariants as behinds
 use Rattle.cw_rules.specs.declared.parts.Part.TheVariants as parts
 use Rattle.cw_rules.specs.declared.signs.Sign.TheVariants as signs
 use Rattle.cw_rules.specs.declared.tokens.Mode.TheVariants as modes
+use Rattle.cw_rules.specs.declared.tokens.Directive.TheVariants as directives
 use Rattle.cw_rules.specs.declared.tokens.TokKind.TheVariants as kinds
 
 -- ## How much is open
@@ -62,7 +65,7 @@ opens-with c comments depth inner e h = subst (λ t. (if t then 2 else 1) + twic
 
 abbrev is_text : Part → Bool
 is_text parts.Begin = true
-is_text (parts.Plain hash_line include) = true
+is_text (parts.Plain hash_line behind) = true
 is_text part = false
 
 abbrev is_part : Part → List Opened → Bool
@@ -101,7 +104,7 @@ record InText (line named : Bool) (part : Part) : Type 0 where
 
 text-part : (part : Part) (comments : List Opened) → is_text part ≡ true → is_part part comments ≡ true
 text-part parts.Begin comments h = refl
-text-part (parts.Plain hash_line include) comments h = refl
+text-part (parts.Plain hash_line behind) comments h = refl
 text-part parts.Head comments h = absurd cc
 text-part _ comments h = h
 
@@ -116,17 +119,17 @@ behind-stands line part comments s = text-stands line false part comments s (qui
 
 passed-text : (line named : Bool) (part : Part) → InText line named part → InText line false (passed part)
 passed-text line named parts.Begin s = record { c = refl; hash_line = s.hash_line; include = refl }
-passed-text line named (parts.Plain hash_line include) s = record { c = refl; hash_line = s.hash_line; include = refl }
+passed-text line named (parts.Plain hash_line behind) s = record { c = refl; hash_line = s.hash_line; include = refl }
 passed-text line named _ s = not-both false s.c refl
 
-plain-text : (line : Bool) → false ≡ line → InText line false (parts.Plain false false)
+plain-text : (line : Bool) → false ≡ line → InText line false (parts.Plain false behinds.Other)
 plain-text line e = record { c = refl; hash_line = e; include = refl }
 
 head-stands : (line named : Bool) (part : Part) (comments : List Opened) → InText line named part
     → may_head part comments ≡ true → Stands line false parts.Head comments
 head-stands line named parts.Begin [] k h = record { c = refl; hash_line = k.hash_line; include = refl; quiet = tt }
 head-stands line named parts.Begin (c ∷ comments) k h = absurd cc
-head-stands line named (parts.Plain hash_line include) comments k h = absurd cc
+head-stands line named (parts.Plain hash_line behind) comments k h = absurd cc
 head-stands line named _ comments k h = not-both false k.c refl
 
 -- No definition begins in a C part, and no C part in a `#` line.
@@ -147,7 +150,7 @@ none-in : (part : Part) (comments : List Opened) (c : Code) → is_text part ≡
     → BeginsNone (in_hash_line part) (effect_in part comments c)
 none-in parts.Begin [] c h = begin-none c
 none-in parts.Begin (d ∷ comments) c h = c-none false c
-none-in (parts.Plain hash_line include) comments c h = c-none hash_line c
+none-in (parts.Plain hash_line behind) comments c h = c-none hash_line c
 none-in _ comments c h = absurd cc
 
 -- Where a `#` begins no `#` line, one goes on already.
@@ -165,7 +168,7 @@ goes-on-already _ [] fresh line named s o h f = not-both false s.c refl
 no-part-cut : (part : Part) (comments : List Opened) (place about : ℕ) → is_part part comments ≡ true
     → part_cut part place about ≡ []
 no-part-cut parts.Begin comments place about h = refl
-no-part-cut (parts.Plain hash_line include) comments place about h = refl
+no-part-cut (parts.Plain hash_line behind) comments place about h = refl
 no-part-cut parts.Head comments place about h = refl
 no-part-cut _ comments place about h = not-both false h refl
 
@@ -278,7 +281,8 @@ module _ (text : List ℕ) where
       (in_hash_line part && not (last == backslash)) _ _ (λ h later rest plain. (
         or-ends line (sym k.hash_line ∙ both-left (in_hash_line part) (not (last == backslash)) h),
         tt,
-        rest false false depth (omega arith) (behind-stands false (parts.Plain false false) [] (plain-text false refl)),
+        rest false false depth (omega arith) (behind-stands false (parts.Plain false behinds.Other) [] (plain-text
+            false refl)),
       )) (λ h later rest. rest line named depth (omega arith) (text-stands line named part [] k tt))
   line-end-goes part (c ∷ comments) last place line named depth k q o =
       let more = line_end (passed part) comments last place in
@@ -352,19 +356,21 @@ module _ (text : List ℕ) where
   word-goes : (w : Where) (place byte : ℕ) (bytes : List ℕ) (line named : Bool) (depth : ℕ)
       → drop place text ≡ byte ∷ bytes → InText line named w.part → twice w.comments ≤ depth → IsInner w.comments
       → nat_lt 0 (prefix_size (byte ∷ bytes)) ≡ false → Goes line named depth (one (in_hash_line w.part)
-      (moved w (behind_word w.part (byte ∷ bytes))) place (byte ∷ bytes) (identifier (byte ∷ bytes)))
+      (moved w (behind_word w.part (byte ∷ bytes))) place (byte ∷ bytes)
+      (word (directive_at w.part (byte ∷ bytes)) (byte ∷ bytes)))
   word-goes w place byte bytes line named depth here k o q bare =
       let all = byte ∷ bytes in
       let hash_line = in_hash_line w.part in
-      let word : (hash_line && is_include all) ≡ (line && is_include (drop place text)) = grind (arith, nat_tests) in
-      one-goes line named depth hash_line (moved w (behind_word w.part all)) place all (identifier all) (k.hash_line
+      let same : (hash_line && is_include all) ≡ (line && is_include (drop place text)) = grind (arith, nat_tests) in
+      one-goes line named depth hash_line (moved w (behind_word w.part all)) place all
+      (word (directive_at w.part all) all) (k.hash_line
       ∙ sym (or-same line)) (opens-twice w.comments depth o) (text-stands line (line && is_include (drop place text))
       (behind_word w.part all) w.comments (if-both (InText line (line && is_include (drop place text)))
-      (hash_line && is_include all) (parts.Plain true true) (passed w.part) (λ h. record {
+      (hash_line && is_include all) (parts.Plain true behinds.Include) (passed w.part) (λ h. record {
         c = refl;
         hash_line = sym (both-left hash_line (is_include all) h) ∙ k.hash_line;
-        include = sym h ∙ word;
-      }) (λ h. subst (λ n. InText line n (passed w.part)) (sym h ∙ word) (passed-text line named w.part k)))
+        include = sym h ∙ same;
+      }) (λ h. subst (λ n. InText line n (passed w.part)) (sym h ∙ same) (passed-text line named w.part k)))
       (quiet-inner (line && is_include (drop place text)) w.comments q)) (ap prefix_size here
       ∙ none-below (prefix_size all) bare)
 
@@ -380,7 +386,8 @@ module _ (text : List ℕ) where
       λ later rest plain. (
         sym (or-true line),
         tt,
-        rest true false depth (opens-twice w.comments depth o) (behind-stands true (parts.Plain true false) w.comments
+        rest true false depth (opens-twice w.comments depth o) (behind-stands true (parts.Plain true behinds.Hash)
+            w.comments
             (record { c = refl; hash_line = refl; include = refl })),
       )
   code-goes w fresh last place byte bytes line named depth here f k o q _ (Word bare h) =
@@ -393,7 +400,7 @@ module _ (text : List ℕ) where
       (head-stands line named w.part w.comments k may) (token-quiet (code_at bytes) place (byte ∷ bytes))
   code-goes w fresh last place byte bytes line named depth here f k o q _ (Beginning _ _ at e CPart) =
       let none : false ≡ line = sym (begins-none w (code_at bytes) effects.BeginsC k.c e) ∙ k.hash_line in
-      moved-goes w line named depth false (parts.Plain false false) place (byte ∷ bytes)
+      moved-goes w line named depth false (parts.Plain false behinds.Other) place (byte ∷ bytes)
       (plain (kinds.Code (code_at bytes)) 2) none (plain-text line none) o (code-quiet (code_at bytes))
   code-goes w fresh last place byte bytes line named depth here f k o q _ (Beginning effect _ at e _) =
       absurd (begins-none w (code_at bytes) effect k.c e)
@@ -424,7 +431,13 @@ module _ (text : List ℕ) where
       let i = piece_start part comments c place in
       quiet-goes line named depth (in_hash_line part) (record
       { part = part; comments = record c { braces = (ended i (byte ∷ bytes)).braces } ∷ comments }) place (byte ∷ bytes)
-      (record { kind = kinds.Text; size = (extent i (byte ∷ bytes)).size; notes = noted i (byte ∷ bytes) }) k.hash_line
+      (record {
+        kind = kinds.Text;
+        directive = directives.No;
+        size = (extent i (byte ∷ bytes)).size;
+        notes = noted i
+            (byte ∷ bytes);
+      }) k.hash_line
       o (behind-stands line part _ k)
       (record { line = λ line. refl; file = λ line bytes. refl; other = λ line named depth before bytes. tt })
 
@@ -435,18 +448,18 @@ module _ (text : List ℕ) where
       → Goes line named depth (part_text_apart part (within part) fresh last place byte bytes)
   part-text-goes parts.Head fresh last place byte bytes line named depth here f k = if-both (Goes line named depth)
       (is_in classes.Blank byte) _ _ (λ h later rest. rest line named depth (omega arith) k)
-      (λ h. quiet-goes line named depth false (within (parts.Plain false false)) place (byte ∷ bytes)
+      (λ h. quiet-goes line named depth false (within (parts.Plain false behinds.Other)) place (byte ∷ bytes)
       (plain kinds.HeadSign (if begins equals bytes then 2 else 1)) k.hash_line (omega arith)
-      (behind-stands line (parts.Plain false false) [] (plain-text line k.hash_line))
+      (behind-stands line (parts.Plain false behinds.Other) [] (plain-text line k.hash_line))
       (record { line = λ line. refl; file = λ line bytes. refl; other = λ line named depth before bytes. tt }))
   part-text-goes parts.Begin fresh last place byte bytes line named depth here f k =
       code-goes (within parts.Begin) fresh last place byte bytes line named depth here f
       (record { c = refl; hash_line = k.hash_line; include = k.include }) (omega arith) tt _
       (code-rule (within parts.Begin) fresh last place byte bytes)
-  part-text-goes (parts.Plain hash_line include) fresh last place byte bytes line named depth here f k =
-      code-goes (within (parts.Plain hash_line include)) fresh last place byte bytes line named depth here f
+  part-text-goes (parts.Plain hash_line behind) fresh last place byte bytes line named depth here f k =
+      code-goes (within (parts.Plain hash_line behind)) fresh last place byte bytes line named depth here f
       (record { c = refl; hash_line = k.hash_line; include = k.include }) (omega arith) tt _
-      (code-rule (within (parts.Plain hash_line include)) fresh last place byte bytes)
+      (code-rule (within (parts.Plain hash_line behind)) fresh last place byte bytes)
   part-text-goes _ fresh last place byte bytes line named depth here f k = not-both false k.c refl
 
   in-comment : (line named : Bool) (part : Part) (c : Opened) (comments : List Opened)

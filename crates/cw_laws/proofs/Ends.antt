@@ -12,7 +12,8 @@ use Rattle.cw_rules.specs.Bytes.{slash, star, at_sign, equals, run, begins}
 use Rattle.cw_rules.specs.{Codes.code_at, Codes.begins_section, Codes.is_section, Signs.spelling}
 use Rattle.cw_rules.specs.Tokens.{in_hash_line, takes_hash_line, is_deep, ends_at_bar, moved, passed, one, line_end}
 use Rattle.cw_rules.specs.Tokens.{skipped_byte, comment_kind, all_cut, comment_end, part_cut, section, inner_cut}
-use Rattle.cw_rules.specs.Tokens.{behind_word, comment_begin, inner_end, inner_begin, identifier, piece_start}
+use Rattle.cw_rules.specs.Tokens.{behind_word, comment_begin, inner_end, inner_begin, identifier, directive_at, word}
+use Rattle.cw_rules.specs.Tokens.{piece_start}
 use Rattle.cw_rules.specs.Tokens.{code_token, is_code_part, dropped_code, alone_size}
 use Rattle.cw_rules.specs.Apart.{comment_text_apart, in_text_apart, found_apart}
 use Rattle.cw_rules.proofs.{Choices.if-both, Rules.code-rule, Rules.comment-rule, Rules.part-rule}
@@ -32,8 +33,10 @@ use Rattle.cw_laws.proofs.StillOpen.{around-like, not-limbo, Stands, InCode, cod
 use Rattle.cw_laws.proofs.EndCodes.{not-both, IsWhole, IsBare, Suits, suits, tex-suits, SuitsLimbo, limbo-suits}
 use Rattle.cw_laws.proofs.EndCodes.{may-ordinary, code-whole, dropped-whole, limbo-dropped-whole}
 use Rattle.cw_rules.specs.declared.classes.Class.TheVariants as classes
+use Rattle.cw_rules.specs.declared.parts.Behind.TheVariants as behinds
 use Rattle.cw_rules.specs.declared.parts.Part.TheVariants as parts
 use Rattle.cw_rules.specs.declared.signs.Sign.TheVariants as signs
+use Rattle.cw_rules.specs.declared.tokens.Directive.TheVariants as directives
 use Rattle.cw_rules.specs.declared.tokens.TokKind.TheVariants as kinds
 
 -- a place outside comments
@@ -232,14 +235,15 @@ module _ (text : List ℕ) where
   code-goes w fresh last place byte bytes mode opened here other c _ (Space line h) =
       skip-goes mode opened w (code-stands w mode opened c)
   code-goes w fresh last place byte bytes mode opened here other c _ (HashLine h takes first) =
-      moved-goes w (parts.Plain true false) true place (byte ∷ bytes) (plain kinds.HashLine 1) mode opened
-      (like-ordinary w.part (parts.Plain true false) (takes-ordinary w.part w.comments takes)
+      moved-goes w (parts.Plain true behinds.Hash) true place (byte ∷ bytes) (plain kinds.HashLine 1) mode opened
+      (like-ordinary w.part (parts.Plain true behinds.Hash) (takes-ordinary w.part w.comments takes)
       (record { base = refl; limbo = refl; inner = refl })) c (λ m o b. record { goes = λ later. tt; section = refl })
     where
       takes-ordinary : (part : Part) (cs : List Opened) → takes_hash_line part cs ≡ true → IsOrdinary part
       takes-ordinary part cs h = grind (arith, nat_tests, base)
   code-goes w fresh last place byte bytes mode opened here other c _ (Word bare h) = moved-goes w (behind_word w.part
-      (byte ∷ bytes)) (in_hash_line w.part) place (byte ∷ bytes) (identifier (byte ∷ bytes)) mode opened
+      (byte ∷ bytes)) (in_hash_line w.part) place (byte ∷ bytes)
+      (word (directive_at w.part (byte ∷ bytes)) (byte ∷ bytes)) mode opened
       (like-word w.part (byte ∷ bytes)) c (λ m o b. record { goes = λ later. tt; section = refl })
   code-goes w fresh last place byte bytes mode opened here other c _ (Passed cut p) = one-goes mode opened
       (in_hash_line w.part) (moved w (passed w.part)) place (byte ∷ bytes) cut (code-like w (passed w.part) mode opened
@@ -299,7 +303,13 @@ module _ (text : List ℕ) where
       let size = (extent start (byte ∷ bytes)).size in
       one-goes mode (comment_kind c.long ∷ i.rest) (in_hash_line part)
       (record { part = part; comments = record c { braces = (ended start (byte ∷ bytes)).braces } ∷ cs }) place
-      (byte ∷ bytes) (record { kind = kinds.Text; size = size; notes = noted start (byte ∷ bytes) }) (record {
+      (byte ∷ bytes) (record {
+        kind = kinds.Text;
+        directive = directives.No;
+        size = size;
+        notes = noted start (byte ∷
+            bytes);
+      }) (record {
         fit = record {
           rest = i.rest;
           is = refl;
@@ -400,8 +410,9 @@ module _ (text : List ℕ) where
   part-goes fresh last place byte bytes mode opened here other _ s _ (Blank h) =
       skip-goes mode opened (bare parts.Head) s
   part-goes fresh last place byte bytes mode opened here other _ s _ (HeadSign h) = one-goes mode opened false (bare
-      (parts.Plain false false)) place (byte ∷ bytes) (plain kinds.HeadSign (if begins equals bytes then 2 else 1))
-      (bare-like parts.Head (parts.Plain false false) mode opened
+      (parts.Plain false behinds.Other)) place (byte ∷ bytes) (plain kinds.HeadSign (if begins equals bytes then 2 else
+      1))
+      (bare-like parts.Head (parts.Plain false behinds.Other) mode opened
       (record { base = refl; limbo = refl; inner = refl }) s) (record { goes = λ later. tt; section = refl })
   part-goes fresh last place byte bytes mode opened here other _ s _ (White part h wanted) =
       skip-goes mode opened (bare part) s

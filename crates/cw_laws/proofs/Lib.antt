@@ -29,3 +29,4 @@ mod TexPlaces
 mod QuietParts
 pub mod ProseLaws
 pub mod BookTexts
+pub mod BookMarks

@@ -15,7 +15,8 @@ use Rattle.cw_rules.specs.{Constants.constant, Prefixes.prefix_size, Signs.all_s
 use Rattle.cw_rules.specs.{Tokens.head_sign_size, Tokens.is_parameter, Apart.in_text_apart, Apart.found_apart}
 use Rattle.cw_rules.specs.Tokens.{in_hash_line, moved, passed, one, comment_end, inner_cut, all_cut, section, is_quote}
 use Rattle.cw_rules.specs.Tokens.{section_code, section_name, string, control_text, alone_size, control_or_plain}
-use Rattle.cw_rules.specs.Tokens.{line_end, code_token, is_name, include_name, piece_start, identifier, behind_word}
+use Rattle.cw_rules.specs.Tokens.{line_end, code_token, is_name, include_name, piece_start, word, directive_at}
+use Rattle.cw_rules.specs.Tokens.{behind_word}
 use Rattle.cw_rules.specs.Bodies.{one_note, note_unless, noted}
 use Rattle.cw_rules.proofs.{Choices.if-both, Taking.AreBare, Taking.bare-all-cut, StringPrefixes.no-prefix}
 use Rattle.cw_rules.proofs.Rules.{IsAlone, IsPassed, IncludeName, Prefixed, Quoted, Constant, Standing, Dropping}
@@ -34,8 +35,11 @@ use Rattle.cw_laws.proofs.SectionBytes.{section-is, starred-is}
 use Rattle.cw_laws.proofs.Wanted.{Wants, WantsIn, sign-here, parameter-here, found-goes, beginning-wants}
 use Rattle.cw_rules.specs.declared.classes.Class.TheVariants as classes
 use Rattle.cw_rules.specs.declared.codes.Code.TheVariants as at
+use Rattle.cw_rules.specs.declared.parts.Behind.TheVariants as behinds
 use Rattle.cw_rules.specs.declared.parts.Part.TheVariants as parts
 use Rattle.cw_rules.specs.declared.signs.Sign.TheVariants as signs
+use Rattle.cw_rules.specs.declared.tokens.Directive.{Directive}
+use Rattle.cw_rules.specs.declared.tokens.Directive.TheVariants.{No}
 use Rattle.cw_rules.specs.declared.tokens.TokKind.TheVariants as kinds
 
 -- ## Small tests
@@ -139,7 +143,7 @@ module _ (text : List ℕ) where
   line-end-longest : (part : Part) (comments : List Opened) (last place : ℕ) → begins newline (drop place text) ≡ true
       → last_at text place ≡ last → Longest (line_end part comments last place)
   line-end-longest part [] last place here behind = if-both Longest (in_hash_line part && not (last == backslash)) _ _
-      (λ h. one-longest true (record { part = parts.Plain false false; comments = [] }) place (newline ∷ [])
+      (λ h. one-longest true (record { part = parts.Plain false behinds.Other; comments = [] }) place (newline ∷ [])
       (plain kinds.HashLineEnd 1) (
         here,
         refl,
@@ -164,10 +168,11 @@ module _ (text : List ℕ) where
       (λ k s. not-both (is_section c) s q) (λ k. if-both P (has_control_text c) (control_text c place bytes) (plain
       (kinds.Code c) (alone_size bytes)) (λ k s. not-both (is_section c) s q) (λ k s. not-both (is_section c) s q)))
 
-  word-longest : (hash_line : Bool) (next : Where) (place byte : ℕ) (bytes : List ℕ) → drop place text ≡ byte ∷ bytes
-      → is_letter byte ≡ true → Longest (one hash_line next place (byte ∷ bytes) (identifier (byte ∷ bytes)))
-  word-longest hash_line next place byte bytes here h = one-longest hash_line next place (byte ∷ bytes)
-      (identifier (byte ∷ bytes)) (ap (begins_by is_letter) here ∙ h, ap (run classes.Word) (sym here))
+  word-longest : (hash_line : Bool) (d : Directive) (next : Where) (place byte : ℕ) (bytes : List ℕ)
+      → drop place text ≡ byte ∷ bytes
+      → is_letter byte ≡ true → Longest (one hash_line next place (byte ∷ bytes) (word d (byte ∷ bytes)))
+  word-longest hash_line d next place byte bytes here h = one-longest hash_line next place (byte ∷ bytes)
+      (word d (byte ∷ bytes)) (ap (begins_by is_letter) here ∙ h, ap (run classes.Word) (sym here))
 
   sign-here-is : (sign : Sign) (place byte wanted : ℕ) (bytes : List ℕ) → drop place text ≡ byte ∷ bytes
       → (byte == wanted) ≡ true → longest all_signs (wanted ∷ bytes) ≡ Some sign → constant (wanted ∷ bytes) ≡ 0
@@ -216,10 +221,11 @@ module _ (text : List ℕ) where
   code-longest w fresh last place byte bytes here _ (LineEnd h) =
       line-end-longest w.part w.comments last place (ap (begins newline) here.here ∙ h) here.behind
   code-longest w fresh last place byte bytes here _ (HashLine h takes first) =
-      one-longest true (moved w (parts.Plain true false)) place (byte ∷ bytes) (plain kinds.HashLine 1)
+      one-longest true (moved w (parts.Plain true behinds.Hash)) place (byte ∷ bytes) (plain kinds.HashLine 1)
       (ap (begins hash) here.here ∙ h, refl, here.freshly ∙ first)
   code-longest w fresh last place byte bytes here _ (Word bare h) =
-      word-longest (in_hash_line w.part) (moved w (behind_word w.part (byte ∷ bytes))) place byte bytes here.here h
+      word-longest (in_hash_line w.part) (directive_at w.part (byte ∷ bytes)) (moved w (behind_word w.part (byte ∷
+      bytes))) place byte bytes here.here h
   code-longest w fresh last place byte bytes here _ (Passed cut p) = one-longest (in_hash_line w.part)
       (moved w (passed w.part)) place (byte ∷ bytes) cut (passed-longest w fresh last place byte bytes here cut p)
   code-longest w fresh last place byte bytes here _ (Heading at e name may headed) =
@@ -273,10 +279,11 @@ module _ (text : List ℕ) where
   part-longest fresh last place byte bytes here _ p _ (TexText at h) = (tt, tt)
   part-longest fresh last place byte bytes here _ p _ (HeadSign h) =
       let size = if begins equals bytes then 2 else 1 in
-      one-longest false (within (parts.Plain false false)) place (byte ∷ bytes) (plain kinds.HeadSign size) (subst
+      one-longest false (within (parts.Plain false behinds.Other)) place (byte ∷ bytes) (plain kinds.HeadSign size)
+      (subst
       (λ l. (0 < size) × (size ≡ head_sign_size l)) (sym here.here) (head-sign byte bytes (sign-here byte bytes h p)))
   part-longest fresh last place byte bytes here _ p _ (HeadWord part next h k) =
-      word-longest false (within next) place byte bytes here.here h
+      word-longest false No (within next) place byte bytes here.here h
   part-longest fresh last place byte bytes here _ p _ (Opening code) =
       one-longest false (within (parts.Parameters code)) place (byte ∷ bytes) (plain (kinds.Sign signs.LeftParen) 1)
       (sign-here-is signs.LeftParen place byte left_paren bytes here.here p refl refl refl)

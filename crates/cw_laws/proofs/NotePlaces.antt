@@ -26,6 +26,7 @@ use Rattle.cw_laws.proofs.CutNotes.{dropped-in, section-in}
 use Rattle.cw_base.specs.declared.notes.NoteKind.TheVariants as notes
 use Rattle.cw_rules.specs.declared.codes.Code.TheVariants as at
 use Rattle.cw_rules.specs.declared.codes.Effect.TheVariants as effects
+use Rattle.cw_rules.specs.declared.parts.Behind.TheVariants as behinds
 use Rattle.cw_rules.specs.declared.parts.Part.TheVariants as parts
 use Rattle.cw_rules.specs.declared.tokens.Mode.TheVariants as modes
 use Rattle.cw_rules.specs.declared.tokens.TokKind.TheVariants as kinds
@@ -148,7 +149,8 @@ line-end-lies : (low place left : ℕ) (part : Part) (comments : List Opened) (l
     → Lies low place left (line_end part comments last place)
 line-end-lies low place left part [] last l some p o = if-both (Lies low place left)
     (in_hash_line part && not (last == backslash)) _ _ (λ h. one-lies low place left true
-    (record { part = parts.Plain false false; comments = [] }) (newline ∷ []) (plain kinds.HashLineEnd 1) tt (tt, tt))
+    (record { part = parts.Plain false behinds.Other; comments = [] }) (newline ∷ []) (plain kinds.HashLineEnd 1) tt
+    (tt, tt))
     (λ h. skipped-lies low place left (record { part = part; comments = [] }) (p, tt))
 line-end-lies low place left part (c ∷ comments) last l some p o =
     let hash_line = in_hash_line part in
@@ -220,7 +222,8 @@ code-lies low place byte bytes l w fresh last o _ (HashLine h takes first) = rec
 code-lies low place byte bytes l w fresh last o _ (Word bare h) = record {
   notes = tt;
   next = (
-    if-both (PartOpen low (place + 1)) (in_hash_line w.part && is_include (byte ∷ bytes)) (parts.Plain true true)
+    if-both (PartOpen low (place + 1)) (in_hash_line w.part && is_include (byte ∷ bytes)) (parts.Plain true
+        behinds.Include)
         (passed w.part) (λ h. tt) (λ h. passed-open low (place + 1) w.part o.0),
     o.1,
   );

@@ -6,7 +6,7 @@ use Rattle.std.proofs.{lemmas.Bool.eqb-true, lemmas.Bool.Decides.nat_tests}
 use Rattle.cw_base.proofs.TestLaws.{both-left, both, not-both}
 use Rattle.cw_rules.specs.{declared.bodies.Noted.Noted, Bytes.at_sign, Bytes.begins, Codes.is_section}
 use Rattle.cw_rules.specs.{Codes.begins_section, Apart.in_text_apart, Apart.found_apart}
-use Rattle.cw_rules.specs.Answers.{Answer, Token, Begin, Finish, Note, Seen, Where, Found, note_answers, token_of}
+use Rattle.cw_rules.specs.Answers.{Answer, Token, Begin, Finish, Note, Seen, Where, Found, note_answers, cut_token}
 use Rattle.cw_rules.specs.Tokens.{all_cut, section, section_code}
 use Rattle.cw_rules.proofs.{Choices.if-both, CodeStarts.code_in, CodeStarts.in-text-tells}
 use Rattle.cw_rules.proofs.Taking.{AreBare, AreNotes, TakesAll, Takes, bare-all-cut, found-takes}
@@ -56,7 +56,7 @@ section-coded text w place byte bytes here h =
     let byte-is : byte ≡ at_sign = eqb-true byte at_sign (both-left (byte == at_sign) (begins_section bytes) h) in
     let shown : drop place text ≡ at_sign ∷ bytes = here ∙ ap (λ b. b ∷ bytes) byte-is in
     append-coded text (all_cut w.part w.comments place place)
-    (Token (token_of false cut.kind place cut.size (at_sign ∷ bytes)) ∷ note_answers cut.notes)
+    (Token (cut_token false cut place (at_sign ∷ bytes)) ∷ note_answers cut.notes)
     (bare-coded text place (all_cut w.part w.comments place place) (bare-all-cut w.part w.comments place place)) (
       λ k. record {
         stands = (λ i. begins at_sign (here i) && begins_section (drop-on text place byte bytes here i)) ∙ h;

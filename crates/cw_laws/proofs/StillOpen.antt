@@ -5,12 +5,14 @@ use Rattle.std.proofs.{lemmas.List.Sums.sum_by-cons, lemmas.Bool.Decides.nat_tes
 use Rattle.std.specs.List.{count_by}
 use Rattle.std.specs.Prelude.{cond}
 use Rattle.cw_base.proofs.TestLaws.{both-left}
-use Rattle.cw_rules.specs.declared.{parts.Part.Part, parts.Opened.Opened, tokens.Mode.Mode, tokens.TokKind.TokKind}
+use Rattle.cw_rules.specs.declared.{parts.Behind.Behind, parts.Part.Part, parts.Opened.Opened, tokens.Mode.Mode}
+use Rattle.cw_rules.specs.declared.{tokens.TokKind.TokKind}
 use Rattle.cw_rules.specs.{Answers.Where, Tokens.moved}
 use Rattle.cw_rules.specs.Tokens.{in_hash_line, is_deep, passed, first_depth, behind_word, is_include, comment_kind}
 use Rattle.cw_rules.proofs.Choices.{if-both}
 use Rattle.cw_lex.specs.{Lexing.beginning, Openings.is_limbo_mode}
 use Rattle.cw_laws.specs.Ends.{is_inner_text, inner_depth, bars_begin}
+use Rattle.cw_rules.specs.declared.parts.Behind.TheVariants as behinds
 use Rattle.cw_rules.specs.declared.parts.Part.TheVariants as parts
 use Rattle.cw_rules.specs.declared.tokens.Mode.TheVariants as modes
 use Rattle.cw_rules.specs.declared.tokens.TokKind.TheVariants as kinds
@@ -49,13 +51,15 @@ pub record Like (part other : Part) : Type 0 where
 pub like-passed : (part : Part) → Like part (passed part)
 like-passed part = grind (arith, nat_tests)
 
-pub like-hash : (part : Part) (hash_line include : Bool) → in_hash_line part ≡ true
-    → Like part (parts.Plain hash_line include)
-like-hash part hash_line include h = grind (arith, nat_tests)
+pub like-hash : (part : Part) (hash_line : Bool) (behind : Behind) → in_hash_line part ≡ true
+    → Like part (parts.Plain hash_line behind)
+like-hash part hash_line behind h = grind (arith, nat_tests)
 
 pub like-word : (part : Part) (bytes : List ℕ) → Like part (behind_word part bytes)
-like-word part bytes = if-both (Like part) (in_hash_line part && is_include bytes) (parts.Plain true true) (passed part)
-    (λ h. like-hash part true true (both-left (in_hash_line part) (is_include bytes) h)) (λ h. like-passed part)
+like-word part bytes = if-both (Like part) (in_hash_line part && is_include bytes) (parts.Plain true behinds.Include)
+    (passed part)
+    (λ h. like-hash part true behinds.Include (both-left (in_hash_line part) (is_include bytes) h)) (λ h. like-passed
+    part)
 
 -- a part of a section outside inner C text
 pub record IsOrdinary (part : Part) : Type 0 where

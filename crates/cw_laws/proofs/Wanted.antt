@@ -20,6 +20,7 @@ use Rattle.cw_rules.proofs.Rules.{HeadWord, BeforeParameters, ParameterSign, Com
 use Rattle.cw_lex.specs.Lexing.{beginning}
 use Rattle.cw_rules.specs.declared.bodies.Body.TheVariants as bodies
 use Rattle.cw_rules.specs.declared.classes.Class.TheVariants as classes
+use Rattle.cw_rules.specs.declared.parts.Behind.TheVariants as behinds
 use Rattle.cw_rules.specs.declared.parts.Part.TheVariants as parts
 use Rattle.cw_rules.specs.declared.tokens.Mode.TheVariants as modes
 use Rattle.cw_rules.specs.declared.tokens.TokKind.TheVariants as kinds
@@ -60,7 +61,7 @@ Frees f = IsFree f.next.part
 
 passed-free : (part : Part) → IsFree part → IsFree (passed part)
 passed-free parts.Begin h = tt
-passed-free (parts.Plain hash_line include) h = tt
+passed-free (parts.Plain hash_line behind) h = tt
 passed-free _ h = h
 
 line-end-free : (part : Part) (comments : List Opened) (last place : ℕ) → IsFree part
@@ -99,10 +100,10 @@ code-goes w fresh last place byte bytes p _ (LineEnd h) =
     free-goes bytes (line_end w.part w.comments last place) (line-end-free w.part w.comments last place p)
 code-goes w fresh last place byte bytes p _ (Space line h) = free-wants-in w.part w.comments bytes p
 code-goes w fresh last place byte bytes p _ (HashLine h takes first) =
-    free-wants-in (parts.Plain true false) w.comments bytes tt
+    free-wants-in (parts.Plain true behinds.Hash) w.comments bytes tt
 code-goes w fresh last place byte bytes p _ (Word bare h) = free-wants-in (behind_word w.part (byte ∷ bytes)) w.comments
     (drop (run classes.Word (byte ∷ bytes) - 1) bytes) (if-both IsFree (in_hash_line w.part && is_include
-    (byte ∷ bytes)) (parts.Plain true true) (passed w.part) (λ h. tt) (λ h. passed-free w.part p))
+    (byte ∷ bytes)) (parts.Plain true behinds.Include) (passed w.part) (λ h. tt) (λ h. passed-free w.part p))
 code-goes w fresh last place byte bytes p _ (Passed cut k) =
     free-wants-in (passed w.part) w.comments (drop (cut.size - 1) bytes) (passed-free w.part p)
 code-goes w fresh last place byte bytes p _ (Heading at e name may headed) =

@@ -30,7 +30,7 @@ greeting_answers = End 0 ∷ Read 0 greeting ∷ Opened 0 greeting_name ∷ []
 
 abbrev pub greeting_events : List Event
 greeting_events =
-    says (codes "This is CWEAVE (profile 3)") ++ says (codes "Writing the output file...")
+    says (codes "This is CWEAVE (profile 4)") ++ says (codes "Writing the output file...")
     ++ Made Tex (codes "foo.tex")
     ∷ (byte_events Tex (codes "\\input cwebmac\n% limbo\n\\M{1}Hello.\n\\fi\n\n\\inx\n\\fin\n\\end\n")
     ++ says (codes "Writing the index...") ++ Made Idx (codes "foo.idx") ∷ (Made Scn (codes "foo.scn")

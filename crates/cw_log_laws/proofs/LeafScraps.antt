@@ -2,16 +2,20 @@
 use Rattle.cw_log_laws.proofs.Terms.{◌≡◌, ◌≢◌, ℕ, zero, suc, Bool, true, false, if◌then◌else◌, Option, Some, None, List}
 use Rattle.cw_log_laws.proofs.Terms.{[], ◌∷◌, ◌++◌, slice_get, unwrap_or, refl, arith, nat_eq, pointwise, Cat, End}
 use Rattle.cw_log_laws.proofs.Terms.{Code, TokKind, Ident as ident_kind, NameId, Entry, AreDistinct, place_of}
-use Rattle.cw_log_laws.proofs.Terms.{with_entry, category_among, hash_line_words, tree_in, LeafForm, code_form, form_of}
+use Rattle.cw_log_laws.proofs.Terms.{with_entry, category_among, directive_words, words_with, tree_in, LeafForm}
+use Rattle.cw_log_laws.proofs.Terms.{code_form, form_of}
 use Rattle.cw_log_laws.proofs.Terms.{names_with, own_cat, sign_cat, token_form, word_cat, word_form, is_identifier}
-use Rattle.cw_log_laws.proofs.Terms.{IsLater}
-use Rattle.cw_rules.specs.declared.signs.Sign.{Sign}
+use Rattle.cw_log_laws.proofs.Terms.{IsLater, cat_in_line}
+use Rattle.std.specs.Prelude.{codes}
+use Rattle.cw_base.specs.declared.category.Cat.TheVariants.{SizeofLike}
+use Rattle.cw_rules.specs.declared.{signs.Sign.Sign, tokens.Directive.Directive}
 use Rattle.cw_tokens.specs.declared.token.Token.{Token}
 use Rattle.cw_logtext.proofs.Adding.{IsNamed, entry-there}
 use Rattle.cw_translator.specs.Translating.{leaf_scrap, form_tokens}
 use Rattle.cw_log_laws.proofs.LaterNames.{HaveCats, distinct-entry, have-entry, later-entry, later-same, real-law}
 use Rattle.cw_log_laws.proofs.SpeltTokens.{IsSpelt}
 use Rattle.cw_log_laws.proofs.WrittenScraps.{IsLogged, IsWord, IsWordEntry, IsWritten}
+use Rattle.cw_rules.specs.declared.tokens.Directive.TheVariants as directive
 use Rattle.cw_rules.specs.declared.tokens.TokKind.TheVariants as kind
 use Rattle.cw_tokens.specs.declared.token.Token.TheVariants as token
 
@@ -38,17 +42,25 @@ among-real (e ∷ words) word other all h = by (pointwise nat_eq word e.text) (a
     by true later = all.0
     by false later = later
 
-hash-words : HaveCats hash_line_words
-hash-words = real-law hash_line_words refl
+directive-cats : HaveCats directive_words
+directive-cats = real-law directive_words refl
 
 own-real : (names : List Entry) (k : ℕ) → HaveCats names → own_cat names k ≢ End
 own-real [] k all = λ e. absurd cc
 own-real (e ∷ names) zero all = all.0
 own-real (e ∷ names) (suc k) all = own-real names k all.1
 
-word-real : (headed : Bool) (text : List ℕ) (own : Cat) → own ≢ End → word_cat headed text own ≢ End
-word-real true text own h = among-real hash_line_words text own hash-words h
-word-real false text own h = h
+line-real : (hash_line : Bool) (text : List ℕ) (own : Cat) → own ≢ End → cat_in_line hash_line text own ≢ End
+line-real true text own h =
+    let words = words_with SizeofLike (codes "defined" ∷ []) in among-real words text own (real-law words refl) h
+line-real false text own h = h
+
+word-real : (hash_line : Bool) (d : Directive) (text : List ℕ) (own : Cat) → own ≢ End
+    → word_cat hash_line d text own ≢ End
+word-real hash_line directive.No text own h = line-real hash_line text own h
+word-real hash_line directive.Word text own h =
+    among-real directive_words text _ directive-cats (line-real hash_line text own h)
+word-real hash_line directive.Macro text own h = λ e. absurd cc
 
 -- ## Forms
 
@@ -81,14 +93,14 @@ form-logged : (names : List Entry) (k : TokKind) (number : ℕ) → MayBeForm na
 form-logged names k number = grind (arith, sign-real, code-logged)
 
 -- a token, over the names behind it
-pub token-logged : (k : TokKind) (text : List ℕ) (hash_line : Bool) (number : ℕ) (names : List Entry) → IsSpelt k text
-    → HaveCats names → MayBeForm (names_with k text names) (token_form k text hash_line number names)
-token-logged kind.Identifier text hash_line number names h cats = word-logged (with_entry ident_kind text names)
-    (word_cat hash_line text (own_cat (with_entry ident_kind text names) (place_of ident_kind text names))) (record
-    { index = place_of ident_kind text names }) number (word-there text names h) (word-real hash_line text _ (own-real
+pub token-logged : (k : TokKind) (text : List ℕ) (hash_line : Bool) (d : Directive) (number : ℕ) (names : List Entry)
+    → IsSpelt k text → HaveCats names → MayBeForm (names_with k text names) (token_form k text hash_line d number names)
+token-logged kind.Identifier text hash_line d number names h cats = word-logged (with_entry ident_kind text names)
+    (word_cat hash_line d text (own_cat (with_entry ident_kind text names) (place_of ident_kind text names))) (record
+    { index = place_of ident_kind text names }) number (word-there text names h) (word-real hash_line d text _ (own-real
     (with_entry ident_kind text names) (place_of ident_kind text names) (have-entry ident_kind text names cats)))
-token-logged (kind.Code c) text hash_line number names h cats = code-logged names c number
-token-logged k text hash_line number names h cats = form-logged names k number
+token-logged (kind.Code c) text hash_line d number names h cats = code-logged names c number
+token-logged k text hash_line d number names h cats = form-logged names k number
 
 -- ## Lists of tokens
 

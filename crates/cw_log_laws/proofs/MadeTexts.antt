@@ -118,10 +118,12 @@ well-form : (o : Option LeafForm) (k new : Known) → MayBeForm new.names o → 
 well-form o k new h g = grind (arith, well-nothing, well-scrap)
 
 well-formed : (k : TokKind) (t : Seen) (known : Known) → HaveCats known.names → IsSpelt k t.text
-    → IsWellMade 1 known (form_made (token_form k t.text t.hash_line t.span.start known.names)
+    → IsWellMade 1 known (form_made (token_form k t.text t.hash_line t.directive t.span.start known.names)
     (with_names (names_with k t.text known.names) known))
-well-formed k t known cats h = well-form (token_form k t.text t.hash_line t.span.start known.names) known (with_names
-    (names_with k t.text known.names) known) (token-logged k t.text t.hash_line t.span.start known.names h cats)
+well-formed k t known cats h = well-form (token_form k t.text t.hash_line t.directive t.span.start known.names) known
+    (with_names
+    (names_with k t.text known.names) known) (token-logged k t.text t.hash_line t.directive t.span.start known.names h
+    cats)
     (grows-wider 0 1 known (with_names (names_with k t.text known.names) known) (omega arith)
     (grows-names known (names_with k t.text known.names) cats (names-behind k t.text known.names)))
 

@@ -97,7 +97,8 @@ behind-on a b c g h = (later-on a b c g.0 h.0, λ d. h.1 (g.1 d), λ k. h.2 (g.2
 word-written : (word : Seen) (names : List Entry) → IsSpelt word.kind word.text → HaveCats names
     → IsWritten (names_with word.kind word.text names) (tree_in [] (word_tokens word names))
 word-written word names h cats = form-tokens (names_with word.kind word.text names) (token_form word.kind word.text
-    word.hash_line word.span.start names) (token-logged word.kind word.text word.hash_line word.span.start names h cats)
+    word.hash_line word.directive word.span.start names) (token-logged word.kind word.text word.hash_line
+    word.directive word.span.start names h cats)
 
 well-spelled : (words : List Seen) (names : List Entry) → HaveCats names → AreSpeltWords words
     → IsWellSpelled names (spelled words names)

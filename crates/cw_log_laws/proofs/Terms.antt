@@ -29,7 +29,7 @@ pub use Rattle.cw_logtext.specs.LogText.{log_text, IsFineItem}
 pub use Rattle.cw_names.specs.{declared.entry.EntryKind.EntryKind, declared.entry.EntryKind.TheVariants.Ident}
 pub use Rattle.cw_names.specs.{declared.entry.NameId.NameId}
 pub use Rattle.cw_names.specs.Names.{Entry, AreDistinct, is_entry, with_category, with_entry, place_of, same_kind}
-pub use Rattle.cw_names.specs.Words.{built_in_words, category_among, hash_line_words}
+pub use Rattle.cw_names.specs.Words.{built_in_words, category_among, directive_words, words_with}
 pub use Rattle.cw_phase1.specs.{Book.book, Book.answers_of, Roles.Placed, Roles.placed, Roles.at_limbo}
 pub use Rattle.cw_rules.proofs.Taking.{AreBare, AreNotes, TakesAll, Takes, bare-all-cut, found-takes}
 pub use Rattle.cw_rules.specs.{declared.codes.Code.Code, declared.tokens.Mode.Mode, declared.tokens.TokKind.TokKind}
@@ -37,7 +37,7 @@ pub use Rattle.cw_rules.specs.Answers.{Answer, Token, Begin, Finish, Note, Seen,
 pub use Rattle.cw_rules.specs.Apart.{found_apart, code_text_apart, comment_text_apart, behind_head_apart}
 pub use Rattle.cw_rules.specs.Apart.{part_text_apart, in_text_apart}
 pub use Rattle.cw_scraps.specs.Leaves.{LeafForm, names_with, token_form, code_form, form_of, own_cat, sign_cat}
-pub use Rattle.cw_scraps.specs.Leaves.{word_cat, word_form}
+pub use Rattle.cw_scraps.specs.Leaves.{cat_in_line, word_cat, word_form}
 pub use Rattle.cw_secnames.specs.{Kept.SecName, Uses.NameUse, Uses.name_at}
 pub use Rattle.cw_table.proofs.Normals.{steps-none, steps-turn, log-none-of, log-turn-of, takes}
 pub use Rattle.cw_table.specs.{Productions.productions, declared.types.Row.Row}

@@ -1,8 +1,10 @@
 -- Tokens that are scanned again, one behind another, with white space between them.
+use Rattle.cw_rules.specs.declared.tokens.Directive.TheVariants.{No}
 use Rattle.cw_plain_laws.proofs.Terms.{◌≡◌, ℕ, ◌||◌, ◌&&◌, not, Bool, true, false, List, [], ◌∷◌, ◌++◌, codes, length}
 use Rattle.cw_plain_laws.proofs.Terms.{TokKind, Answer, Token, Where, is_single, stops, takes_next, apostrophe, at_sign}
 use Rattle.cw_plain_laws.proofs.Terms.{is_in, is_letter, is_mark, run, constant, spelling, clash, is_wordy, is_hash}
 use Rattle.cw_rules.specs.declared.classes.Class.TheVariants as classes
+use Rattle.cw_rules.specs.declared.parts.Behind.TheVariants as behinds
 use Rattle.cw_rules.specs.declared.parts.Part.TheVariants as parts
 use Rattle.cw_rules.specs.declared.tokens.TokKind.TheVariants as kinds
 use Rattle.cw_rules.specs.declared.bodies.Body.TheVariants as bodies
@@ -97,7 +99,13 @@ AreSpaced (t ∷ ts) = IsAlone t.kind t.first t.rest × AreWhite t.space
 -- a token, wherever it stands
 abbrev pub alone_token : TokKind → List ℕ → Answer
 alone_token kind text =
-    Token (record { kind = kind; text = text; span = record { start = 0; «end» = 0 }; hash_line = false })
+    Token (record {
+      kind = kind;
+      text = text;
+      span = record { start = 0; «end» = 0 };
+      hash_line = false;
+      directive = No;
+    })
 
 abbrev pub words : List Spaced → List Answer
 words [] = []
@@ -106,4 +114,4 @@ words (t ∷ ts) = alone_token t.kind (t.first ∷ t.rest) ∷ words ts
 -- in a C part, at its beginning or behind a token
 abbrev pub in_part : Bool → Where
 in_part true = record { part = parts.Begin; comments = [] }
-in_part false = record { part = parts.Plain false false; comments = [] }
+in_part false = record { part = parts.Plain false behinds.Other; comments = [] }

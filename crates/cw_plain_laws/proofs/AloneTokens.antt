@@ -6,7 +6,7 @@ use Rattle.cw_plain_laws.proofs.Terms.{not, Option, Some, slice_index, if◌then
 use Rattle.cw_plain_laws.proofs.Terms.{take-append-drop, answers, joined, still_fresh, tokens_of, AreSimpleTokens}
 use Rattle.cw_plain_laws.proofs.Terms.{BeginsBefore, is_hash, is_program, is_simple, both-left, both-right, and-none}
 use Rattle.cw_plain_laws.proofs.Terms.{if-both, constant-le, run-le, AreNotes, Answer, Token, Begin, Finish, Note, Cut}
-use Rattle.cw_plain_laws.proofs.Terms.{Found, Seen, Where, note_answers, plain, token_of, at_start, extent, at_sign}
+use Rattle.cw_plain_laws.proofs.Terms.{Found, Seen, Where, note_answers, plain, at_start, extent, at_sign}
 use Rattle.cw_plain_laws.proofs.Terms.{begins, begins_by, begins_with, hash, is_in, is_letter, is_mark, less, run}
 use Rattle.cw_plain_laws.proofs.Terms.{slash, star, newline, is_prefix_letter, prefix_size, constant, all_signs}
 use Rattle.cw_plain_laws.proofs.Terms.{longest, spelling, code_text_apart, found_apart, Noted, Code, CPart, TokKind}
@@ -14,13 +14,14 @@ use Rattle.cw_plain_laws.proofs.{AgainLaws.at-mark, CutStrings.sign-alone, CutSt
 use Rattle.cw_plain_laws.proofs.Again.{Bare, IsAloneText, IsClosed, IsString, Prefix, in_part, prefix_bytes}
 use Rattle.cw_plain_laws.proofs.CutConstants.{constant-cut, constant-last, run-cut}
 use Rattle.cw_rules.specs.{Codes.begins_section, Codes.code_at, Codes.code_of, declared.parts.Start.Start}
-use Rattle.cw_rules.specs.{declared.signs.Sign.Sign}
+use Rattle.cw_rules.specs.{declared.signs.Sign.Sign, Answers.cut_token}
 use Rattle.cw_rules.specs.Tokens.{code_by, code_token, effect_in, in_code, in_hash_line, is_space, moved, one, passed}
 use Rattle.cw_rules.specs.Tokens.{section, section_code, sign_or_other, skipped_byte, identifier, string, start_of}
 use Rattle.cw_rules.specs.declared.bodies.Body.TheVariants as bodies
 use Rattle.cw_rules.specs.declared.classes.Class.TheVariants as classes
 use Rattle.cw_rules.specs.declared.codes.Code.TheVariants as codes
 use Rattle.cw_rules.specs.declared.parts.Start.TheVariants as start
+use Rattle.cw_rules.specs.declared.tokens.Directive.TheVariants.{No}
 use Rattle.cw_rules.specs.declared.tokens.TokKind.TheVariants as kinds
 
 -- ## What is cut is a token by itself
@@ -63,10 +64,14 @@ IsOther [] = ⊥
 IsOther (Token t ∷ answers) = (is_simple t.kind ≡ false) × (is_program t.kind ≡ false)
 IsOther (answer ∷ answers) = Unit {0}
 
+-- outside `#` lines, and no word of a directive
+abbrev pub IsOutside : Seen → Type 0
+IsOutside t = (t.hash_line ≡ false) × (t.directive ≡ No)
+
 data Tells (first : Bool) (f : Found) : Type 0 where
   blank : f ≡ skipped_byte (in_part first) → Tells first f
   token : (t : Seen) (notes : List Answer) → f.answers ≡ Token t ∷ notes → AreNotes notes → f.next ≡ in_part false
-      → t.hash_line ≡ false → (is_simple t.kind ≡ true → notes ≡ [] → IsAloneText t.kind t.text) → Tells first f
+      → IsOutside t → (is_simple t.kind ≡ true → notes ≡ [] → IsAloneText t.kind t.text) → Tells first f
   other : IsOther f.answers → Tells first f
 
 notes-are : (notes : List Noted) → AreNotes (note_answers notes)
@@ -78,11 +83,12 @@ none-noted [] e = refl
 none-noted (n ∷ notes) e = absurd cc
 
 tells-one : (first hash_line : Bool) (next : Where) (place : ℕ) (bytes : List ℕ) (cut : Cut) → next ≡ in_part false
-    → hash_line ≡ false → (is_simple cut.kind ≡ true → cut.notes ≡ [] → IsAloneText cut.kind (take cut.size bytes))
+    → hash_line ≡ false → cut.directive ≡ No
+    → (is_simple cut.kind ≡ true → cut.notes ≡ [] → IsAloneText cut.kind (take cut.size bytes))
     → Tells first (one hash_line next place bytes cut)
-tells-one first hash_line next place bytes cut on line alone =
-    token (token_of hash_line cut.kind place cut.size bytes) (note_answers cut.notes) refl (notes-are cut.notes) on
-    line (λ simple quiet. alone simple (none-noted cut.notes quiet))
+tells-one first hash_line next place bytes cut on line word alone =
+    token (cut_token hash_line cut place bytes) (note_answers cut.notes) refl (notes-are cut.notes) on
+    (line, word) (λ simple quiet. alone simple (none-noted cut.notes quiet))
 
 passed-on : (first : Bool) → moved (in_part first) (passed (in_part first).part) ≡ in_part false
 passed-on first = grind arith
@@ -119,11 +125,11 @@ tells-code : (first : Bool) (code : Code) (place b : ℕ) (bytes : List ℕ) →
     → Tells first
     (code_by (effect_in (in_part first).part (in_part first).comments code) code (in_part first) place (b ∷ bytes))
 tells-code true codes.Program place b bytes at e = tells-one true false (in_part false) place (b ∷ bytes)
-    (plain (kinds.Code codes.Program) 2) refl refl (λ simple quiet. absurd (let e : false ≡ true = simple in cc))
+    (plain (kinds.Code codes.Program) 2) refl refl refl (λ simple quiet. absurd (let e : false ≡ true = simple in cc))
 tells-code true codes.Quote place b bytes at e = tells-one true false (in_part false) place (b ∷ bytes)
-    (code_token codes.Quote place (b ∷ bytes)) refl refl (λ simple quiet. quote-bytes b bytes place at e quiet)
+    (code_token codes.Quote place (b ∷ bytes)) refl refl refl (λ simple quiet. quote-bytes b bytes place at e quiet)
 tells-code false codes.Quote place b bytes at e = tells-one false false (in_part false) place (b ∷ bytes)
-    (code_token codes.Quote place (b ∷ bytes)) refl refl (λ simple quiet. quote-bytes b bytes place at e quiet)
+    (code_token codes.Quote place (b ∷ bytes)) refl refl refl (λ simple quiet. quote-bytes b bytes place at e quiet)
 tells-code _ _ _ _ _ _ _ = other (refl, refl)
 
 -- ## Tokens
@@ -237,20 +243,20 @@ hash-none h e = grind arith
 tells-start : (first : Bool) (s : Start) (place b : ℕ) (bytes : List ℕ) → Says b bytes s
     → Tells first (in_code s (in_part first) place (b ∷ bytes))
 tells-start true start.Identifier place b bytes says = tells-one true false (in_part false) place (b ∷ bytes)
-    (identifier (b ∷ bytes)) refl refl (λ simple quiet. identifier-alone b bytes says)
+    (identifier (b ∷ bytes)) refl refl refl (λ simple quiet. identifier-alone b bytes says)
 tells-start false start.Identifier place b bytes says = tells-one false false (in_part false) place (b ∷ bytes)
-    (identifier (b ∷ bytes)) refl refl (λ simple quiet. identifier-alone b bytes says)
+    (identifier (b ∷ bytes)) refl refl refl (λ simple quiet. identifier-alone b bytes says)
 tells-start first start.Constant place b bytes says = tells-one first (in_hash_line (in_part first).part) (moved
     (in_part first) (passed (in_part first).part)) place (b ∷ bytes) (plain kinds.Constant (constant (b ∷ bytes)))
-    (passed-on first) (no-line first) (λ simple quiet. constant-alone b bytes says.0 says.1)
+    (passed-on first) (no-line first) refl (λ simple quiet. constant-alone b bytes says.0 says.1)
 tells-start first (start.Quoted mark) place b bytes says = tells-one first (in_hash_line (in_part first).part)
     (moved (in_part first) (passed (in_part first).part)) place (b ∷ bytes)
-    (string kinds.Quoted (prefix_size (b ∷ bytes) + 1) mark place (b ∷ bytes)) (passed-on first) (no-line first)
+    (string kinds.Quoted (prefix_size (b ∷ bytes) + 1) mark place (b ∷ bytes)) (passed-on first) (no-line first) refl
     (λ simple quiet. string-alone mark (b ∷ bytes) place says quiet)
 tells-start first (start.Code code) place b bytes says = tells-code first code place b bytes says.0 says.1
 tells-start first (start.Sign sign) place b bytes says = tells-one first (in_hash_line (in_part first).part)
     (moved (in_part first) (passed (in_part first).part)) place (b ∷ bytes)
-    (plain (kinds.Sign sign) (length (spelling sign))) (passed-on first) (no-line first)
+    (plain (kinds.Sign sign) (length (spelling sign))) (passed-on first) (no-line first) refl
     (λ simple quiet. sign-alone all_signs (b ∷ bytes) sign says (hash-none (is_hash sign) simple))
 tells-start first start.OtherByte place b bytes says = other (refl, refl)
 tells-start _ _ _ _ _ _ = other tt
@@ -286,7 +292,7 @@ tells-found false fresh last place b bytes = if-both (Tells false) (b == at_sign
 
 abbrev pub AreAlone : List Answer → Type 0
 AreAlone [] = Unit {0}
-AreAlone (Token t ∷ answers) = IsAloneText t.kind t.text × (t.hash_line ≡ false) × AreAlone answers
+AreAlone (Token t ∷ answers) = IsAloneText t.kind t.text × IsOutside t × AreAlone answers
 AreAlone (answer ∷ answers) = ⊥
 
 no-notes : (xs ys : List Answer) → AreNotes xs → AreSimpleTokens (xs ++ ys) → xs ≡ []

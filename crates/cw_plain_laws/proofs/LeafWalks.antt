@@ -1,4 +1,5 @@
 -- The leaves of tokens, of comments and of section names have the bytes of their tokens.
+use Rattle.cw_rules.specs.declared.tokens.Directive.{Directive}
 use Rattle.cw_plain_laws.proofs.Terms.{arith, ◌≡◌, ℕ, Bool, true, false, List, [], ◌∷◌, ◌++◌, Option, Some, None, refl}
 use Rattle.cw_plain_laws.proofs.Terms.{sym, ap, ◌∙◌, if◌then◌else◌, All, codes, append_assoc, All-head, All-tail, Cat}
 use Rattle.cw_plain_laws.proofs.Terms.{Exp, Flags, MathMode, Text, Maybe, IsGroupOf, NameId, Entry, Piece, Word, Placed}
@@ -79,25 +80,26 @@ word-walks s c name n owns rest walks = reserved-walks s name.index n c (tree_in
 code-walks : (s : Source) (c : Code) (n : ℕ) → (stays (kind.Code c) ≡ true → Owns s n) → FormWalks s (code_form c n)
 code-walks s c n owns = grind (arith, source-walks, sign-walks)
 
-pub form-walks : (s : Source) (k : TokKind) (text : List ℕ) (hash_line : Bool) (n : ℕ) (names : List Entry)
-    → (stays k ≡ true → Owns s n) → FormWalks s (token_form k text hash_line n names)
-form-walks s kind.Identifier text hash_line n names owns = word-walks s _ _ n (owns refl)
-form-walks s kind.Constant text hash_line n names owns = λ rest walks.
+pub form-walks : (s : Source) (k : TokKind) (text : List ℕ) (hash_line : Bool) (d : Directive) (n : ℕ) (names : List
+    Entry)
+    → (stays k ≡ true → Owns s n) → FormWalks s (token_form k text hash_line d n names)
+form-walks s kind.Identifier text hash_line d n names owns = word-walks s _ _ n (owns refl)
+form-walks s kind.Constant text hash_line d n names owns = λ rest walks.
     source-walks s n Maybe (tree_in [] rest) (owns refl) walks
-form-walks s kind.Quoted text hash_line n names owns = λ rest walks.
+form-walks s kind.Quoted text hash_line d n names owns = λ rest walks.
     source-walks s n Maybe (tree_in [] rest) (owns refl) walks
-form-walks s kind.IncludeName text hash_line n names owns = λ rest walks.
+form-walks s kind.IncludeName text hash_line d n names owns = λ rest walks.
     source-walks s n Maybe (tree_in [] rest) (owns refl) walks
-form-walks s kind.OtherByte text hash_line n names owns = λ rest walks.
+form-walks s kind.OtherByte text hash_line d n names owns = λ rest walks.
     source-walks s n Maybe (tree_in [] rest) (owns refl) walks
-form-walks s (kind.Sign sign) text hash_line n names owns = λ rest walks.
+form-walks s (kind.Sign sign) text hash_line d n names owns = λ rest walks.
     source-walks s n (sign_mode sign) (tree_in [] rest) (owns refl) walks
-form-walks s kind.HashLine text hash_line n names owns = λ rest walks. sign-walks s control.Break
+form-walks s kind.HashLine text hash_line d n names owns = λ rest walks. sign-walks s control.Break
     (Then (SourceLeaf n Text) (tree_in [] rest)) tt (source-walks s n Text (tree_in [] rest) (owns refl) walks)
-form-walks s kind.HashLineEnd text hash_line n names owns = λ rest walks.
+form-walks s kind.HashLineEnd text hash_line d n names owns = λ rest walks.
     sign-walks s control.Break (tree_in [] rest) tt walks
-form-walks s (kind.Code c) text hash_line n names owns = code-walks s c n owns
-form-walks s _ text hash_line n names owns = tt
+form-walks s (kind.Code c) text hash_line d n names owns = code-walks s c n owns
+form-walks s _ text hash_line d n names owns = tt
 
 -- ## Comments
 

@@ -1,4 +1,5 @@
 -- What is made of the tokens of a text has the bytes of its tokens, and so has its whole translation.
+use Rattle.cw_rules.specs.declared.tokens.Directive.{Directive}
 use Rattle.cw_plain_laws.proofs.Terms.{arith, ◌≡◌, ℕ, Bool, true, false, not, is_some, Option, Some, None, List, []}
 use Rattle.cw_plain_laws.proofs.Terms.{◌∷◌, ◌++◌, refl, if◌then◌else◌, ap, subst, ◌∙◌, All, list_all, append-nil}
 use Rattle.cw_plain_laws.proofs.Terms.{append_assoc, All-append, All-nil, common_steps, both-left, both-right, Cat, Exp}
@@ -71,9 +72,11 @@ token-made s name names kind.Text t known e found =
     made-item s (Piece t.span.start) known (found-owns s t found (ap stays e))
 token-made s name names (kind.Code code.SectionName) t known e found = names t known found (ap is_name e)
 token-made s name names (kind.Code code.FileName) t known e found = names t known found (ap is_name e)
-token-made s name names k t known e found = form-made s (token_form k t.text t.hash_line t.span.start known.names)
+token-made s name names k t known e found = form-made s (token_form k t.text t.hash_line t.directive t.span.start
+    known.names)
     (with_names (names_with k t.text known.names) known)
-    (form-walks s k t.text t.hash_line t.span.start known.names (λ stay. found-owns s t found (ap stays e ∙ stay)))
+    (form-walks s k t.text t.hash_line t.directive t.span.start known.names (λ stay. found-owns s t found (ap stays e ∙
+    stay)))
 
 group-made : (s : Source) (flags : Flags) (comment : Bool) (k : TokKind) (t : Seen) (m : Made) → t.kind ≡ k
     → IsFound s.answers t → IsGroupOf comment k → MadeWalks s m → MadeWalks s (group_made flags k t m)
@@ -209,9 +212,9 @@ name-each : (s : Source) (c : Cat) (name : NameId) (n : ℕ) → Owns s n → Ea
 name-each s Exp name n owns = (word-walks s Exp name n owns, tt)
 name-each s c name n owns = (word-walks s c name n owns, tt)
 
-word-each : (s : Source) (k : TokKind) (text : List ℕ) (hash_line : Bool) (n : ℕ) (names : List Entry)
-    → is_word k ≡ true → Owns s n → EachWalks s (form_tokens (token_form k text hash_line n names))
-word-each s k text hash_line n names is owns = grind (arith, name-each, form-walks)
+word-each : (s : Source) (k : TokKind) (text : List ℕ) (hash_line : Bool) (d : Directive) (n : ℕ) (names : List Entry)
+    → is_word k ≡ true → Owns s n → EachWalks s (form_tokens (token_form k text hash_line d n names))
+word-each s k text hash_line d n names is owns = grind (arith, name-each, form-walks)
 
 spelled-each : (s : Source) (words : List Seen) (names : List Entry) → list_all word_kind words ≡ true
     → Each (IsFound s.answers) words → EachWalks s (spelled words names).tokens
@@ -220,7 +223,7 @@ spelled-each s (t ∷ words) names are all =
     let is : is_word t.kind ≡ true = both-left (word_kind t) (list_all word_kind words) are in
     let owns : Owns s t.span.start = found-owns s t all.0 (word-stays t.kind is) in
     each-append s (word_tokens t names) (spelled words (names_with t.kind t.text names)).tokens
-    (word-each s t.kind t.text t.hash_line t.span.start names is owns) (spelled-each s words
+    (word-each s t.kind t.text t.hash_line t.directive t.span.start names is owns) (spelled-each s words
     (names_with t.kind t.text names) (both-right (word_kind t) (list_all word_kind words) are) all.1)
 
 control-walks : (s : Source) (rest : List Token) → Walks s (tree_in [] rest)

@@ -7,7 +7,8 @@ use Rattle.cw_plain_laws.proofs.Terms.{AreSimpleTokens, BeginsBefore, PlainScans
 use Rattle.cw_plain_laws.proofs.Terms.{all_unplaced, begins_section_in, is_section_kind, or-false, translated-shown}
 use Rattle.cw_plain_laws.proofs.Terms.{Answer, Token, Begin, Finish, Note, Seen, CPart, TokKind, name_texts, flat}
 use Rattle.cw_plain_laws.proofs.Terms.{trimmed_items, Control}
-use Rattle.cw_plain_laws.proofs.{Again.IsAloneText, Again.alone_token, AloneTokens.AreAlone, AloneTokens.part-alone}
+use Rattle.cw_plain_laws.proofs.{Again.IsAloneText, Again.alone_token, AloneTokens.AreAlone, AloneTokens.IsOutside}
+use Rattle.cw_plain_laws.proofs.AloneTokens.{part-alone}
 use Rattle.cw_plain_laws.proofs.{OwnInks.AreOwn, OwnInks.pieces-own, OwnInks.walked-owners, Simple.AreSimple}
 use Rattle.cw_plain_laws.proofs.{Simple.all_words, SpacedLaws.plain-again, TranslatedWalks.text-walks, Walks.owners}
 use Rattle.cw_plain_laws.proofs.BareTrees.{AreUnbarred, bare-pieces, part-bare, part-shown, starts_of}
@@ -70,7 +71,7 @@ first-number n m ns ms e = (cc, cc)
 
 a-word : (s : Source) (n : ℕ) (bytes : List ℕ) (ps : List Piece) (t : Seen) (answers : List Answer) → n ≡ t.span.start
     → Word n bytes ≡ (number_placed s n outside).piece → is_simple t.kind ≡ true → IsAloneText t.kind t.text
-    → t.hash_line ≡ false → IsFound s.answers t → AreWords ps answers → AreWords (Word n bytes ∷ ps) (Token t ∷ answers)
+    → IsOutside t → IsFound s.answers t → AreWords ps answers → AreWords (Word n bytes ∷ ps) (Token t ∷ answers)
 a-word s n bytes ps t answers e own is alone line found rest =
     let same : bytes ≡ t.text = word-bytes n t.span.start bytes t.text
     (own ∙ ap (λ m. (number_placed s m outside).piece) e ∙ number-word s t found is) in
@@ -81,7 +82,8 @@ a-word s n bytes ps t answers e own is alone line found rest =
         kind = t.kind;
         text = same i;
         span = record { start = 0; end = 0 };
-        hash_line = sym line i;
+        hash_line = sym line.0 i;
+        directive = sym line.1 i;
       }) ∷ rest.words i);
     }
 

@@ -23,6 +23,7 @@ unplaced token = record {
   text = token.text;
   span = record { start = 0; «end» = 0 };
   hash_line = token.hash_line;
+  directive = token.directive;
 }
 
 abbrev pub unplaced_answer : Answer → Answer
