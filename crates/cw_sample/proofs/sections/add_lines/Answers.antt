@@ -4,21 +4,21 @@ use Rattle.std.specs.Prelude.{All}
 use Rattle.std.proofs.lemmas.Result.{on_ok_weaker}
 use Rattle.cw_sample.proofs.SampleLaws.{NotTen, first-short, first-whole, head-short, head-whole, section-added}
 use Rattle.cw_sample.proofs.SampleLaws.{statement-short, statement-whole, web-longer, web-short}
-use Rattle.cw_sample.proofs.sections.add_section.Goals as goal
+use Rattle.cw_sample.proofs.sections.add_lines.Goals as goal
 
 pub add_line-requires-clause-whole : goal.add_line-requires-clause-whole
 add_line-requires-clause-whole c =
-    subst (All NotTen) (sym (c.as_slice.ensures ∙ c.in_ok-first.ensures)) (first-whole (c.args.before + 1) (omega arith)
+    subst (All NotTen) (sym c.requires.first) (first-whole (c.args.before + 1) (omega arith)
     (omega (arith, c.requires.few)))
 
 pub add_line-requires-2-clause-whole : goal.add_line-requires-2-clause-whole
 add_line-requires-2-clause-whole c =
-    subst (All NotTen) (sym (c.as_slice-2.ensures ∙ c.in_ok-head.ensures))
+    subst (All NotTen) (sym c.requires.head)
     (head-whole (c.args.before + 1) (omega arith) (omega (arith, c.requires.few)))
 
 pub add_line-requires-3-clause-whole : goal.add_line-requires-3-clause-whole
 add_line-requires-3-clause-whole c =
-    subst (All NotTen) (sym (c.as_slice-3.ensures ∙ c.in_ok-statement.ensures))
+    subst (All NotTen) (sym c.requires.statement)
     (statement-whole (c.args.before + 1) (omega arith) (omega (arith, c.requires.few)))
 
 pub add_line-requires-clause-room : goal.add_line-requires-clause-room
@@ -26,7 +26,7 @@ add_line-requires-clause-room c =
     omega (
       arith,
       web-short c.args.before c.requires.few c.requires.begun,
-      ap length (c.as_slice.ensures ∙ c.in_ok-first.ensures),
+      ap length c.requires.first,
       first-short (c.args.before + 1) (omega arith) (omega (arith, c.requires.few)),
     )
 
@@ -36,9 +36,9 @@ add_line-requires-2-clause-room c =
       arith,
       web-short c.args.before c.requires.few c.requires.begun,
       web-longer _ _ c.in_ok-add_line.ensures.ok,
-      ap length (c.as_slice.ensures ∙ c.in_ok-first.ensures),
+      ap length c.requires.first,
       first-short (c.args.before + 1) (omega arith) (omega (arith, c.requires.few)),
-      ap length (c.as_slice-2.ensures ∙ c.in_ok-head.ensures),
+      ap length c.requires.head,
       head-short (c.args.before + 1) (omega arith) (omega (arith, c.requires.few)),
     )
 
@@ -49,11 +49,11 @@ add_line-requires-3-clause-room c =
       web-short c.args.before c.requires.few c.requires.begun,
       web-longer _ _ c.in_ok-add_line.ensures.ok,
       web-longer _ _ c.in_ok-add_line-2.ensures.ok,
-      ap length (c.as_slice.ensures ∙ c.in_ok-first.ensures),
+      ap length c.requires.first,
       first-short (c.args.before + 1) (omega arith) (omega (arith, c.requires.few)),
-      ap length (c.as_slice-2.ensures ∙ c.in_ok-head.ensures),
+      ap length c.requires.head,
       head-short (c.args.before + 1) (omega arith) (omega (arith, c.requires.few)),
-      ap length (c.as_slice-3.ensures ∙ c.in_ok-statement.ensures),
+      ap length c.requires.statement,
       statement-short (c.args.before + 1) (omega arith) (omega (arith, c.requires.few)),
     )
 
@@ -62,6 +62,5 @@ returns c =
     on_ok_weaker c.add_line-3.result
     (λ added. section-added c.args.before c.requires.begun c.in_ok-add_line.ensures.ok c.in_ok-add_line-2.ensures.ok
     added
-    (c.as_slice.ensures ∙ c.in_ok-first.ensures) (c.as_slice-2.ensures ∙ c.in_ok-head.ensures) (c.as_slice-3.ensures
-    ∙ c.in_ok-statement.ensures)
+    c.requires.first c.requires.head c.requires.statement
     c.place.ensures c.place-2.ensures c.place-3.ensures) c.add_line-3.ensures.ok
