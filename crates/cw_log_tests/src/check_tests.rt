@@ -7,7 +7,7 @@ use std::alloc::Global;
 use std::test::Fail;
 
 // Files, what is printed of each, and the status.
-const RUNS: [(&str, &str, Exit); 14] = [
+const RUNS: [(&str, &str, Exit); 15] = [
     ("", "accepted: 0 texts, 0 productions\n", Exit::Clean),
     (
         "text 0\nend",
@@ -71,6 +71,13 @@ const RUNS: [(&str, &str, Exit); 14] = [
          s semi\nb exp bar\nb exp y\ns semi\nP42 1\nP89 2\nP29 2\nP33 2\nP37 2\nP44 1\nP83 0\nP84 0\nP86 0\nP89 1\n\
          P29 1\nP33 1\nP37 1\nP38 0\nend\n",
         "accepted: 1 texts, 14 productions\n",
+        Exit::Clean,
+    ),
+    // Behind `struct` it becomes none.
+    (
+        "text 6\ns struct_like\nb exp foo\ns semi\nb exp foo\nb exp x\ns semi\nP41 0\nP37 0\nP136 1\nP8 1\nP39 0\n\
+         end\n",
+        "accepted: 1 texts, 5 productions\n",
         Exit::Clean,
     ),
     ("text 0\nend\nx", "! Not a log (line 3)\n", Exit::Errors),

@@ -2,15 +2,16 @@
 use cw_logtext::judge;
 
 // Logs, and files that are none, each with the number of its fault; 0 stands for a log.
-const FILES: [(&str, usize); 37] = [
+const FILES: [(&str, usize); 38] = [
     ("", 0),
     ("text 0\nend\n", 0),
     ("text 0\nend", 0),
-    ("text 0\nP6 0\nP128 16777215\nend\ntext 0\nend\n", 0),
+    ("text 0\nP6 0\nP148 16777215\nend\ntext 0\nend\n", 0),
     (
         "text 4\ns tex_like\nc attr_head attr\ns dots\ni alignas_like colcol\nend\n",
         0,
     ),
+    ("text 3\ns hash_like\ns mdefine_like\ns paren\nend\n", 0),
     (
         "text 4\nb exp i\nc case_like\nc dead n case\ni exp a _b2 $\nend\n",
         0,
@@ -40,7 +41,7 @@ const FILES: [(&str, usize); 37] = [
     ("text 1\nb exp 1x\nend\n", 2),
     ("text 1\ns end\nend\n", 2),
     ("text 1\nP6 0\nend\n", 2),
-    ("text 0\nP129 0\nend\n", 2),
+    ("text 0\nP149 0\nend\n", 2),
     ("text 0\nP0 0\nend\n", 2),
     ("text 0\nP06 0\nend\n", 2),
     ("text 0\nP6 16777216\nend\n", 2),

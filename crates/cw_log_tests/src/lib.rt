@@ -6,6 +6,8 @@ mod block_tests;
 #[cfg(test)]
 mod check_tests;
 #[cfg(test)]
+mod failing_tests;
+#[cfg(test)]
 mod judge_tests;
 #[cfg(test)]
 mod logged_tests;

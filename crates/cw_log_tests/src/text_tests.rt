@@ -5,6 +5,7 @@ use cw_logtext::{append_block, judge};
 use cw_names::{EntryKind, NameId, Names};
 use cw_table::RowNo;
 use std::alloc::Global;
+use std::test::Fail;
 
 // The leaf lines of `x;`.
 fn leaves_of(alloc: Global, x: NameId) -> Result<LeafLines, Memory> {
@@ -53,5 +54,31 @@ fn a_block_is_appended(rt: HostRuntime) -> Result<(), Memory> {
     let wanted = b"text 0\nend\ntext 2\nb exp x\ns semi\nP8 0\nend\n";
     assert!(rt; text.as_slice() == wanted.as_slice());
     assert!(rt; judge(text.as_slice()).is_ok());
+    Ok(())
+}
+
+/// What a log holds: its last production, the last name of its first leaf line, and how many of these lines there are.
+fn held_by(log: TextLog) -> (Option<LogItem>, Option<NameId>, usize) {
+    let TextLog { leaves, items } = log;
+    let mut items = items.into_vec();
+    let mut lines = leaves.into_vec();
+    let count = lines.len();
+    lines.truncate(1);
+    let Some(first) = lines.pop() else {
+        return (items.pop(), None, count);
+    };
+    let mut names = first.names.into_vec();
+    (items.pop(), names.pop(), count)
+}
+
+#[test]
+fn a_log_gives_back_what_it_holds(rt: HostRuntime) -> Result<(), Fail> {
+    let x = NameId { index: 7 };
+    let log = log_of(rt.alloc(), x)?;
+    let item = LogItem {
+        row: RowNo { number: 8 },
+        place: 0,
+    };
+    assert_eq!(rt; held_by(log), (Some(item), Some(x), 2));
     Ok(())
 }

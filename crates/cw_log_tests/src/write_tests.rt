@@ -7,7 +7,7 @@ use std::alloc::Global;
 use std::test::Fail;
 
 // Webs, and the log of each.
-const WEBS: [(&str, &str); 15] = [
+const WEBS: [(&str, &str); 17] = [
     (
         "@ @c i=i+1;\n",
         "text 6\nb exp i\ns binop\nb exp i\ns ubinop\ns exp\ns semi\nP6 0\nP6 0\nP8 0\nend\n",
@@ -15,14 +15,14 @@ const WEBS: [(&str, &str); 15] = [
     // A name that prints as a macro of TeX tells no name.
     (
         "@ @s p_q TeX\n@c a=NULL; p_q=a;\n",
-        "text 8\nb exp a\ns binop\ns exp\ns semi\ns exp\ns binop\nb exp a\ns semi\nP6 0\nP8 0\nP6 1\n\
-         P8 1\nP72 0\nend\n",
+        "text 8\nb exp a\ns binop\ns tex_like\ns semi\ns tex_like\ns binop\nb exp a\ns semi\nP142 2\nP6 0\n\
+         P8 0\nP142 1\nP6 1\nP8 1\nP72 0\nend\n",
     ),
     // An attribute and a box.
     (
         "@ @c [[a]] int b;\n@ @c @t\\4@>x;\n",
         "text 7\ns attr_head\nb exp a\ns rpar\ns rpar\ns raw_int\nb exp b\ns semi\nP114 0\nP117 0\nP89 0\nP29 0\n\
-         P33 0\nP37 0\nend\ntext 3\ns box\nb exp x\ns semi\nP113 0\nP11 0\nP8 0\nend\n",
+         P33 0\nP37 0\nend\ntext 3\ns box\nb exp x\ns semi\nP113 0\nP141 0\nP8 0\nend\n",
     ),
     // A list of parameters that goes on.
     (
@@ -60,6 +60,19 @@ const WEBS: [(&str, &str); 15] = [
          s semi\nb exp bar\nb exp y\ns semi\nP42 1\nP89 2\nP29 2\nP33 2\nP37 2\nP44 1\nP83 0\nP84 0\nP86 0\nP89 1\n\
          P29 1\nP33 1\nP37 1\nP38 0\nend\n",
     ),
+    // A tag stays a name.
+    (
+        "@ @c struct foo *foo; foo x;\n",
+        "text 8\ns struct_like\nb exp foo\ns raw_ubin\nb exp foo\ns semi\nb exp foo\nb exp x\ns semi\nP43 0\n\
+         P91 1\nP29 0\nP32 0\nP33 0\nP37 0\nP136 1\nP8 1\nP39 0\nend\n",
+    ),
+    // A macro with parameters and one without, and words that are reserved directly behind the `#` alone.
+    (
+        "@ @c\n#define F(line) y=line\n#define N n+1\n",
+        "text 17\ns lproc\ns mdefine_like\nb exp F\ns lpar\nb exp line\ns rpar\nb exp y\ns binop\nb exp line\n\
+         s rproc\ns lproc\ns define_like\nb exp N\nb exp n\ns ubinop\ns exp\ns rproc\nP12 3\nP78 1\nP75 0\nP6 1\n\
+         P77 0\nP81 0\nP74 0\nP6 1\nP77 0\nend\n",
+    ),
     // An empty text is told; a C part without scraps is none.
     (
         "@ || and |a|\n@d empty\n@ @c\n@ no C\n",
@@ -78,7 +91,7 @@ const WEBS: [(&str, &str); 15] = [
 ];
 
 /// The words of a command line.
-fn list_of(alloc: Global, words: &[&[u8]]) -> Result<Words, Memory> {
+pub(crate) fn list_of(alloc: Global, words: &[&[u8]]) -> Result<Words, Memory> {
     let mut list = Words::new_in(alloc);
     for word in words {
         list.push(word)?;

@@ -2,6 +2,8 @@
 #![tactic(auto)]
 
 #[cfg(test)]
+mod failing_tests;
+#[cfg(test)]
 mod plain_tests;
 #[cfg(test)]
 mod rows;

@@ -155,7 +155,7 @@ h;
 ",
         change: b"",
         file: b"section 1
-@'a''b'\"s@@t\"`x;
+@'a' 'b' \"s@@t\" ` x;
 
 ",
     },
