@@ -75,7 +75,7 @@ def types(book, k):
         f"\\&{{pair{k}}} \\|y;\\par",
     ]
     book.count(13, 14)
-    book.occurs(f"\\&{{node{k}}}", f"node{k}", k, True)
+    book.occurs(f"\\\\{{node{k}}}", f"node{k}", k, True)
     book.occurs(f"\\&{{pair{k}}}", f"pair{k}", k, True)
     book.occurs("\\|x", "x", k, True)
     book.occurs("\\|y", "y", k, True)
@@ -176,7 +176,7 @@ def told(book):
     tex, index, names = lines_of(book)
     unused = [f"! Never used: <{text}>" for text, kept in book.names.items() if not kept["used"]]
     return "\n".join(
-        ["[term]This is CWEAVE (profile 3)"] + unused + ["Writing the output file...", "[tex] is foo.tex", "[tex]" + tex[0]] + tex[1:]
+        ["[term]This is CWEAVE (profile 4)"] + unused + ["Writing the output file...", "[tex] is foo.tex", "[tex]" + tex[0]] + tex[1:]
         + ["[term]Writing the index...", "[idx] is foo.idx", "[idx]" + index[0]] + index[1:]
         + ["[scn] is foo.scn", "[scn]" + names[0]] + names[1:]
         + ["[term]Done.", f"sections {SECTIONS}", f"scraps {book.scraps}", f"productions {book.productions}", f"lines {len(tex)}"]

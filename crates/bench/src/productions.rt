@@ -9,7 +9,7 @@ ghost use Rattle.cw_scraps.specs.Leaves.{MakesLeaf};
 ghost use Rattle.cw_scraps.specs.Lines.{IsSoundLine, scraps_of};
 
 use cw_base::{Flags, Memory, Silent, Span, Steps};
-use cw_lex::{Sign, Tok, TokKind};
+use cw_lex::{Directive, Sign, Tok, TokKind};
 use cw_names::Names;
 use cw_scraps::{Marks, ScrapLine, scrap_of};
 use cw_table::{ROW_COUNT, RowNo, Table, first_production, table};
@@ -42,6 +42,7 @@ fn add(
         text: b"1",
         span: Span { start: 0, end: 0 },
         hash_line: false,
+        directive: Directive::No,
     };
     let leaf = scrap_of(&token, names, store)?;
     line.add(leaf.cat, leaf.list, leaf.left, leaf.right)

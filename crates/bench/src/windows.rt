@@ -1,4 +1,4 @@
-//! Looks up 5,300 windows in the production table.
+//! Looks up 5,600 windows in the production table.
 use cw_base::{ALL_CATS, Cat};
 use cw_table::{ROW_COUNT, Table, table};
 use std::io;
@@ -30,6 +30,6 @@ pub(crate) fn run(rt: HostRuntime) -> io::Result<()> {
             sum = sum.wrapping_add(number as u64);
         }
     }
-    println!(rt; "windows 5300, some row fits in {found}, sum of the rows {sum}")?;
+    println!(rt; "windows 5600, some row fits in {found}, sum of the rows {sum}")?;
     Ok(())
 }

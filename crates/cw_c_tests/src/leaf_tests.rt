@@ -6,7 +6,7 @@ ghost use Rattle.cw_scraps.specs.Words.{is_word};
 
 use crate::store_tests::is_flat;
 use cw_base::{Cat, MathMode, Memory, Span};
-use cw_lex::{Code, Sign, Tok, TokKind};
+use cw_lex::{Code, Directive, Sign, Tok, TokKind};
 use cw_names::Names;
 use cw_scraps::{scrap_of, word_token};
 use cw_tokens::{FlatItem, Token, TokenStore};
@@ -36,11 +36,12 @@ fn leaf(
     alloc: Global,
     kind: TokKind,
     text: &[u8],
-    hash_line: bool,
+    place: (bool, Directive),
     items: &[FlatItem],
 ) -> Result<(Cat, MathMode, bool), Memory>
     requires { MakesLeaf kind }
 {
+    let (hash_line, directive) = place;
     let mut names = Names::with_words(alloc)?;
     let mut store = TokenStore::new_in(alloc);
     let token = Tok {
@@ -48,6 +49,7 @@ fn leaf(
         text,
         span: Span { start: 3, end: 4 },
         hash_line,
+        directive,
     };
     leaf_in(alloc, &mut names, &mut store, &token, items)
 }
@@ -63,7 +65,8 @@ fn is_leaf(
     requires { MakesLeaf kind }
 {
     let (cat, mode, items) = wanted;
-    Ok(leaf(alloc, kind, text, hash_line, items)? == (cat, mode, true))
+    let found = leaf(alloc, kind, text, (hash_line, Directive::No), items)?;
+    Ok(found == (cat, mode, true))
 }
 
 const SOURCE: FlatItem = FlatItem::Source(3);
@@ -277,65 +280,89 @@ fn a_line_of_the_preprocessor_is_put_on_a_line_of_its_own(rt: HostRuntime) -> Re
     Ok(())
 }
 
-// Words with their categories outside `#` lines and in them.
-const WORDS: [(&[u8], Cat, Cat); 41] = [
-    (b"n", Cat::Exp, Cat::Exp),
-    (b"size_t", Cat::RawInt, Cat::RawInt),
-    (b"_Bool", Cat::RawInt, Cat::RawInt),
-    (b"bool", Cat::RawInt, Cat::RawInt),
-    (b"uint8_t", Cat::RawInt, Cat::RawInt),
-    (b"_Complex", Cat::RawInt, Cat::RawInt),
-    (b"static", Cat::IntLike, Cat::IntLike),
-    (b"constexpr", Cat::IntLike, Cat::IntLike),
-    (b"inline", Cat::IntLike, Cat::IntLike),
-    (b"const", Cat::ConstLike, Cat::ConstLike),
-    (b"restrict", Cat::ConstLike, Cat::ConstLike),
-    (b"enum", Cat::StructLike, Cat::StructLike),
-    (b"return", Cat::CaseLike, Cat::CaseLike),
-    (b"while", Cat::ForLike, Cat::ForLike),
-    (b"do", Cat::DoLike, Cat::DoLike),
-    (b"if", Cat::IfLike, Cat::IfLike),
-    (b"else", Cat::ElseLike, Cat::ElseLike),
-    (b"sizeof", Cat::SizeofLike, Cat::SizeofLike),
-    (b"_Generic", Cat::SizeofLike, Cat::SizeofLike),
-    (b"_Static_assert", Cat::SizeofLike, Cat::SizeofLike),
-    (b"typedef", Cat::TypedefLike, Cat::TypedefLike),
-    (b"typeof", Cat::TypeofLike, Cat::TypeofLike),
-    (b"_Atomic", Cat::TypeofLike, Cat::TypeofLike),
-    (b"alignas", Cat::AlignasLike, Cat::AlignasLike),
-    (b"_Pragma", Cat::AlignasLike, Cat::AlignasLike),
-    (b"true", Cat::Exp, Cat::Exp),
-    (b"nullptr", Cat::Exp, Cat::Exp),
-    (b"elif", Cat::Exp, Cat::IfLike),
-    (b"elifdef", Cat::Exp, Cat::IfLike),
-    (b"embed", Cat::Exp, Cat::IfLike),
-    (b"error", Cat::Exp, Cat::IfLike),
-    (b"ifdef", Cat::Exp, Cat::IfLike),
-    (b"ifndef", Cat::Exp, Cat::IfLike),
-    (b"include", Cat::Exp, Cat::IfLike),
-    (b"line", Cat::Exp, Cat::IfLike),
-    (b"pragma", Cat::Exp, Cat::IfLike),
-    (b"undef", Cat::Exp, Cat::IfLike),
-    (b"warning", Cat::Exp, Cat::IfLike),
-    (b"endif", Cat::Exp, Cat::ElseLike),
-    (b"define", Cat::Exp, Cat::DefineLike),
-    (b"defined", Cat::Exp, Cat::SizeofLike),
+// Words that have one category wherever they stand.
+const WORDS: [(&[u8], Cat); 25] = [
+    (b"n", Cat::Exp),
+    (b"size_t", Cat::RawInt),
+    (b"_Bool", Cat::RawInt),
+    (b"bool", Cat::RawInt),
+    (b"uint8_t", Cat::RawInt),
+    (b"_Complex", Cat::RawInt),
+    (b"static", Cat::IntLike),
+    (b"constexpr", Cat::IntLike),
+    (b"inline", Cat::IntLike),
+    (b"const", Cat::ConstLike),
+    (b"restrict", Cat::ConstLike),
+    (b"enum", Cat::StructLike),
+    (b"return", Cat::CaseLike),
+    (b"while", Cat::ForLike),
+    (b"do", Cat::DoLike),
+    (b"sizeof", Cat::SizeofLike),
+    (b"_Generic", Cat::SizeofLike),
+    (b"_Static_assert", Cat::SizeofLike),
+    (b"typedef", Cat::TypedefLike),
+    (b"typeof", Cat::TypeofLike),
+    (b"_Atomic", Cat::TypeofLike),
+    (b"alignas", Cat::AlignasLike),
+    (b"_Pragma", Cat::AlignasLike),
+    (b"true", Cat::Exp),
+    (b"nullptr", Cat::Exp),
 ];
 
-// The category and the mode of a word's scrap.
-fn word_leaf(alloc: Global, word: &[u8], hash_line: bool) -> Result<(Cat, MathMode), Memory> {
-    let (cat, mode, _) = leaf(alloc, TokKind::Identifier, word, hash_line, &[])?;
+// Words with their categories where they stand directly behind the `#` of a `#` line, and elsewhere.
+const DIRECTIVES: [(&[u8], Cat, Cat); 16] = [
+    (b"elif", Cat::HashLike, Cat::Exp),
+    (b"elifdef", Cat::HashLike, Cat::Exp),
+    (b"elifndef", Cat::HashLike, Cat::Exp),
+    (b"embed", Cat::HashLike, Cat::Exp),
+    (b"endif", Cat::HashLike, Cat::Exp),
+    (b"error", Cat::HashLike, Cat::Exp),
+    (b"ifdef", Cat::HashLike, Cat::Exp),
+    (b"ifndef", Cat::HashLike, Cat::Exp),
+    (b"include", Cat::HashLike, Cat::Exp),
+    (b"line", Cat::HashLike, Cat::Exp),
+    (b"pragma", Cat::HashLike, Cat::Exp),
+    (b"undef", Cat::HashLike, Cat::Exp),
+    (b"warning", Cat::HashLike, Cat::Exp),
+    (b"if", Cat::HashLike, Cat::IfLike),
+    (b"else", Cat::HashLike, Cat::ElseLike),
+    (b"define", Cat::DefineLike, Cat::Exp),
+];
+
+// The category and the mode of a word's scrap: outside `#` lines, in one, and directly behind its `#`.
+fn word_leaves(alloc: Global, word: &[u8]) -> Result<[(Cat, MathMode); 3], Memory> {
+    Ok([
+        word_leaf(alloc, word, (false, Directive::No))?,
+        word_leaf(alloc, word, (true, Directive::No))?,
+        word_leaf(alloc, word, (true, Directive::Word))?,
+    ])
+}
+
+// The same in one of these places.
+fn word_leaf(
+    alloc: Global,
+    word: &[u8],
+    place: (bool, Directive),
+) -> Result<(Cat, MathMode), Memory> {
+    let (cat, mode, _) = leaf(alloc, TokKind::Identifier, word, place, &[])?;
     Ok((cat, mode))
 }
 
-// The first word with another category or mode, outside `#` lines or in them.
+// The first word with another category or mode.
 fn first_other_word(alloc: Global) -> Result<Option<usize>, Memory> {
-    for (i, (word, outside, inside)) in WORDS.iter().enumerate() {
-        let found = [
-            word_leaf(alloc, word, false)?,
-            word_leaf(alloc, word, true)?,
-        ];
-        if found != [(*outside, MathMode::Maybe), (*inside, MathMode::Maybe)] {
+    for (i, (word, cat)) in WORDS.iter().enumerate() {
+        if word_leaves(alloc, word)? != [(*cat, MathMode::Maybe); 3] {
+            return Ok(Some(i));
+        }
+    }
+    Ok(None)
+}
+
+// The first of the other words.
+fn first_other_directive(alloc: Global) -> Result<Option<usize>, Memory> {
+    for (i, (word, directly, elsewhere)) in DIRECTIVES.iter().enumerate() {
+        let wanted = [*elsewhere, *elsewhere, *directly].map(|cat| (cat, MathMode::Maybe));
+        if word_leaves(alloc, word)? != wanted {
             return Ok(Some(i));
         }
     }
@@ -344,17 +371,35 @@ fn first_other_word(alloc: Global) -> Result<Option<usize>, Memory> {
 
 #[test]
 fn a_word_is_reserved_in_its_place_only(rt: HostRuntime) -> Result<(), Fail> {
-    assert_eq!(rt; first_other_word(rt.alloc())?, None);
+    let others = [
+        first_other_word(rt.alloc())?,
+        first_other_directive(rt.alloc())?,
+    ];
+    assert_eq!(rt; others, [None; 2]);
     Ok(())
 }
 
 #[test]
-fn a_macro_of_tex_is_an_expression_in_math(rt: HostRuntime) -> Result<(), Fail> {
+fn defined_is_reserved_in_hash_lines(rt: HostRuntime) -> Result<(), Fail> {
+    let wanted = [Cat::Exp, Cat::SizeofLike, Cat::SizeofLike].map(|cat| (cat, MathMode::Maybe));
+    assert_eq!(rt; word_leaves(rt.alloc(), b"defined")?, wanted);
+    Ok(())
+}
+
+#[test]
+fn a_macro_with_parameters_is_told_apart(rt: HostRuntime) -> Result<(), Fail> {
+    let leaf = word_leaf(rt.alloc(), b"define", (true, Directive::Macro))?;
+    assert_eq!(rt; leaf, (Cat::MdefineLike, MathMode::Maybe));
+    Ok(())
+}
+
+#[test]
+fn a_macro_of_tex_is_in_math(rt: HostRuntime) -> Result<(), Fail> {
     let leaves = [
-        word_leaf(rt.alloc(), b"NULL", false)?,
-        word_leaf(rt.alloc(), b"TeX", true)?,
+        word_leaves(rt.alloc(), b"NULL")?,
+        word_leaves(rt.alloc(), b"TeX")?,
     ];
-    assert_eq!(rt; leaves, [(Cat::Exp, MathMode::Math); 2]);
+    assert_eq!(rt; leaves, [[(Cat::TexLike, MathMode::Math); 3]; 2]);
     Ok(())
 }
 
@@ -369,6 +414,7 @@ fn token_of(alloc: Global, kind: TokKind, text: &[u8], span: Span) -> Result<Tok
         text,
         span,
         hash_line: false,
+        directive: Directive::No,
     };
     word_token(&token, &mut names)
 }

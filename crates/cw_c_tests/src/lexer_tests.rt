@@ -1,6 +1,6 @@
 //! Tests of the scanner on whole texts.
 use cw_base::NoteKind;
-use cw_lex::{Code, Lexed, Lexer, Mode, TokKind};
+use cw_lex::{Code, Directive, Lexed, Lexer, Mode, TokKind};
 use std::process::Abort;
 
 /// An answer by its kind and its places.
@@ -88,6 +88,48 @@ fn an_answer_tells_its_bytes_and_its_line(rt: HostRuntime) {
         answers(&mut lexer, &[Shown::End, Shown::End]),
     ];
     assert!(rt; told == [true; 4]);
+}
+
+// Lines that begin with a `#`, and where their first token stands that is a directive.
+const DIRECTIVES: [(&[u8], Option<(usize, Directive)>); 15] = [
+    (b"\n#if a", Some((2, Directive::Word))),
+    (b"\n # else", Some((4, Directive::Word))),
+    (b"\n#\\\nendif", Some((4, Directive::Word))),
+    (b"\n#int a", Some((2, Directive::Word))),
+    (b"\n#define N n", Some((2, Directive::Word))),
+    (b"\n#define N (n)", Some((2, Directive::Word))),
+    (b"\n#define N(n) n", Some((2, Directive::Macro))),
+    (b"\n# define \\\n\tN(", Some((3, Directive::Macro))),
+    (b"\n#define N", Some((2, Directive::Word))),
+    (b"\n#define 1(n)", Some((2, Directive::Word))),
+    (b"\n#define(n)", Some((2, Directive::Word))),
+    (b"\n#define /**/ N(n)", Some((2, Directive::Word))),
+    (b"\n#undef N(n)", Some((2, Directive::Word))),
+    (b"\n#/**/define N(n)", None),
+    (b"define N(n)", None),
+];
+
+/// Where the first token of a text stands that is a directive.
+fn first_directive(text: &[u8]) -> Option<(usize, Directive)> {
+    let mut lexer = Lexer::over(text, 0, text.len(), Mode::CPart);
+    // No text of these tests has more answers.
+    for _ in 0..100 {
+        match lexer.next() {
+            Lexed::Token(token) if token.directive != Directive::No => {
+                return Some((token.span.start, token.directive));
+            }
+            Lexed::End => return None,
+            _ => {}
+        }
+    }
+    None
+}
+
+#[test]
+fn what_stands_directly_behind_the_sign_of_a_line(rt: HostRuntime) {
+    for (text, wanted) in &DIRECTIVES {
+        assert!(rt; first_directive(text) == *wanted);
+    }
 }
 
 #[test]

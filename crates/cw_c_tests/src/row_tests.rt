@@ -8,7 +8,7 @@ ghost use Rattle.cw_scraps.specs.Leaves.{MakesLeaf};
 ghost use Rattle.cw_scraps.specs.Lines.{IsSoundLine};
 
 use cw_base::{Cat, Flags, Kept, MathMode, Memory, Span, Steps};
-use cw_lex::{Sign, Tok, TokKind};
+use cw_lex::{Directive, Sign, Tok, TokKind};
 use cw_names::{EntryKind, NameId, Names};
 use cw_scraps::{Marks, ScrapLine, scrap_of};
 use cw_table::{ROW_COUNT, RowNo, first_production, table};
@@ -34,23 +34,23 @@ const FROM_1: [(u8, &[Cat], usize, usize, Cat, &[u8]); 12] = rows! {
     3: [Comma EndArg] 0 1 EndArg b"01";
     4: [Exp Lbrace] 0 2 FnDecl b"WN>>0";
     5: [Exp Unop] 0 1 Exp b"01";
-    6: [Exp Binop Exp] 0 1 Exp b"012";
-    7: [Exp Comma Exp] 0 1 Exp b"01O2";
+    6: [Exp Binop Paren] 0 1 Exp b"012";
+    7: [Exp Comma Paren] 0 1 Exp b"01O2";
     8: [Exp Semi] 0 1 Stmt b"01";
     9: [Exp Colon] 0 1 Tag b"0WN1";
     10: [Exp Rbrace] 0 2 Stmt b"0";
-    11: [Exp Cast] 0 1 Exp b"01";
-    12: [Lpar Ubinop Rpar] 0 1 Exp b"012";
+    11: [Exp Paren] 0 1 Exp b"01";
+    12: [Lpar CaseLike Rpar] 0 1 Paren b"012";
 };
 
 const FROM_13: [(u8, &[Cat], usize, usize, Cat, &[u8]); 12] = rows! {
-    13: [Lpar Rpar] 0 1 Exp b"0T1";
+    13: [Lpar Rpar] 0 1 Paren b"0T1";
     14: [Lpar IntLike Rpar] 0 1 Cast b"012";
-    15: [Lpar Exp Comma] 0 1 Lpar b"012O";
+    15: [Lpar Paren Comma] 0 1 Lpar b"012O";
     16: [Lpar Stmt] 0 1 Lpar b"01_";
-    17: [Unop IntLike] 0 1 IntLike b"01";
+    17: [Unop Paren] 0 1 Paren b"01";
     18: [Ubinop Cast Rpar] 0 2 Cast b"{0}1";
-    19: [Ubinop Exp] 0 1 Exp b"{0}1";
+    19: [Ubinop Paren] 0 1 Paren b"{0}1";
     20: [Ubinop Binop] 0 1 Binop b"m0{1}}";
     21: [Binop Binop] 0 1 Binop b"m{0}{1}}";
     22: [Cast Lpar] 0 1 Lpar b"01";
@@ -60,9 +60,9 @@ const FROM_13: [(u8, &[Cat], usize, usize, Cat, &[u8]); 12] = rows! {
 
 const FROM_25: [(u8, &[Cat], usize, usize, Cat, &[u8]); 12] = rows! {
     25: [SizeofLike Cast] 0 1 Exp b"01";
-    26: [SizeofLike Exp] 0 1 Exp b"0_1";
-    27: [IntLike StructLike] 0 1 StructLike b"0_1";
-    28: [IntLike Exp RawInt] 0 2 IntLike b"01";
+    26: [SizeofLike Paren] 0 1 Exp b"0_1";
+    27: [IntLike TypedefLike] 0 1 TypedefLike b"0_1";
+    28: [IntLike Exp ConstLike] 0 2 IntLike b"0_1";
     29: [IntLike Exp] 0 2 DeclHead b"0_";
     30: [IntLike Semi] 0 2 DeclHead b"0";
     31: [DeclHead Comma] 0 1 DeclHead b"01_";
@@ -70,7 +70,7 @@ const FROM_25: [(u8, &[Cat], usize, usize, Cat, &[u8]); 12] = rows! {
     33: [DeclHead Exp Semi] 0 2 DeclHead b"01";
     34: [DeclHead Binop Exp Semi] 0 2 DeclHead b"012";
     35: [DeclHead Cast] 0 1 DeclHead b"01";
-    36: [DeclHead Decl] 0 2 FnDecl b"W>>0";
+    36: [DeclHead Lbrace] 0 2 FnDecl b"W>>0";
 };
 
 const FROM_37: [(u8, &[Cat], usize, usize, Cat, &[u8]); 12] = rows! {
@@ -93,7 +93,7 @@ const FROM_49: [(u8, &[Cat], usize, usize, Cat, &[u8]); 12] = rows! {
     50: [Lbrace Stmt Rbrace] 0 1 Stmt b"F0>F1FU2<F";
     51: [Lbrace Exp Rbrace] 0 1 Exp b"012";
     52: [Lbrace Exp Comma Rbrace] 0 1 Exp b"0123";
-    53: [IfLike Exp] 0 1 IfClause b"0_1";
+    53: [IfLike Paren] 0 1 IfClause b"0_1";
     54: [ElseLike Lbrace] 0 2 ElseHead b"0";
     55: [ElseLike Stmt] 0 1 Stmt b"F0Y>1<F";
     56: [ElseHead Exp] 0 1 Stmt b"F0YWN1F";
@@ -108,10 +108,10 @@ const FROM_61: [(u8, &[Cat], usize, usize, Cat, &[u8]); 12] = rows! {
     62: [IfHead Stmt ElseLike Stmt] 0 2 ElseLike b"F0YWN1F2";
     63: [IfHead Stmt Stmt] 0 3 ElseHead b"0";
     64: [DoLike Stmt ElseLike Semi] 0 1 Stmt b"0YWN1NWY23";
-    65: [ForLike Exp] 0 1 ElseLike b"0_1";
+    65: [ForLike Paren] 0 1 ElseLike b"0_1";
     66: [CaseLike Semi] 0 1 Stmt b"01";
     67: [CaseLike Colon] 0 1 Tag b"01";
-    68: [CaseLike Exp] 0 1 Exp b"0_1";
+    68: [CaseLike Paren] 0 1 Exp b"0_1";
     69: [Tag Tag] 0 1 Tag b"0Y1";
     70: [Tag Function] 0 1 Function b"FU0Y1";
     71: [Stmt Decl] 0 1 Decl b"0B1";
@@ -120,15 +120,15 @@ const FROM_61: [(u8, &[Cat], usize, usize, Cat, &[u8]); 12] = rows! {
 
 const FROM_73: [(u8, &[Cat], usize, usize, Cat, &[u8]); 10] = rows! {
     73: [Semi] 0 1 Stmt b"_0";
-    74: [Lproc DefineLike Exp] 0 2 Lproc b"01";
-    75: [Lproc IfLike] 0 1 Lproc b"01";
+    74: [Lproc DefineLike Exp] 0 1 Lproc b"01_2Y";
+    75: [Lproc HashLike] 0 1 Lproc b"01";
     76: [Lproc Rproc] 0 1 Insert b"I01";
-    77: [Lproc Exp Rproc] 0 1 Insert b"I0_12";
-    78: [Lproc Exp Exp Rproc] 0 3 Lproc b"0_1Y";
+    77: [Lproc Rbrace Rproc] 0 1 Insert b"I0_12";
+    78: [MdefineLike Exp Paren] 0 1 HashLike b"0_12Y";
     79: [SectionScrap Semi] 0 1 Stmt b"01F";
     80: [SectionScrap] 0 1 Exp b"0";
     81: [Insert Decl] 0 1 Decl b"01";
-    82: [TypedefLike IntLike Comma] 1 3 Exp b"1";
+    82: [TypedefLike IntLike Comma] 0 2 TypedefLike b"0_1";
 };
 
 const FROM_83: [(u8, &[Cat], usize, usize, Cat, &[u8]); 10] = rows! {
@@ -147,7 +147,7 @@ const FROM_83: [(u8, &[Cat], usize, usize, Cat, &[u8]); 10] = rows! {
 const FROM_93: [(u8, &[Cat], usize, usize, Cat, &[u8]); 5] = rows! {
     93: [Cast Lbrace Rbrace] 0 1 Exp b"01T2";
     94: [Cast Lbrace Exp Rbrace] 0 1 Exp b"0123";
-    95: [Comma Dot Exp] 1 2 Exp b"{1}2";
+    95: [Comma Dot IntLike] 1 2 Exp b"{1}2";
     96: [Lpar Tag Exp Rpar] 1 3 Exp b"1_2";
     97: [Dot] 0 1 Binop b"0";
 };
@@ -162,7 +162,7 @@ const FROM_98: [(u8, &[Cat], usize, usize, Cat, &[u8]); 10] = rows! {
     104: [Ubinop Ubinop Rpar] 0 2 Ubinop b"{0}{1}";
     105: [Exp Function] 0 1 Function b"0F1";
     106: [StructHead Exp Comma Rbrace] 1 3 Stmt b"12";
-    107: [Binop IntLike] 1 2 Exp b"1";
+    107: [CaseLike IntLike] 1 2 Exp b"1";
 };
 
 const FROM_108: [(u8, &[Cat], usize, usize, Cat, &[u8]); 11] = rows! {
@@ -171,12 +171,12 @@ const FROM_108: [(u8, &[Cat], usize, usize, Cat, &[u8]); 11] = rows! {
     110: [SectionScrap ElseLike] 0 2 Stmt b"0F";
     111: [Dots Rpar] 0 2 IntLike b"0";
     112: [Box SectionScrap] 0 1 SectionScrap b"01";
-    113: [Box Semi] 0 2 Exp b"0";
+    113: [Box Semi] 0 2 TexLike b"0";
     114: [AttrHead Exp Rpar Rpar] 0 1 Attr b"0123";
-    115: [AlignasLike Exp] 0 1 Attr b"01";
-    116: [StructLike Attr] 0 1 StructLike b"0_1";
+    115: [AlignasLike Paren] 0 1 Attr b"01";
+    116: [TypedefLike Attr] 0 1 TypedefLike b"0_1";
     117: [Attr StructLike] 0 1 StructLike b"0_1";
-    118: [TypeofLike IntLike] 0 1 IntLike b"0_1";
+    118: [TypeofLike Paren] 0 1 IntLike b"0_1";
 };
 
 const FROM_119: [(u8, &[Cat], usize, usize, Cat, &[u8]); 10] = rows! {
@@ -185,30 +185,58 @@ const FROM_119: [(u8, &[Cat], usize, usize, Cat, &[u8]); 10] = rows! {
     121: [DeclHead Colon IntLike Lbrace] 0 1 StructHead b"01_2_3";
     122: [Function Binop Lbrace] 0 2 Stmt b"0_1";
     123: [Binop Exp Rpar] 0 2 Exp b"01";
-    124: [Exp Comma Rproc] 0 2 Exp b"01";
+    124: [Exp Colcol Rproc] 0 2 Exp b"01";
     125: [CaseLike ForLike] 0 1 Exp b"0_1";
-    126: [Lbrace Stmt] 0 1 Exp b"0_1";
+    126: [Lbrace Exp] 0 1 Paren b"0_1";
     127: [Insert IntLike] 0 2 Decl b"0";
     128: [Lproc Exp DoLike] 0 2 Lproc b"0_1Y";
 };
 
+const FROM_129: [(u8, &[Cat], usize, usize, Cat, &[u8]); 10] = rows! {
+    129: [Exp Decl Lbrace] 0 3 FnDecl b"WN>>0";
+    130: [DeclHead Decl Lbrace] 0 3 FnDecl b"W>>0";
+    131: [Exp Decl Function] 0 2 Decl b"0_1";
+    132: [Lpar Exp IntLike] 1 2 IntLike b"1_2";
+    133: [DeclHead FnDecl] 0 1 FnDecl b"0F1";
+    134: [StructHead Function] 0 1 Stmt b"0>F1<";
+    135: [MdefineLike IntLike] 0 2 HashLike b"0";
+    136: [Exp Exp] 0 1 Exp b"0_1";
+    137: [Comma CaseLike Rpar] 0 2 Exp b"0_1";
+    138: [Rbrace Exp] 0 1 Stmt b"0F1";
+};
+
+const FROM_139: [(u8, &[Cat], usize, usize, Cat, &[u8]); 10] = rows! {
+    139: [Stmt IntLike] 0 1 Decl b"0F1";
+    140: [Exp TexLike] 0 1 TexLike b"01";
+    141: [TexLike Exp] 0 1 Exp b"01";
+    142: [Paren] 0 1 Exp b"0";
+    143: [Comma Lbrace Rbrace] 1 2 Exp b"1T2";
+    144: [Cast Lbrace Lbrace Rbrace] 2 3 Exp b"2T3";
+    145: [AttrHead Rpar Rpar] 0 1 Attr b"0T12";
+    146: [Question Colon] 0 1 Binop b"01";
+    147: [Lpar Rproc] 0 1 Rproc b"01";
+    148: [Question Binop Exp] 1 2 Exp b"12";
+};
+
 // The same for the rows that a flag changes, with all flags off. Behind a function a declaration is set apart all the
 // same.
-const FLAGS_OFF: [(u8, &[Cat], usize, usize, Cat, &[u8]); 7] = rows! {
+const FLAGS_OFF: [(u8, &[Cat], usize, usize, Cat, &[u8]); 9] = rows! {
     4: [Exp Lbrace] 0 2 FnDecl b"0";
-    36: [DeclHead Decl] 0 2 FnDecl b"0";
+    36: [DeclHead Lbrace] 0 2 FnDecl b"0";
     39: [Decl Stmt] 0 1 Stmt b"0F1";
     39: [Decl Function] 0 1 Function b"0B1";
     47: [FnDecl Stmt] 0 1 Function b"0F1";
     72: [Stmt Stmt] 0 1 Stmt b"0Y1";
     105: [Exp Function] 0 1 Function b"0Y1";
+    129: [Exp Decl Lbrace] 0 3 FnDecl b"0";
+    130: [DeclHead Decl Lbrace] 0 3 FnDecl b"0";
 };
 
 // The scrap whose identifier a production underlines.
 fn underlined(row: u8) -> Option<u8> {
     match row {
-        4 | 9 => Some(0),
-        33 | 41 | 42 | 84 => Some(1),
+        4 | 9 | 129 => Some(0),
+        33 | 41 | 42 | 78 | 84 => Some(1),
         74 => Some(2),
         _ => None,
     }
@@ -235,6 +263,7 @@ fn add(
             end: place as usize,
         },
         hash_line: false,
+        directive: Directive::No,
     };
     let leaf = scrap_of(&token, names, store)?;
     line.add(leaf.cat, leaf.list, leaf.left, leaf.right)
@@ -521,9 +550,9 @@ fn first_wrong(
     Ok(0)
 }
 
-const ROWS: [&[(u8, &[Cat], usize, usize, Cat, &[u8])]; 12] = [
+const ROWS: [&[(u8, &[Cat], usize, usize, Cat, &[u8])]; 14] = [
     &FROM_1, &FROM_13, &FROM_25, &FROM_37, &FROM_49, &FROM_61, &FROM_73, &FROM_83, &FROM_93,
-    &FROM_98, &FROM_108, &FROM_119,
+    &FROM_98, &FROM_108, &FROM_119, &FROM_129, &FROM_139,
 ];
 
 // The first such number of all productions, or 0.
@@ -594,19 +623,37 @@ fn last_items(alloc: Global, bench: &Bench) -> Result<[Option<FlatItem>; 3], Mem
     Ok([left, made, right])
 }
 
-// Whether a name is a type, and the only one that was underlined.
-fn is_marked_type(bench: &Bench, name: NameId) -> bool
+// The category of a name, where it is the only one that was underlined.
+fn marked_category(bench: &Bench, name: NameId) -> Option<Cat>
     requires { name.index < length bench.now.names }
 {
     let marks = &bench.marks;
-    marks.len() == 1 && marks.name(0) == name && bench.names.category(name) == Cat::RawInt
+    if marks.len() != 1 || marks.name(0) != name {
+        return None;
+    }
+    Some(bench.names.category(name))
 }
 
-// What is made of `a struct a; a b` in a line: the row and the steps; whether the last items are as wanted, and the
-// name is a type; and the first other category.
-type Reserved = ((u8, u64), [bool; 2], Option<usize>);
+// What is made of `a struct a; a b` or `a typedef a; a b` in a line: the row and the steps; the last items of the
+// scraps
+// of `a`, each with whether it is reserved; the category of the name; and the first other category.
+type Declared = (
+    (u8, u64),
+    [Option<(u32, bool)>; 3],
+    Option<Cat>,
+    Option<usize>,
+);
 
-fn reserved_in(alloc: Global, bench: &mut Bench) -> Result<Reserved, Memory>
+// The place of an identifier, and whether it is reserved.
+fn placed(item: Option<FlatItem>, name: NameId) -> Option<(u32, bool)> {
+    match item {
+        Some(FlatItem::Ident(found, place)) if found == name => Some((place, false)),
+        Some(FlatItem::Reserved(found, place)) if found == name => Some((place, true)),
+        _ => None,
+    }
+}
+
+fn declared_in(alloc: Global, bench: &mut Bench, cats: &[Cat]) -> Result<Declared, Memory>
     requires sound { IsSoundLine bench.old.store bench.old.names bench.old.line }
 {
     add_words(
@@ -617,39 +664,58 @@ fn reserved_in(alloc: Global, bench: &mut Bench) -> Result<Reserved, Memory>
     )?;
     let row = produce(bench, 1, &Flags::start())?;
     let steps = bench.steps.count();
-    let items = last_items(alloc, bench)?;
+    let [left, made, right] = last_items(alloc, bench)?;
     let name = bench.names.find_or_add(EntryKind::Ident, b"a")?;
-    let wanted = [
-        Some(FlatItem::Ident(name, 0)),
-        Some(FlatItem::Reserved(name, 2)),
-        Some(FlatItem::Reserved(name, 4)),
-    ];
+    let items = [placed(left, name), placed(made, name), placed(right, name)];
+    let other = first_other(&bench.line, cats);
+    Ok(((row, steps), items, marked_category(bench, name), other))
+}
+
+// What it becomes where `c` has a category, and whether it has these categories then.
+fn declared(alloc: Global, word: Cat, cats: &[Cat]) -> Result<Declared, Memory> {
+    let mut bench = bench_of(alloc, &[Cat::Exp, Cat::Exp, word, Cat::Semi])?;
+    declared_in(alloc, &mut bench, cats)
+}
+
+// To the right of a `typedef` each bare `a` is a type from now on.
+#[test]
+fn reserving_turns_scraps_to_the_right_alone(rt: HostRuntime) -> Result<(), Fail> {
     let cats = [
         Cat::Exp,
-        Cat::DeclHead,
+        Cat::TypedefLike,
         Cat::Semi,
         Cat::RawInt,
         Cat::Exp,
         Cat::End,
     ];
-    let other = first_other(&bench.line, &cats);
-    Ok((
-        (row, steps),
-        [items == wanted, is_marked_type(bench, name)],
-        other,
-    ))
+    let wanted = (
+        (84, 7),
+        [Some((0, false)), Some((2, true)), Some((4, true))],
+        Some(Cat::RawInt),
+        None,
+    );
+    assert_eq!(rt; declared(rt.alloc(), Cat::TypedefLike, &cats)?, wanted);
+    Ok(())
 }
 
-// What it becomes by the declaration of a structure `a` in it.
-fn reserved(alloc: Global) -> Result<Reserved, Memory> {
-    let mut bench = bench_of(alloc, &[Cat::Exp, Cat::Exp, Cat::StructLike, Cat::Semi])?;
-    reserved_in(alloc, &mut bench)
-}
-
-// To its right each bare `a` is a type from now on.
+// Behind `struct` alone `a` prints as a type, and it is none.
 #[test]
-fn reserving_turns_scraps_to_the_right_alone(rt: HostRuntime) -> Result<(), Fail> {
-    assert_eq!(rt; reserved(rt.alloc())?, ((41, 7), [true; 2], None));
+fn a_tag_is_bold_where_it_stands_alone(rt: HostRuntime) -> Result<(), Fail> {
+    let cats = [
+        Cat::Exp,
+        Cat::DeclHead,
+        Cat::Semi,
+        Cat::Exp,
+        Cat::Exp,
+        Cat::End,
+    ];
+    let wanted = (
+        (41, 4),
+        [Some((0, false)), Some((2, true)), Some((4, false))],
+        Some(Cat::Exp),
+        None,
+    );
+    assert_eq!(rt; declared(rt.alloc(), Cat::StructLike, &cats)?, wanted);
     Ok(())
 }
 

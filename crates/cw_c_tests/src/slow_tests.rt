@@ -114,13 +114,15 @@ fn first_other(alloc: Global, texts: &[&[u8]]) -> Result<Option<usize>, Memory> 
 
 #[test]
 fn the_walk_ends_as_the_slow_program(rt: HostRuntime) -> Result<(), Fail> {
-    let texts: [&[u8]; 6] = [
+    let texts: [&[u8]; 8] = [
         b"Ta=b+c,*d;",
         b"I(a)b;EI(c){d;}Ee;",
         b")))a;b;c;(",
         b"Ta(Tb,Tc){a=b+c;}",
         b"T*a;Tb;c=(a+b)*a;",
         b"{I(a){b;}E{c;}}}",
+        b"a Tf(b Tc){d e;}T(",
+        b"a={{},{b}},{};f(a,+);",
     ];
     assert_eq!(rt; first_other(rt.alloc(), &texts)?, None);
     Ok(())

@@ -12,31 +12,26 @@ fn first_of(set: CatSet) -> Cat {
     Cat::End
 }
 
-#[test]
-fn distances_are_the_least_safe_ones(rt: HostRuntime) {
-    let table = table();
-    let distances = [
-        table.distance(RowNo { number: 37 }),
-        table.distance(RowNo { number: 6 }),
-        table.distance(RowNo { number: 58 }),
-        table.distance(RowNo { number: 82 }),
-        table.distance(RowNo { number: 69 }),
-        table.distance(RowNo { number: 93 }),
-        table.distance(RowNo { number: 94 }),
-        table.distance(RowNo { number: 95 }),
-        table.distance(RowNo { number: 96 }),
-        table.distance(RowNo { number: 97 }),
-    ];
-    assert_eq!(rt; distances, [1, 2, 3, 0, 1, 2, 2, 1, 0, 1]);
-}
+// The least safe distance of each row.
+const DISTANCES: [usize; 148] = [
+    2, 2, 3, 2, 2, 2, 2, 2, 2, 2, 2, 2, 2, 2, 0, 0, 2, 2, 2, 1, 1, 1, 2, 2, 2, 2, 2, 1, 0, 0, 1, 1,
+    1, 1, 1, 2, 1, 1, 2, 2, 0, 2, 2, 2, 2, 1, 1, 2, 2, 2, 2, 2, 3, 2, 2, 2, 0, 3, 2, 2, 3, 2, 0, 2,
+    2, 2, 1, 2, 1, 2, 1, 1, 2, 0, 0, 1, 1, 1, 2, 2, 3, 0, 1, 1, 1, 1, 0, 1, 2, 0, 2, 2, 2, 2, 1, 0,
+    1, 0, 2, 2, 2, 2, 0, 2, 2, 0, 1, 0, 2, 2, 2, 3, 1, 1, 1, 2, 3, 2, 1, 1, 2, 2, 2, 2, 2, 2, 3, 0,
+    2, 2, 2, 0, 2, 2, 1, 2, 3, 2, 1, 1, 2, 2, 1, 0, 1, 1, 2, 1,
+];
 
 #[test]
-fn steps_back_are_the_distances(rt: HostRuntime) {
+fn steps_back_are_the_least_safe_distances(rt: HostRuntime) {
     let table = table();
-    for number in 1..129 {
-        assert_eq!(rt;
+    for number in 1..149 {
+        let found = [
             step_back(RowNo { number }),
             table.distance(RowNo { number }),
+        ];
+        assert_eq!(rt;
+            found,
+            [DISTANCES[number as usize - 1]; 2],
             "production {number}"
         );
     }
@@ -55,7 +50,7 @@ fn nothing_fits_at_what_no_row_joins(rt: HostRuntime) {
 #[test]
 fn each_row_is_found_by_its_own_tests(rt: HostRuntime) {
     let table = table();
-    for number in 1..129 {
+    for number in 1..149 {
         let row = table.row(RowNo { number });
         let window = [
             first_of(row.tests[0]),
@@ -85,6 +80,11 @@ fn ranks(rt: HostRuntime) {
         rank(Cat::Exp),
         rank(Cat::Dot),
         rank(Cat::Dead),
+        rank(Cat::Box),
+        rank(Cat::TexLike),
+        rank(Cat::Paren),
+        rank(Cat::MdefineLike),
+        rank(Cat::HashLike),
     ];
-    assert_eq!(rt; ranks, [3, 2, 1, 1, 0]);
+    assert_eq!(rt; ranks, [3, 2, 1, 1, 0, 3, 2, 2, 1, 0]);
 }

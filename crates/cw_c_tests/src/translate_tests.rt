@@ -238,7 +238,7 @@ const SAMPLES: [Sample; 15] = [
     Sample {
         text: b") } ; @;",
         mode: Mode::CPart,
-        bytes: b") $\\}$ ;",
+        bytes: b") $\\}{}$\\6\n;",
         scraps: 4,
         productions: None,
     },
@@ -273,7 +273,7 @@ const SAMPLES: [Sample; 15] = [
     Sample {
         text: b"struct s p={.x=1,.y=2};",
         mode: Mode::CPart,
-        bytes: b"\\&{struct} \\|s \\|p${}\\K\\{{.}\\|x\\K\\T{1},\\39{.}\\|y\\K\\T{2}\\};$",
+        bytes: b"\\&{struct} \\&{s} \\|p${}\\K\\{{.}\\|x\\K\\T{1},\\39{.}\\|y\\K\\T{2}\\};$",
         scraps: 16,
         productions: Some(11),
     },

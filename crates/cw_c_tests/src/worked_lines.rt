@@ -5,7 +5,7 @@ ghost use Rattle.cw_scraps.specs.Lines.{IsSoundLine};
 
 use crate::kinds::kind_of;
 use cw_base::{Memory, Span};
-use cw_lex::{Tok, TokKind};
+use cw_lex::{Directive, Tok, TokKind};
 use cw_names::Names;
 use cw_scraps::{ScrapLine, scrap_of};
 use cw_tokens::TokenStore;
@@ -36,6 +36,7 @@ fn add(
         text: byte,
         span: Span { start: 0, end: 0 },
         hash_line: false,
+        directive: Directive::No,
     };
     let leaf = scrap_of(&token, names, store)?;
     line.add(leaf.cat, leaf.list, leaf.left, leaf.right)

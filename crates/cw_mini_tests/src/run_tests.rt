@@ -135,7 +135,7 @@ const ROWS: [Row; 12] = [
             b"section 1",
             b"section 2",
             b"\\|m, 1.",
-            b"\\&{s}, 1.",
+            b"\\|s, 1.",
             b"section 3",
         ],
     },

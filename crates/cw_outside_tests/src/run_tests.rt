@@ -181,7 +181,7 @@ const PARTS: [(Part, Option<[Exit; 3]>, &[u8]); 4] = [
     (
         Part::Lines,
         None,
-        b"This is CWEAVE (profile 3)
+        b"This is CWEAVE (profile 4)
 Writing the index...
 Done.
 ",

@@ -7,7 +7,7 @@ use std::alloc::Global;
 use std::test::Fail;
 
 /// What a run of one section tells before it.
-const BEGINNING: &[u8] = b"[term]This is CWEAVE (profile 3)
+const BEGINNING: &[u8] = b"[term]This is CWEAVE (profile 4)
 Writing the output file...
 [tex] is foo.tex
 [tex]\\input cwebmac
@@ -47,7 +47,7 @@ fn without_index(alloc: Global, section: &[u8]) -> Result<Bytes, Memory> {
 }
 
 /// A text of a C part, what its section prints, and its index.
-const ROWS: [(&[u8], &[u8], &[u8]); 12] = [
+const ROWS: [(&[u8], &[u8], &[u8]); 17] = [
     (
         b"int a=b+c, *d;",
         b"\\Y\\B\\&{int} \\|a${}\\K\\|b+\\|c,{}$ ${}{*}\\|d;$\\par\n",
@@ -70,14 +70,14 @@ const ROWS: [(&[u8], &[u8], &[u8]); 12] = [
 ${}\\}{}$ \\&{bar};\\6
 \\&{bar} \\|y;\\par
 ",
-        b"\\I\\&{bar}, \\[1].\n\\I\\&{foo}, \\[1].\n\\I\\|x, \\[1].\n\\I\\|y, \\[1].\n",
+        b"\\I\\&{bar}, \\[1].\n\\I\\\\{foo}, \\[1].\n\\I\\|x, \\[1].\n\\I\\|y, \\[1].\n",
     ),
     (
         b"if(a)b; /* c */ else d;",
         b"\\Y\\B\\&{if} (\\|a)\\1\\5\\|b;\\C{ c }\\2\\6\n\\&{else}\\1\\5\\|d;\\2\\par\n",
         b"",
     ),
-    (b") } ; @;", b"\\Y\\B) $\\}$ ;\\par\n", b""),
+    (b") } ; @;", b"\\Y\\B) $\\}{}$\\6\n;\\par\n", b""),
     (
         b"a; /* b |x /* c |y| */| */",
         b"\\Y\\B\\|a;\\C{ b \\PB{\\|x\\C{ c \\PB{\\|y} }} }\\par\n",
@@ -87,7 +87,7 @@ ${}\\}{}$ \\&{bar};\\6
     (b"x=a?b:c;", b"\\Y\\B$\\|x\\K\\|a\\?\\|b:\\|c;$\\par\n", b""),
     (
         b"struct s p={.x=1,.y=2};",
-        b"\\Y\\B\\&{struct} \\|s \\|p${}\\K\\{{.}\\|x\\K\\T{1},\\39{.}\\|y\\K\\T{2}\\};$\\par\n",
+        b"\\Y\\B\\&{struct} \\&{s} \\|p${}\\K\\{{.}\\|x\\K\\T{1},\\39{.}\\|y\\K\\T{2}\\};$\\par\n",
         b"\\I\\|p, \\[1].\n",
     ),
     (
@@ -101,6 +101,39 @@ ${}\\}{}$ \\&{bar};\\6
         b"",
     ),
     (b"a.b;", b"\\Y\\B$\\|a.\\|b;$\\par\n", b""),
+    // In the index a tag prints as a name, unless it is a type.
+    (
+        b"struct foo{int x;} *bar;",
+        b"\\Y\\B\\&{struct} \\&{foo} ${}\\{\\1{}$\\6
+\\&{int} \\|x;\\2\\6
+${}\\}{}$ ${}{*}\\\\{bar};$\\par
+",
+        b"\\I\\\\{bar}, \\[1].\n\\I\\\\{foo}, \\[1].\n\\I\\|x, \\[1].\n",
+    ),
+    (
+        b"struct heap *heap;",
+        b"\\Y\\B\\&{struct} \\&{heap} ${}{*}\\\\{heap};$\\par\n",
+        b"\\I\\\\{heap}, \\[1].\n",
+    ),
+    (
+        b"struct foo{int x;}; typedef struct foo bar;",
+        b"\\Y\\B\\&{struct} \\&{foo} ${}\\{\\1{}$\\6
+\\&{int} \\|x;\\2\\6
+${}\\};{}$\\6
+\\&{typedef} \\&{struct} \\&{foo} \\&{bar};\\par
+",
+        b"\\I\\&{bar}, \\[1].\n\\I\\\\{foo}, \\[1].\n\\I\\|x, \\[1].\n",
+    ),
+    (
+        b"struct tm *t; x=tm;",
+        b"\\Y\\B\\&{struct} \\&{tm} ${}{*}\\|t;{}$\\7\n${}\\|x\\K\\\\{tm};$\\par\n",
+        b"\\I\\|t, \\[1].\n\\I\\\\{tm}, 1.\n",
+    ),
+    (
+        b"struct foo *a; enum foo;",
+        b"\\Y\\B\\&{struct} \\&{foo} ${}{*}\\|a;{}$\\6\n\\&{enum} \\&{foo};\\par\n",
+        b"\\I\\|a, \\[1].\n\\I\\\\{foo}, \\[1].\n",
+    ),
 ];
 
 /// What a run over a section of this C part tells.

@@ -37,7 +37,7 @@ Clean",
         name: "version",
         words: &[b"--version"],
         files: &[],
-        told: b"[term]This is CWEAVE (profile 3)
+        told: b"[term]This is CWEAVE (profile 4)
 Clean",
     },
     Run {
@@ -57,7 +57,7 @@ Clean",
         name: "verbose behind quiet",
         words: &[b"--quiet", b"-x", FOO, b"--verbose"],
         files: &[(b"foo.w", HELLO)],
-        told: b"[term]This is CWEAVE (profile 3)
+        told: b"[term]This is CWEAVE (profile 4)
 Writing the output file...
 [tex] is foo.tex
 [tex]\\input cwebmac
@@ -74,7 +74,7 @@ Clean",
         name: "an unknown word",
         words: &[FOO, b"--quite"],
         files: &[(b"foo.w", HELLO)],
-        told: b"[term]This is CWEAVE (profile 3)
+        told: b"[term]This is CWEAVE (profile 4)
 ! Unknown option --quite
 (That was a fatal error, my friend.)
 Errors",
@@ -91,7 +91,7 @@ Errors",
         name: "an unknown word behind the number of a sample",
         words: &[b"--sample", b"2", b"--x"],
         files: &[],
-        told: b"[term]This is CWEAVE (profile 3)
+        told: b"[term]This is CWEAVE (profile 4)
 ! Unknown option --x
 (That was a fatal error, my friend.)
 Errors",
@@ -100,7 +100,7 @@ Errors",
         name: "an unknown word in place of the number of a sample",
         words: &[b"--sample", b"--help"],
         files: &[],
-        told: b"[term]This is CWEAVE (profile 3)
+        told: b"[term]This is CWEAVE (profile 4)
 ! Unknown option --help
 (That was a fatal error, my friend.)
 Errors",
@@ -113,7 +113,7 @@ const OVERWRITING: [Run; 9] = [
         name: "the web",
         words: &[b"foo.tex"],
         files: &[(b"foo.tex", HELLO)],
-        told: b"[term]This is CWEAVE (profile 3)
+        told: b"[term]This is CWEAVE (profile 4)
 ! Output file would overwrite foo.tex
 (That was a fatal error, my friend.)
 Errors",
@@ -122,7 +122,7 @@ Errors",
         name: "the web as an output word",
         words: &[FOO, b"-", b"foo.w"],
         files: &[(b"foo.w", HELLO)],
-        told: b"[term]This is CWEAVE (profile 3)
+        told: b"[term]This is CWEAVE (profile 4)
 ! Output file would overwrite foo.w
 (That was a fatal error, my friend.)
 Errors",
@@ -131,7 +131,7 @@ Errors",
         name: "an included file",
         words: &[FOO],
         files: &[(b"foo.w", b"@i foo.scn\n"), (b"foo.scn", HELLO)],
-        told: b"[term]This is CWEAVE (profile 3)
+        told: b"[term]This is CWEAVE (profile 4)
 ! Output file would overwrite foo.scn
 (That was a fatal error, my friend.)
 Errors",
@@ -140,7 +140,7 @@ Errors",
         name: "the change file",
         words: &[FOO, b"foo.idx"],
         files: &[(b"foo.w", HELLO), (b"foo.idx", b"")],
-        told: b"[term]This is CWEAVE (profile 3)
+        told: b"[term]This is CWEAVE (profile 4)
 ! Output file would overwrite foo.idx
 (That was a fatal error, my friend.)
 Errors",
@@ -149,7 +149,7 @@ Errors",
         name: "the web by a draft",
         words: &[b"+k", b"a.tex.new", b"-", b"a"],
         files: &[(b"a.tex.new", HELLO)],
-        told: b"[term]This is CWEAVE (profile 3)
+        told: b"[term]This is CWEAVE (profile 4)
 ! Output file would overwrite a.tex.new
 (That was a fatal error, my friend.)
 Errors",
@@ -158,7 +158,7 @@ Errors",
         name: "an included file by the draft of the index",
         words: &[b"+k", FOO],
         files: &[(b"foo.w", b"@i foo.idx.new\n"), (b"foo.idx.new", HELLO)],
-        told: b"[term]This is CWEAVE (profile 3)
+        told: b"[term]This is CWEAVE (profile 4)
 ! Output file would overwrite foo.idx.new
 (That was a fatal error, my friend.)
 Errors",
@@ -181,7 +181,7 @@ Clean",
         name: "the TeX file by the index",
         words: &[FOO, b"-", b"a.idx"],
         files: &[(b"foo.w", HELLO)],
-        told: b"[term]This is CWEAVE (profile 3)
+        told: b"[term]This is CWEAVE (profile 4)
 ! Output file would overwrite a.idx
 (That was a fatal error, my friend.)
 Errors",

@@ -44,7 +44,7 @@ Clean",
                 (b"f10", b"@i f11\n@ Deep.\n"),
                 (b"f11", b"Too deep.\n"),
             ],
-            told: b"[term]This is CWEAVE (profile 3)
+            told: b"[term]This is CWEAVE (profile 4)
 ! Too many nested includes (l. 1 of f10)
 Writing the output file...
 [tex] is foo.tex
@@ -71,7 +71,7 @@ Errors",
             name: "a failing put",
             words: &[FOO],
             files: &[(b"foo.w", HELLO)],
-            told: b"[term]This is CWEAVE (profile 3)
+            told: b"[term]This is CWEAVE (profile 4)
 Writing the output file...
 [tex] is foo.tex
 [tex]\\input cwebmac
@@ -86,7 +86,7 @@ Fault",
             name: "a failing read",
             words: &[FOO],
             files: &[(b"foo.w", HELLO)],
-            told: b"[term]This is CWEAVE (profile 3)\nFault",
+            told: b"[term]This is CWEAVE (profile 4)\nFault",
         },
         fails_at: Some(3),
         calls: 3,

@@ -76,7 +76,7 @@ if (a>38) { b+=38; c(38,a); } else while (b) b--;
 ";
 
 /// What its run with the words `-e +s foo` tells.
-pub(crate) const TOLD: &[u8] = b"[term]This is CWEAVE (profile 3)
+pub(crate) const TOLD: &[u8] = b"[term]This is CWEAVE (profile 4)
 ! Never used: <Step 6.>
 ! Never used: <Step 18.>
 ! Never used: <Step 26.>
@@ -376,14 +376,14 @@ ${}\\|c(\\T{38},\\39\\|a);{}$\\6
 \\I\\\\{limit11}, \\[11].
 \\I\\\\{limit21}, \\[21].
 \\I\\\\{limit31}, \\[31].
-\\I\\&{node12}, \\[12].
-\\I\\&{node16}, \\[16].
-\\I\\&{node24}, \\[24].
-\\I\\&{node28}, \\[28].
-\\I\\&{node32}, \\[32].
-\\I\\&{node36}, \\[36].
-\\I\\&{node4}, \\[4].
-\\I\\&{node8}, \\[8].
+\\I\\\\{node12}, \\[12].
+\\I\\\\{node16}, \\[16].
+\\I\\\\{node24}, \\[24].
+\\I\\\\{node28}, \\[28].
+\\I\\\\{node32}, \\[32].
+\\I\\\\{node36}, \\[36].
+\\I\\\\{node4}, \\[4].
+\\I\\\\{node8}, \\[8].
 \\I\\&{pair12}, \\[12].
 \\I\\&{pair16}, \\[16].
 \\I\\&{pair24}, \\[24].

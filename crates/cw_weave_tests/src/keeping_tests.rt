@@ -32,7 +32,7 @@ const SHORTER: &[u8] = b"\\input cwebmac
 \\end";
 
 /// What the run tells before it has compared the TeX file with the old one.
-const DRAFTED: &[u8] = b"[term]This is CWEAVE (profile 3)
+const DRAFTED: &[u8] = b"[term]This is CWEAVE (profile 4)
 Writing the output file...
 [tex] is drafted for foo.tex
 [tex]\\input cwebmac

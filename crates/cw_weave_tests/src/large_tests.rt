@@ -16,7 +16,7 @@ struct Large {
 /// 63 letters, as a line.
 const LINE: &[u8] = b"aaaaaaaaaaaaaaaaaaaaaaaaaaaaaaaaaaaaaaaaaaaaaaaaaaaaaaaaaaaaaaa\n";
 
-const CLEAN: &[u8] = b"This is CWEAVE (profile 3)
+const CLEAN: &[u8] = b"This is CWEAVE (profile 4)
 Writing the output file...
 Writing the index...
 Done.
@@ -48,7 +48,7 @@ const DEEP: [Large; 3] = [
             (b"| */", 21),
             (b"\n", 1),
         ],
-        printed: b"This is CWEAVE (profile 3)
+        printed: b"This is CWEAVE (profile 4)
 ! C text is nested too deeply (l. 1 of foo.w)
 ! C text is nested too deeply (l. 1 of foo.w)
 Writing the output file...
@@ -61,7 +61,7 @@ Errors",
         name: "too long",
         words: &[FOO],
         web: &[(b"a", 8_388_609)],
-        printed: b"This is CWEAVE (profile 3)
+        printed: b"This is CWEAVE (profile 4)
 ! Input is longer than 8388608 bytes
 (That was a fatal error, my friend.)
 Errors",
@@ -72,7 +72,7 @@ const STATEMENTS: Large = Large {
     name: "many statements on one line",
     words: &[b"-x", b"+s", FOO],
     web: &[(b"@ @c ", 1), (b"a;", 500_000), (b"\n", 1)],
-    printed: b"This is CWEAVE (profile 3)
+    printed: b"This is CWEAVE (profile 4)
 Writing the output file...
 Done.
 sections 1

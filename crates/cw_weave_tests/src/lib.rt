@@ -41,6 +41,8 @@ mod scanning_tests;
 #[cfg(test)]
 mod section_tests;
 #[cfg(test)]
+mod short_parts;
+#[cfg(test)]
 mod short_text_tests;
 #[cfg(test)]
 mod small_section_tests;

@@ -47,7 +47,7 @@ const RUNS: [Run; 9] = [
             (b"foo.w", CHANGED),
             (b"foo.ch", b"@x\n@c a;\nc;\n@y\n@c z;\n@z\n"),
         ],
-        told: b"[term]This is CWEAVE (profile 3)
+        told: b"[term]This is CWEAVE (profile 4)
 ! 1 of the preceding lines did not match (l. 4 of foo.ch)
 Writing the output file...
 [tex] is foo.tex
@@ -70,7 +70,7 @@ Errors",
         name: "an ended change",
         words: &[FOO, FOO],
         files: &[(b"foo.w", CHANGED), (b"foo.ch", b"@x\n@c a;\n")],
-        told: b"[term]This is CWEAVE (profile 3)
+        told: b"[term]This is CWEAVE (profile 4)
 ! Change file ended before @y (l. 2 of foo.ch)
 Writing the output file...
 [tex] is foo.tex
@@ -93,7 +93,7 @@ Errors",
         name: "no change file",
         words: &[FOO, b"bar"],
         files: &[(b"foo.w", CHANGED)],
-        told: b"[term]This is CWEAVE (profile 3)
+        told: b"[term]This is CWEAVE (profile 4)
 ! Cannot open change file bar
 (That was a fatal error, my friend.)
 Errors",
@@ -115,7 +115,7 @@ Errors",
             (b"f10", b"@ Deep.\n"),
             (b"f11", b"Too deep.\n"),
         ],
-        told: b"[term]This is CWEAVE (profile 3)
+        told: b"[term]This is CWEAVE (profile 4)
 Writing the output file...
 [tex] is foo.tex
 [tex]\\input cwebmac
@@ -164,7 +164,7 @@ f
 ",
             ),
         ],
-        told: b"[term]This is CWEAVE (profile 3)
+        told: b"[term]This is CWEAVE (profile 4)
 ! Where is the matching @x? (l. 1 of foo.ch)
 ! No old line in this change (l. 3 of foo.ch)
 ! Cannot open include file (l. 1 of foo.w)
@@ -195,7 +195,7 @@ Errors",
         name: "new lines without an end",
         words: &[FOO, FOO],
         files: &[(b"foo.w", b"@ One.\na\n"), (b"foo.ch", b"@x\na\n@y\nnew\n")],
-        told: b"[term]This is CWEAVE (profile 3)
+        told: b"[term]This is CWEAVE (profile 4)
 ! Change file ended before @z (l. 4 of foo.ch)
 Writing the output file...
 [tex] is foo.tex
@@ -218,7 +218,7 @@ Errors",
         name: "a change without new lines that ends too soon",
         words: &[FOO, FOO],
         files: &[(b"foo.w", CHANGED), (b"foo.ch", b"@x\n@c a;\n@y\n")],
-        told: b"[term]This is CWEAVE (profile 3)
+        told: b"[term]This is CWEAVE (profile 4)
 ! Change file ended before @z (l. 3 of foo.ch)
 Writing the output file...
 [tex] is foo.tex
@@ -241,7 +241,7 @@ Errors",
         name: "a change that does not match and ends too soon",
         words: &[FOO, FOO],
         files: &[(b"foo.w", CHANGED), (b"foo.ch", b"@x\n@c a;\nc;\n@y\n")],
-        told: b"[term]This is CWEAVE (profile 3)
+        told: b"[term]This is CWEAVE (profile 4)
 ! 1 of the preceding lines did not match (l. 4 of foo.ch)
 ! Change file ended before @z (l. 4 of foo.ch)
 Writing the output file...
@@ -265,7 +265,7 @@ Errors",
         name: "each number of a changed section",
         words: &[FOO, FOO],
         files: &[(b"foo.w", MARKED_WEB), (b"foo.ch", MARKED_CHANGE)],
-        told: b"[term]This is CWEAVE (profile 3)
+        told: b"[term]This is CWEAVE (profile 4)
 Writing the output file...
 [tex] is foo.tex
 [tex]\\input cwebmac

@@ -18,7 +18,7 @@ const RUNS: [Run; 3] = [
             ),
             (b"foo.ch", CHANGE),
         ],
-        told: b"[term]This is CWEAVE (profile 3)
+        told: b"[term]This is CWEAVE (profile 4)
 Writing the output file...
 [tex] is foo.tex
 [tex]\\input cwebmac
@@ -45,7 +45,7 @@ Clean",
             b"foo.w",
             b"@ @d f(a,b) a+b\n@f x int\n@c @<A |1| b |2| c@>;\n@ @<A |1| b |2| c@>=\na_b=`;\n",
         )],
-        told: b"[term]This is CWEAVE (profile 3)
+        told: b"[term]This is CWEAVE (profile 4)
 Writing the output file...
 [tex] is foo.tex
 [tex]\\input cwebmac
@@ -72,13 +72,13 @@ Clean",
         name: "a number sign a backslash and an open brace",
         words: &[b"-x", FOO],
         files: &[(b"foo.w", b"@ @c a#b\\; /* {x */\n")],
-        told: b"[term]This is CWEAVE (profile 3)
+        told: b"[term]This is CWEAVE (profile 4)
 ! Missing } in comment (l. 1 of foo.w)
 Writing the output file...
 [tex] is foo.tex
 [tex]\\input cwebmac
 \\M{1}
-\\Y\\B$\\|a\\#\\|b\\.{\\\\};{}$\\C{ {x }}\\par
+\\Y\\B$\\|a\\#\\|b{}$ \\.{\\\\};\\C{ {x }}\\par
 \\fi
 
 \\end

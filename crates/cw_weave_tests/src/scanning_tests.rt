@@ -17,7 +17,7 @@ Errors";
 fn expect_notes(rt: &impl Abort, alloc: Global, web: &[u8], notes: &[u8]) -> Result<(), Fail> {
     let seen = terminal_told(alloc, &[FOO], web)?;
     let pieces: [(&[u8], usize); 3] = [
-        (b"This is CWEAVE (profile 3)\n", 1),
+        (b"This is CWEAVE (profile 4)\n", 1),
         (notes, 1),
         (ENDING, 1),
     ];

@@ -11,7 +11,7 @@ const ROWS: [(&[u8], &[u8], &[u8], &[u8]); 8] = [
     // Two names begin with the prefix.
     (
         b"@ @<Read a@>= x;\n@ @<Read b@>= y;\n@ @c @<Read...@>;\n",
-        b"[term]This is CWEAVE (profile 3)
+        b"[term]This is CWEAVE (profile 4)
 ! Ambiguous prefix (l. 3 of foo.w)
 ! Never used: <Read b>
 Writing the output file...
@@ -50,7 +50,7 @@ Errors",
     // A name gets the category of another.
     (
         b"@ @f foo int\n@c foo x;\n",
-        b"[term]This is CWEAVE (profile 3)
+        b"[term]This is CWEAVE (profile 4)
 Writing the output file...
 [tex] is foo.tex
 [tex]\\input cwebmac
@@ -76,7 +76,7 @@ Clean",
     // Names that print as macros of TeX, one of them defined.
     (
         b"@ @f p_q TeX\n@d NULL 0\n@c a=p_q;\n",
-        b"[term]This is CWEAVE (profile 3)
+        b"[term]This is CWEAVE (profile 4)
 Writing the output file...
 [tex] is foo.tex
 [tex]\\input cwebmac
@@ -103,7 +103,7 @@ Clean",
     // A name begins another.
     (
         b"@ @<Read@>= x;\n@ @<Read b@>= y;\n",
-        b"[term]This is CWEAVE (profile 3)
+        b"[term]This is CWEAVE (profile 4)
 ! Name conflicts with another (l. 2 of foo.w)
 ! Never used: <Read>
 Writing the output file...
@@ -140,7 +140,7 @@ Then @(out@>.
 @ @<Cited@>= z;
 @ @(out@>= w;
 ",
-        b"[term]This is CWEAVE (profile 3)
+        b"[term]This is CWEAVE (profile 4)
 ! Never used: <Cited>
 Writing the output file...
 [tex] is foo.tex
@@ -184,7 +184,7 @@ Clean",
     // Three definitions in a row, and one that prints nothing.
     (
         b"@ Text.\n@d a 1\n@f foo int\n@s bar int\n@d b 2\n",
-        b"[term]This is CWEAVE (profile 3)
+        b"[term]This is CWEAVE (profile 4)
 Writing the output file...
 [tex] is foo.tex
 [tex]\\input cwebmac
@@ -219,7 +219,7 @@ Clean",
 @ And @<N@>.
 @ Last @<N@>.
 ",
-        b"[term]This is CWEAVE (profile 3)
+        b"[term]This is CWEAVE (profile 4)
 Writing the output file...
 [tex] is foo.tex
 [tex]\\input cwebmac
@@ -273,7 +273,7 @@ Clean",
 @*1 aaaaaaaaaaaaaaaaaaaaaaaaaaaaaaaaaaaaaaaaaaaaaaaaaaaaaaaaaaaaaaaaaaaaaaaaaaaaaaaa.
 @c @<Print...@>;
 ",
-        b"[term]This is CWEAVE (profile 3)
+        b"[term]This is CWEAVE (profile 4)
 Writing the output file...
 [tex] is foo.tex
 [tex]\\input cwebmac

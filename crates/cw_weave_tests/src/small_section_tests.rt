@@ -13,7 +13,7 @@ const RUNS: [Run; 7] = [
         name: "a declaration with its index",
         words: &[FOO],
         files: &[(b"foo.w", b"@ @c int a=b+c, *d;\n")],
-        told: b"[term]This is CWEAVE (profile 3)
+        told: b"[term]This is CWEAVE (profile 4)
 Writing the output file...
 [tex] is foo.tex
 [tex]\\input cwebmac
@@ -41,7 +41,7 @@ Clean",
             b"@ @c aaaaaaaaaaaaaaaaaaaaaaaaaaaaaaaaaaaaaaaaaaaaaaaaaaaaaaaaaaaaaaaaaaaaaaaaaaaaaaaaaaaaaaaaaaaaaaaaaaaa\
 aaaaaaaaaaaaaaaaaaaaaaaaaaaaaaaaaaaaaaaaaaaaaaaaaaaaaaaaaaaaaaaaaaaaaaaaaaaaaaaaaaaaaaaaaaaaaaaaaaaa\n",
         )],
-        told: b"[term]This is CWEAVE (profile 3)
+        told: b"[term]This is CWEAVE (profile 4)
 Writing the output file...
 [tex] is foo.tex
 [tex]\\input cwebmac
@@ -63,7 +63,7 @@ Clean",
         name: "statistics with an index",
         words: &[b"+s", FOO],
         files: &[(b"foo.w", b"@ @c int i;\n@ @c i=i+1;\n")],
-        told: b"[term]This is CWEAVE (profile 3)
+        told: b"[term]This is CWEAVE (profile 4)
 Writing the output file...
 [tex] is foo.tex
 [tex]\\input cwebmac
@@ -111,7 +111,7 @@ int main(void)
 printf(\"Hello\\n\"); /* |i| is unused */
 ",
         )],
-        told: b"[term]This is CWEAVE (profile 3)
+        told: b"[term]This is CWEAVE (profile 4)
 Writing the output file...
 [tex] is foo.tex
 [tex]\\input cwebmac
@@ -156,7 +156,7 @@ Clean",
             b"foo.w",
             b"@ @<Read@>= x;\n@ @<Read b@>= y;\n@ @f foo int\n@c foo x; /* b |x /* c |y| */| */\n",
         )],
-        told: b"[term]This is CWEAVE (profile 3)
+        told: b"[term]This is CWEAVE (profile 4)
 ! Name conflicts with another (l. 2 of foo.w)
 ! Never used: <Read>
 Writing the output file...

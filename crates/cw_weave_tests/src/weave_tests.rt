@@ -9,7 +9,7 @@ const RUNS: [Run; 8] = [
         name: "a section",
         words: &[FOO],
         files: &[(b"foo.w", HELLO)],
-        told: b"[term]This is CWEAVE (profile 3)
+        told: b"[term]This is CWEAVE (profile 4)
 Writing the output file...
 [tex] is foo.tex
 [tex]\\input cwebmac
@@ -31,7 +31,7 @@ Clean",
         name: "an empty web",
         words: &[FOO],
         files: &[(b"foo.w", b"")],
-        told: b"[term]This is CWEAVE (profile 3)
+        told: b"[term]This is CWEAVE (profile 4)
 Writing the output file...
 [tex] is foo.tex
 [tex]\\input cwebmac
@@ -49,7 +49,7 @@ Clean",
         name: "no web",
         words: &[FOO],
         files: &[],
-        told: b"[term]This is CWEAVE (profile 3)
+        told: b"[term]This is CWEAVE (profile 4)
 ! Cannot open web file foo
 (That was a fatal error, my friend.)
 Errors",
@@ -58,7 +58,7 @@ Errors",
         name: "a plain statement",
         words: &[FOO],
         files: &[(b"foo.w", b"@ @c i=i+1;\n")],
-        told: b"[term]This is CWEAVE (profile 3)
+        told: b"[term]This is CWEAVE (profile 4)
 Writing the output file...
 [tex] is foo.tex
 [tex]\\input cwebmac
@@ -80,7 +80,7 @@ Clean",
         name: "two statements",
         words: &[FOO],
         files: &[(b"foo.w", b"@ @c a=(b); c;\n")],
-        told: b"[term]This is CWEAVE (profile 3)
+        told: b"[term]This is CWEAVE (profile 4)
 Writing the output file...
 [tex] is foo.tex
 [tex]\\input cwebmac
@@ -103,7 +103,7 @@ Clean",
         name: "codes and a starred section",
         words: &[FOO],
         files: &[(b"foo.w", b"a@@b@q x@>c\n@* T. @t x@>y\n")],
-        told: b"[term]This is CWEAVE (profile 3)
+        told: b"[term]This is CWEAVE (profile 4)
 ! You can't do that in TeX text (l. 2 of foo.w)
 Writing the output file...
 [tex] is foo.tex
@@ -176,7 +176,7 @@ const REFUSED: [&[&[u8]]; 7] = [
     &[b"--sample", b"3", b"4"],
 ];
 
-const USAGE: &[u8] = b"[term]This is CWEAVE (profile 3)
+const USAGE: &[u8] = b"[term]This is CWEAVE (profile 4)
 ! Usage: cweave [options] webfile[.w] [{changefile[.ch]|-} [outfile[.tex]]]
 (That was a fatal error, my friend.)
 Errors";
