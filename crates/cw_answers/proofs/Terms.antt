@@ -4,7 +4,8 @@ pub use Rattle.std.proofs.Common.{subst, ◌∙◌, Some, ◌+◌, ◌≤◌, �
 pub use Rattle.std.proofs.lemmas.Grind.{common_steps}
 pub use Rattle.std.proofs.lemmas.List.{append_assoc, map-append, drop-map, length-map}
 pub use Rattle.std.proofs.lemmas.List.Elements.{All-push, All-tail, All-nil, All-cons}
-pub use Rattle.cw_answers.specs.Kept.{IsWithin, answers_at, BeginWith, StandsIn, answer_at}
-pub use Rattle.cw_answers.specs.Reading.{Goes, GoesByNote, IsReading, Stand, Stays, all_of, IsReadUp, Reading}
+pub use Rattle.cw_answers.specs.model.Kept.{IsWithin, answers_at, BeginWith, StandsIn, answer_at}
+pub use Rattle.cw_answers.specs.Reading.{Stays, IsReadUp, Reading}
+pub use Rattle.cw_answers.specs.model.Reading.{Goes, GoesByNote, IsReading, Stand, all_of}
 pub use Rattle.cw_answers.specs.declared.kept.Kept.{Kept}
 pub use Rattle.cw_rules.specs.Answers.{Answer, Note, Token, Begin, Finish, Seen, Gives, seen}

@@ -1,3 +1,3 @@
 -- The definitions of kept answers: what each stands for over the text, and scans that keep them.
-pub mod Kept
 pub mod Reading
+pub mod model

@@ -2,7 +2,7 @@
 ghost use Rattle.std.specs.Prelude.{◌≡◌, ◌≤◌, ◌<◌, ◌+◌, [], All, drop, length, OnErr, OnOk};
 ghost use Rattle.cw_rules.specs.Answers.{Gives};
 ghost use Rattle.cw_lex.specs.Lexing.{tokens_of};
-ghost use Rattle.cw_answers.specs.Kept.{BeginWith, IsWithin, answers_at};
+ghost use Rattle.cw_answers.specs.model.Kept.{BeginWith, IsWithin, answers_at};
 
 use crate::kept::{Kept, NotePlace, Stretch};
 use cw_base::{Memory, Span};
@@ -21,7 +21,7 @@ impl<'a> Model for Answers<'a> {
     ghost use Rattle.std.specs.Prelude.{List, length};
     ghost use Rattle.std.specs.List.{All};
     ghost use Rattle.cw_rules.specs.Answers.{Answer};
-    ghost use Rattle.cw_answers.specs.Kept.{answers_at, IsWithin};
+    ghost use Rattle.cw_answers.specs.model.Kept.{answers_at, IsWithin};
 
     ghost Value = { List Answer };
 

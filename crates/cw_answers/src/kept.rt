@@ -1,7 +1,7 @@
 //! An answer of the scanner, without the bytes of the text.
 ghost use Rattle.std.specs.Prelude.{◌≡◌, ◌<◌, ◌^◌, ◌∷◌, List, length, IfOk};
 ghost use Rattle.cw_rules.specs.Answers.{Answer, Gives, seen};
-ghost use Rattle.cw_answers.specs.Kept.{seen_at, answer_at, IsWithin, LiesIn, StandsIn};
+ghost use Rattle.cw_answers.specs.model.Kept.{seen_at, answer_at, IsWithin, LiesIn, StandsIn};
 
 use cw_base::{Memory, NoteKind, Span};
 use cw_lex::{Directive, Lexed, Tok, TokKind};

@@ -2,7 +2,8 @@
 ghost use Rattle.std.specs.Prelude.{◌≡◌, ◌≤◌, ◌<◌, ◌^◌, [], length, IfOk, OnErr, None, Some};
 ghost use Rattle.cw_rules.specs.Answers.{Gives};
 ghost use Rattle.cw_lex.specs.Lexing.{tokens_of};
-ghost use Rattle.cw_answers.specs.Reading.{Goes, GoesByNote, Stays};
+ghost use Rattle.cw_answers.specs.Reading.{Stays};
+ghost use Rattle.cw_answers.specs.model.Reading.{Goes, GoesByNote};
 
 use crate::answers::Answers;
 use crate::kept::{Kept, NotePlace, Stretch};
@@ -52,8 +53,9 @@ pub struct Reader<'a> {
 
 impl<'a> Model for Reader<'a> {
     ghost use Rattle.std.specs.Prelude.{◌++◌};
-    ghost use Rattle.cw_answers.specs.Kept.{answers_at};
-    ghost use Rattle.cw_answers.specs.Reading.{Reading, IsReading, all_of};
+    ghost use Rattle.cw_answers.specs.model.Kept.{answers_at};
+    ghost use Rattle.cw_answers.specs.Reading.{Reading};
+    ghost use Rattle.cw_answers.specs.model.Reading.{IsReading, all_of};
 
     ghost Value = { Reading };
 

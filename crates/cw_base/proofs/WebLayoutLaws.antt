@@ -4,7 +4,7 @@ use Rattle.cw_base.proofs.Terms.{ap, ◌∙◌, sym, suc, arith, append_assoc, l
 use Rattle.cw_base.proofs.Terms.{drop-drop, take-append-drop, drop_all, drop_more, drop-append-le, take-append-le}
 use Rattle.cw_base.proofs.Terms.{get_or_append_left, get_or_at, drop_at, take_at, nat_tests, LineInfo, text_of}
 use Rattle.cw_base.proofs.Terms.{info_from, infos_of}
-use Rattle.cw_base.specs.WebLayout.{read_line, read_lines, Covers}
+use Rattle.cw_base.specs.model.WebLayout.{read_line, read_lines, Covers}
 
 pub length-read_lines : (text : List ℕ) (infos : List LineInfo) → length (read_lines text infos) ≡ length infos
 length-read_lines text [] = refl

@@ -3,10 +3,9 @@
 pub mod Bytes
 pub mod Category
 pub mod Conditions
-pub mod Exit
 pub mod Flags
 pub mod Notes
 pub mod Text
 pub mod Web
-pub mod WebLaws
-pub mod WebLayout
+pub mod laws
+pub mod model

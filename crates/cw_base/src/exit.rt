@@ -1,6 +1,6 @@
 //! How a run of the program ends, and the status of its process.
 ghost use Rattle.std.specs.Prelude.{◌≡◌};
-ghost use Rattle.cw_base.specs.Exit.{code_of};
+ghost use Rattle.cw_base.specs.model.Exit.{code_of};
 
 /// How a run of the program ends.
 #[derive(Clone, Copy, Debug, PartialEq, Eq)]

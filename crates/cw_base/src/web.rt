@@ -48,7 +48,7 @@ impl Model for Web {
 
     ghost Value = { WebState };
 
-    ghost use Rattle.cw_base.specs.WebLayout.{read_lines, IsLaidOut};
+    ghost use Rattle.cw_base.specs.model.WebLayout.{read_lines, IsLaidOut};
 
     ghost view = { λ w. record {
       lines = read_lines w.text.items w.lines.items;

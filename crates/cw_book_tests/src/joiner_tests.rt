@@ -3,7 +3,7 @@ ghost use Rattle.std.specs.Prelude.{ℕ, List, IsTrue, OnOk};
 ghost use Rattle.std.specs.Bool.{OnTrue};
 ghost use Rattle.cw_base.specs.declared.event.Out.TheVariants.{Tex};
 ghost use Rattle.cw_desk.specs.Meaning.{is_open};
-ghost use Rattle.cw_desk.specs.Mem.{tell};
+ghost use Rattle.cw_desk.specs.model.Mem.{tell};
 ghost use Rattle.cw_lines.specs.Writes.{CanWrite};
 ghost use Rattle.cw_trees.specs.Printing.{Printable};
 ghost use Rattle.cw_join.specs.Standing.{Stands};

@@ -2,7 +2,7 @@
 ghost use Rattle.std.specs.Prelude.{◌≡◌, ◌^◌, ◌<◌, true};
 ghost use Rattle.cw_rules.specs.declared.tokens.TokKind.TheVariants as TokKind;
 ghost use Rattle.cw_scraps.specs.Leaves.{MakesLeaf};
-ghost use Rattle.cw_scraps.specs.Words.{is_word};
+ghost use Rattle.cw_scraps.specs.model.Words.{is_word};
 
 use crate::store_tests::is_flat;
 use cw_base::{Cat, MathMode, Memory, Span};

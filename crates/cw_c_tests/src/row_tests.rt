@@ -3,7 +3,7 @@ ghost use Rattle.std.specs.Prelude.{◌≡◌, ◌<◌, ◌≤◌, true, length,
 ghost use Rattle.cw_table.specs.Fitting.{row_fits};
 ghost use Rattle.cw_table.specs.Productions.{productions};
 ghost use Rattle.cw_scraps.specs.Applying.{row_of};
-ghost use Rattle.cw_scraps.specs.Inserting.{entry_cats};
+ghost use Rattle.cw_scraps.specs.model.Inserting.{entry_cats};
 ghost use Rattle.cw_scraps.specs.Leaves.{MakesLeaf};
 ghost use Rattle.cw_scraps.specs.Lines.{IsSoundLine};
 

@@ -2,7 +2,8 @@
 use Rattle.cw_desk.proofs.Terms.{◌≡◌, ℕ, ◌==◌, List, [], if◌then◌else◌, sym, ap, subst, ◌∙◌, MemState, called, counted}
 use Rattle.cw_desk.proofs.Terms.{tell as tell_mem, Told}
 use Rattle.std.specs.List.{list_any}
-use Rattle.cw_desk.specs.Quiet.{QuietState, as_mem, as_quiet, tell}
+use Rattle.cw_desk.specs.Quiet.{QuietState, as_quiet}
+use Rattle.cw_desk.specs.model.Quiet.{as_mem, tell}
 
 -- No call on it is to fail, and none has failed.
 pub record IsQuiet (d : MemState) : Type 0 where

@@ -1,23 +1,18 @@
 -- The definitions of desks: what each kind tells, what calls answer and change, and how a journal grows.
 pub mod Answer
 pub mod Batch
-pub mod BatchLaws
 pub mod Calls
-pub mod Count
 pub mod Drafts
-pub mod File
 pub mod Journal
-pub mod JournalLaws
 pub mod Make
 pub mod Meaning
-pub mod MeaningLaws
 pub mod Mem
 pub mod Open
-pub mod Places
 pub mod Put
 pub mod Quiet
 pub mod Read
 pub mod Reader
-pub mod System
 pub mod Told
 pub mod Trail
+pub mod laws
+pub mod model

@@ -1,7 +1,7 @@
 //! Where the file of a name is: at its own place, in a folder in which files are looked for, or behind a link.
 ghost use Rattle.std.specs.Prelude.{◌≡◌, [], true, IfOk, IfSome};
 ghost use Rattle.cw_desk.specs.Drafts.{draft_name};
-ghost use Rattle.cw_desk.specs.Places.{place_in, says_where};
+ghost use Rattle.cw_desk.specs.model.Places.{place_in, says_where};
 
 use crate::environment::variable;
 use cw_base::{Bytes, Memory};

@@ -5,8 +5,8 @@ ghost use Rattle.std.specs.Prelude.{◌≡◌, ◌<◌, length};
 ghost use Rattle.cw_desk.specs.Open.{OpensNext};
 ghost use Rattle.cw_desk.specs.Put.{TakesSome};
 ghost use Rattle.cw_desk.specs.Read.{ReadsSome};
-ghost use Rattle.cw_desk.specs.System.{after_draft, after_keep, after_make, after_open, after_put, after_read};
-ghost use Rattle.cw_desk.specs.System.{after_replace, untouched};
+ghost use Rattle.cw_desk.specs.model.System.{after_draft, after_keep, after_make, after_open, after_put, after_read};
+ghost use Rattle.cw_desk.specs.model.System.{after_replace, untouched};
 
 mod calls;
 mod inputs;
@@ -33,7 +33,7 @@ pub(crate) struct System {
 
 impl Model for System {
     ghost use Rattle.std.specs.Prelude.{is_some, vec_len};
-    ghost use Rattle.cw_desk.specs.System.{SystemState};
+    ghost use Rattle.cw_desk.specs.model.System.{SystemState};
 
     ghost Value = { SystemState };
 

@@ -4,7 +4,7 @@ use Rattle.cw_index.proofs.Terms.{Option, Some, None, map, get_or, arith, slice_
 use Rattle.cw_index.proofs.Terms.{Less, Equal, Greater, on, alike_right, tied_itself, SecName, Listed, Standing}
 use Rattle.cw_index.proofs.Terms.{sorted_on, StandingName, has_reference, kept_stand, stand_by, stand_cmp, Holds}
 use Rattle.cw_index.proofs.Terms.{HoldsName, IsSorting, stand_of, stands_of}
-use Rattle.cw_index.specs.{declared.standing.Sorting.Sorting, StandingLaws.stand_cmp-total}
+use Rattle.cw_index.specs.{declared.standing.Sorting.Sorting, laws.StandingLaws.stand_cmp-total}
 use Rattle.cw_index.proofs.RowLaws.{inserted}
 
 holds-same : {K : Type 0} (o : K → K → Ordering) (x : K) (keys : List K) → Holds o x keys → insert_key o keys x ≡ keys

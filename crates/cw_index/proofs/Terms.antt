@@ -19,29 +19,29 @@ pub use Rattle.std.specs.declared.cmp.Ordering.TheVariants.{Less, Greater, Equal
 pub use Rattle.cw_base.proofs.TestLaws.{not-both, or-false}
 pub use Rattle.cw_base.specs.declared.category.Cat.TheVariants.{Exp, RawInt}
 pub use Rattle.cw_desk.specs.Told.{Told}
-pub use Rattle.cw_index.specs.{CollationLaws.entry_cmp-total, ListForms.list_setting, Sorted.sorted_on, Sorted.sorted}
+pub use Rattle.cw_index.specs.{laws.CollationLaws.entry_cmp-total, model.ListForms.list_setting, Sorted.sorted_on, Sorted.sorted}
 pub use Rattle.cw_index.specs.{declared.heading.Heading.Heading, declared.standing.Listed.Listed}
 pub use Rattle.cw_index.specs.{declared.standing.Standing.Standing}
 pub use Rattle.cw_index.specs.Closing.{change, changed_from, changes_line, printed_changes, closing_lines, last_lines}
 pub use Rattle.cw_index.specs.Collation.{entry_cmp, text_cmp, class_cmp, class_of, classes_cmp, entry_kind_place}
-pub use Rattle.cw_index.specs.Headings.{IsNamed, entered, entered_by, entry_of, row_of}
+pub use Rattle.cw_index.specs.model.Headings.{IsNamed, entered, entered_by, entry_of, row_of}
 pub use Rattle.cw_index.specs.Index.{entry_bytes, index_bytes, section_bytes, row_bytes, number_bytes}
 pub use Rattle.cw_index.specs.Mentions.{is_listed, listed, Row, has_sections, row, row_cmp, rows_from, with_row}
 pub use Rattle.cw_index.specs.Mentions.{needs_underline, index_rows}
 pub use Rattle.cw_index.specs.NameList.{IsWholeName, name_span, all_listed, listed_done, name_ending, use_notes}
 pub use Rattle.cw_index.specs.Standing.{StandingName, named_stands, stand_at, stand_cmp, kept_stand, stand_by}
 pub use Rattle.cw_index.specs.Standing.{has_reference, listed_names}
-pub use Rattle.cw_index.specs.StandingForms.{stand_of, stands_of, Holds, HoldsName, IsSorting}
+pub use Rattle.cw_index.specs.model.StandingForms.{stand_of, stands_of, Holds, HoldsName, IsSorting}
 pub use Rattle.cw_join.specs.Tokens.{word_at}
 pub use Rattle.cw_lex.proofs.Covering.{drop-on, drop-part}
 pub use Rattle.cw_lex.proofs.TexTexts.{name-plain, all-taken, or-notes, name-kind}
 pub use Rattle.cw_lex.specs.Lexing.{still_fresh, answers, tokens_of, joined, fresh_at, last_at}
 pub use Rattle.cw_lex.specs.Limbo.{is_name_kind}
 pub use Rattle.cw_lines.specs.{Sheets.Prints, Sheets.IsSameSheet, declared.put_error.PutError.PutError}
-pub use Rattle.cw_lines.specs.SheetLaws.{prints-bytes, prints-none, prints-stop, prints-then, same-sheet, same-then}
-pub use Rattle.cw_lines.specs.SheetLaws.{prints-failing, prints-longer, prints-nothing}
-pub use Rattle.cw_lines.specs.WritesLaws.{puts-stop, can-after, puts-bytes, puts-longer, puts-then, puts-failing}
-pub use Rattle.cw_names.specs.{MentionLaws.sections-at, MentionLaws.sections-ascending}
+pub use Rattle.cw_lines.specs.laws.SheetLaws.{prints-bytes, prints-none, prints-stop, prints-then, same-sheet, same-then}
+pub use Rattle.cw_lines.specs.laws.SheetLaws.{prints-failing, prints-longer, prints-nothing}
+pub use Rattle.cw_lines.specs.laws.WritesLaws.{puts-stop, can-after, puts-bytes, puts-longer, puts-then, puts-failing}
+pub use Rattle.cw_names.specs.{laws.MentionLaws.sections-at, laws.MentionLaws.sections-ascending}
 pub use Rattle.cw_names.specs.{declared.entry.EntryKind.EntryKind, declared.entry.NameId.NameId}
 pub use Rattle.cw_names.specs.{declared.xrefs.Occurrence.Occurrence, declared.xrefs.SectionRef.SectionRef}
 pub use Rattle.cw_names.specs.Mentions.{any_in, mention_of, mentions, AreAscending, above_all}
@@ -53,7 +53,7 @@ pub use Rattle.cw_part.proofs.WovenLaws.{weaves-stopped, weaving-begun, weaving-
 pub use Rattle.cw_part.proofs.WovenLaws.{weaving-next, weaving-ended, weaving-stopped, weaving-wanting}
 pub use Rattle.cw_phase1.specs.declared.sections.Section.{Section}
 pub use Rattle.cw_print.specs.Walk.{section_number}
-pub use Rattle.cw_rules.specs.{Apart.found_apart, Apart.in_text_apart, declared.codes.Code.Code}
+pub use Rattle.cw_rules.specs.{model.Apart.found_apart, model.Apart.in_text_apart, declared.codes.Code.Code}
 pub use Rattle.cw_rules.specs.{declared.tokens.TokKind.TokKind}
 pub use Rattle.cw_rules.specs.Answers.{Answer, Token, Begin, Finish, Note, Where, Found, Seen, has_sign, note_answers}
 pub use Rattle.cw_rules.specs.Codes.{code_of, code_at, is_section, begins_section}

@@ -1,16 +1,13 @@
 -- The definitions of the index, of the section list and of the closing lines, and of the order of entries.
 pub mod Collation
-pub mod CollationLaws
 pub mod Completeness
 pub mod Sorted
 pub mod Mentions
 pub mod Index
 pub mod WordLaws
-pub mod Headings
 pub mod Closing
 pub mod Standing
-pub mod StandingForms
-pub mod StandingLaws
 pub mod NameList
-pub mod ListForms
 pub mod WholeNames
+pub mod laws
+pub mod model

@@ -2,7 +2,7 @@
 ghost use Rattle.std.specs.Prelude.{◌≡◌, ◌<◌, Some, length, slice_get};
 ghost use Rattle.cw_names.specs.Names.{Entry};
 ghost use Rattle.cw_index.specs.Collation.{class_of, class_cmp, classes_cmp, entry_cmp, entry_kind_place, text_cmp};
-ghost use Rattle.cw_index.specs.Headings.{collated_cmp};
+ghost use Rattle.cw_index.specs.model.Headings.{collated_cmp};
 
 use cw_names::{EntryKind, NameId, Names};
 use std::cmp::Ordering;

@@ -3,8 +3,8 @@ ghost use Rattle.std.specs.Prelude.{refl};
 ghost use Rattle.std.specs.Cmp;
 ghost use Rattle.std.specs.Ordering.{as_partial_cmp, eq_by_cmp, on};
 ghost use Rattle.cw_index.specs.Collation.{entry_cmp};
-ghost use Rattle.cw_index.specs.CollationLaws.{entry_cmp-total};
-ghost use Rattle.cw_index.specs.Headings.{entry_of};
+ghost use Rattle.cw_index.specs.laws.CollationLaws.{entry_cmp-total};
+ghost use Rattle.cw_index.specs.model.Headings.{entry_of};
 
 use crate::collation::Collated;
 use cw_base::Cat;

@@ -1,7 +1,7 @@
 //! The headings of a book's index, sorted.
 ghost use Rattle.std.specs.Prelude.{◌≡◌, ◌<◌, All, IfOk, List, OnOk, Some, length, map, slice_get};
 ghost use Rattle.cw_names.specs.Names.{Entry};
-ghost use Rattle.cw_index.specs.Headings.{IsNamed, entered, row_of};
+ghost use Rattle.cw_index.specs.model.Headings.{IsNamed, entered, row_of};
 ghost use Rattle.cw_index.specs.Mentions.{has_sections, index_rows, is_ident, is_listed, needs_underline, row};
 
 use crate::collation::Collated;

@@ -9,7 +9,7 @@ ghost use Rattle.cw_print.specs.Sources.{is_changed};
 ghost use Rattle.cw_print.specs.Walk.{section_number};
 ghost use Rattle.cw_table.specs.Sound.{is_exp};
 ghost use Rattle.cw_trees.specs.Printing.{ident_bytes, reserved_bytes};
-ghost use Rattle.cw_index.specs.Headings.{IsNamed, entry_of, row_of};
+ghost use Rattle.cw_index.specs.model.Headings.{IsNamed, entry_of, row_of};
 ghost use Rattle.cw_index.specs.Index.{entry_bytes, formula, index_bytes, number_bytes, row_bytes, section_bytes};
 ghost use Rattle.cw_index.specs.Index.{word_bytes};
 ghost use Rattle.cw_index.specs.Mentions.{listed};
@@ -73,13 +73,15 @@ fn put_formula<D: Desk>(names: &Names, id: NameId, sheet: &mut Sheet<D>) -> Resu
     sheet.put_all(b"$")
 }
 
-fn is_tex_like(category: Cat) -> bool
+/// Whether a name is printed as a formula.
+pub fn is_tex_like(category: Cat) -> bool
     ensures { result ≡ is_tex_like category }
 {
     matches!(category, Cat::TexLike)
 }
 
-fn is_exp(category: Cat) -> bool
+/// Whether a name is an ordinary identifier.
+pub fn is_exp(category: Cat) -> bool
     ensures { result ≡ is_exp category }
 {
     matches!(category, Cat::Exp)

@@ -14,7 +14,7 @@ mod whole;
 pub use closing::write_closing;
 pub use collation::compare_entries;
 pub use headings::index_order;
-pub use index::write_index;
+pub use index::{is_exp, is_tex_like, write_index};
 pub use laws::{index_law, whole_names_law};
 pub use names::write_names;
 pub use whole::are_names_whole;

@@ -6,7 +6,7 @@ ghost use Rattle.cw_lines.specs.Writes.{CanWrite};
 ghost use Rattle.cw_translator.specs.NameParts.{AreNamesOf};
 ghost use Rattle.cw_texpart.specs.Texts.{lasting, setting};
 ghost use Rattle.cw_texpart.specs.Weaving.{Weaves, press};
-ghost use Rattle.cw_index.specs.ListForms.{list_setting};
+ghost use Rattle.cw_index.specs.model.ListForms.{list_setting};
 ghost use Rattle.cw_index.specs.NameList.{IsWholeName, all_listed, listed_done, name_span, names_done};
 ghost use Rattle.cw_index.specs.Standing.{listed_names};
 

@@ -23,8 +23,8 @@ ghost use Rattle.cw_secnames.specs.Kept.{SecName};
 ghost use Rattle.cw_index.specs.Sorted.{sorted, sorted_on};
 ghost use Rattle.cw_index.specs.Standing.{has_any, has_reference, kept_stand, kind_place, listed_names};
 ghost use Rattle.cw_index.specs.Standing.{named_stands, stand_cmp};
-ghost use Rattle.cw_index.specs.StandingForms.{IsSorting, stand_of, stands_of};
-ghost use Rattle.cw_index.specs.StandingLaws.{stand_cmp-total};
+ghost use Rattle.cw_index.specs.model.StandingForms.{IsSorting, stand_of, stands_of};
+ghost use Rattle.cw_index.specs.laws.StandingLaws.{stand_cmp-total};
 
 use cw_base::Memory;
 use cw_secnames::{NameUses, SecId, SecKind, SecNames};

@@ -7,7 +7,7 @@ use Rattle.cw_base.specs.declared.limits.TheConstants.{INPUT_LIMIT}
 use Rattle.cw_desk.specs.{Meaning.Files, Told.Told, Told.Narrows, Told.Opens}
 use Rattle.cw_desk.specs.declared.{desk.FileId.FileId, desk.Opened.TheVariants.File}
 use Rattle.cw_input.specs.Reading.{AreRead, HasRead, ReadsAtMost, ReadsFirst, ReadsOn, ReadsOnly, ReadsTo}
-use Rattle.cw_input.specs.State.{Moves}
+use Rattle.cw_input.specs.model.State.{Moves}
 use Rattle.cw_input.specs.declared.{error.LoadError.LoadError, found.Found.Found, merger.Merger.Merger}
 
 -- all files from the first on have been read

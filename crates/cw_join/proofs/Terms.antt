@@ -10,13 +10,15 @@ pub use Rattle.cw_desk.specs.Told.{Told}
 pub use Rattle.cw_join.specs.{Appending.StaysBefore, Standing.JoinerState, Standing.Stands}
 pub use Rattle.cw_join.specs.Early.{added, run_back, run_front, run_with, depth_behind, last_run, early_bytes, early}
 pub use Rattle.cw_join.specs.Early.{late}
-pub use Rattle.cw_join.specs.Runs.{RunState, run_more, run_state, state_back, step_bytes, backs, state_of}
+pub use Rattle.cw_join.specs.Runs.{RunState, run_state}
+pub use Rattle.cw_join.specs.model.Runs.{run_more, state_back, step_bytes, backs, state_of}
 pub use Rattle.cw_join.specs.Stretches.{is_inner, Stretch, Other, with_control, stretches, stretch_bytes, printed_list}
 pub use Rattle.cw_join.specs.Stretches.{Run}
-pub use Rattle.cw_join.specs.Tokens.{BeginsMarked, font_bytes, is_marked, macro_letter, word_at, item_bytes, printable}
+pub use Rattle.cw_join.specs.Tokens.{macro_letter, word_at, item_bytes, printable}
+pub use Rattle.cw_join.specs.model.Tokens.{BeginsMarked, font_bytes, is_marked}
 pub use Rattle.cw_join.specs.Tokens.{alone}
 pub use Rattle.cw_lines.specs.{Sheets.Prints, declared.sheet.Sheet.Sheet}
-pub use Rattle.cw_lines.specs.SheetLaws.{prints-none, prints-bytes, prints-failing, prints-longer, prints-then}
+pub use Rattle.cw_lines.specs.laws.SheetLaws.{prints-none, prints-bytes, prints-failing, prints-longer, prints-then}
 pub use Rattle.cw_trees.specs.Flat.{Item, IdentItem, SignItem, Open, Close}
 pub use Rattle.cw_trees.specs.Printing.{Printable, is_backup, is_cancel, opened, run_sign, strength}
 pub use Rattle.cw_trees.specs.Printing.{strongest, ident_bytes, is_lower, long_ident_bytes, name_bytes, run_bytes}

@@ -5,3 +5,4 @@ pub mod Early
 pub mod Runs
 pub mod Tokens
 pub mod Standing
+pub mod model

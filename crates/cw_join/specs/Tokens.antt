@@ -1,6 +1,6 @@
 -- What an item prints where it is in no run.
-use Rattle.std.specs.Prelude.{◌≡◌, ℕ, ◌<◌, ◌||◌, Bool, codes, eqb, true, false, List, [], ◌∷◌, map, option_map}
-use Rattle.std.specs.Prelude.{None, slice_get, unwrap_or, if◌then◌else◌}
+use Rattle.std.specs.Prelude.{◌≡◌, ℕ, ◌<◌, Bool, eqb, true, false, List, [], ◌∷◌, map, option_map}
+use Rattle.std.specs.Prelude.{slice_get, unwrap_or, if◌then◌else◌}
 use Rattle.cw_base.specs.Bytes.{byte_of, backslash}
 use Rattle.cw_base.specs.declared.category.Cat.{Cat}
 use Rattle.cw_base.specs.declared.category.Cat.TheVariants.{Exp, TexLike}
@@ -11,21 +11,8 @@ use Rattle.cw_tokens.specs.FlatItems.{item_is}
 use Rattle.cw_trees.specs.declared.Control.{Control as Sign}
 use Rattle.cw_trees.specs.declared.Control.TheVariants.{CommentEnd, NameText, NameEnd}
 use Rattle.cw_trees.specs.Flat.{is_inserted_sign}
-use Rattle.cw_trees.specs.Printing.{Printable, ident_bytes, opened, reserved_bytes, run_sign, sign_bytes}
+use Rattle.cw_trees.specs.Printing.{Printable, ident_bytes, reserved_bytes, sign_bytes}
 use Rattle.cw_join.specs.declared.token.FlatToken.{FlatToken}
-
--- a byte that has a backslash in a name
-abbrev pub is_marked : ℕ → Bool
-is_marked byte = eqb byte (byte_of "_") || eqb byte (byte_of "$")
-
--- no bytes, or bytes the first of which has one
-abbrev pub BeginsMarked : List ℕ → Type 0
-BeginsMarked [] = Unit {0}
-BeginsMarked (byte ∷ bytes) = is_marked byte ≡ true
-
--- the macro of names with lower case letters, or of names without
-abbrev pub font_bytes : Bool → List ℕ
-font_bytes lower = if lower then codes "\\\\{" else codes "\\.{"
 
 -- the text of a name
 abbrev pub text_at : List Entry → ℕ → List ℕ
@@ -96,9 +83,3 @@ pub record CanCome (names depth : ℕ) (item : FlatItem) : Type 0 where
   pub named : IsNamed names item
   pub room : HasRoom depth item
   pub prints : is_inserted item ≡ false
-
--- An item that is in no run prints this one byte, whatever the names are, and opens and closes nothing.
-pub record PrintsByte (item : FlatItem) (byte : ℕ) : Type 0 where
-  pub in_no_run : run_sign (item_is item) ≡ None
-  pub bytes : (names : List Entry) → item_bytes names item [] ≡ byte ∷ []
-  pub depth : (depth : ℕ) → opened depth (item_is item) ≡ depth

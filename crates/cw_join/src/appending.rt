@@ -6,10 +6,12 @@ ghost use Rattle.cw_trees.specs.Printing.{Printable, break_bytes, indent_bytes, 
 ghost use Rattle.cw_tokens.specs.FlatItems.{item_is};
 ghost use Rattle.cw_join.specs.Appending.{StaysBefore};
 ghost use Rattle.cw_join.specs.Early.{added, late, run_front};
-ghost use Rattle.cw_join.specs.Runs.{run_more, run_state, state_back, strength_of};
+ghost use Rattle.cw_join.specs.Runs.{run_state};
+ghost use Rattle.cw_join.specs.model.Runs.{run_more, state_back, strength_of};
 ghost use Rattle.cw_join.specs.Standing.{Stands};
 ghost use Rattle.cw_join.specs.Stretches.{is_inner};
-ghost use Rattle.cw_join.specs.Tokens.{CanCome, IsNamed, PrintsByte, alone, control_bytes, item_bytes};
+ghost use Rattle.cw_join.specs.Tokens.{CanCome, IsNamed, alone, control_bytes, item_bytes};
+ghost use Rattle.cw_join.specs.model.Tokens.{PrintsByte};
 
 use crate::joiner::{Joiner, depth_behind, step};
 use crate::names_behind::{append_few, append_ident_of, append_reserved_of};

@@ -5,7 +5,8 @@ ghost use Rattle.cw_tokens.specs.FlatItems.{item_is};
 ghost use Rattle.cw_lines.specs.Sheets.{CanPrint, Prints};
 ghost use Rattle.cw_lines.specs.Writes.{CanWrite, Puts};
 ghost use Rattle.cw_join.specs.Early.{added, late, run_front};
-ghost use Rattle.cw_join.specs.Runs.{run_more, run_state, state_back, state_of, step_bytes};
+ghost use Rattle.cw_join.specs.Runs.{run_state};
+ghost use Rattle.cw_join.specs.model.Runs.{run_more, state_back, state_of, step_bytes};
 ghost use Rattle.cw_join.specs.Standing.{Stands};
 ghost use Rattle.cw_join.specs.Stretches.{is_inner};
 ghost use Rattle.cw_join.specs.Tokens.{CanCome, HasRoom, IsNamed, item_bytes, printable};
@@ -35,7 +36,7 @@ impl Model for Joiner {
 
     ghost Value = { JoinerState };
 
-    ghost use Rattle.cw_join.specs.Runs.{state_of};
+    ghost use Rattle.cw_join.specs.model.Runs.{state_of};
 
     ghost view = { λ j. record { inner = j.inner; depth = j.depth; run = state_of j.run } };
 }

@@ -4,7 +4,8 @@ ghost use Rattle.std.specs.List.{list_any, position_or_len};
 ghost use Rattle.cw_trees.specs.Printing.{ident_bytes, is_lower, name_bytes, reserved_bytes};
 ghost use Rattle.cw_lines.specs.Sheets.{CanPrint, Prints};
 ghost use Rattle.cw_lines.specs.Writes.{CanWrite, Puts};
-ghost use Rattle.cw_join.specs.Tokens.{BeginsMarked, category_at, font_bytes, is_marked, is_tex_like, macro_bytes};
+ghost use Rattle.cw_join.specs.Tokens.{category_at, is_tex_like, macro_bytes};
+ghost use Rattle.cw_join.specs.model.Tokens.{BeginsMarked, font_bytes, is_marked};
 ghost use Rattle.cw_join.specs.Tokens.{macro_letter, text_at, word_at};
 
 use crate::short_names::{LONGEST, short_ident};

@@ -4,7 +4,7 @@ ghost use Rattle.std.specs.Bool.{OnTrue};
 ghost use Rattle.cw_trees.specs.Printing.{break_bytes, indent_bytes, is_backup as is_backup_sign};
 ghost use Rattle.cw_trees.specs.Printing.{is_cancel as is_cancel_sign, run_sign, strength};
 ghost use Rattle.cw_tokens.specs.FlatItems.{item_is};
-ghost use Rattle.cw_join.specs.Runs.{backs, pause_bytes, run_more, state_of, strength_of};
+ghost use Rattle.cw_join.specs.model.Runs.{backs, pause_bytes, run_more, state_of, strength_of};
 
 use cw_tokens::FlatItem;
 use cw_trees::Control;

@@ -9,7 +9,7 @@ use Rattle.cw_base.specs.{Bytes.backslash, declared.notes.NoteKind.NoteKind}
 use Rattle.cw_rules.specs.declared.{bodies.Noted.Noted, codes.Code.Code, codes.Effect.Effect, parts.Part.Part}
 use Rattle.cw_rules.specs.declared.{parts.Opened.Opened, signs.Sign.Sign, tokens.TokKind.TokKind}
 use Rattle.cw_rules.specs.Answers.{Answer, Where, Cut, Found, note_answers, plain}
-use Rattle.cw_rules.specs.Apart.{part_text_apart, in_text_apart, found_apart}
+use Rattle.cw_rules.specs.model.Apart.{part_text_apart, in_text_apart, found_apart}
 use Rattle.cw_rules.specs.Bodies.{ended, extent, noted, note_unless, one_note}
 use Rattle.cw_rules.specs.Bytes.{apostrophe, at_sign, equals, hash, less, begins, begins_with, is_in}
 use Rattle.cw_rules.specs.Codes.{begins_section, code_at, effect_in_c, effect_at_begin, has_control_text}

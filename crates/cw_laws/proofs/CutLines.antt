@@ -7,7 +7,7 @@ use Rattle.std.specs.List.{AllByRecursion, flat_map}
 use Rattle.std.proofs.lemmas.Bool.Decides.{nat_tests}
 use Rattle.cw_lines.specs.Cut.{CutLine, CutText, TextPieces, before_pieces, behind_by, cut, cut_behind, cut_pieces}
 use Rattle.cw_lines.specs.Cut.{cut_piece, ended_lines, split, split_by, unbroken_line, written}
-use Rattle.cw_lines.specs.CutLaws.{cut_piece-short}
+use Rattle.cw_lines.specs.laws.CutLaws.{cut_piece-short}
 use Rattle.cw_laws.specs.Files.{EndInLine, HasLineEnd, HaveShortLines, written_of}
 use Rattle.cw_laws.proofs.Endings.{AreEnded, behind-any, ends-then, lines-end, none-pending, split-ended}
 

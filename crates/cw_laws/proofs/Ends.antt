@@ -15,7 +15,7 @@ use Rattle.cw_rules.specs.Tokens.{skipped_byte, comment_kind, all_cut, comment_e
 use Rattle.cw_rules.specs.Tokens.{behind_word, comment_begin, inner_end, inner_begin, identifier, directive_at, word}
 use Rattle.cw_rules.specs.Tokens.{piece_start}
 use Rattle.cw_rules.specs.Tokens.{code_token, is_code_part, dropped_code, alone_size}
-use Rattle.cw_rules.specs.Apart.{comment_text_apart, in_text_apart, found_apart}
+use Rattle.cw_rules.specs.model.Apart.{comment_text_apart, in_text_apart, found_apart}
 use Rattle.cw_rules.proofs.{Choices.if-both, Rules.code-rule, Rules.comment-rule, Rules.part-rule}
 use Rattle.cw_rules.proofs.Rules.{BeginsPart, Macro, IsPassed, Standing, Dropping, CodeRule, LineEnd, Space, HashLine}
 use Rattle.cw_rules.proofs.Rules.{Word, Passed, Heading, Beginning, Comment, InnerEnd, CommentRule, Closed, EndedLine}

@@ -12,7 +12,7 @@ use Rattle.cw_desk.specs.Answer.{Agree, text_of}
 use Rattle.cw_desk.specs.Meaning.{Files, NamedFiles}
 use Rattle.cw_input.specs.Merge.{new_lines, web_lines}
 use Rattle.cw_lines.specs.Cut.{cut_behind, divide}
-use Rattle.cw_program.specs.Program.{Outcome}
+use Rattle.cw_run.specs.Program.{Outcome}
 use Rattle.cw_run.specs.Emits.{Run}
 use Rattle.cw_run.specs.Saying.{says}
 use Rattle.cw_table.specs.Normal.{count, log, normal}

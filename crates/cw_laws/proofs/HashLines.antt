@@ -9,7 +9,7 @@ use Rattle.cw_rules.specs.declared.{parts.Opened.Opened, tokens.TokKind.TokKind}
 use Rattle.cw_rules.specs.Answers.{Answer, Token, Begin, Finish, Note, Where, Cut, Found, note_answers}
 use Rattle.cw_rules.specs.{Bodies.note_unless, Bodies.one_note, Codes.code_at}
 use Rattle.cw_rules.specs.Tokens.{in_hash_line, passed, line_end, code_by, code_token}
-use Rattle.cw_rules.specs.Apart.{code_text_apart, comment_text_apart, part_text_apart, in_text_apart, found_apart}
+use Rattle.cw_rules.specs.model.Apart.{code_text_apart, comment_text_apart, part_text_apart, in_text_apart, found_apart}
 use Rattle.cw_rules.proofs.{Choices.if-both, Rules.within, Rules.code-rule, Rules.comment-rule, Rules.part-rule}
 use Rattle.cw_rules.proofs.Rules.{BeginsPart, Macro, IsPassed, Standing, CodeRule, LineEnd, Space, HashLine, Word}
 use Rattle.cw_rules.proofs.Rules.{Passed, Heading, Beginning, Comment, InnerEnd, CommentRule, Closed, EndedLine}

@@ -1,4 +1,4 @@
--- The laws of the book, of its C texts, of the scanner's answers and of TeX text.
+-- The laws of the book, of its C texts and what they leave, of the scanner's answers and of TeX text.
 mod Rows
 pub mod SectionCodes
 pub mod Openers
@@ -30,3 +30,5 @@ mod QuietParts
 pub mod ProseLaws
 pub mod BookTexts
 pub mod BookMarks
+pub mod FlagLaws
+pub mod LeftBooks

@@ -5,7 +5,7 @@ use Rattle.std.proofs.{lemmas.List.length-take, lemmas.Bool.Decides.nat_tests}
 use Rattle.cw_base.specs.{declared.notes.NoteKind.NoteKind, Bytes.newline, Bytes.backslash}
 use Rattle.cw_rules.specs.declared.{codes.Code.Code, codes.Effect.Effect, parts.Part.Part, tokens.Mode.Mode}
 use Rattle.cw_rules.specs.{declared.parts.Opened.Opened, Bodies.note_unless, Bodies.one_note, Bodies.noted}
-use Rattle.cw_rules.specs.{Bytes.at_sign, Prefixes.prefix_size, Apart.in_text_apart, Apart.found_apart}
+use Rattle.cw_rules.specs.{Bytes.at_sign, Prefixes.prefix_size, model.Apart.in_text_apart, model.Apart.found_apart}
 use Rattle.cw_rules.specs.Answers.{Answer, Note, Where, Cut, Found, before, plain}
 use Rattle.cw_rules.specs.Codes.{code_at, begins_section, effect_in_limbo, effect_in_tex}
 use Rattle.cw_rules.proofs.{StringPrefixes.prefix-below, Choices.if-both}

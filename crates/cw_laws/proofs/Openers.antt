@@ -11,7 +11,7 @@ use Rattle.cw_rules.specs.Answers.{Answer, Token, Begin, Finish, Note, Seen, Whe
 use Rattle.cw_rules.specs.Bytes.{at_sign, begins}
 use Rattle.cw_rules.specs.Codes.{code_at, begins_section}
 use Rattle.cw_rules.specs.Tokens.{section, section_code}
-use Rattle.cw_rules.specs.Apart.{in_text_apart, found_apart}
+use Rattle.cw_rules.specs.model.Apart.{in_text_apart, found_apart}
 use Rattle.cw_rules.proofs.Choices.{if-both}
 use Rattle.cw_rules.proofs.CodeStarts.{kind_code, code_in, is_opener, in-text-tells}
 use Rattle.cw_rules.proofs.Taking.{AreBare, AreNotes, TakesAll, Takes, bare-all-cut, found-takes}

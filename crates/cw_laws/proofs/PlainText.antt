@@ -20,7 +20,7 @@ use Rattle.cw_rules.specs.Bytes.{at_sign, is_in, run}
 use Rattle.cw_base.specs.Text.{bar}
 use Rattle.cw_rules.specs.Codes.{begins_section, code_at, effect_in_limbo, effect_in_tex}
 use Rattle.cw_rules.specs.Tokens.{all_cut, inner_begin, limbo_by, moved, one, section, tex_by}
-use Rattle.cw_rules.specs.Apart.{found_apart}
+use Rattle.cw_rules.specs.model.Apart.{found_apart}
 use Rattle.cw_lex.specs.Lexing.{answers, beginning, fresh_at, joined, last_after, last_at, still_fresh}
 use Rattle.cw_names.specs.Names.{Entry}
 use Rattle.cw_phase1.specs.Book.{book}

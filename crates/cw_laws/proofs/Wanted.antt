@@ -7,7 +7,7 @@ use Rattle.cw_base.{proofs.TestLaws.both-right, specs.Bytes.backslash}
 use Rattle.cw_rules.specs.declared.{codes.Code.Code, codes.Effect.Effect, parts.Part.Part, tokens.Mode.Mode}
 use Rattle.cw_rules.specs.{declared.parts.Opened.Opened, Answers.Where, Answers.Found, Bodies.at_start, Bodies.extent}
 use Rattle.cw_rules.specs.{Codes.begins_section, Codes.code_at, Tokens.is_code_part}
-use Rattle.cw_rules.specs.Apart.{in_text_apart, found_apart}
+use Rattle.cw_rules.specs.model.Apart.{in_text_apart, found_apart}
 use Rattle.cw_rules.specs.Bytes.{at_sign, apostrophe, left_paren, begins, begins_by, is_in, is_letter, run}
 use Rattle.cw_rules.specs.Tokens.{behind_inner, code_token, control_or_plain, head_sign_size, in_hash_line, is_head}
 use Rattle.cw_rules.specs.Tokens.{is_include, is_name, is_quote, is_signed, line_end, may_head, name_follows}

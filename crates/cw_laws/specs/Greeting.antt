@@ -10,7 +10,7 @@ use Rattle.cw_base.specs.declared.exit.Exit.TheVariants.{Clean, Fault, Memory}
 use Rattle.cw_desk.specs.Answer.{Agree, Answer, Opened, Read, End}
 use Rattle.cw_desk.specs.Journal.{byte_events}
 use Rattle.cw_desk.specs.Meaning.{Files}
-use Rattle.cw_program.specs.Program.{Outcome}
+use Rattle.cw_run.specs.Program.{Outcome}
 use Rattle.cw_run.specs.Saying.{says}
 use Rattle.cw_weave.specs.Woven.{woven}
 

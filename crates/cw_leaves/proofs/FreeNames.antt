@@ -8,7 +8,8 @@ use Rattle.cw_base.specs.declared.category.Cat.TheVariants.{RawInt}
 use Rattle.cw_leaves.specs.Sights.{Sight, no_sight, seen_cats, heard_all, seen_as, seen_new, seen_reserved}
 use Rattle.cw_leaves.specs.Sights.{seen_bolded, seen_bolded_at, seen_worded_at, seen_reserved_at, seen_named}
 use Rattle.cw_leaves.specs.Sights.{seen_named_by, names_at, seen_rewritten_from}
-use Rattle.cw_leaves.specs.Sights.{seen_rewritten, seen_weight, seen_log_of, seen_log, renamed_heard, renamed}
+use Rattle.cw_leaves.specs.Sights.{seen_rewritten, seen_weight, seen_log_of, seen_log}
+use Rattle.cw_leaves.specs.model.Sights.{renamed_heard, renamed}
 use Rattle.cw_leaves.specs.Sights.{without_first}
 
 get-renamed : {M N : Type 0} (f : M → N) (ss : List (Sight M)) (k : ℕ)

@@ -3,3 +3,4 @@ pub mod Sights
 pub mod LeafLines
 pub mod LogLaws
 pub mod Spelling
+pub mod model

@@ -4,7 +4,7 @@ use Rattle.std.proofs.Common.{refl, sym, ap, subst, ◌∙◌, arith, append_ass
 use Rattle.std.specs.Prelude.{slice_range}
 use Rattle.std.proofs.{lemmas.Bool.cases_lt, lemmas.Bool.Decides.nat_tests, lemmas.Grind.common_steps}
 use Rattle.std.proofs.lemmas.List.{drop-drop, length-take, drop-take, take-take}
-use Rattle.cw_rules.specs.{declared.tokens.Mode.Mode, Bytes.begins, Tokens.all_cut, Apart.found_apart}
+use Rattle.cw_rules.specs.{declared.tokens.Mode.Mode, Bytes.begins, Tokens.all_cut, model.Apart.found_apart}
 use Rattle.cw_rules.specs.Answers.{Answer, Token, Begin, Finish, Note, Seen, Where, Found}
 use Rattle.cw_lex.specs.Lexing.{still_fresh, answers, fresh_at, last_at, beginning, tokens_of}
 use Rattle.cw_rules.specs.Order.{begins_space, IsSpace, Stands, Covers}

@@ -13,7 +13,7 @@ use Rattle.cw_base.specs.{Bytes.newline, Text.bar}
 use Rattle.cw_rules.specs.Bytes.{hash, star, slash, less, at_sign, begins, is_letter, is_mark, is_in}
 use Rattle.cw_lex.specs.{Lexing.still_fresh, Lexing.joined, Lexing.answers, Nested.begins_section_in, Parts.closing_bar}
 use Rattle.cw_rules.specs.Tokens.{is_tex_inner, sign_or_other, inner_cut, all_cut, line_end, code_by, in_code, start_of}
-use Rattle.cw_rules.specs.Apart.{code_text_apart, comment_text_apart, in_text_apart, found_apart}
+use Rattle.cw_rules.specs.model.Apart.{code_text_apart, comment_text_apart, in_text_apart, found_apart}
 use Rattle.cw_rules.proofs.InnerTwins.{tex_inner, alone, in_tex, in_text-twin}
 use Rattle.cw_rules.proofs.Choices.{if-both, and-none}
 use Rattle.cw_lex.proofs.Openings.{section-cuts, uncut-right}

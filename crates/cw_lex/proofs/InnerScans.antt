@@ -4,7 +4,7 @@ use Rattle.std.proofs.Common.{Some, None, length, take, drop, refl, sym, ap, ◌
 use Rattle.std.specs.Prelude.{if◌then◌else◌}
 use Rattle.std.proofs.{lemmas.Bool.eqb-true, lemmas.Bool.Decides.nat_tests, lemmas.Grind.common_steps}
 use Rattle.std.proofs.lemmas.List.{drop-drop, drop_all, take-take, take_all}
-use Rattle.cw_rules.specs.{declared.parts.Opened.Opened, Bytes.begins, Tokens.is_tex_inner, Apart.found_apart}
+use Rattle.cw_rules.specs.{declared.parts.Opened.Opened, Bytes.begins, Tokens.is_tex_inner, model.Apart.found_apart}
 use Rattle.cw_base.specs.Text.{bar}
 use Rattle.cw_rules.specs.Answers.{Answer, Begin, Finish, Where, Found, token_of}
 use Rattle.cw_lex.specs.Lexing.{still_fresh, joined, answers, fresh_after, last_after, fresh_at, last_at, answers_at}

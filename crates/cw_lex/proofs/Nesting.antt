@@ -6,14 +6,14 @@ use Rattle.std.proofs.lemmas.Bool.Decides.{nat_tests}
 use Rattle.cw_base.{proofs.TestLaws.both-left, proofs.TestLaws.both-right, specs.declared.notes.NoteKind.NoteKind}
 use Rattle.cw_rules.specs.declared.{codes.Code.Code, codes.Effect.Effect, bodies.Noted.Noted, parts.Part.Part}
 use Rattle.cw_rules.specs.declared.{parts.Opened.Opened, tokens.Mode.Mode, tokens.TokKind.TokKind}
-use Rattle.cw_rules.specs.{Bodies.one_note, Bodies.note_unless, Bodies.noted, Apart.found_apart, Bytes.at_sign}
+use Rattle.cw_rules.specs.{Bodies.one_note, Bodies.note_unless, Bodies.noted, model.Apart.found_apart, Bytes.at_sign}
 use Rattle.cw_rules.specs.Codes.{is_section, begins_section, effect_in_c, code_at}
 use Rattle.cw_rules.specs.Tokens.{parameter_follows, parameter, format_name, one, skipped_byte, piece_start}
 use Rattle.cw_rules.specs.Tokens.{passed, moved, in_hash_line, ends_at_bar, line_end, comment_begin, comment_end}
 use Rattle.cw_rules.specs.Tokens.{inner_cut, comment_cut, part_cut, inner_or_none, all_cut, inner_end, effect_in}
 use Rattle.cw_rules.specs.Tokens.{code_token, control_or_plain, head_text, section, section_code, behind_word}
 use Rattle.cw_rules.specs.Tokens.{directive_at, is_include, may_head, takes_hash_line, name_follows, macro_name, word}
-use Rattle.cw_rules.specs.Apart.{behind_head_apart, code_text_apart, comment_text_apart, part_text_apart, in_text_apart}
+use Rattle.cw_rules.specs.model.Apart.{behind_head_apart, code_text_apart, comment_text_apart, part_text_apart, in_text_apart}
 use Rattle.cw_rules.specs.Answers.{Answer, Note, Where, Cut, Found, before, note_answers, plain}
 use Rattle.cw_lex.specs.Lexing.{answers, joined, tokens_of, still_fresh}
 use Rattle.cw_lex.specs.Nested.{Level, InCode, InComment, after_token, levels_after, all_levels_after, IsNested}

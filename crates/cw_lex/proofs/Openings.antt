@@ -10,8 +10,8 @@ use Rattle.cw_rules.specs.declared.{codes.Code.Code, tokens.Mode.Mode, tokens.To
 use Rattle.cw_rules.specs.Answers.{Answer, Token, Finish, Note, Seen, Where, Cut, Found, note_answers, cut_token}
 use Rattle.cw_rules.specs.{Answers.has_sign, Answers.is_head_sign, Bytes.at_sign, Bytes.greater, Bytes.begins}
 use Rattle.cw_rules.specs.{Codes.code_at, Codes.is_section, Codes.begins_section, Tokens.all_cut, Tokens.section}
-use Rattle.cw_rules.specs.{Tokens.section_code, Apart.in_text_apart, Apart.found_apart}
-use Rattle.cw_lex.specs.{Coming.found_at, Lexing.answers_at, Nested.is_section_kind, Nested.begins_section_in}
+use Rattle.cw_rules.specs.{Tokens.section_code, model.Apart.in_text_apart, model.Apart.found_apart}
+use Rattle.cw_lex.specs.{model.Coming.found_at, Lexing.answers_at, Nested.is_section_kind, Nested.begins_section_in}
 use Rattle.cw_lex.specs.Lexing.{beginning, still_fresh, joined, answers, fresh_after, last_after, fresh_at, last_at}
 use Rattle.cw_lex.specs.Openings.{tokens_in, named, opened_by, is_limbo_mode, EndsBefore}
 use Rattle.cw_rules.proofs.{Ahead.drop-same, Ahead.take-same, Choices.if-both, RulesAhead.found-local, Taking.AreBare}

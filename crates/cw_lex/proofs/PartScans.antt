@@ -5,7 +5,7 @@ use Rattle.std.proofs.{lemmas.Bool.eqb-true, lemmas.Bool.Decides.nat_tests, lemm
 use Rattle.std.proofs.lemmas.List.{drop-drop, length-take, take-take, take-append-drop, take_all}
 use Rattle.cw_base.proofs.TestLaws.{both-left, both-right}
 use Rattle.cw_rules.specs.{declared.tokens.Mode.Mode, Bytes.at_sign, Bytes.greater, Bytes.begins, Codes.begins_section}
-use Rattle.cw_rules.specs.{Answers.Answer, Answers.Where, Tokens.all_cut, Tokens.section, Apart.found_apart}
+use Rattle.cw_rules.specs.{Answers.Answer, Answers.Where, Tokens.all_cut, Tokens.section, model.Apart.found_apart}
 use Rattle.cw_lex.specs.Lexing.{still_fresh, answers, fresh_after, last_after, fresh_at, last_at, answers_at, beginning}
 use Rattle.cw_lex.specs.Lexing.{tokens_of}
 use Rattle.cw_lex.specs.Parts.{stand, stands_at, answers_to, part_answers, is_section_at, IsCodeAt}

@@ -4,7 +4,7 @@ use Rattle.std.proofs.Common.{get_or-set_other}
 use Rattle.std.proofs.lemmas.Bool.Decides.{nat_tests}
 use Rattle.cw_rules.specs.declared.parts.Opened.{Opened}
 use Rattle.cw_lex.specs.declared.comments.Rows.{Rows}
-use Rattle.cw_lex.specs.Stack.{IsWhole, innermost, opened_at, with_opened}
+use Rattle.cw_lex.specs.model.Stack.{IsWhole, innermost, opened_at, with_opened}
 
 pub innermost-length : (r : Rows) (n : ℕ) → length (innermost r n) ≡ n
 innermost-length r zero = refl

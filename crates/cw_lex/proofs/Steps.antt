@@ -5,8 +5,8 @@ use Rattle.std.proofs.lemmas.Bool.Decides.{nat_tests}
 use Rattle.cw_rules.specs.declared.{parts.Opened.Opened, tokens.TokKind.TokKind}
 use Rattle.cw_lex.specs.{declared.state.State.State, Lexing.answers_at}
 use Rattle.cw_rules.specs.Answers.{Answer, Seen, Where, Found, before, note_answers, token_of}
-use Rattle.cw_rules.specs.{Pending.pending_notes, Pending.no_notes, Cuttings.bytes_at, Tokens.skipped_byte}
-use Rattle.cw_lex.specs.Coming.{where_of, coming, found_at, AllWithin}
+use Rattle.cw_rules.specs.{Pending.pending_notes, Pending.no_notes, model.Cuttings.bytes_at, Tokens.skipped_byte}
+use Rattle.cw_lex.specs.model.Coming.{where_of, coming, found_at, AllWithin}
 use Rattle.cw_lex.proofs.Walk.{answers-at, answers-here, rest_at}
 use Rattle.cw_rules.proofs.Runs.{drop-here}
 

@@ -4,7 +4,7 @@ use Rattle.std.proofs.Common.{◌++◌, refl, ◌∙◌, ap, arith}
 use Rattle.std.specs.Prelude.{◌==◌}
 use Rattle.cw_rules.specs.declared.{bodies.Noted.Noted, codes.Code.Code, codes.Effect.Effect, parts.Part.Part}
 use Rattle.cw_rules.specs.declared.{parts.Opened.Opened, tokens.TokKind.TokKind}
-use Rattle.cw_rules.specs.{Bytes.at_sign, Apart.in_text_apart, Apart.found_apart}
+use Rattle.cw_rules.specs.{Bytes.at_sign, model.Apart.in_text_apart, model.Apart.found_apart}
 use Rattle.cw_rules.specs.Codes.{code_at, begins_section, effect_in_tex}
 use Rattle.cw_rules.specs.Answers.{Answer, Where, Cut, Found, note_answers}
 use Rattle.cw_lex.{specs.Lexing.answers, specs.Lexing.tokens_of, specs.Lexing.still_fresh, specs.Nested.begins_part_in}

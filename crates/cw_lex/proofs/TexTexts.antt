@@ -10,14 +10,14 @@ use Rattle.cw_rules.specs.declared.{bodies.Noted.Noted, codes.Code.Code, codes.E
 use Rattle.cw_rules.specs.Answers.{Answer, Token, Begin, Finish, Note, Seen, Where, Cut, Found, note_answers, token_of}
 use Rattle.cw_rules.specs.{Answers.cut_token}
 use Rattle.cw_rules.specs.{Answers.plain, Answers.has_sign, Bodies.at_start, Bodies.extent, Bytes.at_sign, Bytes.equals}
-use Rattle.cw_rules.specs.{Bytes.run, Bytes.begins, Bytes.is_in, Order.Covers, Apart.found_apart}
+use Rattle.cw_rules.specs.{Bytes.run, Bytes.begins, Bytes.is_in, Order.Covers, model.Apart.found_apart}
 use Rattle.cw_base.specs.Text.{bar}
 use Rattle.cw_rules.specs.Codes.{code_of, code_at, is_section, begins_section, effect_in_tex}
-use Rattle.cw_lex.specs.{Coming.found_at, Limbo.is_name_kind, Parts.closing_bar_from}
+use Rattle.cw_lex.specs.{model.Coming.found_at, Limbo.is_name_kind, Parts.closing_bar_from}
 use Rattle.cw_lex.specs.Lexing.{still_fresh, joined, answers, fresh_at, last_at, answers_at, beginning, tokens_of}
 use Rattle.cw_lex.specs.Nested.{is_section_kind, begins_section_in}
 use Rattle.cw_lex.specs.Openings.{opened_by, opens_part_before, opens_part_in}
-use Rattle.cw_lex.specs.TexTexts.{tex_at, are_notes, GoesOn, HoldsInner}
+use Rattle.cw_lex.specs.model.TexTexts.{tex_at, are_notes, GoesOn, HoldsInner}
 use Rattle.cw_rules.specs.Tokens.{one, moved, dropped_code, effect_in, section_name, is_name, is_head, is_signed}
 use Rattle.cw_rules.specs.Tokens.{tex_by, tex_text, section, code_by, inner_begin, inner_cut}
 use Rattle.cw_rules.proofs.{CodeStarts.code-kind, CodeTwins.at-code, NameEnds.name-take, InnerTwins.tex_inner}

@@ -1,10 +1,5 @@
 -- The definitions of the scanner: how its answers follow from the rules, how they are nested, and where parts begin.
 pub mod Lexing
-pub mod Stack
-pub mod Coming
-pub mod Calm
-pub mod Short
-pub mod Starts
 pub mod Nested
 pub mod Nest
 pub mod Heads
@@ -12,4 +7,4 @@ pub mod NestLaws
 pub mod Parts
 pub mod Limbo
 pub mod Openings
-pub mod TexTexts
+pub mod model

@@ -10,12 +10,12 @@ ghost use Rattle.cw_rules.specs.Tokens.{comment_end, inner_cut, takes_hash_line,
 ghost use Rattle.cw_rules.specs.Tokens.{in_hash_line};
 ghost use Rattle.cw_rules.specs.Tokens.{ends_at_bar, one, moved, closes_on_line, is_include, behind_word, word};
 ghost use Rattle.cw_rules.specs.Tokens.{passed};
-ghost use Rattle.cw_lex.specs.Coming.{where_of, coming, found_at, ends_line, IsNested};
-ghost use Rattle.cw_rules.specs.Cuttings.{bytes_at, cut_of};
+ghost use Rattle.cw_lex.specs.model.Coming.{where_of, coming, found_at, ends_line, IsNested};
+ghost use Rattle.cw_rules.specs.model.Cuttings.{bytes_at, cut_of};
 ghost use Rattle.cw_rules.specs.Tokens.{is_code, is_code_part};
-ghost use Rattle.cw_lex.specs.Coming.{is_white_here, IsClear, IsReady, CanStep};
-ghost use Rattle.cw_rules.specs.Cuttings.{IsCut};
-ghost use Rattle.cw_lex.specs.Starts.{SignFits, CommentFits, CodeIs};
+ghost use Rattle.cw_lex.specs.model.Coming.{is_white_here, IsClear, IsReady, CanStep};
+ghost use Rattle.cw_rules.specs.model.Cuttings.{IsCut};
+ghost use Rattle.cw_lex.specs.model.Starts.{SignFits, CommentFits, CodeIs};
 ghost use Rattle.cw_rules.specs.Constants.{constant};
 
 use crate::comment_text::{begin_comment, end_inner};

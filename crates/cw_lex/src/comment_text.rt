@@ -10,8 +10,8 @@ ghost use Rattle.cw_rules.specs.Codes.{begins_section};
 ghost use Rattle.cw_rules.specs.Tokens.{comment_text, comment_closed, comment_end, piece, is_deep, line_end};
 ghost use Rattle.cw_rules.specs.Tokens.{inner_begin};
 ghost use Rattle.cw_rules.specs.Tokens.{inner_end, with_inner, in_hash_line, comment_begin, comment_kind};
-ghost use Rattle.cw_lex.specs.Coming.{where_of, coming, found_at, IsReady, CanStep};
-ghost use Rattle.cw_rules.specs.Cuttings.{bytes_at};
+ghost use Rattle.cw_lex.specs.model.Coming.{where_of, coming, found_at, IsReady, CanStep};
+ghost use Rattle.cw_rules.specs.model.Cuttings.{bytes_at};
 ghost use Rattle.cw_rules.specs.Tokens.{is_code};
 
 use crate::giving::token;

@@ -1,6 +1,6 @@
 //! The open comments, as deep as inner C text may stand.
 ghost use Rattle.std.specs.Prelude.{◌≡◌, ◌<◌, ◌≤◌, [], ◌∷◌, length, drop, MatchOption};
-ghost use Rattle.cw_lex.specs.Stack.{IsWhole, opened_at, with_opened};
+ghost use Rattle.cw_lex.specs.model.Stack.{IsWhole, opened_at, with_opened};
 
 use cw_rules::parts::Opened;
 use std::marker::Model;
@@ -58,7 +58,7 @@ impl Model for Comments {
 
     ghost Value = { List Opened };
 
-    ghost use Rattle.cw_lex.specs.Stack.{IsWhole, innermost};
+    ghost use Rattle.cw_lex.specs.model.Stack.{IsWhole, innermost};
 
     ghost view = { λ c. innermost c.rows c.count };
 

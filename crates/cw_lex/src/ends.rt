@@ -7,7 +7,7 @@ ghost use Rattle.cw_rules.specs.Pending.{pending_notes, no_notes};
 ghost use Rattle.cw_rules.specs.Bodies.{note_unless};
 ghost use Rattle.cw_rules.specs.Tokens.{all_cut};
 ghost use Rattle.cw_rules.specs.Tokens.{section};
-ghost use Rattle.cw_lex.specs.Coming.{CutsOff, IsReady};
+ghost use Rattle.cw_lex.specs.model.Coming.{CutsOff, IsReady};
 
 use crate::comment_text::kind_of;
 use crate::giving::{give, token};

@@ -2,10 +2,10 @@
 ghost use Rattle.std.specs.Prelude.{◌≡◌, ◌+◌, ◌≤◌, false, [], ◌∷◌, length, drop};
 ghost use Rattle.cw_rules.specs.Answers.{Gives, Note, before, seen, token_of};
 ghost use Rattle.cw_rules.specs.Tokens.{one, moved, inner_begin};
-ghost use Rattle.cw_lex.specs.Short.{BeginsString};
+ghost use Rattle.cw_lex.specs.model.Short.{BeginsString};
 ghost use Rattle.cw_rules.specs.Pending.{no_notes};
-ghost use Rattle.cw_lex.specs.Coming.{where_of, coming, found_at, IsNested, IsReady, CanStep};
-ghost use Rattle.cw_rules.specs.Cuttings.{bytes_at, cut_of, IsCut};
+ghost use Rattle.cw_lex.specs.model.Coming.{where_of, coming, found_at, IsNested, IsReady, CanStep};
+ghost use Rattle.cw_rules.specs.model.Cuttings.{bytes_at, cut_of, IsCut};
 
 use crate::state::State;
 use crate::{Directive, Lexed, Tok, TokKind};

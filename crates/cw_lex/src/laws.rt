@@ -1,10 +1,10 @@
 //! Laws of the scanner's answers.
-ghost use Rattle.cw_lex.specs.Limbo.{LimboHasNoNames};
+ghost use Rattle.cw_lex.specs.model.Limbo.{LimboHasNoNames};
 ghost use Rattle.cw_lex.specs.NestLaws.{NestedAnswersMakeOneNest, NestsAreWell, HeadsLeaveNests};
 ghost use Rattle.cw_lex.specs.Parts.{PartsEndAtSections, PartsEndAtCodes, LastPartsEndWithTheText, PartsAreAnswered};
 ghost use Rattle.cw_lex.specs.Parts.{InnerTextsEndAtBars};
 ghost use Rattle.cw_lex.specs.Openings.{TextsEndAtOpenings, TextsEndAtSections};
-ghost use Rattle.cw_lex.specs.TexTexts.{TexTextsGoOn};
+ghost use Rattle.cw_lex.specs.model.TexTexts.{TexTextsGoOn};
 ghost use Rattle.cw_lex.specs.Nested.{CTextsAreNested, CTextsNestUpToSections, TexTextsAreNested};
 
 /// The law of parts: the scan of a part of a text is the scan of the whole there, and so is the scan of the bytes

@@ -7,12 +7,12 @@ ghost use Rattle.cw_rules.specs.Order.{Covers, AreWithin};
 ghost use Rattle.cw_rules.specs.Pending.{no_notes};
 ghost use Rattle.cw_lex.specs.Lexing.{spot_at, tokens_of};
 ghost use Rattle.cw_rules.specs.Tokens.{part_text, is_parameter};
-ghost use Rattle.cw_rules.specs.Bytes.{run, is_letter, begins_by};
-ghost use Rattle.cw_lex.specs.Short.{IsQuick, BeginsString, EndsInner};
-ghost use Rattle.cw_lex.specs.Calm.{IsCalm, IsSteady};
-ghost use Rattle.cw_lex.specs.Coming.{where_of, coming, found_at, beginning_part};
+ghost use Rattle.cw_rules.specs.Bytes.{run};
+ghost use Rattle.cw_lex.specs.model.Short.{IsQuick, BeginsString, EndsInner};
+ghost use Rattle.cw_lex.specs.model.Calm.{IsCalm, IsSteady};
+ghost use Rattle.cw_lex.specs.model.Coming.{where_of, coming, found_at, beginning_part};
 ghost use Rattle.cw_rules.specs.Tokens.{is_code, is_code_part};
-ghost use Rattle.cw_lex.specs.Coming.{IsSkipped, IsReady, CanStep};
+ghost use Rattle.cw_lex.specs.model.Coming.{IsSkipped, IsReady, CanStep};
 
 use crate::code_text::{code_text, skip_white};
 use crate::comment_text::{comment_text, end_inner};
@@ -26,6 +26,7 @@ use crate::{Lexed, Mode, Sign, TokKind};
 use cw_base::NoteKind;
 use cw_rules::classes::{Class, begins_with, from, is_letter, run};
 use cw_rules::cuttings::{plain, section_code};
+use cw_rules::directives::begins_letter;
 use cw_rules::parts::Part;
 use cw_rules::pending::Pending;
 use std::marker::Model;
@@ -41,8 +42,8 @@ pub struct Lexer<'a> {
 impl<'a> Model for Lexer<'a> {
     ghost use Rattle.std.specs.Prelude.{List};
     ghost use Rattle.cw_rules.specs.Answers.{Answer};
-    ghost use Rattle.cw_lex.specs.Coming.{coming};
-    ghost use Rattle.cw_lex.specs.Calm.{IsSteady};
+    ghost use Rattle.cw_lex.specs.model.Coming.{coming};
+    ghost use Rattle.cw_lex.specs.model.Calm.{IsSteady};
 
     ghost Value = { List Answer };
 
@@ -390,7 +391,7 @@ fn want_macro_name<'a>(text: &'a [u8], state: &mut State, code: usize) -> Lexed<
     ensures ready { IsReady text.now state.new }
 {
     let at = behind_white(text, state.at);
-    if !is_name(from(text, at)) {
+    if !begins_letter(from(text, at)) {
         return give_note(text, state, Part::Definition, NoteKind::ImproperMacro, code);
     }
     state.at = at;
@@ -430,7 +431,7 @@ fn want_format_name<'a>(
     ensures ready { IsReady text.now state.new }
 {
     let at = behind_white(text, state.at);
-    if !is_name(from(text, at)) {
+    if !begins_letter(from(text, at)) {
         let next = if limbo { Part::Limbo } else { Part::Definition };
         return give_note(text, state, next, NoteKind::ImproperFormat, code);
     }
@@ -445,14 +446,6 @@ fn behind_white(text: &[u8], at: usize) -> usize
     ensures within { result ≤ length text.now }
 {
     at + run(Class::White, from(text, at))
-}
-
-// Whether an identifier begins.
-fn is_name(bytes: &[u8]) -> bool
-    ensures value { result ≡ begins_by is_letter bytes.now }
-    ensures some { result ≡ true → 0 < length bytes.now }
-{
-    !bytes.is_empty() && is_letter(bytes[0])
 }
 
 // Whether a parameter, comma, `...` or `)` begins.

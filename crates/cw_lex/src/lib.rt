@@ -7,6 +7,7 @@ mod comments;
 mod ends;
 mod giving;
 mod heads;
+mod kinds;
 mod laws;
 mod lexer;
 mod plain;
@@ -15,5 +16,6 @@ mod state;
 
 pub use cw_rules::{Code, Directive, Lexed, Mode, Sign, Tok, TokKind};
 pub use heads::Wanted;
+pub use kinds::is_section_name;
 pub use laws::{limbo_law, nest_law, nesting_law, openings_law, parts_law, tex_texts_law};
 pub use lexer::Lexer;

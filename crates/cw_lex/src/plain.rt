@@ -5,8 +5,8 @@ ghost use Rattle.cw_rules.specs.Tokens.{limbo_text, tex_text, head_text, macro_n
 ghost use Rattle.cw_rules.specs.Tokens.{parameter_follows, is_name, is_head};
 ghost use Rattle.cw_rules.specs.Codes.{code_at};
 ghost use Rattle.cw_rules.specs.Bytes.{is_in, is_letter, run};
-ghost use Rattle.cw_lex.specs.Coming.{where_of, coming, found_at, IsReady, CanStep};
-ghost use Rattle.cw_rules.specs.Cuttings.{bytes_at};
+ghost use Rattle.cw_lex.specs.model.Coming.{where_of, coming, found_at, IsReady, CanStep};
+ghost use Rattle.cw_rules.specs.model.Cuttings.{bytes_at};
 
 use crate::giving::{begin_tex_inner, give};
 use crate::state::State;

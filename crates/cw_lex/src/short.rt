@@ -3,9 +3,9 @@ ghost use Rattle.std.specs.Prelude.{◌≡◌, ◌<◌, ◌≤◌, true, false, 
 ghost use Rattle.cw_rules.specs.Answers.{Gives};
 ghost use Rattle.cw_rules.specs.Bytes.{begins, begins_by, is_in, is_letter};
 ghost use Rattle.cw_rules.specs.Tokens.{ends_at_bar};
-ghost use Rattle.cw_lex.specs.Coming.{where_of, coming, IsReady};
-ghost use Rattle.cw_lex.specs.Calm.{is_calm, IsCalm};
-ghost use Rattle.cw_lex.specs.Short.{IsShort, IsQuick, is_alone, is_lone};
+ghost use Rattle.cw_lex.specs.model.Coming.{where_of, coming, IsReady};
+ghost use Rattle.cw_lex.specs.model.Calm.{is_calm, IsCalm};
+ghost use Rattle.cw_lex.specs.model.Short.{IsShort, IsQuick, is_alone, is_lone};
 
 use crate::giving::token;
 use crate::state::State;

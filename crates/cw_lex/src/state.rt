@@ -2,8 +2,8 @@
 ghost use Rattle.std.specs.Prelude.{◌≡◌, true, false, []};
 ghost use Rattle.cw_rules.specs.Tokens.{takes_hash_line, ends_at_bar, may_head, effect_in};
 ghost use Rattle.cw_rules.specs.Tokens.{is_code, is_head_part};
-ghost use Rattle.cw_rules.specs.Effects.{stays};
-ghost use Rattle.cw_lex.specs.Calm.{is_calm_part, is_calm, IsCalm};
+ghost use Rattle.cw_rules.specs.model.Effects.{stays};
+ghost use Rattle.cw_lex.specs.model.Calm.{is_calm_part, is_calm, IsCalm};
 
 use crate::Code;
 use crate::comments::Comments;

@@ -14,19 +14,20 @@ pub use Rattle.std.specs.Prelude.{slice_index, min, codes, is_some, ⊤, Result,
 pub use Rattle.std.specs.Prelude.{nat_eq}
 pub use Rattle.cw_base.specs.declared.event.Out.{Out}
 pub use Rattle.cw_desk.specs.{Journal.byte_events, Journal.grown, Journal.GrownByPart, Told.Told, Told.OnlyPuts}
-pub use Rattle.cw_desk.specs.JournalLaws.{byte_events-append, grown-none, grown-after, part-first, part-all}
-pub use Rattle.cw_lines.specs.{CutLaws.divide-short, Whole.WholeLines, Whole.behind_lines, Whole.counted, Writes.HasPut}
+pub use Rattle.cw_desk.specs.laws.JournalLaws.{byte_events-append, grown-none, grown-after, part-first, part-all}
+pub use Rattle.cw_lines.specs.{laws.CutLaws.divide-short, model.Whole.WholeLines, model.Whole.behind_lines, model.Whole.counted, Writes.HasPut}
 pub use Rattle.cw_lines.specs.{Writes.HasWritten, Writes.Puts, Writes.Writes}
 pub use Rattle.cw_lines.specs.Compared.{OldFile, id_of, behind, Compares, left_by}
-pub use Rattle.cw_lines.specs.ComparedLaws.{compares-as, compares-none, compares-bytes, compares-then, ahead-none}
-pub use Rattle.cw_lines.specs.ComparedLaws.{left-ended, ahead-some, left-lost, left-more, left-read, compares-more}
-pub use Rattle.cw_lines.specs.ComparedLaws.{left-checked}
+pub use Rattle.cw_lines.specs.laws.ComparedLaws.{compares-as, compares-none, compares-bytes, compares-then, ahead-none}
+pub use Rattle.cw_lines.specs.laws.ComparedLaws.{left-ended, ahead-some, left-lost, left-more, left-read, compares-more}
+pub use Rattle.cw_lines.specs.laws.ComparedLaws.{left-checked}
 pub use Rattle.cw_lines.specs.Cut.{follows_backslash, has_comment, breaks_at, is_percent, last_below, broken_numbers}
 pub use Rattle.cw_lines.specs.Cut.{cut, unbroken_line, comment_mark, divide_at, divide_by, is_command, last_of}
-pub use Rattle.cw_lines.specs.FillLaws.{fill-text, fill-append, fill-line, fill-none, fill-full, fill-room, fill-end}
-pub use Rattle.cw_lines.specs.Line.{HasNoLineEnd, IsEndedLine, Line, LineState, with_text, Filled, fill, filled_on}
+pub use Rattle.cw_lines.specs.laws.FillLaws.{fill-text, fill-append, fill-line, fill-none, fill-full, fill-room, fill-end}
+pub use Rattle.cw_lines.specs.Line.{Line, LineState, Filled, fill, filled_on}
+pub use Rattle.cw_lines.specs.model.Line.{HasNoLineEnd, IsEndedLine, with_text}
 pub use Rattle.cw_lines.specs.Line.{next_number, divided, new_line, fill_by, with_byte, ended}
-pub use Rattle.cw_lines.specs.WritesLaws.{puts-known, writes-none, puts-refused, puts-stop, writes-events, writes-file}
-pub use Rattle.cw_lines.specs.WritesLaws.{writes-stop, writes-then, adds-writes, writes-fail, puts-then, puts-bytes}
-pub use Rattle.cw_lines.specs.WritesLaws.{puts-failing, puts-none, puts-within, can-after}
+pub use Rattle.cw_lines.specs.laws.WritesLaws.{puts-known, writes-none, puts-refused, puts-stop, writes-events, writes-file}
+pub use Rattle.cw_lines.specs.laws.WritesLaws.{writes-stop, writes-then, adds-writes, writes-fail, puts-then, puts-bytes}
+pub use Rattle.cw_lines.specs.laws.WritesLaws.{puts-failing, puts-none, puts-within, can-after}
 pub use Rattle.memchr.specs.Find.{Nowhere, NoneBefore, Passes, is_byte, NoneAfter}

@@ -11,10 +11,10 @@ use Rattle.std.proofs.lemmas.List.Sums.{sum_by-append, sum_by-cons}
 use Rattle.std.specs.Cmp.Lexicographic.{pointwise}
 use Rattle.cw_base.specs.Flags.{start_flags}
 use Rattle.cw_leaves.proofs.LineFacts.{lines-have-log}
-use Rattle.cw_logtext.specs.declared.blocks.ReadBlock.{ReadBlock}
-use Rattle.cw_logtext.proofs.Telling.{blocks-are-told}
+use Rattle.cw_logs.specs.declared.blocks.ReadBlock.{ReadBlock}
+use Rattle.cw_logs.proofs.Telling.{blocks-are-told}
 use Rattle.cw_log.proofs.LineLaws.{lines-say-scraps}
-use Rattle.cw_check.specs.declared.checking.Verdict.TheVariants as verdicts
+use Rattle.cw_logs.specs.declared.checking.Verdict.TheVariants as verdicts
 
 -- ## One block
 

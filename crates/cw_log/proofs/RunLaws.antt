@@ -6,10 +6,10 @@ use Rattle.cw_log.proofs.Terms.{LOG_LIMIT}
 use Rattle.std.proofs.lemmas.Result.{IfOk-weaker}
 use Rattle.cw_base.specs.{declared.exit.Exit.Exit, declared.exit.Exit.TheVariants.Fault}
 use Rattle.cw_desk.specs.Told.{Told}
-use Rattle.cw_logtext.specs.Judgement.{Judgement, log, no_log}
-use Rattle.cw_logtext.proofs.Faults.{fault-no-log, fault-same}
+use Rattle.cw_logs.specs.Judgement.{Judgement, log, no_log}
+use Rattle.cw_logs.proofs.Faults.{fault-no-log, fault-same}
 use Rattle.cw_run.specs.Emits.{Run, Runs}
-use Rattle.cw_tool.specs.Tool.{refused}
+use Rattle.cw_run.specs.Tool.{refused}
 use Rattle.cw_log.specs.declared.checking.Checked.{Checked}
 
 pub judged-log : (lines : List (List ℕ)) (j : Judgement lines) (c : Checked) → IsLog lines → IsCheckedAs lines c

@@ -9,8 +9,8 @@ pub use Rattle.std.proofs.lemmas.List.{map-append, length-map, append-nil, lengt
 pub use Rattle.std.specs.{FinMap.get, List.flat_map, Result.IfOk}
 pub use Rattle.cw_base.proofs.TestLaws.{both-left, both-right}
 pub use Rattle.cw_base.specs.{Text.pieces_of, Text.pieces_by, declared.category.Cat.Cat, declared.flags.Flags.Flags}
-pub use Rattle.cw_check.specs.Judging.{Judges, same_item}
-pub use Rattle.cw_each.specs.EachText.{EndedText, Source, text_ended}
+pub use Rattle.cw_logs.specs.Judging.{Judges, same_item}
+pub use Rattle.cw_texts.specs.EachText.{EndedText, Source, text_ended}
 pub use Rattle.cw_leaves.specs.{Sights.Heard, Sights.followed, Sights.silence, Sights.told_by}
 pub use Rattle.cw_leaves.specs.{declared.kinds.LeafKind.LeafKind, declared.lines.LeafLine.LeafLine}
 pub use Rattle.cw_leaves.specs.{declared.lines.LogItem.LogItem, declared.lines.TextLog.TextLog}
@@ -23,17 +23,17 @@ pub use Rattle.cw_log.specs.Check.{check_bytes, judged, no_log_text, run_of, too
 pub use Rattle.cw_log.specs.Checking.{checked, checked_by, from_wrong, is_right, told, IsCheckedAs}
 pub use Rattle.cw_log.specs.LogOfWeb.{blocks_from, state_block, text_blocks}
 pub use Rattle.cw_log.specs.Making.{ident_token, last_tokens, made_form, made_tokens}
-pub use Rattle.cw_log.specs.Telling.{token_said, IsSaid, ItemsSayProductions, LinesSayScraps}
-pub use Rattle.cw_log.specs.Writing.{block_bytes, ended_by, recorded_of, source_of}
+pub use Rattle.cw_log.specs.model.Telling.{token_said, IsSaid, ItemsSayProductions, LinesSayScraps}
+pub use Rattle.cw_log.specs.model.Writing.{block_bytes, ended_by, recorded_of, source_of}
 pub use Rattle.cw_log.specs.declared.checking.Checked.TheVariants.{Accepted, Rejected}
-pub use Rattle.cw_logtext.proofs.{Cutting.all-append, Cutting.all-cons, Deciding.judgement}
-pub use Rattle.cw_logtext.specs.{Appending.block_of, Blocks.AreIdents, Blocks.HasBlock, LogReading.IsLog}
-pub use Rattle.cw_logtext.specs.{LogReading.IsFaultAt}
-pub use Rattle.cw_logtext.specs.LogText.{IsFineLine, fits_kind, Block, block_lines, end_text, item_text, line_text}
-pub use Rattle.cw_logtext.specs.LogText.{log_lines, IsFineBlock, ended, log_text}
+pub use Rattle.cw_logs.proofs.{Cutting.all-append, Cutting.all-cons, Deciding.judgement}
+pub use Rattle.cw_logs.specs.{Appending.block_of, Blocks.AreIdents, Blocks.HasBlock, LogReading.IsLog}
+pub use Rattle.cw_logs.specs.{LogReading.IsFaultAt}
+pub use Rattle.cw_logs.specs.LogText.{IsFineLine, fits_kind, Block, block_lines, end_text, item_text, line_text}
+pub use Rattle.cw_logs.specs.LogText.{log_lines, IsFineBlock, ended, log_text}
 pub use Rattle.cw_names.specs.{Names.Entry, Names.AreDistinct, declared.entry.NameId.NameId}
 pub use Rattle.cw_rewrite.specs.Telling.{Told}
-pub use Rattle.cw_run.specs.EmitsLaws.{runs-known, runs-after}
+pub use Rattle.cw_run.specs.laws.EmitsLaws.{runs-known, runs-after}
 pub use Rattle.cw_scraps.proofs.LeafForms.{leaf-sound, IsGood}
 pub use Rattle.cw_scraps.specs.Lines.{seen, scraps_of, IsSoundLine, IsNamedBelow, AreRoots, roots_of}
 pub use Rattle.cw_scraps.specs.declared.line.LineEntry.{LineEntry}
@@ -44,6 +44,6 @@ pub use Rattle.cw_tokens.proofs.Unfolding.{unfold-is, unfolded-old, unfolded-new
 pub use Rattle.cw_tokens.specs.{References.refers, References.token_ref, References.IsTied, Stored.with_built}
 pub use Rattle.cw_tokens.specs.{Stored.StoredLists, declared.token.Token.Token}
 pub use Rattle.cw_tokens.specs.Shapes.{Shape, Plain, Below, InnerBelow, shape, ref_of, tree_in, trees_from, unfolded}
-pub use Rattle.cw_tool.proofs.Saying.{line-refused}
+pub use Rattle.cw_run.proofs.RefusalLaws.{line-refused}
 pub use Rattle.cw_translator.specs.Recording.{HasRecorded, logged, ended_now}
 pub use Rattle.cw_trees.specs.{Joining.Scrap, Joining.reads, Tree.Tree, Tree.search_word, Tree.bare_name}

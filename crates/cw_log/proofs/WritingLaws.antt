@@ -9,10 +9,10 @@ use Rattle.cw_log.proofs.Terms.{recorded_of}
 use Rattle.std.proofs.lemmas.List.Elements.{All-head, All-tail}
 use Rattle.cw_base.specs.declared.event.Out.TheVariants.{Tex}
 use Rattle.cw_desk.specs.{Journal.byte_events, Told.Told}
-use Rattle.cw_each.specs.Forms.{IsWholeRef}
+use Rattle.cw_texts.specs.EachForms.{IsWholeRef}
 use Rattle.cw_lines.specs.{declared.put_error.PutError.TheVariants.Memory as no_memory, Writes.Adds, Writes.HasAdded}
-use Rattle.cw_lines.specs.{WritesLaws.adds-events, WritesLaws.adds-none}
-use Rattle.cw_tool.specs.PieceLaws.{piece-stop, piece-then, piece-wanting}
+use Rattle.cw_lines.specs.{laws.WritesLaws.adds-events, laws.WritesLaws.adds-none}
+use Rattle.cw_run.specs.laws.PieceLaws.{piece-stop, piece-then, piece-wanting}
 use Rattle.cw_texts.specs.Scans.{scanned}
 use Rattle.cw_translator.specs.{NameParts.name_texts, Translating.translated}
 use Rattle.cw_log.proofs.CheckLaws.{spelled-lines}

@@ -2,11 +2,11 @@
 use Rattle.std.specs.Prelude.{ℕ, ◌++◌, Option, Some, None, List, length, codes, decimal, if◌then◌else◌, nat_le}
 use Rattle.cw_base.specs.declared.exit.Exit.TheVariants.{Clean}
 use Rattle.cw_base.specs.Text.{pieces_of}
-use Rattle.cw_logtext.specs.Judgement.{Judgement, log, no_log}
-use Rattle.cw_logtext.proofs.Deciding.{judgement}
+use Rattle.cw_logs.specs.Judgement.{Judgement, log, no_log}
+use Rattle.cw_logs.proofs.Deciding.{judgement}
 use Rattle.cw_run.specs.Emits.{Run}
 use Rattle.cw_run.specs.Saying.{says}
-use Rattle.cw_tool.specs.Tool.{refused}
+use Rattle.cw_run.specs.Tool.{refused}
 use Rattle.cw_log.specs.Checking.{checked}
 use Rattle.cw_log.specs.declared.checking.Checked.{Checked}
 use Rattle.cw_log.specs.declared.checking.Checked.TheVariants.{Accepted, Rejected}

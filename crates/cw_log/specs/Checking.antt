@@ -5,9 +5,9 @@ use Rattle.cw_base.specs.Flags.{start_flags}
 use Rattle.cw_table.specs.Normal.{Production}
 use Rattle.cw_table.specs.Productions.{productions}
 use Rattle.cw_leaves.specs.LeafLines.{log_of_lines}
-use Rattle.cw_logtext.specs.LogReading.{IsLog}
-use Rattle.cw_logtext.specs.LogText.{Block}
-use Rattle.cw_check.specs.Judging.{common, same_item}
+use Rattle.cw_logs.specs.LogReading.{IsLog}
+use Rattle.cw_logs.specs.LogText.{Block}
+use Rattle.cw_logs.specs.Judging.{common, same_item}
 use Rattle.cw_log.specs.declared.checking.Checked.{Checked}
 use Rattle.cw_log.specs.declared.checking.Checked.TheVariants.{Accepted, Rejected}
 

@@ -4,8 +4,8 @@ use Rattle.std.specs.Prelude.{option_map}
 use Rattle.cw_desk.specs.Meaning.{NamedFiles}
 use Rattle.cw_input.specs.Merged.{merged}
 use Rattle.cw_run.specs.Emits.{Run}
-use Rattle.cw_tool.specs.Asked.{Asked, asked_for, asked_of}
-use Rattle.cw_tool.specs.Tool.{refused, tool_web}
+use Rattle.cw_run.specs.Asked.{Asked, asked_for, asked_of}
+use Rattle.cw_run.specs.Tool.{refused, tool_web}
 use Rattle.cw_log.specs.Check.{check_file}
 use Rattle.cw_log.specs.LogOfWeb.{log_file}
 use Rattle.cw_log.specs.declared.program.Request.{Request as WordRequest}

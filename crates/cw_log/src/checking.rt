@@ -1,20 +1,19 @@
 //! The blocks of a log, checked one after another.
 ghost use Rattle.std.specs.Prelude.{◌≤◌, All, IfOk, length, map};
 ghost use Rattle.cw_base.specs.Text.{pieces_of};
-ghost use Rattle.cw_check.specs.Judging.{Judges};
+ghost use Rattle.cw_logs.specs.Judging.{Judges};
 ghost use Rattle.cw_leaves.specs.Spelling.{production_of};
-ghost use Rattle.cw_logtext.specs.Appending.{block_of};
-ghost use Rattle.cw_logtext.specs.Blocks.{AreIdents};
-ghost use Rattle.cw_logtext.specs.LogReading.{IsLog};
-ghost use Rattle.cw_logtext.specs.LogText.{IsFineBlock};
+ghost use Rattle.cw_logs.specs.Appending.{block_of};
+ghost use Rattle.cw_logs.specs.Blocks.{AreIdents};
+ghost use Rattle.cw_logs.specs.LogReading.{IsLog};
+ghost use Rattle.cw_logs.specs.LogText.{IsFineBlock};
 ghost use Rattle.cw_log.specs.Checking.{IsCheckedAs, told};
 
 use crate::file::LOG_LIMIT;
 use crate::making::scrap_line;
 use cw_base::{Flags, Ledger, Memory, Steps};
-use cw_check::{Verdict, check_line};
 use cw_leaves::TextLog;
-use cw_logtext::read_block;
+use cw_logs::{Verdict, check_line, read_block};
 use cw_names::Names;
 use cw_scraps::Marks;
 use cw_tokens::TokenStore;

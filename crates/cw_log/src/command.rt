@@ -3,10 +3,10 @@ ghost use Rattle.std.specs.Prelude.{◌≡◌, ◌≢◌, ◌≤◌, IfOk, lengt
 ghost use Rattle.std.specs.FinMap.{get};
 ghost use Rattle.cw_base.specs.Text.{pieces_of};
 ghost use Rattle.cw_desk.specs.Meaning.{Files};
-ghost use Rattle.cw_logtext.proofs.Deciding.{judgement};
+ghost use Rattle.cw_logs.proofs.Deciding.{judgement};
 ghost use Rattle.cw_run.specs.Emits.{Faults, Runs};
 ghost use Rattle.cw_run.specs.Saying.{says};
-ghost use Rattle.cw_tool.specs.Tool.{refused};
+ghost use Rattle.cw_run.specs.Tool.{refused};
 ghost use Rattle.cw_log.specs.Check.{accepted_text, check_file, judged, no_log_text, rejected_text, run_of};
 
 use crate::checking::{Checked, check_log};
@@ -14,9 +14,8 @@ use crate::file::{LOG_LIMIT, LogFile, read_log};
 use cw_base::{Bytes, Exit, Ledger, Memory, Steps};
 use cw_desk::Desk;
 use cw_lines::PutError;
-use cw_logtext::{NotALog, judge};
-use cw_run::{append_number, say_text};
-use cw_tool::{refuse, refuse_word};
+use cw_logs::{NotALog, judge};
+use cw_run::{append_number, refuse, refuse_word, say_text};
 use std::alloc::Global;
 
 // Prints a line, and ends with this status.

@@ -4,7 +4,7 @@ ghost use Rattle.std.specs.FinMap.{get};
 ghost use Rattle.cw_desk.specs.Meaning.{Files, Rose};
 ghost use Rattle.cw_desk.specs.Told.{OnlyReads};
 ghost use Rattle.cw_input.specs.Reading.{ReadsOnly};
-ghost use Rattle.cw_log.specs.LogFile.{IsFileOf, IsShort};
+ghost use Rattle.cw_log.specs.model.LogFile.{IsFileOf, IsShort};
 
 use cw_base::Bytes;
 use cw_desk::{Desk, Fetched, FileId, Opened};

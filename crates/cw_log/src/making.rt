@@ -3,8 +3,8 @@ ghost use Rattle.std.specs.Prelude.{◌≡◌, ◌+◌, ◌≤◌, [], Some, Non
 ghost use Rattle.std.specs.Option.{option_to_list};
 ghost use Rattle.cw_leaves.specs.LeafLines.{IsTold};
 ghost use Rattle.cw_leaves.specs.Spelling.{spelled};
-ghost use Rattle.cw_logtext.specs.Blocks.{AreIdents};
-ghost use Rattle.cw_logtext.specs.LogText.{IsFineLine};
+ghost use Rattle.cw_logs.specs.Blocks.{AreIdents};
+ghost use Rattle.cw_logs.specs.LogText.{IsFineLine};
 ghost use Rattle.cw_scraps.specs.Leaves.{HasForm};
 ghost use Rattle.cw_scraps.specs.Lines.{IsSoundLine, scraps_of};
 ghost use Rattle.cw_log.specs.Making.{ident_token, last_tokens, made_form};

@@ -4,9 +4,9 @@ ghost use Rattle.std.specs.FinMap.{get};
 ghost use Rattle.cw_desk.specs.Answer.{Agree};
 ghost use Rattle.cw_desk.specs.Meaning.{Files, Rose};
 ghost use Rattle.cw_desk.specs.Told.{OnlyPuts};
-ghost use Rattle.cw_program.specs.Program.{Outcome, words_of};
+ghost use Rattle.cw_run.specs.Program.{Outcome, words_of};
 ghost use Rattle.cw_run.specs.Emits.{Faults, Runs};
-ghost use Rattle.cw_tool.specs.Asked.{asked_for};
+ghost use Rattle.cw_run.specs.Asked.{asked_for};
 ghost use Rattle.cw_log.specs.Command.{IsNamed, Write, log_run, request, request_of};
 
 use crate::command::check;
@@ -14,8 +14,7 @@ use crate::writing::{LogTool, USAGE};
 use cw_base::{Exit, Ledger, Silent, Steps, Words};
 use cw_desk::{Desk, FileDesk};
 use cw_lines::PutError;
-use cw_program::{Program, run_files, status_of};
-use cw_tool::{Asked, refuse, run_tool};
+use cw_run::{Asked, Program, refuse, run_files, run_tool, status_of};
 use std::alloc::Global;
 
 // What the words of a command line ask for.

@@ -3,11 +3,11 @@ ghost use Rattle.std.specs.Prelude.{◌≡◌, ◌<◌, IfOk, length, map, optio
 ghost use Rattle.cw_leaves.specs.LeafLines.{kind_by, said};
 ghost use Rattle.cw_leaves.specs.Sights.{told_by};
 ghost use Rattle.cw_trees.specs.Tree.{search_word};
-ghost use Rattle.cw_tokens.specs.Ahead.{RefersWithin};
+ghost use Rattle.cw_tokens.specs.model.Ahead.{RefersWithin};
 ghost use Rattle.cw_tokens.specs.Shapes.{shape, unfolded};
 ghost use Rattle.cw_scraps.specs.Lines.{scraps_of};
 ghost use Rattle.cw_leaves.specs.Spelling.{line_by, line_of};
-ghost use Rattle.cw_log.specs.Telling.{token_said, IsSaid};
+ghost use Rattle.cw_log.specs.model.Telling.{token_said, IsSaid};
 
 use cw_base::{Cat, Memory, Silent, Steps};
 use cw_leaves::{LeafKind, LeafLine, LeafLines, NameList};

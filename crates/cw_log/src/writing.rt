@@ -4,27 +4,27 @@ ghost use Rattle.std.specs.List.{flat_map};
 ghost use Rattle.cw_base.specs.declared.event.Out.TheVariants.{Tex};
 ghost use Rattle.cw_desk.specs.Journal.{byte_events};
 ghost use Rattle.cw_desk.specs.Meaning.{is_open};
-ghost use Rattle.cw_each.specs.EachText.{text_ended};
-ghost use Rattle.cw_each.specs.Forms.{IsWholeRef};
+ghost use Rattle.cw_texts.specs.EachText.{text_ended};
+ghost use Rattle.cw_texts.specs.EachForms.{IsWholeRef};
 ghost use Rattle.cw_lines.specs.Writes.{Adds};
-ghost use Rattle.cw_logtext.specs.LogText.{log_text};
+ghost use Rattle.cw_logs.specs.LogText.{log_text};
 ghost use Rattle.cw_translator.specs.NameParts.{AreNamesOf};
 ghost use Rattle.cw_log.specs.LogOfWeb.{blocks_from, text_blocks};
-ghost use Rattle.cw_log.specs.Writing.{block_bytes, ended_by, source_of, texts_in};
+ghost use Rattle.cw_log.specs.model.Writing.{block_bytes, ended_by, source_of, texts_in};
 
 use crate::logs::ProductionLog;
 use cw_base::{Bytes, Flags, Ledger, Memory, Out, Steps, Web};
 use cw_desk::Desk;
 use cw_lines::{PutError, write_all};
-use cw_logtext::append_block;
+use cw_logs::append_block;
 use cw_names::Names;
 use cw_part::whole_texts_law;
 use cw_phase1::{Book, Outline};
 use cw_reduce::{Context, Work, translate_recorded};
+use cw_run::Tool;
 use cw_scraps::Marks;
 use cw_texts::{BookTexts, TextRef};
 use cw_tokens::TokenStore;
-use cw_tool::Tool;
 use std::alloc::Global;
 
 /// The tool that writes the log of a web.

@@ -3,9 +3,9 @@ use Rattle.cw_log_laws.proofs.Terms.{◌≡◌, ℕ, true, List, [], ◌∷◌, 
 use Rattle.cw_log_laws.proofs.Terms.{pointwise, All, le-leb, All-head, All-tail, All-weaker, both, start_flags}
 use Rattle.cw_log_laws.proofs.Terms.{pieces_of, Production, Judgement, Block, IsFineBlock, log_text, judged, run_of}
 use Rattle.cw_log_laws.proofs.Terms.{too_long_text, IsRightBlock}
-use Rattle.cw_check.specs.Judging.{same_item}
-use Rattle.cw_logtext.proofs.{Cutting.text-has-lines, Deciding.judgement, Telling.blocks-are-told}
-use Rattle.cw_tool.specs.Tool.{refused}
+use Rattle.cw_logs.specs.Judging.{same_item}
+use Rattle.cw_logs.proofs.{Cutting.text-has-lines, Deciding.judgement, Telling.blocks-are-told}
+use Rattle.cw_run.specs.Tool.{refused}
 use Rattle.cw_log.specs.Checking.{checked, checked_by, from_wrong, is_right, told}
 use Rattle.cw_log.specs.declared.file.TheConstants.{LOG_LIMIT}
 use Rattle.cw_log_laws.specs.AcceptedLogs.{RightBlocksAreAccepted}

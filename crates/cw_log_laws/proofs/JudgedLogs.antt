@@ -1,8 +1,8 @@
 -- The file of blocks that may stand in a log is found to be a log with just these blocks.
 use Rattle.cw_log_laws.proofs.Terms.{◌≡◌, ℕ, suc, List, arith, All, take-append-drop, Judgement, no_log, Block}
 use Rattle.cw_log_laws.proofs.Terms.{IsFineBlock, log_lines}
-use Rattle.cw_logtext.specs.{Judgement.log, LogLaws.BlocksAreTold}
-use Rattle.cw_logtext.specs.LogReading.{IsFault, IsLog, cut_off, wrong}
+use Rattle.cw_logs.specs.{Judgement.log, LogLaws.BlocksAreTold}
+use Rattle.cw_logs.specs.LogReading.{IsFault, IsLog, cut_off, wrong}
 
 -- the lines of a log have no fault
 no-fault : (lines : List (List ℕ)) (good : ℕ) → IsLog lines → IsFault lines good → ⊥

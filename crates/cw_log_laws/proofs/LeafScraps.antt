@@ -10,7 +10,7 @@ use Rattle.std.specs.Prelude.{codes}
 use Rattle.cw_base.specs.declared.category.Cat.TheVariants.{SizeofLike}
 use Rattle.cw_rules.specs.declared.{signs.Sign.Sign, tokens.Directive.Directive}
 use Rattle.cw_tokens.specs.declared.token.Token.{Token}
-use Rattle.cw_logtext.proofs.Adding.{IsNamed, entry-there}
+use Rattle.cw_logs.proofs.Adding.{IsNamed, entry-there}
 use Rattle.cw_translator.specs.Translating.{leaf_scrap, form_tokens}
 use Rattle.cw_log_laws.proofs.LaterNames.{HaveCats, distinct-entry, have-entry, later-entry, later-same, real-law}
 use Rattle.cw_log_laws.proofs.SpeltTokens.{IsSpelt}

@@ -15,7 +15,7 @@ pub use Rattle.cw_base.specs.{Category.may_be_bare, Category.is_end, Flags.start
 pub use Rattle.cw_base.specs.{Web.MergedLine, Web.text_of, declared.category.Cat.Cat}
 pub use Rattle.cw_base.specs.{declared.category.Cat.TheVariants.End, declared.flags.Flags.Flags}
 pub use Rattle.cw_base.specs.{declared.span.Span.Span}
-pub use Rattle.cw_each.specs.EachText.{EndedText, each_text, text_ended}
+pub use Rattle.cw_texts.specs.EachText.{EndedText, each_text, text_ended}
 pub use Rattle.cw_lex.proofs.Covering.{tokens-cover}
 pub use Rattle.cw_lex.specs.Lexing.{tokens_of, still_fresh, answers}
 pub use Rattle.cw_lex.specs.Nest.{Nest, Leaf, Group, group, leaf, nests, first_nest, nest}
@@ -23,9 +23,9 @@ pub use Rattle.cw_lex.specs.Nested.{until_section, is_section_answer}
 pub use Rattle.cw_log.specs.Check.{check_file, judged, run_of, too_long_text}
 pub use Rattle.cw_log_laws.specs.LoggedTexts.{IsKept, IsLater, IsRightBlock, AreNames, HasShortNames, IsInside}
 pub use Rattle.cw_log_laws.specs.LoggedTexts.{TextsAreLogged, TextsKeepNames}
-pub use Rattle.cw_logtext.specs.{Appending.block_of, Judgement.Judgement, Judgement.no_log}
-pub use Rattle.cw_logtext.specs.LogText.{Block, IsFineLine, fits_kind, greatest, is_identifier, IsFineBlock, log_lines}
-pub use Rattle.cw_logtext.specs.LogText.{log_text, IsFineItem}
+pub use Rattle.cw_logs.specs.{Appending.block_of, Judgement.Judgement, Judgement.no_log}
+pub use Rattle.cw_logs.specs.LogText.{Block, IsFineLine, fits_kind, greatest, is_identifier, IsFineBlock, log_lines}
+pub use Rattle.cw_logs.specs.LogText.{log_text, IsFineItem}
 pub use Rattle.cw_names.specs.{declared.entry.EntryKind.EntryKind, declared.entry.EntryKind.TheVariants.Ident}
 pub use Rattle.cw_names.specs.{declared.entry.NameId.NameId}
 pub use Rattle.cw_names.specs.Names.{Entry, AreDistinct, is_entry, with_category, with_entry, place_of, same_kind}
@@ -34,8 +34,8 @@ pub use Rattle.cw_phase1.specs.{Book.book, Book.answers_of, Roles.Placed, Roles.
 pub use Rattle.cw_rules.proofs.Taking.{AreBare, AreNotes, TakesAll, Takes, bare-all-cut, found-takes}
 pub use Rattle.cw_rules.specs.{declared.codes.Code.Code, declared.tokens.Mode.Mode, declared.tokens.TokKind.TokKind}
 pub use Rattle.cw_rules.specs.Answers.{Answer, Token, Begin, Finish, Note, Seen, Where, Found, Cut, note_answers}
-pub use Rattle.cw_rules.specs.Apart.{found_apart, code_text_apart, comment_text_apart, behind_head_apart}
-pub use Rattle.cw_rules.specs.Apart.{part_text_apart, in_text_apart}
+pub use Rattle.cw_rules.specs.model.Apart.{found_apart, code_text_apart, comment_text_apart, behind_head_apart}
+pub use Rattle.cw_rules.specs.model.Apart.{part_text_apart, in_text_apart}
 pub use Rattle.cw_scraps.specs.Leaves.{LeafForm, names_with, token_form, code_form, form_of, own_cat, sign_cat}
 pub use Rattle.cw_scraps.specs.Leaves.{cat_in_line, word_cat, word_form}
 pub use Rattle.cw_secnames.specs.{Kept.SecName, Uses.NameUse, Uses.name_at}

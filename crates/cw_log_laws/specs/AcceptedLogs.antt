@@ -3,7 +3,7 @@ use Rattle.std.specs.Prelude.{◌≡◌, ◌≤◌, List, length, All}
 use Rattle.std.specs.List.{sum_by}
 use Rattle.cw_base.specs.Flags.{start_flags}
 use Rattle.cw_base.specs.declared.exit.Exit.TheVariants.{Clean}
-use Rattle.cw_logtext.specs.LogText.{Block, log_text}
+use Rattle.cw_logs.specs.LogText.{Block, log_text}
 use Rattle.cw_run.specs.Emits.{Run}
 use Rattle.cw_run.specs.Saying.{says}
 use Rattle.cw_log.specs.Check.{accepted_text, check_bytes}

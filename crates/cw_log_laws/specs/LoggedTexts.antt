@@ -6,11 +6,11 @@ use Rattle.cw_base.specs.declared.span.Span.{Span}
 use Rattle.cw_names.specs.Names.{Entry, AreDistinct}
 use Rattle.cw_table.specs.Productions.{productions}
 use Rattle.cw_leaves.specs.LeafLines.{log_of_lines}
-use Rattle.cw_logtext.specs.Appending.{block_of}
-use Rattle.cw_logtext.specs.LogText.{Block, IsFineBlock}
+use Rattle.cw_logs.specs.Appending.{block_of}
+use Rattle.cw_logs.specs.LogText.{Block, IsFineBlock}
 use Rattle.cw_texts.specs.declared.text_list.TextRef.{TextRef}
 use Rattle.cw_translator.specs.Recording.{logged}
-use Rattle.cw_each.specs.EachText.{Source, text_ended}
+use Rattle.cw_texts.specs.EachText.{Source, text_ended}
 
 -- ## Names
 

@@ -1,6 +1,6 @@
 //! The first block of a log, read and written again.
 use cw_base::{Bytes, Memory};
-use cw_logtext::{append_block, judge, read_block};
+use cw_logs::{append_block, judge, read_block};
 use cw_names::Names;
 use std::alloc::Global;
 use std::test::Fail;

@@ -2,7 +2,7 @@
 use cw_base::{Bytes, Event, Exit, Memory, Out, Silent, Steps};
 use cw_desk::MemDesk;
 use cw_log::{LOG_LIMIT, check};
-use cw_program::status_of;
+use cw_run::status_of;
 use std::alloc::Global;
 use std::test::Fail;
 

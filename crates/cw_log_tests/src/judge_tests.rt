@@ -1,5 +1,5 @@
 //! Which files are logs, and which line is the first that no log has.
-use cw_logtext::judge;
+use cw_logs::judge;
 
 // Logs, and files that are none, each with the number of its fault; 0 stands for a log.
 const FILES: [(&str, usize); 38] = [

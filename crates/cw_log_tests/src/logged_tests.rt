@@ -5,7 +5,7 @@ ghost use Rattle.cw_translator.specs.NameParts.{AreNamesOf};
 use cw_base::{Bytes, Flags, Kept, Memory, Span, Steps};
 use cw_lex::Mode;
 use cw_log::{ProductionLog, translate_logged};
-use cw_logtext::append_block;
+use cw_logs::append_block;
 use cw_names::Names;
 use cw_reduce::{Translated, is_plain_c, is_uncut};
 use cw_scraps::Marks;

@@ -1,7 +1,7 @@
 //! The text of a block.
 use cw_base::{Bytes, Cat, Memory};
 use cw_leaves::{LeafKind, LeafLine, LeafLines, LogItem, LogItems, NameList, TextLog};
-use cw_logtext::{append_block, judge};
+use cw_logs::{append_block, judge};
 use cw_names::{EntryKind, NameId, Names};
 use cw_table::RowNo;
 use std::alloc::Global;

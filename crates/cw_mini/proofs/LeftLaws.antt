@@ -9,7 +9,7 @@ use Rattle.cw_phase1.specs.Book.{book}
 use Rattle.cw_reduce.specs.WholeTexts.{IsCText}
 use Rattle.cw_secnames.specs.Kept.{SecName}
 use Rattle.cw_texts.specs.{Texts.texts_of, declared.text_list.TextRef.TextRef}
-use Rattle.cw_tool.specs.Given.{IsBookOf}
+use Rattle.cw_run.specs.Given.{IsBookOf}
 
 -- a book with the names of a text and its marks, of which nothing else changed
 pub left-is : (b new : Book) (section : ℕ) (d : Done ℕ) → new.names ≡ d.names

@@ -14,13 +14,13 @@ pub use Rattle.cw_index.specs.Mentions.{Row, has_sections, index_rows, needs_und
 pub use Rattle.cw_index.specs.Mentions.{rows_from, with_row}
 pub use Rattle.cw_join.specs.Early.{added, depth_behind, late}
 pub use Rattle.cw_join.specs.Tokens.{CanCome, alone, item_bytes, is_tex_like}
-pub use Rattle.cw_lines.specs.WritesLaws.{adds-events, adds-none}
+pub use Rattle.cw_lines.specs.laws.WritesLaws.{adds-events, adds-none}
 pub use Rattle.cw_mini.specs.Left.{is_inner, left_book, left_by_text, left_by_texts, left_with, ref_done}
 pub use Rattle.cw_mini.specs.Marks.{occurrence_of, with_marks}
 pub use Rattle.cw_mini.specs.Mini.{defining, is_listed_in, is_own_name, is_used_in, mini_row, numbers, stands_in}
 pub use Rattle.cw_mini.specs.Mini.{MiniRow, section_rows, mini_rows}
 pub use Rattle.cw_mini.specs.MiniFile.{defining_bytes, row_line, book_lines, section_lines}
-pub use Rattle.cw_mini.specs.RowForms.{positions, row_names, IsWordOf, names_at, may_be_listed, places_of}
+pub use Rattle.cw_mini.specs.model.RowForms.{positions, row_names, IsWordOf, names_at, may_be_listed, places_of}
 pub use Rattle.cw_names.specs.{Mentions.mentions, Mentions.AreAscending, Names.Entry}
 pub use Rattle.cw_names.specs.{declared.entry.EntryKind.EntryKind, declared.entry.NameId.NameId}
 pub use Rattle.cw_names.specs.{declared.xrefs.Occurrence.Occurrence, declared.xrefs.SectionRef.SectionRef}
@@ -28,5 +28,5 @@ pub use Rattle.cw_names.specs.declared.entry.EntryKind.TheVariants.{Ident, Roman
 pub use Rattle.cw_phase1.specs.declared.book.Book.{Book}
 pub use Rattle.cw_texpart.specs.{Done.Done, Texts.lasting, Texts.setting, Texts.text_done, Texts.Lasting}
 pub use Rattle.cw_texpart.specs.{Weaving.underlined}
-pub use Rattle.cw_tool.specs.PieceLaws.{open-after, piece-stop, piece-then, piece-wanting}
+pub use Rattle.cw_run.specs.laws.PieceLaws.{open-after, piece-stop, piece-then, piece-wanting}
 pub use Rattle.cw_translator.specs.NameParts.{AreNamesOf}

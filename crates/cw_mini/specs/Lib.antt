@@ -2,7 +2,7 @@
 pub mod Mini
 pub mod MiniLaws
 pub mod Marks
-pub mod RowForms
 pub mod MiniFile
 pub mod Left
 pub mod MiniText
+pub mod model

@@ -3,7 +3,7 @@ use Rattle.std.specs.Prelude.{ℕ, List, codes}
 use Rattle.cw_base.specs.Web.{WebState}
 use Rattle.cw_desk.specs.Meaning.{NamedFiles}
 use Rattle.cw_run.specs.Emits.{Run}
-use Rattle.cw_tool.specs.Tool.{tool_run}
+use Rattle.cw_run.specs.Tool.{tool_run}
 use Rattle.cw_mini.specs.Left.{left_book}
 use Rattle.cw_mini.specs.MiniFile.{book_lines}
 

@@ -7,7 +7,7 @@ ghost use Rattle.cw_print.specs.Sources.{is_changed};
 ghost use Rattle.cw_print.specs.Walk.{section_number};
 ghost use Rattle.cw_mini.specs.Mini.{defining, section_rows};
 ghost use Rattle.cw_mini.specs.MiniFile.{defining_bytes, row_line, section_lines};
-ghost use Rattle.cw_mini.specs.RowForms.{positions, row_names};
+ghost use Rattle.cw_mini.specs.model.RowForms.{positions, row_names};
 
 use crate::names::append_word;
 use cw_base::{Bytes, Memory};

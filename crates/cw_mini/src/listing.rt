@@ -2,7 +2,7 @@
 ghost use Rattle.std.specs.Prelude.{◌≡◌, ◌≢◌, ◌+◌, ◌<◌, ◌++◌, ◌∷◌, [], IfOk, OnOk, Some, ℕ, length, slice_get};
 ghost use Rattle.cw_base.specs.Conditions.{list_if};
 ghost use Rattle.cw_names.specs.Names.{Entry};
-ghost use Rattle.cw_mini.specs.RowForms.{IsListingOf, is_listed_by, names_at, positions};
+ghost use Rattle.cw_mini.specs.model.RowForms.{IsListingOf, is_listed_by, names_at, positions};
 
 use crate::places::{Places, is_use};
 use cw_base::Memory;

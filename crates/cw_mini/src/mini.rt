@@ -4,8 +4,8 @@ ghost use Rattle.std.specs.FinMap.{get};
 ghost use Rattle.cw_desk.specs.Answer.{Agree};
 ghost use Rattle.cw_desk.specs.Meaning.{Files, Rose};
 ghost use Rattle.cw_desk.specs.Told.{OnlyPuts};
-ghost use Rattle.cw_program.specs.Program.{Outcome, words_of};
-ghost use Rattle.cw_tool.specs.Asked.{asked};
+ghost use Rattle.cw_run.specs.Program.{Outcome, words_of};
+ghost use Rattle.cw_run.specs.Asked.{asked};
 ghost use Rattle.cw_mini.specs.MiniText.{mini_run};
 
 use crate::sections::write_sections;
@@ -14,7 +14,7 @@ use cw_base::{Exit, Ledger, Steps, Web, Words};
 use cw_desk::{Desk, FileDesk};
 use cw_lines::PutError;
 use cw_phase1::Book;
-use cw_tool::{Tool, tool_command, tool_files};
+use cw_run::{Tool, tool_command, tool_files};
 use std::alloc::Global;
 
 /// Lists for each section the names that it uses and others define.

@@ -1,13 +1,13 @@
 //! Names as they stand in C text, behind other bytes in memory.
 ghost use Rattle.std.specs.Prelude.{◌≡◌, ◌<◌, ◌++◌, [], OnOk, Some, length, slice_get};
 ghost use Rattle.cw_index.specs.Index.{formula, word_bytes};
-ghost use Rattle.cw_join.specs.Tokens.{is_tex_like, item_bytes};
+ghost use Rattle.cw_join.specs.Tokens.{item_bytes};
 ghost use Rattle.cw_names.specs.Names.{Entry};
-ghost use Rattle.cw_table.specs.Sound.{is_exp};
 ghost use Rattle.cw_tokens.specs.declared.flat.FlatItem.TheVariants.{Reserved};
-ghost use Rattle.cw_mini.specs.RowForms.{IsWordOf};
+ghost use Rattle.cw_mini.specs.model.RowForms.{IsWordOf};
 
-use cw_base::{Bytes, Cat, Memory};
+use cw_base::{Bytes, Memory};
+use cw_index::{is_exp, is_tex_like};
 use cw_join::Joiner;
 use cw_names::{NameId, Names};
 use cw_tokens::FlatItem;
@@ -36,18 +36,6 @@ fn append_formula(names: &Names, id: NameId, line: &mut Bytes) -> Result<(), Mem
     line.push(b'$')?;
     append_item(names, FlatItem::Reserved(id, 0), line)?;
     line.push(b'$')
-}
-
-fn is_tex_like(category: Cat) -> bool
-    ensures { result ≡ is_tex_like category }
-{
-    matches!(category, Cat::TexLike)
-}
-
-fn is_exp(category: Cat) -> bool
-    ensures { result ≡ is_exp category }
-{
-    matches!(category, Cat::Exp)
 }
 
 // Appends what an identifier or a reserved word prints where it stands alone.

@@ -4,7 +4,7 @@ ghost use Rattle.std.specs.List.{list_any};
 ghost use Rattle.cw_index.specs.Mentions.{has_sections, is_ident};
 ghost use Rattle.cw_names.specs.Names.{Entry};
 ghost use Rattle.cw_mini.specs.Mini.{defining};
-ghost use Rattle.cw_mini.specs.RowForms.{is_listed_by, may_be_listed};
+ghost use Rattle.cw_mini.specs.model.RowForms.{is_listed_by, may_be_listed};
 
 use cw_names::{EntryKind, NameId, Names, SectionRef, Xrefs};
 

@@ -28,7 +28,7 @@ pub struct MiniRows {
 impl Model for MiniRows {
     ghost use Rattle.std.specs.Prelude.{List, map};
     ghost use Rattle.cw_mini.specs.Mini.{MiniRow};
-    ghost use Rattle.cw_mini.specs.RowForms.{kept_row};
+    ghost use Rattle.cw_mini.specs.model.RowForms.{kept_row};
 
     ghost Value = { List MiniRow };
 

@@ -2,7 +2,7 @@
 ghost use Rattle.std.specs.Prelude.{◌≡◌, All, OnOk};
 ghost use Rattle.cw_reduce.specs.WholeTexts.{IsCText};
 ghost use Rattle.cw_texpart.specs.Texts.{lasting};
-ghost use Rattle.cw_tool.specs.Given.{IsBookOf};
+ghost use Rattle.cw_run.specs.Given.{IsBookOf};
 ghost use Rattle.cw_translator.specs.NameParts.{AreNamesOf};
 ghost use Rattle.cw_mini.specs.Left.{is_inner, left_book, left_by_text, left_by_texts};
 

@@ -3,7 +3,7 @@ use Rattle.cw_names.proofs.Terms.{◌≡◌, ℕ, ◌+◌, ◌<◌, ◌≤◌, B
 use Rattle.cw_names.proofs.Terms.{Global, get_or, length, drop, map, refl, sym, ap, ◌∙◌, append_assoc, drop-cons}
 use Rattle.cw_names.proofs.Terms.{if◌then◌else◌, arith, list_all, append-nil, drop_all, insert_entry, Cat, both-left}
 use Rattle.cw_names.proofs.Terms.{both-right, Key, Entry, is_entry, entry_of, with_word, row, built_in_words, nat_tests}
-use Rattle.cw_names.specs.{declared.entry.EntryKind.TheVariants.Ident, Table.with_table}
+use Rattle.cw_names.specs.{declared.entry.EntryKind.TheVariants.Ident, model.Table.with_table}
 use Rattle.cw_names.proofs.Lookup.{key_eq, key_eq-is}
 
 with_table-nil : (names : List Entry) → with_table [] names ≡ names

@@ -3,8 +3,8 @@ ghost use Rattle.std.specs.Prelude.{◌≡◌, ◌&&◌, [], ◌∷◌, nat_eq};
 ghost use Rattle.std.proofs.Common.{◌∙◌, ap, rules};
 ghost use Rattle.std.specs.Cmp.Lexicographic.{pointwise};
 ghost use Rattle.cw_names.specs.Names.{same_kind};
-ghost use Rattle.cw_names.specs.Inside.{is_wanted};
-ghost use Rattle.cw_names.specs.Wanting.{alike, same_text};
+ghost use Rattle.cw_names.specs.model.Inside.{is_wanted};
+ghost use Rattle.cw_names.specs.model.Wanting.{alike, same_text};
 
 use indexmap::Equivalent;
 use std::hash::{Hash, Hasher};

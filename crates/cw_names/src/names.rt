@@ -74,7 +74,7 @@ impl Model for Names {
 
     ghost Value = { List Entry };
 
-    ghost use Rattle.cw_names.specs.Inside.{entry_of, AreSound};
+    ghost use Rattle.cw_names.specs.model.Inside.{entry_of, AreSound};
 
     ghost view = { λ n. map entry_of n.categories.entries };
 

@@ -1,7 +1,7 @@
 //! The words that are known from the start.
 ghost use Rattle.std.specs.Prelude.{◌≡◌, [], map, IfOk};
-ghost use Rattle.cw_names.specs.Inside.{entry_of};
-ghost use Rattle.cw_names.specs.Table.{row, with_table};
+ghost use Rattle.cw_names.specs.model.Inside.{entry_of};
+ghost use Rattle.cw_names.specs.model.Table.{row, with_table};
 ghost use Rattle.cw_names.specs.Words.{built_in_words};
 
 use crate::EntryKind;

@@ -2,7 +2,7 @@
 ghost use Rattle.std.specs.Prelude.{◌≡◌, ◌∷◌, ◌++◌, [], ℕ, ◌<◌, ◌≤◌, OnOk, OnErr, insert, length, slice_index_or};
 ghost use Rattle.cw_names.specs.declared.xrefs.SectionRef.{SectionRef};
 ghost use Rattle.cw_names.specs.Mentions.{AreAscending, mentions};
-ghost use Rattle.cw_names.specs.Noted.{sections_at, with_mention};
+ghost use Rattle.cw_names.specs.model.Noted.{sections_at, with_mention};
 
 use crate::NameId;
 use cw_base::Memory;
@@ -40,7 +40,7 @@ impl Model for Xrefs {
     ghost Value = { List Occurrence };
 
     ghost use Rattle.cw_names.specs.Mentions.{mentions};
-    ghost use Rattle.cw_names.specs.Noted.{sections_at};
+    ghost use Rattle.cw_names.specs.model.Noted.{sections_at};
 
     ghost view = { λ x. x.noted.items };
 

@@ -2,7 +2,7 @@
 ghost use Rattle.std.specs.Prelude.{IsTrue, OnOk};
 ghost use Rattle.cw_base.specs.declared.event.Out.TheVariants.{Tex};
 ghost use Rattle.cw_desk.specs.Meaning.{is_open};
-ghost use Rattle.cw_desk.specs.Mem.{tell};
+ghost use Rattle.cw_desk.specs.model.Mem.{tell};
 ghost use Rattle.cw_lines.specs.Writes.{CanWrite};
 
 use crate::desks::desk_with_tex;

@@ -1,7 +1,7 @@
 //! What no clause says: that the sample is made.
 use crate::told::expect;
 use cw_base::{Bytes, Memory};
-use cw_sample::sample_web;
+use cw_weave::sample_web;
 use std::alloc::Global;
 use std::test::Fail;
 

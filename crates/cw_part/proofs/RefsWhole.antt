@@ -6,7 +6,7 @@ use Rattle.cw_part.proofs.Terms.{Definition, RestsAreWhole, IsWholeDefinition, I
 use Rattle.std.proofs.lemmas.List.Concat.{flat_map-cons}
 use Rattle.cw_phase1.specs.Whole.{IsWholeSection, SectionsAreWhole}
 use Rattle.cw_secnames.specs.Uses.{NameUse}
-use Rattle.cw_texpart.specs.{TexParts.IsWhole, TexParts.IsWholePiece, WholePieces.TexPartsAreWhole}
+use Rattle.cw_texpart.specs.{TexParts.IsWhole, TexParts.IsWholePiece, model.WholePieces.TexPartsAreWhole}
 use Rattle.cw_texts.specs.{TexPieces.TexPiece, TexPieces.tex_pieces_of, declared.text_list.TextRef.TextRef}
 use Rattle.cw_texts.specs.Texts.{definition_ref, definition_refs, part_refs, piece_refs, refs_from, section_refs}
 use Rattle.cw_texts.specs.Texts.{tex_refs, text_ref}

@@ -12,18 +12,18 @@ pub use Rattle.cw_desk.specs.Told.{Told}
 pub use Rattle.cw_lex.specs.Lexing.{answers_at, tokens_of, beginning}
 pub use Rattle.cw_lines.specs.{Line.LineState, Sheets.Prints, Sheets.IsSameSheet, Writes.Puts}
 pub use Rattle.cw_lines.specs.{declared.put_error.PutError.PutError, declared.put_error.PutError.TheVariants.Memory}
-pub use Rattle.cw_lines.specs.SheetLaws.{prints-bytes, prints-none, prints-stop, prints-then, same-sheet, same-then}
-pub use Rattle.cw_lines.specs.SheetLaws.{prints-longer}
-pub use Rattle.cw_lines.specs.WritesLaws.{puts-bytes, puts-none, puts-stop, puts-then, puts-nothing, can-after}
-pub use Rattle.cw_lines.specs.WritesLaws.{puts-longer}
+pub use Rattle.cw_lines.specs.laws.SheetLaws.{prints-bytes, prints-none, prints-stop, prints-then, same-sheet, same-then}
+pub use Rattle.cw_lines.specs.laws.SheetLaws.{prints-longer}
+pub use Rattle.cw_lines.specs.laws.WritesLaws.{puts-bytes, puts-none, puts-stop, puts-then, puts-nothing, can-after}
+pub use Rattle.cw_lines.specs.laws.WritesLaws.{puts-longer}
 pub use Rattle.cw_names.specs.Names.{Entry}
 pub use Rattle.cw_part.specs.Footnotes.{footnote, footnote_numbers, later_numbers, name_footnotes, number_in, of_kept}
 pub use Rattle.cw_part.specs.Footnotes.{of_name, separator, use_footnotes}
 pub use Rattle.cw_part.specs.Parts.{paragraph_if, has_no_part, part_by, part_opening, definitions_done, first_opening}
 pub use Rattle.cw_part.specs.Parts.{definition_done, later_opening}
-pub use Rattle.cw_part.specs.PresentForms.{part_setting}
+pub use Rattle.cw_part.specs.model.PresentForms.{part_setting}
 pub use Rattle.cw_part.specs.Sections.{rest_done, sections_done, rest_by, ending}
-pub use Rattle.cw_part.specs.WholeDefinitions.{DefinitionsAreWhole, RestsAreWhole}
+pub use Rattle.cw_part.specs.model.WholeDefinitions.{DefinitionsAreWhole, RestsAreWhole}
 pub use Rattle.cw_part.specs.WholeTexts.{IsWholeRest, IsWholeDefinition, IsWholeIn}
 pub use Rattle.cw_phase1.specs.{declared.book.Book.Book, declared.sections.Section.Section}
 pub use Rattle.cw_rules.specs.declared.tokens.Mode.TheVariants.{CPart, Inner}

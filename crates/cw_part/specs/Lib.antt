@@ -3,6 +3,5 @@ pub mod Parts
 pub mod Footnotes
 pub mod Sections
 pub mod WholeTexts
-pub mod PresentForms
-pub mod WholeDefinitions
 pub mod WholeRefs
+pub mod model

@@ -1,5 +1,5 @@
 //! Laws of definitions and C parts.
-ghost use Rattle.cw_part.specs.WholeDefinitions.{DefinitionsAreWhole, RestsAreWhole};
+ghost use Rattle.cw_part.specs.model.WholeDefinitions.{DefinitionsAreWhole, RestsAreWhole};
 ghost use Rattle.cw_part.specs.WholeRefs.{TextsAreWhole};
 
 use cw_lex::openings_law;

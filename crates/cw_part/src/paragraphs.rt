@@ -4,7 +4,7 @@ ghost use Rattle.cw_lex.specs.Lexing.{tokens_of};
 ghost use Rattle.cw_lex.specs.Nested.{begins_section_in, is_c_mode};
 ghost use Rattle.cw_lines.specs.Sheets.{CanPrint, IsSameSheet};
 ghost use Rattle.cw_part.specs.Parts.{paragraph_if};
-ghost use Rattle.cw_part.specs.PresentForms.{part_setting, text_of};
+ghost use Rattle.cw_part.specs.model.PresentForms.{part_setting, text_of};
 ghost use Rattle.cw_translator.specs.Counting.{scraps_in};
 ghost use Rattle.cw_translator.specs.NameParts.{AreNamesOf};
 ghost use Rattle.cw_texpart.specs.Texts.{lasting};

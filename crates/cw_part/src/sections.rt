@@ -5,7 +5,7 @@ ghost use Rattle.cw_lines.specs.Sheets.{CanPrint, IsSameSheet, Prints};
 ghost use Rattle.cw_lines.specs.Writes.{CanWrite};
 ghost use Rattle.cw_texts.specs.Definitions.{definitions_in, printed_definitions};
 ghost use Rattle.cw_part.specs.Parts.{definitions_done, first_opening, has_no_part, part_by, part_opening};
-ghost use Rattle.cw_part.specs.PresentForms.{part_setting};
+ghost use Rattle.cw_part.specs.model.PresentForms.{part_setting};
 ghost use Rattle.cw_part.specs.Sections.{ending, rest_by, rest_done};
 ghost use Rattle.cw_part.specs.WholeTexts.{IsWholeDefinition, IsWholeIn, IsWholeRest};
 ghost use Rattle.cw_phase1.specs.declared.sections.Section.{Section};

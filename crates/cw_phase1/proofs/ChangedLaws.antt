@@ -2,7 +2,7 @@
 use Rattle.cw_phase1.proofs.Terms.{◌≡◌, ℕ, zero, suc, ◌+◌, ◌<◌, ◌∙◌, ◌||◌, true, false, List, [], ◌∷◌, ap, refl, arith}
 use Rattle.cw_phase1.proofs.Terms.{map, drop, length, get_or, set, at_drop_more, get_or-map, length-map, has_changed}
 use Rattle.cw_phase1.proofs.Terms.{with_last_changed, with_last_marked, Section}
-use Rattle.cw_phase1.specs.{Packed.unpacked, declared.packed.Row.Row}
+use Rattle.cw_phase1.specs.{model.Packed.unpacked, declared.packed.Row.Row}
 
 has-more : (rows : List Row) (k : ℕ) (d : Row) → k < length rows → has_changed (drop k (map unpacked rows))
     ≡ ((get_or rows k d).changed || has_changed (drop (k + 1) (map unpacked rows)))

@@ -3,7 +3,7 @@ use Rattle.cw_phase1.proofs.Terms.{◌≡◌, ℕ, zero, suc, ◌+◌, ◌<◌, 
 use Rattle.cw_phase1.proofs.Terms.{[], ◌∷◌, length, take, drop, get_or, nat_lt, arith, length-append, if◌then◌else◌}
 use Rattle.cw_phase1.proofs.Terms.{lt-ltb, le-ltb, and_right, and_left, drop_more, take_more, common_steps, MergedLine}
 use Rattle.cw_phase1.proofs.Terms.{text_of, info_from, infos_of, LineInfo, place_from, holds_changed, offset}
-use Rattle.cw_base.specs.{WebLaws.length-text_of-more, declared.notes.Place.Place}
+use Rattle.cw_base.specs.{laws.WebLaws.length-text_of-more, declared.notes.Place.Place}
 
 offset-suc : (line : MergedLine) (lines : List MergedLine) (i : ℕ) → offset (line ∷ lines) (suc i)
     ≡ length line.text + 1 + offset lines i

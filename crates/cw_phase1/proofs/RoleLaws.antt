@@ -9,7 +9,7 @@ use Rattle.cw_phase1.proofs.Terms.{placed_by, placed_from, is_section_code, sect
 use Rattle.cw_phase1.proofs.Terms.{uses_of, reference_by, references_of}
 use Rattle.cw_secnames.specs.{declared.kinds.RefKind.RefKind, Marks.is_one_of}
 use Rattle.cw_secnames.specs.declared.kinds.RefKind.TheVariants.{Defined, Used, Cited}
-use Rattle.cw_secnames.specs.OnceLaws.{head-in, in-once, not-in, once-ascends, tail-in}
+use Rattle.cw_secnames.specs.laws.OnceLaws.{head-in, in-once, not-in, once-ascends, tail-in}
 use Rattle.cw_phase1.proofs.Passing.{name-free, enters-nothing}
 use Rattle.cw_phase1.specs.declared.roles.Role.TheVariants as roles
 

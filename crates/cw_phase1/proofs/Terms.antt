@@ -17,40 +17,42 @@ pub use Rattle.cw_base.proofs.TestLaws.{not-both, one-right, or-false, one-left,
 pub use Rattle.cw_base.specs.{Web.MergedLine, Web.text_of, Web.info_from, Web.infos_of, declared.category.Cat.Cat}
 pub use Rattle.cw_base.specs.{declared.notes.NoteKind.NoteKind, declared.span.Span.Span, declared.web.LineInfo.LineInfo}
 pub use Rattle.cw_base.specs.declared.category.Cat.TheVariants.{Exp, RawInt}
-pub use Rattle.cw_lex.specs.{Heads.head_behind, Lexing.answers_at, Lexing.beginning, Lexing.tokens_of, Limbo.HasNoNames}
+pub use Rattle.cw_lex.specs.{Heads.head_behind, Lexing.answers_at, Lexing.beginning, Lexing.tokens_of, model.Limbo.HasNoNames}
 pub use Rattle.cw_lex.specs.{Limbo.is_name_kind, declared.heads.Wanted.Wanted}
 pub use Rattle.cw_lex.specs.Nested.{is_section_kind, is_section_answer, begins_section_in}
 pub use Rattle.cw_names.specs.{Words.built_in_words, declared.entry.EntryKind.EntryKind, declared.entry.NameId.NameId}
 pub use Rattle.cw_names.specs.declared.entry.EntryKind.TheVariants.{Ident, Roman}
-pub use Rattle.cw_phase1.specs.{Book.answers_of, Book.book, LinePlaces.offset, Places.place_from, Places.holds_changed}
-pub use Rattle.cw_phase1.specs.{Places.nowhere, Referring.referring_of, Sound.LiesIn, Sound.IsNamedBy, Sound.Ascend}
+pub use Rattle.cw_phase1.specs.{Book.answers_of, Book.book, model.LinePlaces.offset, Places.place_from, Places.holds_changed}
+pub use Rattle.cw_phase1.specs.{Places.nowhere, model.Referring.referring_of, Sound.LiesIn, Sound.IsNamedBy, Sound.Ascend}
 pub use Rattle.cw_phase1.specs.{Sound.RefersUpTo, declared.roles.Part.Part, declared.roles.Role.Role}
 pub use Rattle.cw_phase1.specs.{declared.roles.Standing.Standing, declared.sections.Open.Open}
 pub use Rattle.cw_phase1.specs.{declared.sections.Section.Section, declared.sections.Sections.Sections}
 pub use Rattle.cw_phase1.specs.{declared.told.Told.Told}
 pub use Rattle.cw_phase1.specs.Changed.{has_changed, with_last_changed, with_last_marked}
-pub use Rattle.cw_phase1.specs.Ending.{notes_at_by, with_references, IsScanned, open_count, section_total}
+pub use Rattle.cw_phase1.specs.model.Ending.{notes_at_by, with_references, IsScanned, open_count, section_total}
 pub use Rattle.cw_phase1.specs.Entering.{kept_behind, entering, kept_by, kept_after, entered_name, enters, is_unended}
 pub use Rattle.cw_phase1.specs.Entering.{note_behind_end, noted_from, answer_of, kept_id, name_of_entering, note_by}
 pub use Rattle.cw_phase1.specs.Entering.{note_on_name}
-pub use Rattle.cw_phase1.specs.Holding.{HeldState, held_of, is_silent, plain_held, remark_of, waiting_of, Waiting}
-pub use Rattle.cw_phase1.specs.Holding.{settled_placed, settled_standing, settled, remark_put, token_held_by}
-pub use Rattle.cw_phase1.specs.Holding.{ended_held, held_step}
+pub use Rattle.cw_phase1.specs.model.Holding.{HeldState, held_of, is_silent, plain_held, remark_of, waiting_of, Waiting}
+pub use Rattle.cw_phase1.specs.model.Holding.{settled_placed, settled_standing, settled, remark_put, token_held_by}
+pub use Rattle.cw_phase1.specs.model.Holding.{ended_held, held_step}
 pub use Rattle.cw_phase1.specs.Missing.{has_no_definition, is_undefined, is_undefined_name, lacks_equals}
 pub use Rattle.cw_phase1.specs.Missing.{missing_equals, missing_in, begins_blank, missing_among, missing_of}
 pub use Rattle.cw_phase1.specs.Missing.{name_before, outer_names}
 pub use Rattle.cw_phase1.specs.Notes.{name_notes_from, scanned_note, scanned_notes, name_notes}
-pub use Rattle.cw_phase1.specs.Outlining.{closing_by, open_with, closing, or_here, name_here, opened, with_token}
-pub use Rattle.cw_phase1.specs.Outlining.{closed_at}
-pub use Rattle.cw_phase1.specs.Ready.{IsToken, AreBefore, WaitsBehind, CanSettle, WaitingIsKept, held_start}
+pub use Rattle.cw_phase1.specs.model.Outlining.{closing_by, open_with, closing, or_here, name_here, opened, with_token}
+pub use Rattle.cw_phase1.specs.model.Outlining.{closed_at}
+pub use Rattle.cw_phase1.specs.model.Ready.{IsToken, AreBefore, WaitsBehind, CanSettle, WaitingIsKept, held_start}
 pub use Rattle.cw_phase1.specs.Roles.{Placed, word_role, head_role, token_step, behind_begin, placed_from, at_limbo}
 pub use Rattle.cw_phase1.specs.Roles.{placed, free_step, placed_by, stay, Step, name_step, token_step_by, code_step}
 pub use Rattle.cw_phase1.specs.Roles.{section_step, defining}
 pub use Rattle.cw_phase1.specs.Sections.{is_section_code, sections_of, span, is_tex, is_program, ends_section}
 pub use Rattle.cw_phase1.specs.Sections.{ends_definitions, ends_tex, first_start, section_at, c_part_name}
-pub use Rattle.cw_phase1.specs.Telling.{told_step, word_told, word_occurrence, IsKnown, told_all, known_of, told_start}
-pub use Rattle.cw_phase1.specs.Texts.{blank_before, is_reduced_void, name_text, naming, naming_by, reduced}
-pub use Rattle.cw_phase1.specs.Texts.{single_blanks, without_first_blank, Naming, Void, Full, Prefix, rest_of, is_begun}
+pub use Rattle.cw_phase1.specs.model.Telling.{told_step, word_told, word_occurrence, IsKnown, told_all, known_of, told_start}
+pub use Rattle.cw_phase1.specs.Texts.{blank_before, name_text, naming, naming_by, reduced}
+pub use Rattle.cw_phase1.specs.model.Texts.{is_reduced_void}
+pub use Rattle.cw_phase1.specs.Texts.{single_blanks, without_first_blank, Naming, Void, Full, Prefix}
+pub use Rattle.cw_phase1.specs.model.Texts.{rest_of, is_begun}
 pub use Rattle.cw_phase1.specs.Uses.{references_of, use_by, reference_by, uses_of, use_of, section_names}
 pub use Rattle.cw_phase1.specs.Words.{with_format, name_id, KnownNames, known_behind, Mention, word, known_after}
 pub use Rattle.cw_phase1.specs.Words.{names_after, mention_by, mentions_from, occurrence, occurrences}

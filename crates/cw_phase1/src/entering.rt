@@ -2,7 +2,8 @@
 ghost use Rattle.std.specs.Prelude.{◌≡◌, ℕ, ◌<◌, ◌≤◌, ◌+◌, length, IfOk, IfSome, OnOk};
 ghost use Rattle.cw_secnames.specs.Kept.{AreKept};
 ghost use Rattle.cw_secnames.specs.declared.kinds.SecKind.TheVariants.{File};
-ghost use Rattle.cw_phase1.specs.Texts.{Full, is_reduced_void, name_text, named_text, naming, naming_by, unless_void};
+ghost use Rattle.cw_phase1.specs.Texts.{Full, name_text, named_text, naming, naming_by, unless_void};
+ghost use Rattle.cw_phase1.specs.model.Texts.{is_reduced_void};
 ghost use Rattle.cw_phase1.specs.Entering.{answer_of, entering, kept_by, kept_id};
 
 use cw_base::Memory;

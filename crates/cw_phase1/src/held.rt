@@ -1,11 +1,10 @@
 //! What is held behind the answers of the scanner that came.
 ghost use Rattle.std.specs.Prelude.{◌≡◌, ◌+◌, ◌<◌, ◌≤◌, true, false, None, IfOk, List, OnOk, length};
 ghost use Rattle.cw_base.specs.Web.{MergedLine};
-ghost use Rattle.cw_lex.specs.Limbo.{is_name_kind};
 ghost use Rattle.cw_rules.specs.Answers.{seen, Token, Note as NoteAnswer};
 ghost use Rattle.cw_rules.specs.Answers.{is_head_sign};
 ghost use Rattle.cw_phase1.specs.Entering.{is_unended, note_on_name};
-ghost use Rattle.cw_phase1.specs.Holding.{
+ghost use Rattle.cw_phase1.specs.model.Holding.{
   begun_held,
   ended_held,
   held_of,
@@ -17,8 +16,8 @@ ghost use Rattle.cw_phase1.specs.Holding.{
   remark_put,
   settled,
 };
-ghost use Rattle.cw_phase1.specs.Telling.{IsKnown};
-ghost use Rattle.cw_phase1.specs.Ready.{CanSettle, CanTell, IsToken, WaitingIsKept, held_start};
+ghost use Rattle.cw_phase1.specs.model.Telling.{IsKnown};
+ghost use Rattle.cw_phase1.specs.model.Ready.{CanSettle, CanTell, IsToken, WaitingIsKept, held_start};
 
 use crate::entering::{enter, kept_id};
 use crate::note_list::NoteList;
@@ -27,7 +26,7 @@ use crate::texts::name_text;
 use crate::told::Told;
 use crate::{Part, Role, Standing};
 use cw_base::{Memory, NoteKind, Web};
-use cw_lex::{Code, Tok, TokKind, Wanted};
+use cw_lex::{Tok, TokKind, Wanted, is_section_name};
 use cw_secnames::{Entered, SecId, SecNames};
 use std::alloc::Global;
 
@@ -54,12 +53,6 @@ pub(crate) struct Held<'a> {
     pub remark: Option<Remark>,
     pub notes: NoteList,
     pub buffer: Vec<u8>,
-}
-
-fn is_name(kind: TokKind) -> bool
-    ensures { result ≡ is_name_kind kind }
-{
-    matches!(kind, TokKind::Code(Code::SectionName | Code::FileName))
 }
 
 fn is_head_sign(kind: TokKind) -> bool
@@ -305,7 +298,7 @@ impl<'a> Held<'a> {
     {
         self.put_remark(web)?;
         self.settle(web, is_head_sign(token.kind))?;
-        if is_name(token.kind) {
+        if is_section_name(token.kind) {
             self.name(token)
         } else {
             self.plain(web, token)

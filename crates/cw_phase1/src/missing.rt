@@ -2,7 +2,6 @@
 ghost use Rattle.std.specs.Prelude.{◌≡◌, ◌<◌, ◌≤◌, ◌&&◌, ◌++◌, [], All, IfOk, IfSome, OnOk, Some, length, reverse};
 ghost use Rattle.std.specs.List.{list_any};
 ghost use Rattle.cw_base.specs.Web.{text_of};
-ghost use Rattle.cw_lex.specs.Limbo.{is_name_kind};
 ghost use Rattle.cw_lex.specs.Lexing.{tokens_of};
 ghost use Rattle.cw_rules.specs.Answers.{seen};
 ghost use Rattle.cw_rules.specs.Order.{LiesWithin};
@@ -27,7 +26,7 @@ use crate::held::is_unended;
 use crate::note_list::NoteList;
 use crate::packed::{SectionList, short};
 use cw_base::{Memory, NoteKind, Span, Web};
-use cw_lex::{Code, Lexed, Lexer, Mode, Tok, TokKind};
+use cw_lex::{Lexed, Lexer, Mode, Tok, is_section_name};
 use cw_rules::classes::is_blank;
 use cw_secnames::{NameUses, SecId, SecNames};
 
@@ -83,17 +82,11 @@ fn stands_alone(text: &[u8], tex: Span, name: Span) -> bool
     ends_blank(&text[tex.start..name.start]) && begins_blank(&text[name.end..tex.end])
 }
 
-fn is_name(kind: TokKind) -> bool
-    ensures { result ≡ is_name_kind kind }
-{
-    matches!(kind, TokKind::Code(Code::SectionName | Code::FileName))
-}
-
 // The section name that a token is, where it stands in no inner text.
 fn name_in(depth: usize, token: Tok) -> Option<Span>
     ensures { result ≡ name_in depth (seen token.entry) }
 {
-    if depth == 0 && is_name(token.kind) {
+    if depth == 0 && is_section_name(token.kind) {
         return Some(token.span);
     }
     None

@@ -1,9 +1,9 @@
 //! For which names the section names in a web stand, and how their sections refer to them.
 ghost use Rattle.std.specs.Prelude.{◌≡◌, ◌<◌, ◌^◌, [], ◌∷◌, ◌++◌, All, IfOk, IfSome, OnOk, map};
 ghost use Rattle.cw_secnames.specs.References.{Reference};
-ghost use Rattle.cw_phase1.specs.Placing.{placed_of};
-ghost use Rattle.cw_phase1.specs.Referring.{referring_of};
-ghost use Rattle.cw_phase1.specs.Telling.{named_told};
+ghost use Rattle.cw_phase1.specs.model.Placing.{placed_of};
+ghost use Rattle.cw_phase1.specs.model.Referring.{referring_of};
+ghost use Rattle.cw_phase1.specs.model.Telling.{named_told};
 
 use crate::Role;
 use crate::packed::short;
@@ -30,7 +30,7 @@ pub(crate) struct References {
 impl Model for References {
     ghost use Rattle.std.specs.Prelude.{List, map};
     ghost use Rattle.cw_secnames.specs.References.{Reference};
-    ghost use Rattle.cw_phase1.specs.Referring.{referring_of};
+    ghost use Rattle.cw_phase1.specs.model.Referring.{referring_of};
 
     ghost Value = { List Reference };
 

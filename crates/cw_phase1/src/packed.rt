@@ -1,7 +1,7 @@
 //! Sections in a row, as they lie in memory: with places of 32 bits.
 ghost use Rattle.std.specs.Prelude.{◌≡◌, ◌<◌, [], ◌∷◌, ◌++◌, Some, IfOk, OnOk, length, slice_get};
 ghost use Rattle.cw_phase1.specs.Changed.{has_changed, with_last_marked};
-ghost use Rattle.cw_phase1.specs.Packed.{depth_of, name_of, span_of, unpacked, whole_section};
+ghost use Rattle.cw_phase1.specs.model.Packed.{depth_of, name_of, span_of, unpacked, whole_section};
 
 use crate::{Depth, Section};
 use cw_base::{Memory, Span};
@@ -60,7 +60,7 @@ pub(crate) struct SectionList {
 impl Model for SectionList {
     ghost use Rattle.std.specs.Prelude.{List, map};
     ghost use Rattle.cw_phase1.specs.declared.sections.Section.{Section};
-    ghost use Rattle.cw_phase1.specs.Packed.{unpacked};
+    ghost use Rattle.cw_phase1.specs.model.Packed.{unpacked};
 
     ghost Value = { List Section };
 

@@ -2,12 +2,12 @@
 ghost use Rattle.std.specs.Prelude.{◌≡◌, ◌<◌, ◌≤◌, ◌++◌, All, length, IfOk, IfSome, OnOk, unwrap_or};
 ghost use Rattle.cw_base.specs.Web.{text_of};
 ghost use Rattle.cw_phase1.specs.Book.{book};
-ghost use Rattle.cw_phase1.specs.Ending.{AreOfKept, IsScanned, notes_at, section_total, with_references};
-ghost use Rattle.cw_phase1.specs.Holding.{held_of};
+ghost use Rattle.cw_phase1.specs.model.Ending.{AreOfKept, IsScanned, notes_at, section_total, with_references};
+ghost use Rattle.cw_phase1.specs.model.Holding.{held_of};
 ghost use Rattle.cw_phase1.specs.Missing.{missing_equals};
 ghost use Rattle.cw_phase1.specs.Notes.{name_note as noted_name, name_notes};
-ghost use Rattle.cw_phase1.specs.Outlining.{closing};
-ghost use Rattle.cw_phase1.specs.Ready.{held_start};
+ghost use Rattle.cw_phase1.specs.model.Outlining.{closing};
+ghost use Rattle.cw_phase1.specs.model.Ready.{held_start};
 ghost use Rattle.cw_phase1.specs.Sections.{span};
 ghost use Rattle.cw_phase1.specs.Sound.{IsNamedBy, LiesIn, RefersUpTo};
 

@@ -2,7 +2,7 @@
 ghost use Rattle.std.specs.Prelude.{◌≡◌, ◌+◌, ◌<◌, length, slice_index_or};
 ghost use Rattle.cw_base.specs.Web.{MergedLine};
 ghost use Rattle.cw_phase1.specs.Places.{place_in};
-ghost use Rattle.cw_phase1.specs.LinePlaces.{offset, IsLineOf};
+ghost use Rattle.cw_phase1.specs.model.LinePlaces.{offset, IsLineOf};
 ghost use Rattle.cw_phase1.specs.Places.{holds_changed};
 
 use cw_base::{LineInfo, Place, Web};

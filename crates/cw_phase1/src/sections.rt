@@ -3,11 +3,11 @@ ghost use Rattle.std.specs.Prelude.{◌≡◌, ◌+◌, ◌^◌, ◌<◌, ◌≤
 ghost use Rattle.std.specs.Prelude.{length, drop, take_while};
 ghost use Rattle.cw_rules.specs.Answers.{seen};
 ghost use Rattle.cw_rules.specs.Bytes.{is_digit};
-ghost use Rattle.cw_phase1.specs.Packed.{whole_section};
-ghost use Rattle.cw_phase1.specs.Placing.{placed_of};
+ghost use Rattle.cw_phase1.specs.model.Packed.{whole_section};
+ghost use Rattle.cw_phase1.specs.model.Placing.{placed_of};
 ghost use Rattle.cw_phase1.specs.Sections.{depth_at, ends_definitions, ends_tex, is_section_code, is_starred};
-ghost use Rattle.cw_phase1.specs.Outlining.{closed_at, closing, open_with, opened, or_here};
-ghost use Rattle.cw_phase1.specs.Outlining.{section_told, with_token};
+ghost use Rattle.cw_phase1.specs.model.Outlining.{closed_at, closing, open_with, opened, or_here};
+ghost use Rattle.cw_phase1.specs.model.Outlining.{section_told, with_token};
 
 use crate::packed::{SectionList, Whole};
 use crate::places::holds_changed;

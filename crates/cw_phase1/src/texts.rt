@@ -4,7 +4,8 @@ ghost use Rattle.cw_rules.specs.Bytes.{is_in};
 ghost use Rattle.cw_rules.specs.Names.{uncoded};
 ghost use Rattle.cw_rules.specs.declared.classes.Class.TheVariants.{White};
 ghost use Rattle.cw_rules.specs.ControlTexts.{text_behind_code, text_to_end};
-ghost use Rattle.cw_phase1.specs.Texts.{byte_of, is_begun, name_text, rest_of};
+ghost use Rattle.cw_phase1.specs.Texts.{name_text};
+ghost use Rattle.cw_phase1.specs.model.Texts.{byte_of, is_begun, rest_of};
 
 use cw_base::Memory;
 

@@ -1,8 +1,8 @@
 //! What is known of the tokens that came.
 ghost use Rattle.std.specs.Prelude.{◌≡◌, ◌<◌, ◌^◌, All, IfOk, IfSome, List, None, OnOk, length};
 ghost use Rattle.cw_base.specs.Web.{MergedLine};
-ghost use Rattle.cw_phase1.specs.Placing.{placed_of};
-ghost use Rattle.cw_phase1.specs.Telling.{IsKnown, told_step, told_start};
+ghost use Rattle.cw_phase1.specs.model.Placing.{placed_of};
+ghost use Rattle.cw_phase1.specs.model.Telling.{IsKnown, told_step, told_start};
 
 use crate::Role;
 use crate::named::Named;

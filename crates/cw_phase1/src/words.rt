@@ -2,10 +2,10 @@
 ghost use Rattle.std.specs.Prelude.{◌≡◌, ◌<◌, ◌++◌, [], ◌∷◌, false, None, Some, length, IfOk, OnOk};
 ghost use Rattle.cw_names.specs.Names.{with_entry};
 ghost use Rattle.cw_names.specs.Words.{built_in_words};
-ghost use Rattle.cw_phase1.specs.Placing.{placed_of};
+ghost use Rattle.cw_phase1.specs.model.Placing.{placed_of};
 ghost use Rattle.cw_rules.specs.ControlTexts.{text_behind_code};
 ghost use Rattle.cw_phase1.specs.Words.{name_id, with_format, occurrence};
-ghost use Rattle.cw_phase1.specs.Telling.{IsKnown, word_occurrence, word_told};
+ghost use Rattle.cw_phase1.specs.model.Telling.{IsKnown, word_occurrence, word_told};
 
 use crate::Role;
 use crate::placing::Placed;

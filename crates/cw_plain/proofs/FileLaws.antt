@@ -5,12 +5,12 @@ use Rattle.cw_plain.proofs.Terms.{NextText, unfolded, plain_tree, source_by}
 use Rattle.std.proofs.lemmas.List.Elements.{All-tail}
 use Rattle.cw_base.specs.declared.event.Out.TheVariants.{Tex}
 use Rattle.cw_desk.specs.{Journal.byte_events, Told.Told}
-use Rattle.cw_each.specs.EachText.{EndedText, Source, each_text, text_ended}
-use Rattle.cw_lines.specs.{Writes.Adds, Writes.HasAdded, WritesLaws.adds-events, WritesLaws.adds-none}
+use Rattle.cw_texts.specs.EachText.{EndedText, Source, each_text, text_ended}
+use Rattle.cw_lines.specs.{Writes.Adds, Writes.HasAdded, laws.WritesLaws.adds-events, laws.WritesLaws.adds-none}
 use Rattle.cw_lines.specs.{declared.put_error.PutError.PutError, declared.put_error.PutError.TheVariants.Memory}
 use Rattle.cw_names.specs.Names.{Entry}
 use Rattle.cw_texts.specs.declared.text_list.TextRef.{TextRef}
-use Rattle.cw_tool.specs.PieceLaws.{piece-stop, piece-then, piece-wanting}
+use Rattle.cw_run.specs.laws.PieceLaws.{piece-stop, piece-then, piece-wanting}
 use Rattle.cw_translator.specs.NameParts.{AreNamesOf}
 use Rattle.cw_plain.specs.File.{lines_by, text_lines, texts_lines}
 

@@ -6,5 +6,4 @@ pub mod Plain
 pub mod Titles
 pub mod File
 pub mod Conditions
-pub mod Laying
-pub mod Walking
+pub mod model

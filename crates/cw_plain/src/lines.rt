@@ -1,7 +1,7 @@
 //! Pieces of plain text, laid out in lines.
 ghost use Rattle.std.specs.Prelude.{◌≡◌, ◌+◌, ◌++◌, ℕ, [], ◌∷◌, nat_lt, IfOk, OnOk};
 ghost use Rattle.cw_trees.specs.Flat.{is_run_sign};
-ghost use Rattle.cw_plain.specs.Laying.{Lays, begun, ended, ended_text, no_run};
+ghost use Rattle.cw_plain.specs.model.Laying.{Lays, begun, ended, ended_text, no_run};
 ghost use Rattle.cw_plain.specs.Lines.{backed, break_text, indent, last_behind, level_in};
 ghost use Rattle.cw_plain.specs.Pieces.{Closing, Ending, Opening, Part, Word, run_or_nothing};
 
@@ -22,7 +22,7 @@ pub(crate) struct Lines {
 }
 
 impl Model for Lines {
-    ghost use Rattle.cw_plain.specs.Laying.{Laying};
+    ghost use Rattle.cw_plain.specs.model.Laying.{Laying};
 
     ghost Value = { Laying };
 

@@ -6,7 +6,7 @@ ghost use Rattle.cw_tokens.specs.FlatItems.{item_is, items_are};
 ghost use Rattle.cw_plain.specs.Pieces.{control_placed, found_placed, name_behind, name_placed, number_placed};
 ghost use Rattle.cw_plain.specs.Pieces.{token_placed};
 ghost use Rattle.cw_plain.specs.Titles.{titles};
-ghost use Rattle.cw_plain.specs.Walking.{MakesItem, MakesPlaced, items_text, source_of, walk_begun};
+ghost use Rattle.cw_plain.specs.model.Walking.{MakesItem, MakesPlaced, items_text, source_of, walk_begun};
 
 use crate::comments::OpenComments;
 use crate::lines::{Lines, one_more};
@@ -53,7 +53,7 @@ pub(crate) struct Plainer<'s, 'a> {
 }
 
 impl<'s, 'a> Model for Plainer<'s, 'a> {
-    ghost use Rattle.cw_plain.specs.Walking.{Walked};
+    ghost use Rattle.cw_plain.specs.model.Walking.{Walked};
 
     ghost Value = { Walked };
 

@@ -2,8 +2,8 @@
 ghost use Rattle.std.specs.Prelude.{◌≡◌};
 ghost use Rattle.cw_trees.specs.Flat.{is_run_sign};
 ghost use Rattle.cw_trees.specs.Printing.{strength};
-ghost use Rattle.cw_join.specs.Runs.{run_more};
-ghost use Rattle.cw_plain.specs.Laying.{ended_strength, no_run};
+ghost use Rattle.cw_join.specs.model.Runs.{run_more};
+ghost use Rattle.cw_plain.specs.model.Laying.{ended_strength, no_run};
 
 use cw_trees::Control;
 use std::marker::Model;

@@ -15,7 +15,7 @@ use Rattle.cw_plain_laws.proofs.LeafWalks.{FormWalks, ItemWalks, Owns, TokensWal
 use Rattle.cw_plain_laws.proofs.LeafWalks.{found-owns, is_name, name-walks, source-walks, stays, word-walks}
 use Rattle.cw_plain_laws.proofs.WalkLaws.{empty-walks, reserve-walks, sign-walks, sub-walks}
 use Rattle.cw_reduce.proofs.HeadAnswers.{first-all, head-words-fit, later-all, word_kind}
-use Rattle.cw_scraps.specs.Words.{is_word}
+use Rattle.cw_scraps.specs.model.Words.{is_word}
 use Rattle.cw_tokens.specs.declared.token.Token.{Token}
 use Rattle.cw_translator.specs.Translating.{CommentItem, Piece, Known, Made, NameTexts, beside, dead, dollared, end_of}
 use Rattle.cw_translator.specs.Translating.{first_word, form_made, form_tokens, group_made, head_made, headed_made}

@@ -39,7 +39,7 @@ pub use Rattle.cw_rules.proofs.Ahead.{drop-same}
 pub use Rattle.cw_rules.proofs.Choices.{and-none, at-byte, or-false, or-first, or-second, if-both, if-same}
 pub use Rattle.cw_rules.proofs.Sizes.{digits-le, mantissa-le, number-le, constant-le, run-le}
 pub use Rattle.cw_rules.proofs.Taking.{AreNotes, AreBare, TakesAll, bare-all-cut, found-takes}
-pub use Rattle.cw_rules.specs.{Apart.found_apart, Apart.code_text_apart, Prefixes.is_prefix_letter}
+pub use Rattle.cw_rules.specs.{model.Apart.found_apart, model.Apart.code_text_apart, Prefixes.is_prefix_letter}
 pub use Rattle.cw_rules.specs.{Prefixes.prefix_size, Signs.spelling, Signs.all_signs, Signs.longest, Signs.longer}
 pub use Rattle.cw_rules.specs.{declared.bodies.Inside.Inside, declared.bodies.Noted.Noted, declared.classes.Class.Class}
 pub use Rattle.cw_rules.specs.{declared.codes.Code.Code, declared.tokens.Mode.Mode}

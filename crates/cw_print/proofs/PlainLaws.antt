@@ -3,7 +3,7 @@ use Rattle.cw_print.proofs.Terms.{◌≡◌, ℕ, ◌-◌, ◌||◌, ◌&&◌, �
 use Rattle.cw_print.proofs.Terms.{ap, sym, ◌∙◌, arith, nat_tests, append_assoc, Portion, has_room, rest_bytes}
 use Rattle.cw_print.proofs.Terms.{string_bytes}
 use Rattle.std.proofs.lemmas.Bool.{eqb-true}
-use Rattle.cw_print.specs.Dividing.{is_special}
+use Rattle.cw_print.specs.model.Dividing.{is_special}
 
 -- a portion with so much room, in which no backslash takes the next byte along
 abbrev pub with_room : ℕ → Portion

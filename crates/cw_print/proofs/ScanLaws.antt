@@ -4,7 +4,8 @@ use Rattle.cw_print.proofs.Terms.{arith, subst, drop, length, take, take_all, un
 use Rattle.std.proofs.Math.Seq.{take-add}
 use Rattle.cw_rules.specs.{declared.tokens.Lexed.Lexed, declared.tokens.Tok.Tok, Answers.Answer, Answers.Gives}
 use Rattle.cw_rules.specs.{Answers.Seen, Answers.seen}
-use Rattle.cw_print.specs.Found.{numbered, HasNoNumber, HasNumber, IsAhead}
+use Rattle.cw_print.specs.Found.{numbered}
+use Rattle.cw_print.specs.model.Found.{HasNoNumber, HasNumber, IsAhead}
 
 -- the answers from a place on, up to another
 abbrev pub ahead-of : List Answer → ℕ → ℕ → List Answer

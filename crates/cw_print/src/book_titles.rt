@@ -2,7 +2,7 @@
 ghost use Rattle.std.specs.Prelude.{◌≡◌, Some, drop, option_map};
 ghost use Rattle.cw_print.specs.Sources.{defines_first, first_section, is_changed, is_file, is_first, section_of};
 ghost use Rattle.cw_print.specs.Sources.{title_of_kept, titles};
-ghost use Rattle.cw_print.specs.Titles.{title_of};
+ghost use Rattle.cw_print.specs.model.Titles.{title_of};
 
 use crate::title::SectionTitle;
 use cw_phase1::{Book, Section};

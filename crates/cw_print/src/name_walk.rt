@@ -5,7 +5,7 @@ ghost use Rattle.cw_rules.specs.declared.tokens.Mode.TheVariants.{Inner};
 ghost use Rattle.cw_lex.specs.Lexing.{tokens_of};
 ghost use Rattle.cw_lex.specs.Nested.{until_section};
 ghost use Rattle.cw_print.specs.Found.{numbered};
-ghost use Rattle.cw_print.specs.Titles.{title_of};
+ghost use Rattle.cw_print.specs.model.Titles.{title_of};
 ghost use Rattle.cw_print.specs.Walk.{behind_next, front, name_pieces, next_bytes};
 
 use crate::escaping::put_escaped;
@@ -34,7 +34,7 @@ impl<'a> Model for NameWalk<'a> {
     ghost use Rattle.std.specs.Prelude.{◌≤◌, length};
     ghost use Rattle.std.specs.Option.{ForSome};
     ghost use Rattle.cw_print.specs.Walk.{InName};
-    ghost use Rattle.cw_print.specs.NamesAhead.{in_name};
+    ghost use Rattle.cw_print.specs.model.NamesAhead.{in_name};
 
     ghost Value = { InName };
 

@@ -14,9 +14,9 @@ ghost use Rattle.cw_lines.specs.Sheets.{CanPrint, Prints};
 ghost use Rattle.cw_lines.specs.Writes.{CanWrite, Puts};
 ghost use Rattle.cw_join.specs.Early.{added};
 ghost use Rattle.cw_join.specs.Tokens.{CanCome, word_at};
-ghost use Rattle.cw_print.specs.Coming.{AllMay, MayCome};
-ghost use Rattle.cw_print.specs.Printing.{IsBehind, IsMidway, IsOnlyName, Midway, PrintsOn, shown};
-ghost use Rattle.cw_print.specs.Printing.{shown_next, source_of};
+ghost use Rattle.cw_print.specs.model.Coming.{AllMay, MayCome};
+ghost use Rattle.cw_print.specs.model.Printing.{IsBehind, IsMidway, IsOnlyName, Midway, PrintsOn, shown};
+ghost use Rattle.cw_print.specs.model.Printing.{shown_next, source_of};
 ghost use Rattle.cw_print.specs.Sources.{lists_all, source_at, source_by};
 ghost use Rattle.cw_print.specs.Walk.{Source, bracket, tree_bytes, wrapped};
 

@@ -6,8 +6,9 @@ ghost use Rattle.cw_rules.specs.Answers.{Answer, Gives, seen};
 ghost use Rattle.cw_rules.specs.declared.tokens.Mode.TheVariants.{Inner};
 ghost use Rattle.cw_lex.specs.Lexing.{tokens_of};
 ghost use Rattle.cw_lex.specs.Nested.{is_section_kind, until_section};
-ghost use Rattle.cw_print.specs.Found.{numbered, HasNoNumber, HasNumber};
-ghost use Rattle.cw_print.specs.Scanning.{among, IsSeeking};
+ghost use Rattle.cw_print.specs.Found.{numbered};
+ghost use Rattle.cw_print.specs.model.Found.{HasNoNumber, HasNumber};
+ghost use Rattle.cw_print.specs.model.Scanning.{among, IsSeeking};
 ghost use Rattle.cw_print.specs.Walk.{PrintsSign};
 
 use cw_answers::Answers;
@@ -109,7 +110,7 @@ pub struct Finder<'s, 'a> {
 impl<'s, 'a> Model for Finder<'s, 'a> {
     ghost use Rattle.std.specs.Prelude.{List};
     ghost use Rattle.cw_rules.specs.Answers.{Answer};
-    ghost use Rattle.cw_print.specs.Scanning.{among, IsSeeking};
+    ghost use Rattle.cw_print.specs.model.Scanning.{among, IsSeeking};
 
     ghost Value = { List Answer };
 
@@ -148,7 +149,7 @@ pub(crate) struct Scan<'a> {
 impl<'a> Model for Scan<'a> {
     ghost use Rattle.std.specs.Prelude.{List};
     ghost use Rattle.cw_rules.specs.Answers.{Answer};
-    ghost use Rattle.cw_print.specs.Scanning.{among, IsSeeking};
+    ghost use Rattle.cw_print.specs.model.Scanning.{among, IsSeeking};
 
     ghost Value = { List Answer };
 

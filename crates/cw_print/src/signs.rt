@@ -1,6 +1,6 @@
 //! The macros of signs.
 ghost use Rattle.std.specs.Prelude.{◌≡◌, ◌∷◌, ◌++◌, [], OnOk};
-ghost use Rattle.cw_print.specs.Signs.{HasForm};
+ghost use Rattle.cw_print.specs.model.Signs.{HasForm};
 ghost use Rattle.cw_print.specs.Tokens.{sign_macro};
 
 use crate::escaping::put_few;

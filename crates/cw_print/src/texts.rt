@@ -1,6 +1,6 @@
 //! The bytes of strings, include names and control texts.
 ghost use Rattle.std.specs.Prelude.{◌≡◌, ◌≤◌, ◌++◌, ◌∷◌, IfOk, OnOk, length};
-ghost use Rattle.cw_print.specs.Dividing.{rest_bytes};
+ghost use Rattle.cw_print.specs.model.Dividing.{rest_bytes};
 ghost use Rattle.cw_print.specs.Escaping.{escaped};
 ghost use Rattle.cw_rules.specs.ControlTexts.{is_at_pair, is_text_end, text_to_end};
 ghost use Rattle.cw_print.specs.Texts.{divided, is_continued, is_pair, string_bytes, include_bytes};

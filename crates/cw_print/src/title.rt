@@ -2,7 +2,7 @@
 ghost use Rattle.std.specs.Prelude.{◌≡◌, ◌++◌, OnOk};
 ghost use Rattle.std.specs.List.{flat_map};
 ghost use Rattle.cw_print.specs.Walk.{front, later_number, section_number};
-ghost use Rattle.cw_print.specs.Titles.{title_of};
+ghost use Rattle.cw_print.specs.model.Titles.{title_of};
 
 use crate::book_titles::is_changed;
 use cw_base::{Bytes, Memory};

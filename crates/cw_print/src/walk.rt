@@ -9,7 +9,7 @@ ghost use Rattle.cw_print.specs.Tokens.{sign_macro};
 ghost use Rattle.cw_print.specs.Walk.{Stand, Title, bracket, control_shown, is_name_token};
 ghost use Rattle.cw_print.specs.Walk.{named_shown, outer_shown, outside};
 ghost use Rattle.cw_print.specs.Walk.{shown_as, seen_shown, source_shown};
-ghost use Rattle.cw_print.specs.Walked.{behind};
+ghost use Rattle.cw_print.specs.model.Walked.{behind};
 
 use crate::book_titles::title_at;
 use crate::braces::OpenBraces;
@@ -20,7 +20,7 @@ use crate::showing::put_found;
 use crate::signs::put_sign;
 use cw_answers::Answers;
 use cw_base::{Bytes, Memory};
-use cw_lex::{Code, Tok, TokKind};
+use cw_lex::{Tok, is_section_name};
 use cw_phase1::Book;
 use cw_trees::Control;
 use std::alloc::Global;
@@ -50,8 +50,8 @@ pub(crate) struct TextWalk<'s, 'a> {
 }
 
 impl<'s, 'a> Model for TextWalk<'s, 'a> {
-    ghost use Rattle.cw_print.specs.Scanning.{among, IsSeeking};
-    ghost use Rattle.cw_print.specs.Walked.{Walked};
+    ghost use Rattle.cw_print.specs.model.Scanning.{among, IsSeeking};
+    ghost use Rattle.cw_print.specs.model.Walked.{Walked};
 
     ghost Value = { Walked };
 
@@ -208,10 +208,7 @@ fn is_name(token: Option<Tok>) -> bool
     ensures { result ≡ is_name_token (option_map seen token.entry) }
 {
     match token {
-        Some(token) => matches!(
-            token.kind,
-            TokKind::Code(Code::SectionName | Code::FileName)
-        ),
+        Some(token) => is_section_name(token.kind),
         None => false,
     }
 }

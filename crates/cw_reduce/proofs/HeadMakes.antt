@@ -33,13 +33,14 @@ use Rattle.cw_translator.proofs.Terms.{name_in_text, names_in_text, Flags, Answe
 use Rattle.cw_translator.proofs.Terms.{Keeps, scraps_of, roots_of, AreRoots, IsSoundLine, Known, with_names, IsErrAnd}
 use Rattle.cw_translator.proofs.Terms.{Memory, subst, Begin, Note, answers_in}
 use Rattle.std.proofs.Common.{Bool, false, Ok, Result, ◌^◌}
-use Rattle.cw_reduce.specs.HeadReading.{macro_tokens, format_tokens, with_break, IsLast, HasTokens, answer_words}
-use Rattle.cw_reduce.specs.HeadReading.{head_line, is_definition, read_made, words_in, words_tokens, NamesWithin}
-use Rattle.cw_reduce.specs.HeadReading.{answers_ahead, head_named, without_notes}
+use Rattle.cw_reduce.specs.model.HeadReading.{macro_tokens, format_tokens, with_break, IsLast, HasTokens, answer_words}
+use Rattle.cw_reduce.specs.HeadReading.{head_line, read_made, words_in, NamesWithin}
+use Rattle.cw_reduce.specs.model.HeadReading.{is_definition, words_tokens}
+use Rattle.cw_reduce.specs.model.HeadReading.{answers_ahead, head_named, without_notes}
 use Rattle.cw_lex.specs.Heads.{Head, Macro, Format, Silent, headed_by, head_words, wanted_by, Named, Headed, headed}
 use Rattle.cw_lex.specs.Heads.{headless, named_headed, without_words}
 use Rattle.cw_scraps.proofs.LeafForms.{leaf-sound}
-use Rattle.cw_reduce.specs.HeadsRead.{HeadIsRead}
+use Rattle.cw_reduce.specs.model.HeadsRead.{HeadIsRead}
 
 pub word-plain : (ws : List StoredToken) (i : ℕ) (d : StoredToken) → refs_in ws ≡ [] → i < length ws
     → ref_of (shape (get_or ws i d)) ≡ None

@@ -17,7 +17,8 @@ use Rattle.cw_lex.proofs.Nests.{SameSize, some-levels, first-levels, nests-size,
 use Rattle.cw_rules.specs.declared.codes.Code.TheVariants as code
 use Rattle.cw_rules.specs.declared.tokens.TokKind.TheVariants as kind
 use Rattle.cw_translator.specs.declared.holders.Holder.TheVariants as holder
-use Rattle.cw_translator.specs.Reading.{extended, with_made, ended_in, with_held, after_token, after_begin}
+use Rattle.cw_translator.specs.Reading.{ended_in, with_held, after_token, after_begin}
+use Rattle.cw_translator.specs.model.Reading.{extended, with_made}
 use Rattle.cw_translator.specs.Reading.{after_finish}
 use Rattle.cw_trees.specs.declared.Control.TheVariants as control
 use Rattle.cw_translator.specs.Holders.{held_cat, held_mode, held_tree, name_rest, name_tree}

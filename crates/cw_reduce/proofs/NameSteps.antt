@@ -11,13 +11,14 @@ use Rattle.std.proofs.lemmas.Option.{get_or_from_slice_get, slice_get_within}
 use Rattle.cw_secnames.specs.Kept.{shown, SecName, id as id_of}
 use Rattle.cw_translator.specs.declared.holders.Holder.TheVariants as holder
 use Rattle.cw_translator.specs.declared.nesting.Open.TheVariants.{Comment, CText as OpenCText}
-use Rattle.cw_translator.specs.Reading.{with_held, with_made, after_token, after_begin}
+use Rattle.cw_translator.specs.Reading.{with_held, after_token, after_begin}
+use Rattle.cw_translator.specs.model.Reading.{with_made}
 use Rattle.cw_reduce.proofs.ReadSteps.{gives-is, starts-split}
 use Rattle.cw_reduce.specs.declared.heads.HeadRead.TheVariants as read
 use Rattle.cw_translator.specs.Translating.{translated, NameTexts, begin, head_made, texts_named}
 use Rattle.cw_reduce.proofs.Joined.{AllNested, name-law, named-translation}
 use Rattle.cw_reduce.specs.Heading.{NamesOfHead, NamesOfHeaded, in_name, behind, after_head, after_held, head_begun}
-use Rattle.cw_reduce.specs.Heading.{headed_text, of_head, over_head, over_headed, to_headed}
+use Rattle.cw_reduce.specs.model.Heading.{headed_text, of_head, over_head, over_headed, to_headed}
 use Rattle.cw_translator.proofs.Terms.{◌≡◌, ℕ, ◌+◌, ◌<◌, ◌≤◌, true, Option, Some, None, List, [], ◌∷◌, ◌++◌, length}
 use Rattle.cw_translator.proofs.Terms.{map, option_map, refl, ap, ◌∙◌, add-zero, arith, All, slice_get, append-nil}
 use Rattle.cw_translator.proofs.Terms.{All-head, All-tail, Flags, Memory, Answer, Seen, Begin, Finish, TokKind, Entry}

@@ -35,8 +35,10 @@ pub use Rattle.cw_names.specs.Names.{is_entry, with_entry}
 pub use Rattle.cw_names.specs.Words.{built_in_words}
 pub use Rattle.cw_names.specs.declared.NameId.{NameId}
 pub use Rattle.cw_names.specs.declared.entry.EntryKind.TheVariants.{Ident}
-pub use Rattle.cw_reduce.specs.HeadReading.{NamesWithin, answers_ahead, is_definition, name_ahead, read_made}
-pub use Rattle.cw_reduce.specs.HeadReading.{without_notes, answer_words, head_line}
+pub use Rattle.cw_reduce.specs.HeadReading.{NamesWithin, read_made}
+pub use Rattle.cw_reduce.specs.model.HeadReading.{answers_ahead, is_definition, name_ahead}
+pub use Rattle.cw_reduce.specs.HeadReading.{head_line}
+pub use Rattle.cw_reduce.specs.model.HeadReading.{without_notes, answer_words}
 pub use Rattle.cw_reduce.specs.Naming.{with_texts, held_answers, is_name_answer, name_answers, text_answers, text_token}
 pub use Rattle.cw_reduce.specs.Naming.{texts_answers, token_answers, ends_text}
 pub use Rattle.cw_reduce.specs.TranslationLaws.{InnersRead, ReadsInText}
@@ -49,9 +51,10 @@ pub use Rattle.cw_rules.specs.declared.tokens.Lexed.{Lexed}
 pub use Rattle.cw_rules.specs.declared.tokens.Mode.TheVariants.{Inner as inner_mode, CPart, Definition}
 pub use Rattle.cw_rules.specs.declared.tokens.Tok.{Tok}
 pub use Rattle.cw_scraps.specs.Leaves.{sign_mode, word_form, code_form}
-pub use Rattle.cw_scraps.specs.Words.{is_word}
+pub use Rattle.cw_scraps.specs.model.Words.{is_word}
 pub use Rattle.cw_scraps.specs.declared.line.LineEntry.{LineEntry}
-pub use Rattle.cw_secnames.specs.Parts.{parts_at, IsNextPart, inner_parts}
+pub use Rattle.cw_secnames.specs.Parts.{inner_parts}
+pub use Rattle.cw_secnames.specs.model.Parts.{parts_at, IsNextPart}
 pub use Rattle.cw_secnames.specs.Uses.{NameUse, name_at}
 pub use Rattle.cw_secnames.specs.declared.kinds.SecKind.{SecKind}
 pub use Rattle.cw_table.proofs.CountLaws.{ticks-most}
@@ -72,7 +75,8 @@ pub use Rattle.cw_translator.proofs.Routes.{ends-behind, advances-unread, advanc
 pub use Rattle.cw_translator.proofs.Sums.{limit-one, limits-more, productions-one, scraps-one, ticks-more, ticks-one}
 pub use Rattle.cw_translator.specs.Counting.{logs_in}
 pub use Rattle.cw_translator.specs.NameParts.{name_texts, parts_by_kind, texts_kept, texts_of_name, parts_of_name}
-pub use Rattle.cw_translator.specs.Opening.{HasEnded, of_leaf, StartsBelow, of_nothing}
+pub use Rattle.cw_translator.specs.Opening.{HasEnded, StartsBelow, of_nothing}
+pub use Rattle.cw_translator.specs.model.Opening.{of_leaf}
 pub use Rattle.cw_translator.specs.Translating.{begin, first_word, form_tokens, later_words, spelled, word_tokens}
 pub use Rattle.cw_translator.specs.Working.{texts_in}
 pub use Rattle.cw_translator.specs.declared.holders.Holder.{Holder}

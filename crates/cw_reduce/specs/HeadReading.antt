@@ -1,35 +1,18 @@
 -- The head of a text, as it is read from the scanner's answers.
-use Rattle.std.specs.Prelude.{◌≡◌, ℕ, Bool, true, false, List, [], ◌∷◌, ◌++◌, length, Option, Some, None}
+use Rattle.std.specs.Prelude.{◌≡◌, List, [], ◌∷◌, ◌++◌}
 use Rattle.cw_base.specs.declared.category.Cat.TheVariants as cat
 use Rattle.cw_base.specs.declared.flags.Flags.{Flags}
 use Rattle.cw_base.specs.declared.mode.MathMode.TheVariants.{Text}
-use Rattle.cw_rules.specs.Answers.{Answer, Token, Begin, Finish, Note, Seen, seen}
-use Rattle.cw_rules.specs.declared.codes.Code.TheVariants as code
-use Rattle.cw_lex.specs.declared.heads.Wanted.{Wanted}
-use Rattle.cw_lex.specs.declared.heads.Wanted.TheVariants as wants
-use Rattle.cw_rules.specs.declared.tokens.Tok.{Tok}
-use Rattle.cw_rules.specs.declared.tokens.TokKind.{TokKind}
-use Rattle.cw_rules.specs.declared.tokens.TokKind.TheVariants as kind
-use Rattle.cw_lex.specs.Heads.{Head, Headless, Macro, Format, Silent, Named, head_behind}
+use Rattle.cw_rules.specs.Answers.{Seen}
+use Rattle.cw_lex.specs.Heads.{Head, Macro, Format, Silent, Named}
 use Rattle.cw_names.specs.Names.{Entry}
-use Rattle.cw_trees.specs.declared.Control.TheVariants as control
 use Rattle.cw_tokens.specs.declared.token.Token.{Token as StoredToken}
-use Rattle.cw_tokens.specs.declared.token.Token.TheVariants as token
 use Rattle.cw_scraps.specs.declared.line.LineEntry.{LineEntry}
 use Rattle.cw_scraps.specs.Lines.{scraps_of}
-use Rattle.cw_reduce.specs.declared.heads.Beginning.{Beginning}
 use Rattle.cw_reduce.specs.declared.heads.HeadRead.{HeadRead}
 use Rattle.cw_reduce.specs.declared.heads.HeadRead.TheVariants as read
-use Rattle.cw_translator.specs.Opening.{answers_in}
-use Rattle.cw_translator.specs.Translating.{NameTexts, Known, Made, dead, dollared, name_in_text, names_in_text}
+use Rattle.cw_translator.specs.Translating.{NameTexts, Known, Made}
 use Rattle.cw_translator.specs.Translating.{sign_behind, spelled, texts_named}
-
--- The codes of definitions, and section names, may begin heads.
-abbrev pub is_definition : TokKind → Bool
-is_definition (kind.Code code.Define) = true
-is_definition (kind.Code code.Format) = true
-is_definition (kind.Code code.SilentFormat) = true
-is_definition k = false
 
 -- The line of scraps that a head makes. That of a named C part is made from its name.
 abbrev pub head_line : HeadRead → List LineEntry
@@ -41,19 +24,6 @@ abbrev pub read_made : Flags → NameTexts → List (List StoredToken) → HeadR
 read_made flags named lists (read.Named number sign) known =
     texts_named flags (named number) cat.Dead Text (sign_behind sign) number known
 read_made flags named lists head known = record { scraps = scraps_of lists (head_line head); items = []; known = known }
-
--- the head of a named C part, where there is one
-abbrev pub head_named : HeadRead → Head
-head_named (read.Named number sign) = Named number sign
-head_named head = Headless
-
--- what was read and doesn't belong to the head
-abbrev pub name_ahead : Option Tok → List Answer
-name_ahead None = []
-name_ahead (Some name) = Token (seen name) ∷ []
-
-abbrev pub answers_ahead : Beginning → List Answer
-answers_ahead b = name_ahead b.name ++ answers_in b.next
 
 -- the words of a head
 abbrev pub words_in : Head → List Seen
@@ -68,50 +38,3 @@ pub record NamesWithin (words : List Seen) (names new : List Entry) : Type 0 whe
   pub later : List Seen
   pub are : first ++ later ≡ words
   pub is : new ≡ (spelled first names).names
-
--- ## Answers
-
--- the answers from the first on that is no note
-abbrev pub without_notes : List Answer → List Answer
-without_notes (Note note place ∷ answers) = without_notes answers
-without_notes answers = answers
-
--- the words at the beginning of the answers that belong to a head which wants this
-abbrev pub answer_words : Wanted → List Answer → List Seen
-answer_words wanted [] = []
-answer_words wanted (Token token ∷ answers) = elim (head_behind wanted token.kind token.span) [
-  | Some next ↦ token ∷ answer_words next answers
-  | None ↦ []
-]
-answer_words wanted (Begin token ∷ answers) = []
-answer_words wanted (Finish token ∷ answers) = []
-answer_words wanted (Note note place ∷ answers) = answer_words wanted answers
-
--- ## Lists
-
--- the tokens of the heads of definitions, from those of their words
-abbrev pub macro_tokens : ℕ → List StoredToken → List StoredToken
-macro_tokens number words = (dead number (dollared words ++ token.Control control.OptionalBreak ∷ [])).tokens
-
-abbrev pub with_break : List StoredToken → List StoredToken
-with_break [] = token.Control control.OptionalBreak ∷ []
-with_break (first ∷ later) = name_in_text first ++ token.Control control.OptionalBreak ∷ names_in_text later
-
-abbrev pub format_tokens : ℕ → List StoredToken → List StoredToken
-format_tokens number words = (dead number (with_break words)).tokens
-
-abbrev pub words_tokens : Wanted → ℕ → List StoredToken → Option (List StoredToken)
-words_tokens wants.Macro number words = Some (macro_tokens number words)
-words_tokens (wants.First false) number words = Some (format_tokens number words)
-words_tokens wanted number words = None
-
--- a list is the last of a store, and has these tokens
-pub record IsLast (tokens : List StoredToken) (list : ℕ) (old new : List (List StoredToken)) : Type 0 where
-  pub list_is : list ≡ length old
-  pub lists : new ≡ old ++ tokens ∷ []
-
--- the list of a head is new, where it has one
-abbrev pub HasTokens : Option (List StoredToken) → HeadRead → List (List StoredToken) → List (List StoredToken) → Type 0
-HasTokens (Some tokens) (read.Dead list) old new = IsLast tokens list.index old new
-HasTokens None read.None old new = new ≡ old
-HasTokens tokens head old new = ⊥

@@ -3,6 +3,6 @@ pub mod Visible
 pub mod TranslationLaws
 pub mod Naming
 pub mod HeadReading
-pub mod HeadsRead
 pub mod Heading
 pub mod WholeTexts
+pub mod model

@@ -13,7 +13,8 @@ ghost use Rattle.cw_answers.specs.Reading.{IsReadUp};
 ghost use Rattle.cw_translator.specs.NameParts.{AreNamesOf};
 ghost use Rattle.cw_reduce.specs.Naming.{with_texts};
 ghost use Rattle.cw_reduce.specs.WholeTexts.{to_text};
-ghost use Rattle.cw_translator.specs.Opening.{IsTranslating, StartsBelow, answers_in, of_leaf, of_nothing};
+ghost use Rattle.cw_translator.specs.Opening.{IsTranslating, StartsBelow, answers_in, of_nothing};
+ghost use Rattle.cw_translator.specs.model.Opening.{of_leaf};
 ghost use Rattle.cw_translator.specs.Working.{EndsIn, progress_over, texts_in, to_end};
 
 use crate::headed::{read_behind, with_leaf};

@@ -7,12 +7,14 @@ ghost use Rattle.cw_scraps.specs.Lines.{IsSoundLine};
 ghost use Rattle.cw_scraps.specs.Marking.{marked_names};
 ghost use Rattle.cw_answers.specs.Reading.{IsReadUp};
 ghost use Rattle.cw_translator.specs.declared.holders.Holder.TheVariants as Holders;
-ghost use Rattle.cw_reduce.specs.HeadReading.{answers_ahead, head_line, name_ahead, without_notes};
-ghost use Rattle.cw_reduce.specs.Heading.{of_head, over_head, over_headed, over_held, to_headed};
+ghost use Rattle.cw_reduce.specs.HeadReading.{head_line};
+ghost use Rattle.cw_reduce.specs.model.HeadReading.{answers_ahead, name_ahead, without_notes};
+ghost use Rattle.cw_reduce.specs.model.Heading.{of_head, over_head, over_headed, over_held, to_headed};
 ghost use Rattle.cw_translator.specs.NameParts.{AreNamesOf};
 ghost use Rattle.cw_reduce.specs.Naming.{with_texts};
 ghost use Rattle.cw_reduce.specs.WholeTexts.{to_text};
-ghost use Rattle.cw_translator.specs.Opening.{IsTranslating, StartsBelow, answers_in, of_leaf, of_nothing};
+ghost use Rattle.cw_translator.specs.Opening.{IsTranslating, StartsBelow, answers_in, of_nothing};
+ghost use Rattle.cw_translator.specs.model.Opening.{of_leaf};
 ghost use Rattle.cw_translator.specs.Translating.{begin};
 ghost use Rattle.cw_translator.specs.Working.{Advances, EndsIn, over, progress_over, texts_in};
 

@@ -4,7 +4,6 @@ ghost use Rattle.std.specs.Prelude.{option_map, IsSome, None};
 ghost use Rattle.std.specs.Prelude.{Some, IfOk, OnOk, OnErr};
 ghost use Rattle.cw_rules.specs.Answers.{Gives, Token as TokenAnswer, seen};
 ghost use Rattle.cw_answers.specs.Reading.{Stays};
-ghost use Rattle.cw_lex.specs.Limbo.{is_name_kind};
 ghost use Rattle.cw_lex.specs.Heads.{headed, headed_by, named_headed, wanted_by, without_words};
 ghost use Rattle.cw_rules.specs.Answers.{is_head_sign};
 ghost use Rattle.cw_lex.specs.Nest.{nest};
@@ -14,17 +13,19 @@ ghost use Rattle.cw_trees.specs.declared.Control.TheVariants as Controls;
 ghost use Rattle.cw_tokens.specs.declared.token.Token.TheVariants as Tokens;
 ghost use Rattle.cw_reduce.specs.declared.heads.HeadRead.TheVariants as Heads;
 ghost use Rattle.cw_rewrite.specs.Gathering.{refs_in};
-ghost use Rattle.cw_reduce.specs.HeadReading.{HasTokens, IsLast, NamesWithin, answer_words, answers_ahead};
-ghost use Rattle.cw_reduce.specs.HeadReading.{format_tokens, head_line, head_named, is_definition};
-ghost use Rattle.cw_reduce.specs.HeadReading.{macro_tokens, without_notes, words_tokens};
-ghost use Rattle.cw_reduce.specs.HeadsRead.{HeadIsRead};
+ghost use Rattle.cw_reduce.specs.HeadReading.{NamesWithin};
+ghost use Rattle.cw_reduce.specs.model.HeadReading.{HasTokens, IsLast, answer_words, answers_ahead};
+ghost use Rattle.cw_reduce.specs.HeadReading.{head_line};
+ghost use Rattle.cw_reduce.specs.model.HeadReading.{format_tokens, head_named, is_definition};
+ghost use Rattle.cw_reduce.specs.model.HeadReading.{macro_tokens, without_notes, words_tokens};
+ghost use Rattle.cw_reduce.specs.model.HeadsRead.{HeadIsRead};
 ghost use Rattle.cw_translator.specs.Opening.{StartsBelow, answers_in};
 ghost use Rattle.cw_tokens.specs.Shapes.{ref_of, shape};
 ghost use Rattle.cw_translator.specs.Translating.{dollared, is_macro, name_in_text, names_in_text, spelled};
 
 use cw_answers::Reader;
 use cw_base::{Cat, MathMode, Memory};
-use cw_lex::{Code, Lexed, Tok, TokKind, Wanted};
+use cw_lex::{Code, Lexed, Tok, TokKind, Wanted, is_section_name};
 use cw_names::Names;
 use cw_scraps::word_token;
 use cw_tokens::{ListId, Token, TokenStore};
@@ -74,7 +75,7 @@ pub(crate) fn read_head<'a>(
     if is_definition(token.kind) {
         return definition_head(token, reader, alloc, names, store);
     }
-    if is_name(token.kind) {
+    if is_section_name(token.kind) {
         return Ok(read_sign(token, reader));
     }
     Ok(headless(first))
@@ -88,13 +89,6 @@ fn is_definition(kind: TokKind) -> bool
         kind,
         TokKind::Code(Code::Define | Code::Format | Code::SilentFormat)
     )
-}
-
-/// Whether a token is a section name.
-fn is_name(kind: TokKind) -> bool
-    ensures { result ≡ is_name_kind kind }
-{
-    matches!(kind, TokKind::Code(Code::SectionName | Code::FileName))
 }
 
 /// What the head of a definition wants behind its code.

@@ -16,7 +16,7 @@ ghost use Rattle.cw_translator.specs.Working.{Advances, over, progress_over, tex
 use crate::uncut::ends_text;
 use cw_answers::Reader;
 use cw_base::{Ledger, Memory, Span};
-use cw_lex::{Code, Lexed, Lexer, Mode, Tok, TokKind};
+use cw_lex::{Lexed, Lexer, Mode, Tok, is_section_name};
 use cw_secnames::{SecKind, next_part};
 use cw_translator::{Context, Holder, Recorder, Translator, Work};
 
@@ -25,10 +25,7 @@ fn is_name(answer: &Lexed) -> bool
     ensures { result ≡ is_name_answer answer.now }
 {
     match answer {
-        Lexed::Token(token) => matches!(
-            token.kind,
-            TokKind::Code(Code::SectionName | Code::FileName)
-        ),
+        Lexed::Token(token) => is_section_name(token.kind),
         Lexed::Begin(_) | Lexed::Finish(_) | Lexed::Note(..) | Lexed::End => false,
     }
 }

@@ -22,14 +22,15 @@ use Rattle.cw_scraps.specs.declared.line.LineEntry.{LineEntry}
 use Rattle.cw_table.specs.Rows.{row_of}
 use Rattle.cw_scraps.specs.Applying.{state_of}
 use Rattle.cw_scraps.specs.Changing.{Keeps}
-use Rattle.cw_scraps.specs.Inserting.{entry_cats}
+use Rattle.cw_scraps.specs.model.Inserting.{entry_cats}
 use Rattle.cw_scraps.specs.Lines.{IsSoundLine, scraps_of, roots_of}
 use Rattle.cw_scraps.specs.Marking.{MarkList}
 use Rattle.cw_scraps.proofs.Applied.{keeps-trans}
 use Rattle.cw_scraps.proofs.Productions.{cats-same}
 use Rattle.cw_scraps.proofs.Reservings.{length-scraps}
 use Rattle.cw_names.specs.Words.{words_of}
-use Rattle.cw_rewrite.specs.Reduction.{GrowsByProductions, HasNoMore, IsFirst, IsNext, PassesOver}
+use Rattle.cw_rewrite.specs.Reduction.{GrowsByProductions}
+use Rattle.cw_rewrite.specs.model.Reduction.{HasNoMore, IsFirst, IsNext, PassesOver}
 use Rattle.cw_rewrite.proofs.WalkSteps.{Walks, Rewrites, rewrites, GoesOn, goes-on, WalkEnds, walk-ends, walk-reaches}
 
 -- what holds at each turn; the first values are those with which the reducer was called

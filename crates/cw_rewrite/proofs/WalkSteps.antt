@@ -31,11 +31,11 @@ use Rattle.cw_table.proofs.StepLaws.{steps-next, is-after}
 use Rattle.cw_table.proofs.WalkLaws.{NoneBelow, Turns, turning, next-nowhere}
 use Rattle.cw_scraps.specs.declared.line.LineEntry.{LineEntry}
 use Rattle.cw_scraps.specs.Applying.{retyped}
-use Rattle.cw_scraps.specs.Inserting.{entry_cats}
+use Rattle.cw_scraps.specs.model.Inserting.{entry_cats}
 use Rattle.cw_scraps.specs.Lines.{no_entry}
 use Rattle.cw_scraps.proofs.FirstRows.{window-line}
 use Rattle.cw_names.specs.Words.{words_of}
-use Rattle.cw_rewrite.specs.Reduction.{IsFirst}
+use Rattle.cw_rewrite.specs.model.Reduction.{IsFirst}
 use Rattle.cw_rewrite.proofs.LogSteps.{heard-more, heard-next, numbered-number}
 
 -- the number that the window gives is that of the first row that fits

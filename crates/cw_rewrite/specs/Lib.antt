@@ -2,3 +2,4 @@
 pub mod Reduction
 pub mod Gathering
 pub mod Telling
+pub mod model

@@ -13,9 +13,10 @@ ghost use Rattle.cw_table.specs.Rows.{row_of};
 ghost use Rattle.cw_tokens.specs.Counting.{token_count};
 ghost use Rattle.cw_scraps.specs.Applying.{state_of};
 ghost use Rattle.cw_scraps.specs.Changing.{Keeps};
-ghost use Rattle.cw_scraps.specs.Inserting.{entry_cats};
+ghost use Rattle.cw_scraps.specs.model.Inserting.{entry_cats};
 ghost use Rattle.cw_scraps.specs.Lines.{IsSoundLine, roots_of, scraps_of};
-ghost use Rattle.cw_rewrite.specs.Reduction.{GrowsByProductions, HasNoMore, IsFirst, IsNext, IsPairAt};
+ghost use Rattle.cw_rewrite.specs.Reduction.{GrowsByProductions};
+ghost use Rattle.cw_rewrite.specs.model.Reduction.{HasNoMore, IsFirst, IsNext, IsPairAt};
 ghost use Rattle.cw_rewrite.specs.Telling.{EndsWithin, StopsAt, grown_by};
 ghost use Rattle.cw_names.specs.Words.{words_of};
 

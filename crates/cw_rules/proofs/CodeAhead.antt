@@ -19,7 +19,7 @@ use Rattle.cw_rules.specs.Tokens.{sign_or_other, word, directive_at, string, str
 use Rattle.cw_rules.specs.Tokens.{section_name, is_name, is_quote, control_or_plain, code_token, dropped_code}
 use Rattle.cw_rules.specs.Tokens.{is_signed, is_head, in_hash_line, passed, moved, one, comment_begin, comment_closed}
 use Rattle.cw_rules.specs.Tokens.{piece_start, piece, effect_in, may_head, code_by, in_code, start_of}
-use Rattle.cw_rules.specs.Apart.{comment_text_apart, code_text_apart, in_text_apart}
+use Rattle.cw_rules.specs.model.Apart.{comment_text_apart, code_text_apart, in_text_apart}
 use Rattle.cw_rules.proofs.{Choices.if-both, Sizes.run-le, IncludeEnds.greater-stops}
 use Rattle.cw_rules.proofs.Ahead.{Stop, At, Bar, byte_of, of-both, IsApart, apart-on, drop-same, take-same, begins-same}
 use Rattle.cw_rules.proofs.Ahead.{run-same, constant-same, prefix-same, start_of-same, signed-same, include-same}

@@ -7,7 +7,7 @@ use Rattle.cw_rules.specs.declared.{parts.Opened.Opened, signs.Sign.Sign, tokens
 use Rattle.cw_rules.specs.Answers.{dropped, has_sign, is_head_sign, Answer, Token, Begin, Finish, Note, Where, Cut}
 use Rattle.cw_rules.specs.Answers.{Found, before, note_answers, plain}
 use Rattle.cw_base.specs.Bytes.{newline, backslash}
-use Rattle.cw_rules.specs.{Bytes.at_sign, Bytes.run, Codes.code_at, Tokens.dropped_code, Apart.in_text_apart}
+use Rattle.cw_rules.specs.{Bytes.at_sign, Bytes.run, Codes.code_at, Tokens.dropped_code, model.Apart.in_text_apart}
 use Rattle.cw_rules.specs.{Signs.spelling, Bodies.one_note, Bodies.note_unless}
 use Rattle.cw_rules.specs.Tokens.{is_head_part, one, skipped_byte, passed, moved, in_hash_line, line_end, comment_end}
 use Rattle.cw_rules.specs.Tokens.{inner_cut, behind_inner, code_token, alone_size, behind_word, is_include, identifier}

@@ -8,7 +8,7 @@ use Rattle.cw_rules.specs.Answers.{Answer, Token, Note, Seen, Where, Cut, Found,
 use Rattle.cw_rules.specs.Codes.{code_at, is_section, effect_in_tex, effect_in_c, effect_in_definition, effect_at_begin}
 use Rattle.cw_rules.specs.Tokens.{one, moved, passed, in_hash_line, effect_in, is_head, is_name, is_space, code_by}
 use Rattle.cw_rules.specs.Tokens.{code_token, tex_by, section}
-use Rattle.cw_rules.specs.Apart.{code_text_apart, comment_text_apart, part_text_apart, in_text_apart, found_apart}
+use Rattle.cw_rules.specs.model.Apart.{code_text_apart, comment_text_apart, part_text_apart, in_text_apart, found_apart}
 use Rattle.cw_rules.proofs.{Choices.if-both, Choices.and-none, Taking.AreNotes}
 use Rattle.cw_rules.proofs.CodeStarts.{is_definition_code, code_in, is_limbo, is_head_where}
 use Rattle.cw_base.specs.declared.notes.NoteKind.TheVariants as notes

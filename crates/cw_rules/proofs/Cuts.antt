@@ -7,7 +7,7 @@ use Rattle.cw_rules.specs.declared.{codes.Code.Code, cuttings.Cutting.Cutting}
 use Rattle.cw_rules.specs.declared.tokens.TokKind.TheVariants as kinds
 use Rattle.cw_rules.specs.{Bodies.at_start, Codes.has_control_text, Answers.Cut, Answers.dropped}
 use Rattle.cw_rules.specs.Tokens.{control_text_of, section_name_of, control_or_plain, code_token, is_name}
-use Rattle.cw_rules.specs.Cuttings.{bytes_at, cut_of}
+use Rattle.cw_rules.specs.model.Cuttings.{bytes_at, cut_of}
 
 -- the bytes behind the first two
 pub drop-two : (text : List ℕ) (place : ℕ) → drop 2 (bytes_at text place) ≡ drop (place + 2) text

@@ -10,7 +10,7 @@ use Rattle.cw_rules.specs.{Constants.constant, Prefixes.prefix_size, Signs.all_s
 use Rattle.cw_rules.specs.Answers.{Answer, Where, Found, before}
 use Rattle.cw_rules.specs.Tokens.{sign_or_other, line_end, inner_cut, comment_end, is_deep, code_by, in_code, start_of}
 use Rattle.cw_rules.specs.Tokens.{skipped_byte, is_tex_inner}
-use Rattle.cw_rules.specs.Apart.{comment_text_apart, code_text_apart, in_text_apart, found_apart}
+use Rattle.cw_rules.specs.model.Apart.{comment_text_apart, code_text_apart, in_text_apart, found_apart}
 use Rattle.cw_rules.proofs.{Choices.and-none, Ahead.Bar, CodeAhead.inner-local}
 use Rattle.cw_rules.specs.declared.classes.Class.TheVariants as classes
 use Rattle.cw_rules.specs.declared.parts.Part.TheVariants as parts

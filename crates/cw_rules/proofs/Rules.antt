@@ -8,7 +8,7 @@ use Rattle.cw_base.specs.{declared.notes.NoteKind.NoteKind, Bytes.newline, Text.
 use Rattle.cw_rules.specs.declared.{codes.Code.Code, codes.Effect.Effect, parts.Part.Part, parts.Opened.Opened}
 use Rattle.cw_rules.specs.declared.{parts.Start.Start, signs.Sign.Sign}
 use Rattle.cw_rules.specs.Answers.{Note, Where, Cut, Found, before, plain, dropped}
-use Rattle.cw_rules.specs.Apart.{code_text_apart, comment_text_apart, behind_head_apart, part_text_apart}
+use Rattle.cw_rules.specs.model.Apart.{code_text_apart, comment_text_apart, behind_head_apart, part_text_apart}
 use Rattle.cw_rules.specs.Bytes.{slash, star, at_sign, hash, less, comma, equals, left_paren, right_paren, run, begins}
 use Rattle.cw_rules.specs.Bytes.{begins_by, is_in, is_letter, is_mark}
 use Rattle.cw_rules.specs.Codes.{code_at, effect_in_limbo, effect_in_tex}

@@ -20,7 +20,7 @@ use Rattle.cw_rules.specs.Answers.{Note, Where, before, plain, dropped}
 use Rattle.cw_rules.specs.Tokens.{identifier, depth_size, section_code, moved, all_cut, section, limbo_by, limbo_text}
 use Rattle.cw_rules.specs.Tokens.{tex_by, tex_text, head_text, name_follows, macro_name, parameter_follows, parameter}
 use Rattle.cw_rules.specs.Tokens.{format_name}
-use Rattle.cw_rules.specs.Apart.{behind_head_apart, part_text_apart, in_text_apart, found_apart}
+use Rattle.cw_rules.specs.model.Apart.{behind_head_apart, part_text_apart, in_text_apart, found_apart}
 use Rattle.cw_rules.proofs.{Sizes.depth-le, Ahead.parameter-same, Ahead.paren-same, Ahead.depth-same}
 use Rattle.cw_rules.proofs.Ahead.{At, drop-same, run-before, begins-same, run-same, section-same, name-same}
 use Rattle.cw_rules.proofs.CodeAhead.{Local, if-local, same-local, before-local, one-local, simple-local, code-local}

@@ -9,7 +9,7 @@ use Rattle.cw_rules.specs.declared.{bodies.Noted.Noted, classes.Class.Class, cod
 use Rattle.cw_rules.specs.declared.{parts.Opened.Opened, signs.Sign.Sign}
 use Rattle.cw_rules.specs.Bytes.{star, slash, at_sign, run, is_in, is_letter, is_digit, begins, equals}
 use Rattle.cw_rules.specs.{Constants.constant, Answers.note_answers, Answers.dropped, Order.begins_space}
-use Rattle.cw_rules.specs.{Apart.found_apart, Apart.in_text_apart, Signs.spelling}
+use Rattle.cw_rules.specs.{model.Apart.found_apart, model.Apart.in_text_apart, Signs.spelling}
 use Rattle.cw_rules.specs.Answers.{plain, Answer, Token, Begin, Finish, Note, Seen, Where, Cut, Found, before}
 use Rattle.cw_rules.specs.Codes.{code_at, begins_section, has_control_text}
 use Rattle.cw_rules.specs.Bodies.{stops, goes_on, extent, ended, noted}

@@ -9,8 +9,6 @@ pub mod Bodies
 pub mod Names
 pub mod Answers
 pub mod Tokens
-pub mod Apart
 pub mod Pending
-pub mod Cuttings
-pub mod Effects
 pub mod Order
+pub mod model

@@ -3,7 +3,7 @@ ghost use Rattle.std.specs.Prelude.{◌≡◌, true};
 ghost use Rattle.cw_rules.specs.Codes.{code_of, code_at, is_section, begins_section, has_control_text, effect_in_limbo};
 ghost use Rattle.cw_rules.specs.Codes.{effect_in_tex, effect_in_c, effect_in_definition, effect_at_begin};
 ghost use Rattle.cw_rules.specs.Tokens.{is_name, is_quote};
-ghost use Rattle.cw_rules.specs.Effects.{stays};
+ghost use Rattle.cw_rules.specs.model.Effects.{stays};
 
 use crate::classes::{Class, is_letter_of};
 use cw_base::NoteKind;

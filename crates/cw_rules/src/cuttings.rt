@@ -8,7 +8,7 @@ ghost use Rattle.cw_rules.specs.Tokens.{string, include_name, alone_size, contro
 ghost use Rattle.cw_rules.specs.Tokens.{control_or_plain, code_token, dropped_code, is_head, is_head_by, is_signed};
 ghost use Rattle.cw_rules.specs.Tokens.{head_sign_size, section_code, depth_size};
 ghost use Rattle.cw_rules.specs.Answers.{dropped, plain};
-ghost use Rattle.cw_rules.specs.Cuttings.{bytes_at, cut_of, IsCut};
+ghost use Rattle.cw_rules.specs.model.Cuttings.{bytes_at, cut_of, IsCut};
 
 use crate::bodies::{Body, Inside, Noted, extent_to, walk};
 use crate::classes::{Class, begins, from, run};

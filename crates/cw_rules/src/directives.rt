@@ -1,5 +1,5 @@
 //! The words of directives, which stand directly behind the `#` of a `#` line.
-ghost use Rattle.std.specs.Prelude.{◌≡◌, ◌≤◌, true, length, drop};
+ghost use Rattle.std.specs.Prelude.{◌≡◌, ◌<◌, ◌≤◌, true, length, drop};
 ghost use Rattle.cw_rules.specs.Bytes.{begins_by, is_letter};
 ghost use Rattle.cw_rules.specs.Tokens.{is_line_space, behind_space, is_define, begins_parameters, has_parameters};
 ghost use Rattle.cw_rules.specs.Tokens.{defines_macro, directive_at};
@@ -49,8 +49,10 @@ fn begins_parameters(bytes: &[u8]) -> bool
     begins_letter(bytes) && begins(b'(', from(bytes, run(Class::Word, bytes)))
 }
 
-fn begins_letter(bytes: &[u8]) -> bool
-    ensures { result ≡ begins_by is_letter bytes.now }
+/// Whether an identifier begins.
+pub fn begins_letter(bytes: &[u8]) -> bool
+    ensures value { result ≡ begins_by is_letter bytes.now }
+    ensures some { result ≡ true → 0 < length bytes.now }
 {
     match bytes {
         [] => false,

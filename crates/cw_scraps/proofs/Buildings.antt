@@ -6,7 +6,7 @@ use Rattle.cw_scraps.proofs.Terms.{Piece, scraps_in, numbers_from, Token, Stored
 use Rattle.cw_scraps.proofs.Terms.{ref_of, IsUnreferred, refers-more, pushed-ref, LineEntry, Insert, no_entry, roots_of}
 use Rattle.cw_scraps.proofs.Terms.{AreRoots, insert_in, inserting, IsPieceWithin, toggle, tokens_of, left_of}
 use Rattle.cw_scraps.proofs.Terms.{right_after, IsRun, Joins}
-use Rattle.cw_scraps.specs.Inserting.{toggled}
+use Rattle.cw_scraps.specs.model.Inserting.{toggled}
 use Rattle.cw_tokens.specs.declared.token.Token.TheVariants.{«List» as ListOf}
 use Rattle.cw_table.specs.declared.types.Piece.TheVariants as piece
 

@@ -6,7 +6,7 @@ use Rattle.cw_scraps.proofs.Terms.{inserted_by, inserting, toggle, IsInsertionWi
 use Rattle.std.proofs.lemmas.Option.{slice_get-get_or}
 use Rattle.std.specs.Prelude.{slice_get}
 use Rattle.cw_table.specs.{declared.types.Insertion.Insertion, Insertions.insertion_of}
-use Rattle.cw_scraps.specs.Inserting.{toggled}
+use Rattle.cw_scraps.specs.model.Inserting.{toggled}
 use Rattle.cw_scraps.proofs.Buildings.{joins-next, joins-put, joins-within}
 use Rattle.cw_table.specs.declared.types.Piece.TheVariants as piece
 

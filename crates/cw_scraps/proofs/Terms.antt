@@ -19,14 +19,14 @@ pub use Rattle.cw_base.specs.declared.category.Cat.TheVariants.{End, RawInt}
 pub use Rattle.cw_base.specs.declared.mode.MathMode.TheVariants.{Math, Maybe, Text}
 pub use Rattle.cw_names.specs.{declared.NameId.NameId, declared.entry.EntryKind.TheVariants.Ident}
 pub use Rattle.cw_names.specs.Names.{Entry, place_of, with_entry, with_category}
-pub use Rattle.cw_scraps.specs.{Building.Joins, Changing.Changes, Changing.Keeps, Gap.around, Gap.IsGap}
-pub use Rattle.cw_scraps.specs.{Making.pieces_at, Making.IsMade, Making.kept, Making.joined, Modes.piece_agrees}
-pub use Rattle.cw_scraps.specs.{Modes.IsSteady, Modes.JoinsAgree, Replacing.replaced_from, Replacing.Replaces}
-pub use Rattle.cw_scraps.specs.{Turning.named_by, Turning.Turns, declared.line.LineEntry.LineEntry}
+pub use Rattle.cw_scraps.specs.{model.Building.Joins, model.Changing.Changes, Changing.Keeps, model.Gap.around, model.Gap.IsGap}
+pub use Rattle.cw_scraps.specs.{model.Making.pieces_at, model.Making.IsMade, model.Making.kept, model.Making.joined, model.Modes.piece_agrees}
+pub use Rattle.cw_scraps.specs.{model.Modes.IsSteady, model.Modes.JoinsAgree, model.Replacing.replaced_from, model.Replacing.Replaces}
+pub use Rattle.cw_scraps.specs.{model.Turning.named_by, model.Turning.Turns, declared.line.LineEntry.LineEntry}
 pub use Rattle.cw_scraps.specs.{declared.pieces.Insert.Insert}
 pub use Rattle.cw_scraps.specs.Applying.{categories, looked_at, state_of, retyped, retyped_by}
-pub use Rattle.cw_scraps.specs.Inserting.{insert_in, inserting, IsPieceWithin, toggle, tokens_of, left_of, right_after}
-pub use Rattle.cw_scraps.specs.Inserting.{IsRun, entry_cats, inserted_by, IsInsertionWithin}
+pub use Rattle.cw_scraps.specs.model.Inserting.{insert_in, inserting, IsPieceWithin, toggle, tokens_of, left_of, right_after}
+pub use Rattle.cw_scraps.specs.model.Inserting.{IsRun, entry_cats, inserted_by, IsInsertionWithin}
 pub use Rattle.cw_scraps.specs.Leaves.{LeafForm, source, code_form, form_of, word_form, word_cat, own_cat, token_form}
 pub use Rattle.cw_scraps.specs.Leaves.{MakesLeaf, HasForm, entry_of}
 pub use Rattle.cw_scraps.specs.Lines.{no_entry, roots_of, AreRoots, seen, scraps_of, IsOutside, leaf_named_below}

@@ -1,17 +1,9 @@
 -- What a step leaves of a store.
-use Rattle.std.specs.Prelude.{◌≡◌, ℕ, List, [], length, get_or}
+use Rattle.std.specs.Prelude.{◌≡◌, ℕ, List, [], get_or}
 use Rattle.cw_tokens.specs.declared.token.Token.{Token}
-use Rattle.cw_tokens.specs.Counting.{token_count}
 use Rattle.cw_tokens.specs.Shapes.{unfolded}
-use Rattle.cw_tokens.specs.References.{refers, IsUnreferred}
+use Rattle.cw_tokens.specs.References.{IsUnreferred}
 use Rattle.cw_scraps.specs.Lines.{IsOutside}
-
--- no reference and no number of tokens changes, and no list but those in the trees of the roots
-pub record Changes (old new : List (List Token)) (roots : List ℕ) : Type 0 where
-  pub others : (k : ℕ) → IsOutside old roots k → get_or new k [] ≡ get_or old k []
-  pub same_length : length new ≡ length old
-  pub same_refs : (l p : ℕ) → refers new l p ≡ refers old l p
-  pub same_count : token_count new ≡ token_count old
 
 -- A list that stood in no tree of a line is as it was, with its tree, and stands in no tree of the new line; if
 -- nothing referred to it, as to the lists of every other line over the store, nothing refers to it now.

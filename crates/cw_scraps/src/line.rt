@@ -2,7 +2,7 @@
 ghost use Rattle.std.specs.Prelude.{◌≡◌, ◌≢◌, ◌+◌, ◌-◌, ◌^◌, ◌<◌, ◌≤◌, ◌↔◌, [], ◌∷◌, ◌++◌, length, take, drop, set};
 ghost use Rattle.std.specs.Prelude.{IsTrue, IfOk, IfSome, MatchOption, OnOk, OnErr, slice_index_or};
 ghost use Rattle.cw_base.specs.declared.category.Cat.TheVariants.{End};
-ghost use Rattle.cw_scraps.specs.Gap.{around, IsGap};
+ghost use Rattle.cw_scraps.specs.model.Gap.{around, IsGap};
 ghost use Rattle.cw_scraps.specs.Lines.{no_entry};
 
 use cw_base::{Cat, Ledger, MathMode, Memory, Steps};
@@ -44,7 +44,7 @@ pub struct ScrapLine {
 impl Model for ScrapLine {
     ghost use Rattle.std.specs.Prelude.{List};
     ghost use Rattle.cw_scraps.specs.declared.line.LineEntry.{LineEntry};
-    ghost use Rattle.cw_scraps.specs.Gap.{around, IsGap};
+    ghost use Rattle.cw_scraps.specs.model.Gap.{around, IsGap};
 
     ghost Value = { List LineEntry };
 

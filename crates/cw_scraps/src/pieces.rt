@@ -6,7 +6,7 @@ ghost use Rattle.cw_table.specs.declared.types.Insertion.TheVariants.{Scrap};
 ghost use Rattle.cw_table.specs.declared.types.RowResult.TheVariants.{SameAs};
 ghost use Rattle.cw_table.specs.Rows.{pieces_for, result_at};
 ghost use Rattle.cw_table.specs.Rewriting.{alone, is_stmt, takes_other};
-ghost use Rattle.cw_scraps.specs.Inserting.{entry_cats, insert_in, inserted_by};
+ghost use Rattle.cw_scraps.specs.model.Inserting.{entry_cats, insert_in, inserted_by};
 
 use crate::line::ScrapLine;
 use cw_base::{Cat, Flags, MathMode};

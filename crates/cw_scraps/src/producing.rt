@@ -4,8 +4,8 @@ ghost use Rattle.cw_table.specs.Fitting.{row_fits};
 ghost use Rattle.cw_table.specs.Sound.{row_is_sound};
 ghost use Rattle.cw_tokens.specs.References.{IsTied};
 ghost use Rattle.cw_scraps.specs.Lines.{roots_of, AreRoots};
-ghost use Rattle.cw_scraps.specs.Inserting.{entry_cats};
-ghost use Rattle.cw_scraps.specs.Replacing.{Replaces};
+ghost use Rattle.cw_scraps.specs.model.Inserting.{entry_cats};
+ghost use Rattle.cw_scraps.specs.model.Replacing.{Replaces};
 
 use crate::PRODUCTION_TOKENS;
 use crate::line::ScrapLine;

@@ -5,8 +5,8 @@ ghost use Rattle.cw_table.specs.Rewriting.{search_in, reserved_at, bolded_at, is
 ghost use Rattle.cw_tokens.specs.References.{IsTied};
 ghost use Rattle.cw_tokens.specs.Walking.{found_name};
 ghost use Rattle.cw_scraps.specs.Lines.{seen, scraps_of, roots_of, AreRoots};
-ghost use Rattle.cw_scraps.specs.Changing.{Changes};
-ghost use Rattle.cw_scraps.specs.Turning.{named_by};
+ghost use Rattle.cw_scraps.specs.model.Changing.{Changes};
+ghost use Rattle.cw_scraps.specs.model.Turning.{named_by};
 ghost use Rattle.cw_scraps.specs.Applying.{looked_at};
 
 use crate::line::{LineEntry, ScrapLine};

@@ -1,7 +1,7 @@
 //! The token of a word that stands beside other words in one list, as in the head of a definition.
 ghost use Rattle.std.specs.Prelude.{◌≡◌, ◌^◌, ◌<◌, ◌∷◌, [], true, Some, IfOk, OnOk, OnErr, option_map};
 ghost use Rattle.cw_scraps.specs.Leaves.{token_form, names_with};
-ghost use Rattle.cw_scraps.specs.Words.{is_word};
+ghost use Rattle.cw_scraps.specs.model.Words.{is_word};
 
 use crate::leaves::{sign_mode, token_of_word, word_cat};
 use cw_base::Memory;

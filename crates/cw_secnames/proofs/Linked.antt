@@ -6,7 +6,8 @@ use Rattle.std.specs.Prelude.{slice_get}
 use Rattle.std.proofs.lemmas.List.{get_or-set_same, get_or-set_other, length-set}
 use Rattle.cw_base.proofs.TestLaws.{one-left, one-right}
 use Rattle.cw_secnames.{specs.declared.tables.Link.Link, proofs.Marked.or-yes}
-use Rattle.cw_secnames.specs.Marks.{at_link, back_from, is_one_of, row_of, sign_of, with_sign}
+use Rattle.cw_secnames.specs.Marks.{is_one_of}
+use Rattle.cw_secnames.specs.model.Marks.{at_link, back_from, row_of, sign_of, with_sign}
 
 -- ## A link more in a table
 

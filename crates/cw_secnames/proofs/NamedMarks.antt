@@ -1,9 +1,10 @@
 -- All names are marked while the marks are there. Where they were given back, each position is near.
 use Rattle.std.proofs.Common.{◌≡◌, ℕ, ◌+◌, ◌<◌, true, List, [], ◌∷◌, ◌++◌, length, map, slice_set, arith}
 use Rattle.cw_secnames.specs.declared.{kinds.RefKind.RefKind, kinds.SecKind.SecKind, sec_names.Kept.Kept}
-use Rattle.cw_secnames.specs.{declared.name_marks.NameMarks.NameMarks, Inside.name_of, Kept.SecName}
-use Rattle.cw_secnames.specs.{NameMarks.AreMarkedNames, NameMarks.KeepsNames, References.with_reference}
-use Rattle.cw_secnames.specs.Marks.{HoldNear, IsMarked, is_one_of}
+use Rattle.cw_secnames.specs.{declared.name_marks.NameMarks.NameMarks, model.Inside.name_of, Kept.SecName}
+use Rattle.cw_secnames.specs.{model.NameMarks.AreMarkedNames, model.NameMarks.KeepsNames, References.with_reference}
+use Rattle.cw_secnames.specs.Marks.{is_one_of}
+use Rattle.cw_secnames.specs.model.Marks.{HoldNear, IsMarked}
 use Rattle.cw_secnames.proofs.Nearest.{marked-behind, marked-more, marked-set, marked-with_reference}
 
 pub named-more : (m more : NameMarks) (k : ℕ) (names : List SecName) → KeepsNames m more → AreMarkedNames m k names

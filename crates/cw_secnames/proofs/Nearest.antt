@@ -9,10 +9,11 @@ use Rattle.std.proofs.{lemmas.List.Sums.position_or_len_is, lemmas.Bool.Decides.
 use Rattle.cw_base.proofs.TestLaws.{one-left, one-right}
 use Rattle.cw_secnames.specs.declared.{kinds.SecKind.SecKind, kinds.SecKind.TheVariants.Named, sec_names.Asked.Asked}
 use Rattle.cw_secnames.specs.declared.{sec_names.Kept.Kept, marks.Marks.Marks, kinds.RefKind.RefKind}
-use Rattle.cw_secnames.specs.{References.with_reference, References.with_section, Inside.name_of}
+use Rattle.cw_secnames.specs.{References.with_reference, References.with_section, model.Inside.name_of}
 use Rattle.cw_secnames.specs.Kept.{SecName, same_name_kind, is_beginning_of, unreferred}
-use Rattle.cw_secnames.specs.Asked.{kind_asked, passes, passes_at, is_below, chosen, is_lesser, least_of}
-use Rattle.cw_secnames.specs.Marks.{is_one_of, is_near, IsNear, IsMarked, KeepsMarks, AreMarked, HoldNear}
+use Rattle.cw_secnames.specs.model.Asked.{kind_asked, passes, passes_at, is_below, chosen, is_lesser, least_of}
+use Rattle.cw_secnames.specs.Marks.{is_one_of}
+use Rattle.cw_secnames.specs.model.Marks.{is_near, IsNear, IsMarked, KeepsMarks, AreMarked, HoldNear}
 use Rattle.cw_secnames.proofs.{Finding.length-named, Marked.both, Marked.and-yes, Marked.or-yes, Marked.begins-self}
 
 -- ## All names are marked

@@ -3,7 +3,8 @@ use Rattle.std.proofs.Common.{◌≡◌, ℕ, zero, suc, ◌+◌, ◌<◌, ◌�
 use Rattle.std.proofs.Common.{length, get_or, option_map, drop-cons, add-one, add-zero}
 use Rattle.std.proofs.lemmas.List.{drop-drop}
 use Rattle.cw_base.specs.declared.span.Span.{Span}
-use Rattle.cw_secnames.specs.Parts.{end_of_part, part_here, parts_at, parts_from, IsNextPart}
+use Rattle.cw_secnames.specs.Parts.{part_here, parts_from}
+use Rattle.cw_secnames.specs.model.Parts.{end_of_part, parts_at, IsNextPart}
 
 -- Bytes that belong to the part before are passed.
 parts_from-taken : (bytes : List ℕ) (place taken : ℕ) → parts_from bytes place taken

@@ -2,12 +2,7 @@
 pub mod Kept
 pub mod References
 pub mod Parts
-pub mod Inside
 pub mod Uses
 pub mod Marks
-pub mod Asked
-pub mod InsideUses
-pub mod OnceLaws
-pub mod ReferenceLaws
-pub mod Sound
-pub mod NameMarks
+pub mod laws
+pub mod model

@@ -1,8 +1,9 @@
 //! The marks of names, until they are given back.
 ghost use Rattle.std.specs.Prelude.{◌≡◌, ℕ, ◌<◌, List, true, false, length, IfOk, OnOk};
 ghost use Rattle.cw_secnames.specs.Kept.{SecName};
-ghost use Rattle.cw_secnames.specs.Marks.{HoldNear, is_one_of};
-ghost use Rattle.cw_secnames.specs.NameMarks.{AreMarkedNames, IsMarkedName, KeepsNames};
+ghost use Rattle.cw_secnames.specs.Marks.{is_one_of};
+ghost use Rattle.cw_secnames.specs.model.Marks.{HoldNear};
+ghost use Rattle.cw_secnames.specs.model.NameMarks.{AreMarkedNames, IsMarkedName, KeepsNames};
 
 use crate::SecKind;
 use crate::marks::Marks;

@@ -25,7 +25,7 @@ pub struct NameUses {
 impl Model for NameUses {
     ghost use Rattle.std.specs.Prelude.{List, map};
     ghost use Rattle.cw_secnames.specs.Uses.{NameUse};
-    ghost use Rattle.cw_secnames.specs.InsideUses.{AreAscending, use_of};
+    ghost use Rattle.cw_secnames.specs.model.InsideUses.{AreAscending, use_of};
 
     ghost Value = { List NameUse };
 

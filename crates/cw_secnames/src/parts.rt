@@ -1,6 +1,6 @@
 //! The parts of a section name that stand between bars: its inner texts.
 ghost use Rattle.std.specs.Prelude.{◌≡◌, [], ◌≤◌, ◌<◌, ◌+◌, length, slice_index, IfSome, IfNone};
-ghost use Rattle.cw_secnames.specs.Parts.{end_of_part, parts_at, IsNextPart};
+ghost use Rattle.cw_secnames.specs.model.Parts.{end_of_part, parts_at, IsNextPart};
 
 use cw_base::Span;
 

@@ -1,7 +1,7 @@
 //! The sections that refer to a name in one way.
 ghost use Rattle.std.specs.Prelude.{◌≡◌, ◌<◌, ◌≤◌, IfOk, IfSome, OnOk, OnErr, [], ◌∷◌, insert, length};
 ghost use Rattle.cw_secnames.specs.References.{Ascend, with_number};
-ghost use Rattle.cw_secnames.specs.Inside.{listed, lists_in, lists_of, ListsAscend, numbers_of, with_in};
+ghost use Rattle.cw_secnames.specs.model.Inside.{listed, lists_in, lists_of, ListsAscend, numbers_of, with_in};
 
 use crate::RefKind;
 use cw_base::Memory;

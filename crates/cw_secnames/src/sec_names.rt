@@ -22,9 +22,9 @@ ghost use Rattle.cw_secnames.specs.Kept.{
   with_text,
 };
 ghost use Rattle.cw_secnames.specs.References.{Ascend, RefersAscending, with_reference, with_section};
-ghost use Rattle.cw_secnames.specs.Inside.{IsWithin, listed, lists_of, name_of};
-ghost use Rattle.cw_secnames.specs.Asked.{chosen, is_below, is_lesser, kind_asked, passes, passes_at};
-ghost use Rattle.cw_secnames.specs.Marks.{HoldNear};
+ghost use Rattle.cw_secnames.specs.model.Inside.{IsWithin, listed, lists_of, name_of};
+ghost use Rattle.cw_secnames.specs.model.Asked.{chosen, is_below, is_lesser, kind_asked, passes, passes_at};
+ghost use Rattle.cw_secnames.specs.model.Marks.{HoldNear};
 ghost use Rattle.cw_secnames.specs.declared.kinds.SecKind.TheVariants.{Named};
 
 use crate::name_marks::NameMarks;
@@ -60,8 +60,8 @@ pub struct SecNames {
 impl Model for SecNames {
     ghost use Rattle.std.specs.Prelude.{List, map};
     ghost use Rattle.cw_secnames.specs.Kept.{SecName};
-    ghost use Rattle.cw_secnames.specs.Inside.{name_of};
-    ghost use Rattle.cw_secnames.specs.Sound.{AreSound};
+    ghost use Rattle.cw_secnames.specs.model.Inside.{name_of};
+    ghost use Rattle.cw_secnames.specs.model.Sound.{AreSound};
 
     ghost Value = { List SecName };
 

@@ -1,7 +1,7 @@
 //! Positions by marks. A table that is full stays as it is, and the next positions go to a new one.
 ghost use Rattle.std.specs.Prelude.{◌≡◌, ◌<◌, ◌==◌, [], ℕ, true, ◌++◌, length, IfOk, OnOk};
-ghost use Rattle.cw_secnames.specs.Marks.{Has, HasAll, HasAllIn, HasIn, last_place, positions_at, positions_in};
-ghost use Rattle.cw_secnames.specs.Marks.{row_of, sign_of, with_sign};
+ghost use Rattle.cw_secnames.specs.model.Marks.{Has, HasAll, HasAllIn, HasIn, last_place, positions_at, positions_in};
+ghost use Rattle.cw_secnames.specs.model.Marks.{row_of, sign_of, with_sign};
 
 use cw_base::Memory;
 use std::alloc::Global;

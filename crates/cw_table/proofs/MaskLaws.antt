@@ -9,7 +9,7 @@ use Rattle.cw_table.proofs.Terms.{first_of, row_fits, empty, IsSound, are_number
 use Rattle.cw_table.proofs.Terms.{common_steps}
 use Rattle.std.specs.{Int.Bits.and_zero_l, Int.Count.count_trailing_zeros, Option.option_map, Simd.Lanes.mask_l}
 use Rattle.std.proofs.{lemmas.Nat.and_block, lemmas.Simd.trailing_mask_l}
-use Rattle.cw_table.specs.{declared.types.RowNo.RowNo, Masks.admits, Masks.mask_of, Productions.productions}
+use Rattle.cw_table.specs.{declared.types.RowNo.RowNo, Masks.admits, model.Masks.mask_of, Productions.productions}
 use Rattle.cw_table.specs.declared.masks.TheConstants.{EARLY, MASKS}
 use Rattle.cw_table.proofs.{Examples.productions-numbered, Examples.productions-sound, Joining.productions-length}
 use Rattle.cw_table.proofs.{Soundness.sound-row}

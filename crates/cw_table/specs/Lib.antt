@@ -1,6 +1,5 @@
 -- The definitions of productions: rows, the row that fits, safe distances, rewriting, and the walk with a pointer.
 pub mod Masks
-pub mod Joined
 pub mod Rows
 pub mod Insertions
 pub mod Productions
@@ -16,3 +15,4 @@ pub mod SourceNumbers
 pub mod NormalLaws
 pub mod Braces
 pub mod Reserving
+pub mod model

@@ -4,7 +4,8 @@ ghost use Rattle.std.specs.List.{list_any};
 ghost use Rattle.cw_base.specs.declared.category.Cat.{Cat};
 ghost use Rattle.std.specs.Option.{option_map};
 ghost use Rattle.cw_table.specs.Fitting.{first_of};
-ghost use Rattle.cw_table.specs.Masks.{admits, mask_of};
+ghost use Rattle.cw_table.specs.Masks.{admits};
+ghost use Rattle.cw_table.specs.model.Masks.{mask_of};
 ghost use Rattle.cw_table.specs.Productions.{productions};
 
 use crate::productions::ROW_COUNT;

@@ -17,17 +17,18 @@ pub use Rattle.cw_lex.specs.Lexing.{answers, answers_at, beginning, fresh_at, la
 pub use Rattle.cw_lex.specs.Nest.{is_text_kind}
 pub use Rattle.cw_lines.specs.{Sheets.IsSameSheet, Writes.HasPut, Writes.Puts, declared.put_error.PutError.PutError}
 pub use Rattle.cw_lines.specs.{declared.put_error.PutError.TheVariants.Memory}
-pub use Rattle.cw_lines.specs.Line.{HasNoLineEnd, Line, LineState, fill_by, fill_byte}
-pub use Rattle.cw_lines.specs.SheetLaws.{prints-bytes, same-sheet, same-then, prints-failing, prints-none, prints-stop}
-pub use Rattle.cw_lines.specs.SheetLaws.{prints-then, prints-longer}
-pub use Rattle.cw_lines.specs.WritesLaws.{puts-bytes, puts-none, puts-stop, puts-then, puts-failing, puts-nothing}
-pub use Rattle.cw_lines.specs.WritesLaws.{is_err, can-after}
+pub use Rattle.cw_lines.specs.Line.{Line, LineState, fill_by, fill_byte}
+pub use Rattle.cw_lines.specs.model.Line.{HasNoLineEnd}
+pub use Rattle.cw_lines.specs.laws.SheetLaws.{prints-bytes, same-sheet, same-then, prints-failing, prints-none, prints-stop}
+pub use Rattle.cw_lines.specs.laws.SheetLaws.{prints-then, prints-longer}
+pub use Rattle.cw_lines.specs.laws.WritesLaws.{puts-bytes, puts-none, puts-stop, puts-then, puts-failing, puts-nothing}
+pub use Rattle.cw_lines.specs.laws.WritesLaws.{is_err, can-after}
 pub use Rattle.cw_names.specs.{Names.Entry, declared.entry.NameId.NameId, declared.xrefs.Occurrence.Occurrence}
 pub use Rattle.cw_phase1.specs.{declared.book.Book.Book, declared.sections.Section.Section}
 pub use Rattle.cw_print.specs.Walk.{section_number, changed_mark, tree_bytes}
 pub use Rattle.cw_rules.specs.{declared.tokens.Mode.TheVariants.Inner, declared.tokens.TokKind.TokKind}
 pub use Rattle.cw_rules.specs.Answers.{Seen, Answer, Token, Begin, Finish, Note, has_sign, seen}
-pub use Rattle.cw_texpart.specs.{Limbo.limbo_bytes, Limbo.printed_limbo, PartForms.tex_setting, PartForms.TexSetting}
+pub use Rattle.cw_texpart.specs.{Limbo.limbo_bytes, Limbo.printed_limbo, model.PartForms.tex_setting, model.PartForms.TexSetting}
 pub use Rattle.cw_texpart.specs.{declared.counts.Counts.Counts}
 pub use Rattle.cw_texpart.specs.Beside.{code_beside, is_nothing, has_prose, is_prose}
 pub use Rattle.cw_texpart.specs.Done.{Done, done_behind, joined_done, as_it_is, reprinted}
@@ -35,7 +36,7 @@ pub use Rattle.cw_texpart.specs.Heads.{Added, add_behind, carry_to, one_if_carri
 pub use Rattle.cw_texpart.specs.Heads.{printed_depth, drop_zeros}
 pub use Rattle.cw_texpart.specs.Inks.{Ink, Print, LineEnd, bytes_of, copied, end_if, ink_by, kind_inks, laid, prints}
 pub use Rattle.cw_texpart.specs.Inks.{token_inks, token_inks_by, inks, answer_inks}
-pub use Rattle.cw_texpart.specs.Laying.{held, held_behind, holds_bytes, inked}
+pub use Rattle.cw_texpart.specs.model.Laying.{held, held_behind, holds_bytes, inked}
 pub use Rattle.cw_texpart.specs.TexParts.{IsWholePiece, tex_done, IsWhole, piece_done, pieces_done, head_and_tex}
 pub use Rattle.cw_texpart.specs.TexParts.{beside_in}
 pub use Rattle.cw_texpart.specs.Texts.{setting, Setting, lasting, name_done_by, text_done, Lasting}

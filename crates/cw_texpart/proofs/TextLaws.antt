@@ -9,7 +9,7 @@ use Rattle.std.proofs.lemmas.Option.{get_or_from_slice_get, slice_get_within}
 use Rattle.cw_answers.specs.Reading.{Stays}
 use Rattle.cw_answers.proofs.Staying.{stays-trans}
 use Rattle.cw_base.specs.declared.memory.Memory.{Memory}
-use Rattle.cw_texpart.specs.Translation.{TranslatedState, Translates}
+use Rattle.cw_texpart.specs.model.Translation.{TranslatedState, Translates}
 use Rattle.cw_texpart.proofs.WeavingLaws.{weaves-refused}
 
 -- ## Marks

@@ -12,9 +12,9 @@ use Rattle.cw_lex.specs.Limbo.{is_name_kind}
 use Rattle.cw_lex.specs.Nested.{Level, InCode, InComment, after_token, after_begin, after_finish, levels_after}
 use Rattle.cw_lex.specs.Nested.{all_levels_after, is_section_kind, begins_section_in, CTextsAreNested}
 use Rattle.cw_lex.specs.Openings.{opened_by, opens_part_before, opens_part_in}
-use Rattle.cw_lex.specs.TexTexts.{tex_at, are_notes, GoesOn, HoldsInner, TexTextsGoOn}
+use Rattle.cw_lex.specs.model.TexTexts.{tex_at, are_notes, GoesOn, HoldsInner, TexTextsGoOn}
 use Rattle.cw_phase1.specs.Sections.{span}
-use Rattle.cw_texpart.specs.WholePieces.{PiecesAreWhole, TexPartsAreWhole}
+use Rattle.cw_texpart.specs.model.WholePieces.{PiecesAreWhole, TexPartsAreWhole}
 use Rattle.cw_rules.specs.declared.tokens.Mode.TheVariants as modes
 use Rattle.cw_rules.specs.declared.tokens.TokKind.TheVariants as kinds
 

@@ -1,6 +1,5 @@
 -- The definitions of limbo, heads and TeX parts: what a piece of the book prints and leaves, and what calls do.
 pub mod Inks
-pub mod Laying
 pub mod Heads
 pub mod Beside
 pub mod Limbo
@@ -8,7 +7,4 @@ pub mod Done
 pub mod Texts
 pub mod TexParts
 pub mod Weaving
-pub mod Translation
-pub mod Printing
-pub mod PartForms
-pub mod WholePieces
+pub mod model

@@ -4,7 +4,7 @@ ghost use Rattle.cw_rules.specs.Answers.{seen};
 ghost use Rattle.cw_lex.specs.Nest.{is_text_kind};
 ghost use Rattle.cw_lines.specs.Sheets.{CanPrint, Prints};
 ghost use Rattle.cw_texpart.specs.Inks.{kind_inks, prints, token_inks};
-ghost use Rattle.cw_texpart.specs.Laying.{holds_bytes, inked};
+ghost use Rattle.cw_texpart.specs.model.Laying.{holds_bytes, inked};
 
 use crate::copying::copy;
 use crate::spans::part_of;

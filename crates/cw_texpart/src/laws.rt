@@ -1,5 +1,5 @@
 //! Laws of TeX parts.
-ghost use Rattle.cw_texpart.specs.WholePieces.{PiecesAreWhole, TexPartsAreWhole};
+ghost use Rattle.cw_texpart.specs.model.WholePieces.{PiecesAreWhole, TexPartsAreWhole};
 
 use cw_lex::{nesting_law, tex_texts_law};
 

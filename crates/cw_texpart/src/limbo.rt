@@ -3,7 +3,7 @@ ghost use Rattle.std.specs.Prelude.{◌≡◌, false, IfOk};
 ghost use Rattle.cw_base.specs.Web.{text_of};
 ghost use Rattle.cw_lines.specs.Sheets.{CanPrint, Prints};
 ghost use Rattle.cw_lines.specs.Writes.{CanWrite, Puts};
-ghost use Rattle.cw_texpart.specs.Laying.{holds_bytes};
+ghost use Rattle.cw_texpart.specs.model.Laying.{holds_bytes};
 ghost use Rattle.cw_texpart.specs.Limbo.{limbo_bytes, printed_limbo};
 
 use crate::Counts;

@@ -9,8 +9,8 @@ ghost use Rattle.cw_phase1.specs.declared.sections.Section.{Section};
 ghost use Rattle.cw_translator.specs.NameParts.{AreNamesOf};
 ghost use Rattle.cw_texpart.specs.Done.{reprinted};
 ghost use Rattle.cw_texpart.specs.Inks.{laid, token_inks};
-ghost use Rattle.cw_texpart.specs.Laying.{holds_bytes, inked};
-ghost use Rattle.cw_texpart.specs.PartForms.{tex_setting};
+ghost use Rattle.cw_texpart.specs.model.Laying.{holds_bytes, inked};
+ghost use Rattle.cw_texpart.specs.model.PartForms.{tex_setting};
 ghost use Rattle.cw_texts.specs.PieceForms.{piece_is};
 ghost use Rattle.cw_texpart.specs.TexParts.{IsWhole, IsWholePiece, piece_done, pieces_done, tex_done};
 ghost use Rattle.cw_texts.specs.TexPieces.{tex_pieces_of};
@@ -45,7 +45,7 @@ pub(crate) struct TexPart<'a> {
 }
 
 impl<'a> Model for TexPart<'a> {
-    ghost use Rattle.cw_texpart.specs.PartForms.{TexSetting};
+    ghost use Rattle.cw_texpart.specs.model.PartForms.{TexSetting};
 
     ghost Value = { TexSetting };
 

@@ -7,9 +7,9 @@ ghost use Rattle.cw_lines.specs.Writes.{CanWrite, Puts};
 ghost use Rattle.cw_translator.specs.NameParts.{AreNamesOf};
 ghost use Rattle.cw_scraps.specs.Marking.{marked_names};
 ghost use Rattle.cw_scraps.specs.Lines.{IsNamedBelow};
-ghost use Rattle.cw_texpart.specs.Printing.{setting_of, text_bytes, text_printed};
+ghost use Rattle.cw_texpart.specs.model.Printing.{setting_of, text_bytes, text_printed};
 ghost use Rattle.cw_texpart.specs.Texts.{lasting};
-ghost use Rattle.cw_texpart.specs.Translation.{IsKept, Translates, in_store, stored, tree_of};
+ghost use Rattle.cw_texpart.specs.model.Translation.{IsKept, Translates, in_store, stored, tree_of};
 ghost use Rattle.cw_texpart.specs.Weaving.{NotesFirst, Weaves, underlined};
 ghost use Rattle.cw_tokens.specs.Shapes.{unfolded};
 
@@ -115,7 +115,7 @@ impl StoredTree<'_, '_> {
 
 impl<'a> Model for TranslatedText<'a> {
     ghost use Rattle.std.specs.Prelude.{length};
-    ghost use Rattle.cw_texpart.specs.Translation.{IsKept, TranslatedState};
+    ghost use Rattle.cw_texpart.specs.model.Translation.{IsKept, TranslatedState};
 
     ghost Value = { TranslatedState };
 

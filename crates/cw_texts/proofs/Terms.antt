@@ -7,7 +7,7 @@ pub use Rattle.std.proofs.lemmas.Option.{get_or_from_slice_get, slice_get_within
 pub use Rattle.std.specs.Prelude.{Some, slice_get, is_some, option_map}
 pub use Rattle.cw_phase1.specs.declared.sections.Section.{Section}
 pub use Rattle.cw_secnames.specs.Uses.{NameUse, name_at}
-pub use Rattle.cw_texts.specs.{Coming.refs_left, Coming.left_in, PieceForms.GivesPiece, PieceForms.piece_is}
+pub use Rattle.cw_texts.specs.{model.Coming.refs_left, model.Coming.left_in, PieceForms.GivesPiece, PieceForms.piece_is}
 pub use Rattle.cw_texts.specs.{Printed.is_printed, Printed.has_scrap, declared.text_list.TextRef.TextRef}
 pub use Rattle.cw_texts.specs.Definitions.{printed_definitions, not_silent, definitions_behind}
 pub use Rattle.cw_texts.specs.TexPieces.{TexPiece, tex_pieces_of, tex_pieces}

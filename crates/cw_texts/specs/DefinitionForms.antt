@@ -1,18 +1,8 @@
 -- Definitions, as they are handed on.
-use Rattle.std.specs.Prelude.{◌≡◌, false, List, [], ◌∷◌, Option, Some, None}
-use Rattle.cw_base.specs.declared.span.Span.{Span}
+use Rattle.std.specs.Prelude.{◌≡◌, List, [], ◌∷◌, Option, Some, None}
 use Rattle.cw_texts.specs.declared.definitions.Definition.{Definition}
-use Rattle.cw_texts.specs.Definitions.{not_silent}
 
 -- The first of the old definitions is this one, and the new ones are the rest; at the end there are none.
 abbrev pub GivesDefinition : List Definition → Option Definition → List Definition → Type 0
 GivesDefinition old (Some d) new = old ≡ d ∷ new
 GivesDefinition old None new = (old ≡ []) × (new ≡ [])
-
--- the same of those that aren't silent
-abbrev pub loud : Span → Definition
-loud span = record { span = span; silent = false }
-
-abbrev pub GivesPrinted : List Definition → Option Span → List Definition → Type 0
-GivesPrinted old (Some span) new = not_silent old ≡ loud span ∷ not_silent new
-GivesPrinted old None new = not_silent old ≡ []

@@ -1,4 +1,5 @@
--- The definitions of C texts: the pieces of TeX parts, definitions one by one, and the texts of a book in order.
+-- The definitions of C texts: the pieces of TeX parts, definitions one by one, and the texts of a book in order, also
+-- as they are translated one after another.
 pub mod Scans
 pub mod TexPieces
 pub mod PieceForms
@@ -7,3 +8,6 @@ pub mod DefinitionForms
 pub mod Printed
 pub mod Texts
 pub mod Coming
+pub mod EachText
+pub mod EachForms
+pub mod model

@@ -1,6 +1,7 @@
 //! The C texts of a book's sections, found section by section.
 ghost use Rattle.std.specs.Prelude.{◌≡◌, ◌-◌, ◌<◌, ◌≤◌, [], IfOk, OnErr, OnOk, drop, length};
-ghost use Rattle.cw_texts.specs.Coming.{GivesRef, left_in};
+ghost use Rattle.cw_texts.specs.Coming.{GivesRef};
+ghost use Rattle.cw_texts.specs.model.Coming.{left_in};
 ghost use Rattle.cw_texts.specs.Texts.{texts_of};
 
 use crate::text_list::{TextList, TextRef, add_section};
@@ -32,7 +33,7 @@ pub(crate) struct Sections<'a> {
 
 impl<'a> Model for BookTexts<'a> {
     ghost use Rattle.std.specs.Prelude.{List, drop};
-    ghost use Rattle.cw_texts.specs.Coming.{left_in};
+    ghost use Rattle.cw_texts.specs.model.Coming.{left_in};
     ghost use Rattle.cw_texts.specs.declared.text_list.TextRef.{TextRef};
 
     ghost Value = { List TextRef };

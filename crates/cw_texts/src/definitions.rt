@@ -1,6 +1,7 @@
 //! The definitions of a section, one after another, in a second scan of them.
 ghost use Rattle.std.specs.Prelude.{◌≡◌, Some, None, option_map};
-ghost use Rattle.cw_texts.specs.DefinitionForms.{GivesDefinition, GivesPrinted};
+ghost use Rattle.cw_texts.specs.DefinitionForms.{GivesDefinition};
+ghost use Rattle.cw_texts.specs.model.DefinitionForms.{GivesPrinted};
 ghost use Rattle.cw_texts.specs.Definitions.{begun_by, definitions_behind, definitions_in, ended_at};
 
 use crate::scans::scan;

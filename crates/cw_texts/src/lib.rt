@@ -1,16 +1,19 @@
 //! Where the C texts of a web stand: those in TeX parts, definitions and C parts, found by a second scan, and all of a
-//! book's sections in the order in which they are woven.
+//! book's sections in the order in which they are woven; and these texts translated one after another in one store.
 #![tactic(auto)]
 
 mod book_texts;
 mod definitions;
+mod each;
 mod pieces;
 mod printed;
+mod rooms;
 mod scans;
 mod text_list;
 
 pub use book_texts::BookTexts;
 pub use definitions::{Begun, Definition, Definitions};
+pub use each::{EachText, NextText};
 pub use pieces::{Piece, Pieces};
 pub use printed::is_printed;
 pub use scans::scan;

@@ -1,6 +1,5 @@
 //! Whether the C part of a section is printed.
 ghost use Rattle.std.specs.Prelude.{◌≡◌, IfOk};
-ghost use Rattle.cw_lex.specs.Limbo.{is_name_kind};
 ghost use Rattle.cw_rules.specs.declared.tokens.Mode.TheVariants.{CPart};
 ghost use Rattle.cw_texts.specs.Printed.{group_makes, has_scrap, is_kept, is_printed, token_makes};
 ghost use Rattle.cw_texts.specs.Scans.{scanned};
@@ -8,7 +7,7 @@ ghost use Rattle.cw_texts.specs.Scans.{scanned};
 use crate::definitions::begun_by;
 use crate::scans::scan;
 use cw_base::{Memory, Span};
-use cw_lex::{Code, Lexed, Mode, TokKind};
+use cw_lex::{Lexed, Mode, TokKind, is_section_name};
 use cw_phase1::Section;
 use cw_scraps::makes_leaf;
 use cw_secnames::NameUses;
@@ -51,17 +50,10 @@ fn has_scrap(text: &[u8], uses: &NameUses, part: Span) -> Result<bool, Memory>
 fn token_makes(uses: &NameUses, kind: TokKind, place: usize) -> Result<bool, Memory>
     ensures { IfOk result (λ makes. makes ≡ token_makes uses.now kind place) }
 {
-    if is_name(kind) {
+    if is_section_name(kind) {
         return is_kept(uses, place);
     }
     Ok(begun_by(kind, place).is_some() || makes_leaf(kind))
-}
-
-// Whether a token is a section name.
-fn is_name(kind: TokKind) -> bool
-    ensures { result ≡ is_name_kind kind }
-{
-    matches!(kind, TokKind::Code(Code::SectionName | Code::FileName))
 }
 
 fn group_makes(kind: TokKind) -> bool

@@ -17,17 +17,22 @@ pub use Rattle.cw_tokens.specs.{Reserving.Reserves, Reserving.ReservesToken, dec
 pub use Rattle.cw_tokens.specs.{declared.flat.FlatItem.TheVariants.Source, declared.store.Link.Link}
 pub use Rattle.cw_tokens.specs.{declared.token.Token.Token, declared.walk.Part.TheVariants.Leaf}
 pub use Rattle.cw_tokens.specs.{declared.walk.Spot.Spot}
-pub use Rattle.cw_tokens.specs.Ahead.{GoesAbove, IsLoneWord, MayStandFor, ReferWithin, RefersWithin, closing_of}
-pub use Rattle.cw_tokens.specs.Ahead.{flat_above, size_of, Lays, TrimsAhead}
-pub use Rattle.cw_tokens.specs.FlatItems.{item_is, items_are, IsPart, closing, closing_at, flat_from, to_come, Flattens}
+pub use Rattle.cw_tokens.specs.model.Ahead.{GoesAbove, IsLoneWord, MayStandFor, ReferWithin, RefersWithin, closing_of}
+pub use Rattle.cw_tokens.specs.model.Ahead.{flat_above, size_of, Lays, TrimsAhead}
+pub use Rattle.cw_tokens.specs.FlatItems.{item_is, items_are}
+pub use Rattle.cw_tokens.specs.model.FlatItems.{IsPart, closing, closing_at, flat_from, to_come, Flattens}
 pub use Rattle.cw_tokens.specs.References.{token_ref, refers, IsTied, Reach, here, next, IsUnreferred}
 pub use Rattle.cw_tokens.specs.Shapes.{Shape, shape, ref_of, item_of, tree_in, trees_from, unfolded, Plain, Below}
 pub use Rattle.cw_tokens.specs.Shapes.{InnerBelow}
-pub use Rattle.cw_tokens.specs.Stored.{no_link, IsLinked, cut, last_end, start_of, IsAscending, with_built, linked}
-pub use Rattle.cw_tokens.specs.Stored.{StoredLists, MayBePushed, all_lists, built, IsStored}
-pub use Rattle.cw_tokens.specs.Trimming.{unbroken, gap_before, AllGaps, Trims, parted, StandsFor, ends_before}
-pub use Rattle.cw_tokens.specs.Walking.{IsPassed, stops_at, before, Path, top, down, Walks, Finds, found_name}
-pub use Rattle.cw_tokens.specs.Walking.{only_name_of, size, size_from, size_above}
+pub use Rattle.cw_tokens.specs.Stored.{with_built}
+pub use Rattle.cw_tokens.specs.model.Stored.{no_link, IsLinked, cut, last_end, start_of, IsAscending, linked}
+pub use Rattle.cw_tokens.specs.Stored.{StoredLists, MayBePushed, all_lists}
+pub use Rattle.cw_tokens.specs.model.Stored.{built, IsStored}
+pub use Rattle.cw_tokens.specs.Trimming.{AllGaps, Trims, StandsFor}
+pub use Rattle.cw_tokens.specs.model.Trimming.{unbroken, gap_before, parted, ends_before}
+pub use Rattle.cw_tokens.specs.Walking.{top, down, found_name}
+pub use Rattle.cw_tokens.specs.model.Walking.{IsPassed, stops_at, before, Path, Walks, Finds}
+pub use Rattle.cw_tokens.specs.model.Walking.{only_name_of, size, size_from, size_above}
 pub use Rattle.cw_tokens.specs.declared.token.Token.TheVariants.{Ident, Reserved}
 pub use Rattle.cw_trees.specs.Flat.{Item, SignItem, is_break, is_break_sign, is_run_sign, is_wall_sign, is_gap}
 pub use Rattle.cw_trees.specs.Flat.{is_inserted, begins_after, ends_text, trim_back, trim_front, trimmed_items}

@@ -7,4 +7,4 @@ pub mod Walking
 pub mod Reserving
 pub mod FlatItems
 pub mod Trimming
-pub mod Ahead
+pub mod model

@@ -4,9 +4,10 @@ ghost use Rattle.std.specs.Prelude.{◌↔◌};
 ghost use Rattle.std.specs.Prelude.{[], reverse, slice_get};
 ghost use Rattle.cw_trees.specs.Flat.{Item, flat, trimmed_items};
 ghost use Rattle.cw_tokens.specs.Shapes.{shape, unfolded};
-ghost use Rattle.cw_tokens.specs.Stored.{cut, last_end, IsAscending, IsLinked};
-ghost use Rattle.cw_tokens.specs.FlatItems.{items_are, closing};
-ghost use Rattle.cw_tokens.specs.Ahead.{GoesAbove, IsLoneWord, Lays, ReferWithin, closing_of};
+ghost use Rattle.cw_tokens.specs.model.Stored.{cut, last_end, IsAscending, IsLinked};
+ghost use Rattle.cw_tokens.specs.FlatItems.{items_are};
+ghost use Rattle.cw_tokens.specs.model.FlatItems.{closing};
+ghost use Rattle.cw_tokens.specs.model.Ahead.{GoesAbove, IsLoneWord, Lays, ReferWithin, closing_of};
 ghost use Rattle.cw_tokens.specs.References.{IsTied};
 ghost use Rattle.cw_tokens.specs.Trimming.{StandsFor};
 

@@ -8,7 +8,8 @@ ghost use Rattle.cw_tokens.specs.Shapes.{shape, ref_of, unfolded};
 ghost use Rattle.cw_tokens.specs.FlatItems.{items_are};
 ghost use Rattle.cw_tokens.specs.Walking.{found_name};
 ghost use Rattle.cw_tokens.specs.Reserving.{Reserves, ReservesToken};
-ghost use Rattle.cw_tokens.specs.Stored.{StoredLists, MayBePushed, all_lists, linked};
+ghost use Rattle.cw_tokens.specs.Stored.{StoredLists, MayBePushed, all_lists};
+ghost use Rattle.cw_tokens.specs.model.Stored.{linked};
 ghost use Rattle.cw_tokens.specs.References.{IsTied};
 
 use crate::flat::{FlatTokens, flatten, flatten_trimmed};
@@ -42,7 +43,8 @@ pub struct TokenStore {
 
 impl Model for TokenStore {
     ghost use Rattle.std.specs.Prelude.{vec_capacity};
-    ghost use Rattle.cw_tokens.specs.Stored.{StoredLists, cut, built, IsStored};
+    ghost use Rattle.cw_tokens.specs.Stored.{StoredLists};
+    ghost use Rattle.cw_tokens.specs.model.Stored.{cut, built, IsStored};
 
     ghost Value = { StoredLists };
 

@@ -3,7 +3,7 @@ ghost use Rattle.std.specs.Prelude.{◌≡◌, ◌&&◌, ◌||◌, ◌≤◌, le
 ghost use Rattle.cw_trees.specs.Flat.{begins_after, is_break, is_gap, is_inserted};
 ghost use Rattle.cw_trees.specs.Flat.{trim_back, trim_front, trimmed_items, without_inserted};
 ghost use Rattle.cw_tokens.specs.FlatItems.{item_is, items_are};
-ghost use Rattle.cw_tokens.specs.Trimming.{ends_before};
+ghost use Rattle.cw_tokens.specs.model.Trimming.{ends_before};
 
 use crate::flat::FlatItem;
 use cw_trees::Control;

@@ -2,7 +2,8 @@
 ghost use Rattle.std.specs.Prelude.{◌≡◌, List, [], ◌∷◌, ◌++◌, ◌≤◌, length, take, drop, true, IfOk, OnOk};
 ghost use Rattle.cw_trees.specs.Flat.{Item, trimmed_items};
 ghost use Rattle.cw_tokens.specs.FlatItems.{item_is, items_are};
-ghost use Rattle.cw_tokens.specs.Trimming.{StandsFor, gap_before, unbroken};
+ghost use Rattle.cw_tokens.specs.Trimming.{StandsFor};
+ghost use Rattle.cw_tokens.specs.model.Trimming.{gap_before, unbroken};
 
 use crate::flat::{FlatItem, FlatTokens};
 use crate::trim::{breaks, gaps, inserted};
@@ -22,7 +23,8 @@ pub struct Trimmer {
 
 impl Model for Trimmer {
     ghost use Rattle.std.specs.Prelude.{◌≤◌, eqb, length};
-    ghost use Rattle.cw_tokens.specs.Trimming.{Trims, parted};
+    ghost use Rattle.cw_tokens.specs.Trimming.{Trims};
+    ghost use Rattle.cw_tokens.specs.model.Trimming.{parted};
 
     ghost Value = { Trims };
 

@@ -3,9 +3,10 @@ ghost use Rattle.std.specs.Prelude.{◌≡◌, ◌+◌, ◌-◌, ◌<◌, ◌≤
 ghost use Rattle.std.specs.Prelude.{slice_get};
 ghost use Rattle.cw_trees.specs.Tree.{first_ident};
 ghost use Rattle.cw_tokens.specs.Shapes.{shape, unfolded};
-ghost use Rattle.cw_tokens.specs.Stored.{cut, last_end, start_of, no_link, IsAscending, IsLinked};
-ghost use Rattle.cw_tokens.specs.FlatItems.{IsPart};
-ghost use Rattle.cw_tokens.specs.Walking.{Shows, Finds, found_name, only_name_of};
+ghost use Rattle.cw_tokens.specs.model.Stored.{cut, last_end, start_of, no_link, IsAscending, IsLinked};
+ghost use Rattle.cw_tokens.specs.model.FlatItems.{IsPart};
+ghost use Rattle.cw_tokens.specs.Walking.{found_name};
+ghost use Rattle.cw_tokens.specs.model.Walking.{Shows, Finds, only_name_of};
 
 use crate::flat::FlatItem;
 use crate::store::Link;

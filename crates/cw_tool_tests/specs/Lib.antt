@@ -1,2 +1,2 @@
 -- The definition of the tool that counts sections.
-pub mod Counting
+pub mod model

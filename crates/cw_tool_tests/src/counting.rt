@@ -2,15 +2,14 @@
 ghost use Rattle.std.specs.Prelude.{◌≡◌, IfOk, ◌∷◌, [], ◌++◌, decimal, length};
 ghost use Rattle.std.specs.FinMap.{get};
 ghost use Rattle.cw_desk.specs.Meaning.{Files, Rose};
-ghost use Rattle.cw_program.specs.Program.{Outcome};
-ghost use Rattle.cw_tool_tests.specs.Counting.{count_run};
+ghost use Rattle.cw_run.specs.Program.{Outcome};
+ghost use Rattle.cw_tool_tests.specs.model.Counting.{count_run};
 
 use cw_base::{Bytes, Exit, Ledger, Memory, Out, Steps, Web, Words};
 use cw_desk::Desk;
 use cw_lines::{PutError, write_all};
 use cw_phase1::Book;
-use cw_run::append_number;
-use cw_tool::{Tool, tool_command};
+use cw_run::{Tool, append_number, tool_command};
 use std::alloc::Global;
 
 /// Writes the lines of a web, and how many sections it has.
@@ -28,7 +27,7 @@ fn number_line(alloc: Global, number: u64) -> Result<Bytes, Memory>
 }
 
 impl Tool for Counting {
-    ghost use Rattle.cw_tool_tests.specs.Counting.{counted, count_usage};
+    ghost use Rattle.cw_tool_tests.specs.model.Counting.{counted, count_usage};
 
     ghost usage = { count_usage };
 

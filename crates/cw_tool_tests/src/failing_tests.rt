@@ -4,7 +4,7 @@ use cw_base::{Bytes, Exit, Ledger, Memory, Silent, Steps, Web};
 use cw_desk::{Desk, MemDesk};
 use cw_lines::PutError;
 use cw_phase1::Book;
-use cw_tool::{Tool, tool_command};
+use cw_run::{Tool, tool_command};
 use std::alloc::Global;
 use std::test::Fail;
 
@@ -71,7 +71,7 @@ fn each_call_fails_in_turn(rt: HostRuntime) -> Result<(), Fail> {
 struct Wanting;
 
 impl Tool for Wanting {
-    ghost use Rattle.cw_tool_tests.specs.Counting.{counted, count_usage};
+    ghost use Rattle.cw_tool_tests.specs.model.Counting.{counted, count_usage};
 
     ghost usage = { count_usage };
 

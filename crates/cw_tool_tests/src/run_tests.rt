@@ -3,7 +3,7 @@ use crate::counting::Counting;
 use crate::runs::{Files, count, desk_with, journal_text, list_of};
 use cw_base::{Bytes, Exit, Memory};
 use cw_desk::QuietDesk;
-use cw_tool::tool_files;
+use cw_run::tool_files;
 use std::alloc::Global;
 use std::env::Env;
 use std::fs;

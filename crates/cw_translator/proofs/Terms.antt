@@ -33,14 +33,19 @@ pub use Rattle.cw_tokens.specs.declared.token.Token.{Token}
 pub use Rattle.cw_tokens.specs.declared.token.Token.TheVariants.{Source as source, Control}
 pub use Rattle.cw_translator.specs.Commenting.{part_seen, inner_lists, token_of}
 pub use Rattle.cw_translator.specs.Counting.{limit_in, scraps_in, productions_in, ticks_in, text_limit}
-pub use Rattle.cw_translator.specs.Holders.{held_leaf, held_scrap, held_tree, name_rest, behind_name, name_part}
-pub use Rattle.cw_translator.specs.Holders.{name_tree, sign_tokens}
-pub use Rattle.cw_translator.specs.LinesDone.{LineDone}
-pub use Rattle.cw_translator.specs.Opening.{HasCome, IsSoundFrame, IsTranslating, all_roots, answers_in, begun_by}
-pub use Rattle.cw_translator.specs.Opening.{frames_of, progress_of, IsNamedItem, last_line, with_entry, with_part}
+pub use Rattle.cw_translator.specs.Holders.{held_scrap, held_tree, name_rest}
+pub use Rattle.cw_translator.specs.model.Holders.{held_leaf, behind_name, name_part}
+pub use Rattle.cw_translator.specs.Holders.{name_tree}
+pub use Rattle.cw_translator.specs.model.Holders.{sign_tokens}
+pub use Rattle.cw_translator.specs.model.LinesDone.{LineDone}
+pub use Rattle.cw_translator.specs.Opening.{HasCome, IsSoundFrame, IsTranslating, all_roots, answers_in}
+pub use Rattle.cw_translator.specs.model.Opening.{begun_by}
+pub use Rattle.cw_translator.specs.Opening.{frames_of, progress_of, IsNamedItem}
+pub use Rattle.cw_translator.specs.model.Opening.{last_line, with_entry, with_part}
 pub use Rattle.cw_translator.specs.Opening.{frame_of, open_roots, AreSoundScraps}
 pub use Rattle.cw_translator.specs.Reading.{Progress, after_answers, after_finish, after_token, frames_begun, CText}
-pub use Rattle.cw_translator.specs.Reading.{Comment, last_scraps, all_ended, Frame, with_scrap, with_item, with_form}
+pub use Rattle.cw_translator.specs.Reading.{Comment, last_scraps, Frame, with_scrap, with_item, with_form}
+pub use Rattle.cw_translator.specs.model.Reading.{all_ended}
 pub use Rattle.cw_translator.specs.Reading.{after_answer}
 pub use Rattle.cw_translator.specs.Recording.{HasRecorded, texts_told, begun_over, ended_now, logged, longer_by}
 pub use Rattle.cw_translator.specs.Retyping.{NamesAmong, Retypes, later, NamesOnTheWay, here, at_end, at_finish}

@@ -7,6 +7,6 @@ pub mod Opening
 pub mod Retyping
 pub mod NameParts
 pub mod Holders
-pub mod LinesDone
 pub mod Recording
 pub mod Working
+pub mod model

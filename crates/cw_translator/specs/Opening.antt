@@ -1,8 +1,6 @@
 -- What is open while a C text is read, over the store in which its translation is built.
 use Rattle.std.specs.Prelude.{◌≡◌, ℕ, ◌+◌, ◌*◌, ◌<◌, ◌≤◌, true, List, [], ◌∷◌, ◌++◌, length, map, All, None}
 use Rattle.std.specs.List.{list_all}
-use Rattle.cw_rules.specs.declared.tokens.TokKind.{TokKind}
-use Rattle.cw_rules.specs.declared.tokens.TokKind.TheVariants as kind
 use Rattle.cw_rules.specs.Answers.{Answer, Token, Begin, Finish, Note, seen}
 use Rattle.cw_rules.specs.declared.tokens.Lexed.{Lexed}
 use Rattle.cw_rules.specs.declared.tokens.Lexed.TheVariants as lexed
@@ -14,13 +12,8 @@ use Rattle.cw_table.specs.Rewriting.{State}
 use Rattle.cw_tokens.specs.declared.token.Token.{Token as StoredToken}
 use Rattle.cw_tokens.specs.Shapes.{unfolded}
 use Rattle.cw_tokens.specs.Stored.{StoredLists}
-use Rattle.cw_scraps.specs.declared.leaves.Leaf.{Leaf}
-use Rattle.cw_scraps.specs.declared.line.LineEntry.{LineEntry}
-use Rattle.cw_scraps.specs.Leaves.{entry_of}
 use Rattle.cw_scraps.specs.Lines.{scraps_of, roots_of, AreRoots, IsNamedBelow}
 use Rattle.cw_scraps.specs.Marking.{MarkList, marked_names}
-use Rattle.cw_translator.specs.declared.comments.CommentPart.{CommentPart}
-use Rattle.cw_translator.specs.declared.holders.Holder.TheVariants as holder
 use Rattle.cw_translator.specs.declared.nesting.Open.{Open}
 use Rattle.cw_translator.specs.declared.nesting.Open.TheVariants.{CText, Comment}
 use Rattle.cw_translator.specs.declared.translator.Translated.{Translated}
@@ -31,34 +24,9 @@ use Rattle.cw_translator.specs.Reading.{Frame, Progress}
 use Rattle.cw_translator.specs.Reading.{CText as CTextFrame, Comment as CommentFrame}
 use Rattle.cw_translator.specs.Translating.{CommentItem, Piece, InnerText, Ended}
 
--- a scrap behind those of the innermost C text, and a part behind those of the innermost comment
-abbrev pub with_entry : LineEntry → List Open → List Open
-with_entry entry (CText line ∷ rest) = CText (line ++ entry ∷ []) ∷ rest
-with_entry entry all = all
-
-abbrev pub with_part : CommentPart → List Open → List Open
-with_part part (Comment held_by parts ∷ rest) = Comment held_by (parts ++ part ∷ []) ∷ rest
-with_part part all = all
-
--- the scraps of the C text that is open alone
-abbrev pub last_line : List Open → List LineEntry
-last_line (CText line ∷ []) = line
-last_line all = []
-
--- what begins becomes the innermost
-abbrev pub begun_by : TokKind → ℕ → List Open → List Open
-begun_by kind.InnerText number all = CText [] ∷ all
-begun_by kind.LongComment number all = Comment (holder.Comment number) [] ∷ all
-begun_by kind.ShortComment number all = Comment (holder.Comment number) [] ∷ all
-begun_by (kind.Code c) number all = Comment (holder.Name number) [] ∷ all
-begun_by _ number all = all
-
 -- a translation that has read nothing, and one that has read a leaf alone
 abbrev pub of_nothing : Translator
 of_nothing = record { nesting = CText [] ∷ []; scraps = 0; productions = 0 }
-
-abbrev pub of_leaf : Leaf → Translator
-of_leaf leaf = record { nesting = CText (entry_of leaf ∷ []) ∷ []; scraps = 0; productions = 0 }
 
 -- what is open, with the trees of its lists
 abbrev pub frame_of : List (List StoredToken) → Open → Frame

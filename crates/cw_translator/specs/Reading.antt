@@ -9,7 +9,7 @@ use Rattle.cw_scraps.specs.Leaves.{LeafForm, token_form, names_with}
 use Rattle.cw_translator.specs.declared.holders.Holder.{Holder}
 use Rattle.cw_translator.specs.declared.holders.Holder.TheVariants as holder
 use Rattle.cw_translator.specs.Holders.{held_scrap}
-use Rattle.cw_translator.specs.Translating.{leaf_scrap, CommentItem, Piece, InnerText, Known, Made, with_names}
+use Rattle.cw_translator.specs.Translating.{leaf_scrap, CommentItem, Piece, InnerText, Known, with_names}
 use Rattle.cw_translator.specs.Translating.{Ended, state_in, end_from}
 
 -- What is open: C text with its scraps so far, and a comment or a section name, which holds the items so far.
@@ -34,15 +34,6 @@ with_form (Some form) frames = with_scrap (leaf_scrap form) frames
 pub record Progress : Type 0 where
   pub frames : List Frame
   pub known : Known
-
--- what is made stands behind what is open
-abbrev pub extended : Made → List Frame → List Frame
-extended m (CText scraps ∷ frames) = CText (scraps ++ m.scraps) ∷ frames
-extended m (Comment held_by items ∷ frames) = Comment held_by (items ++ m.items) ∷ frames
-extended m [] = []
-
-abbrev pub with_made : List Frame → Made → Progress
-with_made frames m = record { frames = extended m frames; known = m.known }
 
 -- One answer of the scanner. A section name stands for nothing.
 abbrev pub after_token : TokKind → Seen → Progress → Progress
@@ -91,6 +82,3 @@ after_answers flags (answer ∷ answers) p = after_answers flags answers (after_
 abbrev pub last_scraps : List Frame → List Scrap
 last_scraps (CText scraps ∷ []) = scraps
 last_scraps frames = []
-
-abbrev pub all_ended : Flags → Progress → Ended
-all_ended flags p = end_from flags (state_in (last_scraps p.frames) p.known) p.known

@@ -18,7 +18,8 @@ use Rattle.cw_translator.specs.Counting.{limit_in}
 use Rattle.cw_translator.specs.Translating.{Ended, NameTexts}
 use Rattle.cw_translator.specs.Opening.{HasCome, HasEnded, IsTranslating, all_roots, progress_of}
 use Rattle.cw_translator.specs.Recording.{HasRecorded}
-use Rattle.cw_translator.specs.Reading.{Progress, after_answers, all_ended}
+use Rattle.cw_translator.specs.Reading.{Progress, after_answers}
+use Rattle.cw_translator.specs.model.Reading.{all_ended}
 use Rattle.cw_translator.specs.Retyping.{NamesAmong, NamesOnTheWay}
 
 -- the texts that section names stand for

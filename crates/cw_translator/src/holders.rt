@@ -6,7 +6,8 @@ ghost use Rattle.cw_tokens.specs.Stored.{MayBePushed};
 ghost use Rattle.cw_scraps.specs.Lines.{AreRoots};
 ghost use Rattle.cw_rewrite.specs.Gathering.{Gathers};
 ghost use Rattle.cw_translator.specs.Commenting.{inner_lists, part_seen, token_of};
-ghost use Rattle.cw_translator.specs.Holders.{behind_name, held_leaf, held_tree, name_part, name_tree, sign_tokens};
+ghost use Rattle.cw_translator.specs.Holders.{held_tree, name_tree};
+ghost use Rattle.cw_translator.specs.model.Holders.{behind_name, held_leaf, name_part, sign_tokens};
 
 use crate::comments::{CommentPart, comment_list};
 use cw_base::{Cat, MathMode, Memory};

@@ -2,7 +2,7 @@
 ghost use Rattle.std.specs.Prelude.{List, ◌≡◌, ◌≢◌, [], ◌∷◌, ◌++◌, OnOk, OnErr, MatchOption, IsTrue, ◌↔◌};
 ghost use Rattle.cw_base.specs.declared.category.Cat.TheVariants.{End};
 ghost use Rattle.cw_translator.specs.declared.nesting.Open.{Open};
-ghost use Rattle.cw_translator.specs.Opening.{last_line, with_entry, with_part};
+ghost use Rattle.cw_translator.specs.model.Opening.{last_line, with_entry, with_part};
 ghost use Rattle.cw_scraps.specs.Leaves.{entry_of};
 
 use crate::comments::CommentPart;

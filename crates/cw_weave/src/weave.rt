@@ -5,16 +5,16 @@ ghost use Rattle.cw_desk.specs.Meaning.{Files, Rose};
 ghost use Rattle.cw_input.specs.Merged.{merged};
 ghost use Rattle.cw_input.specs.Overwriting.{overwriting};
 ghost use Rattle.cw_lines.specs.Writes.{Adds};
-ghost use Rattle.cw_program.specs.Program.{Outcome};
+ghost use Rattle.cw_run.specs.Program.{Outcome};
 ghost use Rattle.cw_texpart.specs.Texts.{lasting};
 ghost use Rattle.cw_run.specs.Emits.{EmitsBy, Faults, Runs, RunsBy};
 ghost use Rattle.cw_weave.specs.Looks.{book_looks, command_looks, looks_of, web_looks};
 ghost use Rattle.cw_run.specs.Notes.{note_events};
-ghost use Rattle.cw_weave.specs.Pressing.{IsPrintable, flags_in, text_in};
-ghost use Rattle.cw_weave.specs.Proper.{IsProper};
+ghost use Rattle.cw_weave.specs.model.Pressing.{IsPrintable, flags_in, text_in};
+ghost use Rattle.cw_weave.specs.laws.Proper.{IsProper};
 ghost use Rattle.cw_weave.specs.Woven.{book_of, change_text, weave_book, weave_command_of};
 ghost use Rattle.cw_weave.specs.Woven.{weave_unless, weave_web, woven};
-ghost use Rattle.cw_weave.specs.Written.{AreWritten, events_of};
+ghost use Rattle.cw_weave.specs.model.Written.{AreWritten, events_of};
 
 use crate::ending::end_run;
 use crate::files::Written;
@@ -30,10 +30,9 @@ use cw_input::{
 };
 use cw_lines::PutError;
 use cw_phase1::Book;
-use cw_program::status_of;
 use cw_run::{
-    Judgement, Message, Noted, print_notes, say_if, stop, stop_at_unknown, stop_before_overwriting,
-    stop_without_change, stop_without_web, tell,
+    Judgement, Message, Noted, print_notes, say_if, status_of, stop, stop_at_unknown,
+    stop_before_overwriting, stop_without_change, stop_without_web, tell,
 };
 use std::alloc::Global;
 

@@ -3,13 +3,13 @@ ghost use Rattle.std.specs.Prelude.{◌≡◌, []};
 ghost use Rattle.std.specs.FinMap.{get};
 ghost use Rattle.cw_desk.specs.Answer.{Agree};
 ghost use Rattle.cw_desk.specs.Meaning.{Files, Rose};
-ghost use Rattle.cw_program.specs.Program.{Outcome, words_of};
+ghost use Rattle.cw_run.specs.Program.{Outcome, words_of};
 ghost use Rattle.cw_weave.specs.Woven.{woven};
 
 use crate::weave::weave_command;
 use cw_base::{Exit, Silent, Steps, Words};
 use cw_desk::{Desk, FileDesk};
-use cw_program::{Program, run_files};
+use cw_run::{Program, run_files};
 use std::alloc::Global;
 
 /// The program that weaves a web: what it does is the woven book of its words and the files.

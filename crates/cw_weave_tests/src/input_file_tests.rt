@@ -3,7 +3,7 @@ use crate::real_file_tests::{enter_new_folder, has_bytes, write_files};
 use crate::runs::{HELLO, line_of};
 use cw_base::Out;
 use cw_desk::{Desk, FileDesk, MadeOut, Opened, Taken};
-use cw_program::run_program;
+use cw_run::run_program;
 use cw_weave::Weaver;
 use std::env::Env;
 use std::fs;

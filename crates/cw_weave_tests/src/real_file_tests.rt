@@ -4,7 +4,7 @@ use crate::recording::{Heard, Recording};
 use crate::runs::{HELLO, desk_with, line_of, weave};
 use cw_base::{Event, Exit, Memory, Out};
 use cw_desk::{FileDesk, MemDesk};
-use cw_program::run_program;
+use cw_run::run_program;
 use cw_weave::Weaver;
 use std::alloc::Global;
 use std::env::Env;

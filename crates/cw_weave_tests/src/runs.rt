@@ -3,7 +3,7 @@ ghost use Rattle.std.specs.Prelude.{◌≡◌, [], IfOk};
 
 use cw_base::{Bytes, Event, Exit, Kept, Memory, Out, Silent, Steps, Words};
 use cw_desk::{Desk, MemDesk};
-use cw_program::run_program;
+use cw_run::run_program;
 use cw_weave::{Weaver, weave_command};
 use std::alloc::Global;
 

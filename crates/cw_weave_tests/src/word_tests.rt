@@ -1,6 +1,6 @@
 //! That a program's words are the bytes that it was given, whatever they are and however many.
 use cw_base::{Memory, Words};
-use cw_program::command_line;
+use cw_run::command_line;
 use std::alloc::Global;
 use std::env::{Env, FillError};
 use std::test::Fail;

@@ -2,7 +2,7 @@
 #![tactic(auto)]
 
 use cw_base::Exit;
-use cw_program::command_line;
+use cw_run::command_line;
 use cw_weave::weave_files;
 use std::process::ExitCode;
 

@@ -3,7 +3,7 @@
 
 use cw_base::Exit;
 use cw_plain::plain_files;
-use cw_program::command_line;
+use cw_run::command_line;
 use std::process::ExitCode;
 
 fn main(rt: HostRuntime) -> ExitCode {

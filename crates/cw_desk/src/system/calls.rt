@@ -5,7 +5,7 @@ ghost use Rattle.cw_desk.specs.Calls.{after_creating, after_found, after_look, a
 ghost use Rattle.cw_desk.specs.Calls.{after_writing};
 ghost use Rattle.cw_desk.specs.Put.{TakesSome};
 ghost use Rattle.cw_desk.specs.Read.{ReadsSome};
-ghost use Rattle.cw_desk.specs.Trail.{nothing};
+ghost use Rattle.cw_desk.specs.model.Trail.{nothing};
 
 use super::inputs::{FoundFile, OpenedFiles, is_missing};
 use crate::desk::{Fetched, MadeOut, Taken};

@@ -1,6 +1,6 @@
 -- The output can be written, and the joiner stands for some items.
 use Rattle.std.proofs.Common.{List}
-use Rattle.cw_desk.specs.Mem.{tell}
+use Rattle.cw_desk.specs.model.Mem.{tell}
 use Rattle.cw_lines.specs.Writes.{CanWrite}
 use Rattle.cw_trees.specs.Printing.{Printable}
 use Rattle.cw_join.specs.Standing.{Stands}

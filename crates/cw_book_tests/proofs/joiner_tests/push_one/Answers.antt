@@ -1,6 +1,6 @@
 -- What is written keeps the output writable, and the joiner stands for one item more.
 use Rattle.std.proofs.Common.{ℕ, subst}
-use Rattle.cw_lines.specs.WritesLaws.{can-after}
+use Rattle.cw_lines.specs.laws.WritesLaws.{can-after}
 use Rattle.cw_join.specs.Tokens.{CanCome}
 use Rattle.cw_book_tests.proofs.joiner_tests.push_one.Goals as goal
 

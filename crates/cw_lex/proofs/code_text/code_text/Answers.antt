@@ -2,7 +2,7 @@
 use Rattle.std.proofs.Common.{◌≡◌, ℕ, Bool, false, ◌&&◌, ◌==◌, List, ◌∷◌, refl, arith}
 use Rattle.std.proofs.lemmas.Bool.{eq-eqb, ne_eqb}
 use Rattle.cw_base.{proofs.TestLaws.not-false, specs.Bytes.newline}
-use Rattle.cw_rules.specs.{Answers.Where, Bytes.hash, Bytes.less, Tokens.takes_hash_line, Apart.code_text_apart}
+use Rattle.cw_rules.specs.{Answers.Where, Bytes.hash, Bytes.less, Tokens.takes_hash_line, model.Apart.code_text_apart}
 use Rattle.cw_rules.specs.Tokens.{behind_include, closes_on_line, ends_at_bar, in_code, is_space, start_of}
 use Rattle.cw_lex.proofs.code_text.code_text.Goals as goal
 

@@ -1,6 +1,6 @@
 -- A line's end finishes inner C text of a short comment, with a note that its bar is missing, and takes no byte.
 use Rattle.std.proofs.Common.{ℕ, ◌≤◌, false, List, [], ◌∷◌, ◌++◌, None, drop, refl, sym, ap, ◌∙◌, arith}
-use Rattle.cw_lex.specs.{declared.state.State.State, Lexing.last_at, Coming.found_at}
+use Rattle.cw_lex.specs.{declared.state.State.State, Lexing.last_at, model.Coming.found_at}
 use Rattle.cw_rules.specs.declared.tokens.TokKind.TheVariants as kinds
 use Rattle.cw_rules.specs.Answers.{before, Finish, note_answers, token_of}
 use Rattle.cw_rules.specs.Pending.{pending_notes}

@@ -1,9 +1,9 @@
 -- An identifier takes its bytes, and then the text goes on in its part.
 use Rattle.std.proofs.Common.{ℕ, ◌+◌, List, refl, sym, ap, ◌∙◌, arith}
 use Rattle.cw_rules.specs.Answers.{Seen, Token, token_of}
-use Rattle.cw_rules.specs.{Tokens.in_hash_line, Tokens.moved, Cuttings.bytes_at}
+use Rattle.cw_rules.specs.{Tokens.in_hash_line, Tokens.moved, model.Cuttings.bytes_at}
 use Rattle.cw_rules.specs.declared.tokens.TokKind.TheVariants as kinds
-use Rattle.cw_lex.specs.{Coming.where_of, declared.state.State.State}
+use Rattle.cw_lex.specs.{model.Coming.where_of, declared.state.State.State}
 use Rattle.cw_lex.proofs.{Steps.one-gives, Steps.token-here, Steps.AllWithin-more, States.depth-part}
 use Rattle.cw_lex.proofs.code_text.give_word.Goals as goal
 

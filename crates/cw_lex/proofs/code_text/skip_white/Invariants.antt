@@ -1,6 +1,6 @@
 -- From here on come the answers that came from where the scanner stood.
 use Rattle.std.proofs.Common.{◌≡◌, ◌-◌, ◌≤◌, length}
-use Rattle.cw_lex.specs.{Lexing.answers_at, Coming.where_of}
+use Rattle.cw_lex.specs.{Lexing.answers_at, model.Coming.where_of}
 use Rattle.cw_lex.proofs.code_text.skip_white.Given as goal
 
 abbrev pub invariant-loop-at : goal.invariant-loop-at

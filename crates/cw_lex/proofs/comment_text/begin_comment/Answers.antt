@@ -1,6 +1,6 @@
 -- The two bytes that open a comment are answered as its beginning, and it is the innermost from there on.
 use Rattle.std.proofs.Common.{ℕ, ◌+◌, List, ◌∷◌, false, refl, sym, ap, ◌∙◌, arith}
-use Rattle.cw_rules.specs.{declared.parts.Opened.Opened, Tokens.passed, Cuttings.bytes_at}
+use Rattle.cw_rules.specs.{declared.parts.Opened.Opened, Tokens.passed, model.Cuttings.bytes_at}
 use Rattle.cw_lex.specs.declared.state.State.{State}
 use Rattle.cw_rules.specs.Answers.{Begin, token_of}
 use Rattle.cw_lex.proofs.{Steps.one-gives, Steps.token-here, States.ready-push}

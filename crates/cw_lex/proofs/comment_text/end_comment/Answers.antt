@@ -1,7 +1,7 @@
 -- The two bytes that close a comment finish it, with a note if braces are open, and what is around it goes on.
 use Rattle.std.proofs.Common.{ℕ, ◌+◌, List, ◌∷◌, length, drop, sym, ap, ◌∙◌, arith}
 use Rattle.cw_lex.specs.declared.state.State.{State}
-use Rattle.cw_rules.specs.{Answers.Finish, Answers.token_of, Tokens.comment_closed, Cuttings.bytes_at}
+use Rattle.cw_rules.specs.{Answers.Finish, Answers.token_of, Tokens.comment_closed, model.Cuttings.bytes_at}
 use Rattle.cw_lex.proofs.{Notes.one-note, Notes.one-inside, Steps.step-gives, Steps.token-here, States.ready-pop}
 use Rattle.cw_lex.proofs.comment_text.end_comment.Goals as goal
 

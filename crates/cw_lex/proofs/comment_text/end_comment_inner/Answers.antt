@@ -2,7 +2,7 @@
 use Rattle.std.proofs.Common.{ℕ, ◌+◌, List, false, drop, sym, ap, ◌∙◌, arith}
 use Rattle.cw_lex.specs.declared.state.State.{State}
 use Rattle.cw_rules.specs.declared.tokens.TokKind.TheVariants as kinds
-use Rattle.cw_rules.specs.{Answers.Finish, Answers.token_of, Tokens.behind_inner, Cuttings.bytes_at}
+use Rattle.cw_rules.specs.{Answers.Finish, Answers.token_of, Tokens.behind_inner, model.Cuttings.bytes_at}
 use Rattle.cw_lex.proofs.{Steps.one-gives, Steps.token-here, States.ready-top, States.top-within}
 use Rattle.cw_lex.proofs.comment_text.end_comment_inner.Goals as goal
 

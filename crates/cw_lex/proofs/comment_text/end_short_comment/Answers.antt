@@ -1,6 +1,6 @@
 -- A line's end finishes a short comment and isn't taken: what it ends around the comment comes next.
 use Rattle.std.proofs.Common.{ℕ, ◌≡◌, List, [], ◌∷◌, true, drop, refl, sym, ap, ◌∙◌, arith}
-use Rattle.cw_lex.specs.{declared.state.State.State, Lexing.last_at, Coming.found_at}
+use Rattle.cw_lex.specs.{declared.state.State.State, Lexing.last_at, model.Coming.found_at}
 use Rattle.cw_rules.specs.Answers.{seen, before, Finish, note_answers, token_of}
 use Rattle.cw_rules.specs.{Pending.pending_notes, Tokens.line_end, Tokens.is_code}
 use Rattle.cw_lex.proofs.{Notes.one-note, Notes.one-inside, Steps.zero-gives, Lines.found-newline}

@@ -3,7 +3,7 @@ use Rattle.std.proofs.Common.{ℕ, ◌+◌, List, sym, ap, ◌∙◌, arith}
 use Rattle.cw_rules.specs.declared.parts.Part.TheVariants as parts
 use Rattle.cw_lex.{specs.declared.state.State.State, proofs.Steps.one-gives, proofs.Steps.token-here}
 use Rattle.cw_rules.specs.declared.tokens.TokKind.TheVariants as kinds
-use Rattle.cw_rules.specs.{Answers.Finish, Answers.token_of, Tokens.behind_inner, Cuttings.bytes_at}
+use Rattle.cw_rules.specs.{Answers.Finish, Answers.token_of, Tokens.behind_inner, model.Cuttings.bytes_at}
 use Rattle.cw_lex.proofs.comment_text.end_tex_inner.Goals as goal
 
 pub returns-clause-gives : goal.returns-clause-gives

@@ -1,7 +1,7 @@
 -- A bar in TeX text is answered as the beginning of inner C text.
 use Rattle.std.proofs.Common.{ℕ, ◌+◌, List, false, refl, ap, arith}
 use Rattle.cw_rules.specs.declared.parts.Part.TheVariants as parts
-use Rattle.cw_lex.specs.{declared.state.State.State, Coming.where_of}
+use Rattle.cw_lex.specs.{declared.state.State.State, model.Coming.where_of}
 use Rattle.cw_rules.specs.declared.tokens.TokKind.TheVariants as kinds
 use Rattle.cw_rules.specs.{Answers.Begin, Tokens.moved}
 use Rattle.cw_lex.proofs.Steps.{one-gives, token-here}

@@ -1,10 +1,10 @@
 -- A string takes its bytes; its notes follow, and then the C text goes on as it did.
 use Rattle.std.proofs.Common.{◌≡◌, ℕ, ◌+◌, ◌<◌, List, ◌∷◌, length, drop, sym, ap, ◌∙◌, arith}
 use Rattle.cw_rules.specs.Answers.{Token, note_answers, token_of}
-use Rattle.cw_rules.specs.{Pending.pending_notes, Prefixes.prefix_size, Cuttings.bytes_at, Cuttings.cut_of}
+use Rattle.cw_rules.specs.{Pending.pending_notes, Prefixes.prefix_size, model.Cuttings.bytes_at, model.Cuttings.cut_of}
 use Rattle.cw_rules.specs.declared.tokens.TokKind.TheVariants.{Quoted}
 use Rattle.cw_rules.specs.Tokens.{one, moved, passed, string, in_hash_line}
-use Rattle.cw_lex.specs.{Coming.where_of, declared.state.State.State}
+use Rattle.cw_lex.specs.{model.Coming.where_of, declared.state.State.State}
 use Rattle.cw_lex.proofs.Steps.{bytes-here, step-gives, token-here, AllWithin-more}
 use Rattle.cw_lex.proofs.States.{depth-part, nested-part}
 use Rattle.std.proofs.lemmas.Bool.Decides.{nat_tests}

@@ -1,6 +1,6 @@
 -- An identifier, constant or sign takes its bytes, and calm C text goes on as it did.
 use Rattle.std.proofs.Common.{ℕ, ◌+◌, ◌-◌, ◌<◌, List, length, drop, sym, ap, ◌∙◌, arith}
-use Rattle.cw_lex.specs.{declared.state.State.State, Coming.where_of}
+use Rattle.cw_lex.specs.{declared.state.State.State, model.Coming.where_of}
 use Rattle.cw_rules.specs.{Answers.Token, Answers.token_of, Tokens.moved, Tokens.passed, Tokens.in_hash_line}
 use Rattle.cw_lex.proofs.{Calm.calm-part, Steps.one-gives, Steps.token-here, Steps.AllWithin-more}
 use Rattle.cw_lex.proofs.short.give_short.Goals as goal

@@ -1,7 +1,7 @@
 -- What is found of the file decides.
 use Rattle.cw_log.proofs.Terms.{◌≡◌, ◌≤◌, ◌<◌, ℕ, List, Some, None, length, refl, sym, ap, ◌∙◌, subst, get, runs-after}
 use Rattle.cw_log.proofs.Terms.{runs-known, line-refused, check_file, too_long_text, LOG_LIMIT}
-use Rattle.cw_log.specs.LogFile.{IsFileOf, IsShort}
+use Rattle.cw_log.specs.model.LogFile.{IsFileOf, IsShort}
 use Rattle.cw_log.proofs.RunLaws.{check-long}
 use Rattle.cw_log.proofs.command.check.Goals as goal
 

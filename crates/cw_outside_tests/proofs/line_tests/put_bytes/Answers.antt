@@ -1,5 +1,5 @@
 -- What is written keeps the output writable.
-use Rattle.cw_lines.specs.WritesLaws.{can-after}
+use Rattle.cw_lines.specs.laws.WritesLaws.{can-after}
 use Rattle.cw_outside_tests.proofs.line_tests.put_bytes.Goals as goal
 
 pub returns : goal.returns

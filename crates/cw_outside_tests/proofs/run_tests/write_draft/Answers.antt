@@ -3,7 +3,7 @@ use Rattle.std.proofs.Common.{IsTrue, subst, sym}
 use Rattle.cw_base.specs.declared.event.Out.TheVariants.{Idx}
 use Rattle.cw_desk.specs.Meaning.{has_draft}
 use Rattle.cw_desk.specs.declared.outputs.Outputs.{Outputs}
-use Rattle.cw_lines.specs.WritesLaws.{can-after}
+use Rattle.cw_lines.specs.laws.WritesLaws.{can-after}
 use Rattle.cw_outside_tests.proofs.run_tests.write_draft.Goals as goal
 
 pub end_file-requires : goal.end_file-requires

@@ -1,7 +1,7 @@
 -- The text is translated, and then it is printed or not.
 use Rattle.cw_part.proofs.Terms.{◌≡◌, ℕ, ◌||◌, true, false, ap, ◌∙◌, codes, nat_lt, puts-bytes, puts-longer, puts-then}
 use Rattle.cw_part.proofs.Terms.{scraps_in, Counts, Done, lasting}
-use Rattle.cw_part.specs.PresentForms.{text_of}
+use Rattle.cw_part.specs.model.PresentForms.{text_of}
 use Rattle.cw_part.proofs.ParagraphLaws.{counted, paragraph-cut, paragraph-kept, paragraph-put, paragraph-refused}
 use Rattle.cw_part.proofs.ParagraphLaws.{printed-is}
 use Rattle.cw_part.proofs.paragraphs.print_paragraph.Goals as goal

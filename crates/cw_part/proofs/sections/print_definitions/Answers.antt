@@ -3,7 +3,7 @@ use Rattle.cw_part.proofs.Terms.{◌≡◌, ℕ, not, refl, sym, ap, subst, All,
 use Rattle.cw_part.proofs.Terms.{All-tail, same-sheet, same-then, can-after, Definition, definitions_in, not_silent}
 use Rattle.cw_part.proofs.Terms.{definition_done, definitions_done, first_opening, later_opening, part_setting}
 use Rattle.cw_part.proofs.Terms.{IsWholeDefinition, AreNamesOf, Lasting, Setting, lasting, weaves-as, weaves-nothing}
-use Rattle.cw_texts.specs.DefinitionForms.{loud}
+use Rattle.cw_texts.specs.model.DefinitionForms.{loud}
 use Rattle.cw_part.proofs.BareParts.{no-definitions}
 use Rattle.cw_part.proofs.SectionLaws.{moved, sums-are, weaving-as}
 use Rattle.cw_part.proofs.WovenLaws.{weaving-begun, weaving-ended, weaving-next, weaving-stopped, weaving-wanting}

@@ -2,7 +2,7 @@
 use Rattle.cw_print.proofs.Terms.{◌&&◌, List, ap, sym, subst, length, arith, common_steps, Item, printed, AllMay}
 use Rattle.cw_print.proofs.Terms.{MayCome, shown, source_of, wrapped}
 use Rattle.cw_tokens.specs.Shapes.{unfolded}
-use Rattle.cw_lines.specs.WritesLaws.{puts-bytes, puts-nothing}
+use Rattle.cw_lines.specs.laws.WritesLaws.{puts-bytes, puts-nothing}
 use Rattle.cw_print.proofs.ComingLaws.{trimmed-may}
 use Rattle.cw_print.proofs.printing.print_answers.Goals as goal
 

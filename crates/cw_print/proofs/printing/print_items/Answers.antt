@@ -1,7 +1,7 @@
 -- All items are printed by a printer that stands before the first one.
 use Rattle.cw_tokens.specs.FlatItems.{items_are}
-use Rattle.cw_lines.specs.SheetLaws.{prints-nothing}
-use Rattle.cw_print.specs.Printing.{source_of}
+use Rattle.cw_lines.specs.laws.SheetLaws.{prints-nothing}
+use Rattle.cw_print.specs.model.Printing.{source_of}
 use Rattle.cw_print.proofs.PrintingLaws.{midway-begun}
 use Rattle.cw_print.proofs.printing.print_items.Goals as goal
 

@@ -1,6 +1,6 @@
 -- The numbers so far are appended, and those that are left follow.
 use Rattle.cw_print.proofs.Terms.{◌≡◌, ◌++◌, drop, map, flat_map, numbered_in, later_number}
-use Rattle.cw_print.specs.Titles.{title_of}
+use Rattle.cw_print.specs.model.Titles.{title_of}
 use Rattle.cw_print.proofs.title.put_later.Given as goal
 
 abbrev pub invariant-loop-number : goal.invariant-loop-number

@@ -26,10 +26,10 @@ returns-then-is_definition-clause-head c =
     rw (token-headed (answers_in c.args.first ++ c.args.reader.now.coming) c.args.reader.now.coming c.in-Token.token
     (token-gives _ _ _ c.in-Token.is) c.requires.nested) c.definition_head.ensures.head
 
-pub returns-then-is_name-clause-head : goal.returns-then-is_name-clause-head
-returns-then-is_name-clause-head c =
+pub returns-then-is_section_name-clause-head : goal.returns-then-is_section_name-clause-head
+returns-then-is_section_name-clause-head c =
     let named = name-token (answers_in c.args.first ++ c.args.reader.now.coming) c.args.reader.now.coming
-    c.in-Token.token (token-gives _ _ _ c.in-Token.is) c.requires.nested (sym c.is_name.ensures ∙ c.if-is_name.true) in
+    c.in-Token.token (token-gives _ _ _ c.in-Token.is) c.requires.nested (sym c.is_section_name.ensures ∙ c.if-is_section_name.true) in
     let is = ap (λ (x : Headed). x.head) named ∙ c.read_sign.ensures.head in
     record {
       made = λ flags names known. rw is (sign-by flags names c.args.store.now.lists (with_names c.args.names.now known)
@@ -52,4 +52,4 @@ returns-clause-head c =
     no-head all coming c.headless-2.result c.headless-2.ensures.head c.headless-2.ensures.name c.headless-2.ensures.next
     c.requires.gives c.requires.nested c.requires.start (none-token all coming c.in-Token.token
     (token-gives _ _ _ c.in-Token.is) c.requires.nested (sym c.is_definition.ensures ∙ c.if-is_definition.false)
-    (sym c.is_name.ensures ∙ c.if-is_name.false)) c.requires.idle
+    (sym c.is_section_name.ensures ∙ c.if-is_section_name.false)) c.requires.idle

@@ -4,8 +4,8 @@ use Rattle.std.specs.Prelude.{MatchOption}
 use Rattle.cw_table.specs.Fitting.{first_of}
 use Rattle.cw_table.specs.Productions.{productions}
 use Rattle.cw_scraps.specs.declared.line.LineEntry.{LineEntry}
-use Rattle.cw_scraps.specs.Inserting.{entry_cats}
-use Rattle.cw_rewrite.specs.Reduction.{IsFirst}
+use Rattle.cw_scraps.specs.model.Inserting.{entry_cats}
+use Rattle.cw_rewrite.specs.model.Reduction.{IsFirst}
 use Rattle.cw_rewrite.proofs.walk.row_at.Goals as goal
 
 pub returns-clause-first : goal.returns-clause-first

@@ -1,6 +1,6 @@
 -- The places from the first one up to this are passed over.
 use Rattle.std.proofs.Common.{◌≡◌, ◌-◌, length}
-use Rattle.cw_rewrite.specs.Reduction.{PassesOver}
+use Rattle.cw_rewrite.specs.model.Reduction.{PassesOver}
 use Rattle.cw_rewrite.proofs.walk.walk_on.Given as goal
 
 abbrev pub invariant-loop-place : goal.invariant-loop-place

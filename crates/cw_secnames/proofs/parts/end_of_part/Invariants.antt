@@ -1,6 +1,6 @@
 -- The part ends where it ends from this place on.
 use Rattle.std.proofs.Common.{◌≡◌, ◌≤◌, ◌-◌, length}
-use Rattle.cw_secnames.specs.Parts.{end_of_part}
+use Rattle.cw_secnames.specs.model.Parts.{end_of_part}
 use Rattle.cw_secnames.proofs.parts.end_of_part.Given as goal
 
 abbrev pub invariant-loop-place : goal.invariant-loop-place

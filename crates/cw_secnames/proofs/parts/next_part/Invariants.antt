@@ -1,6 +1,6 @@
 -- The parts from this place on are all parts that were asked for.
 use Rattle.std.proofs.Common.{◌≡◌, ◌≤◌, ◌-◌, length}
-use Rattle.cw_secnames.specs.Parts.{parts_at}
+use Rattle.cw_secnames.specs.model.Parts.{parts_at}
 use Rattle.cw_secnames.proofs.parts.next_part.Given as goal
 
 abbrev pub invariant-loop-place : goal.invariant-loop-place

@@ -1,7 +1,7 @@
 -- A definition is given exactly where one that is printed is left.
 use Rattle.cw_texpart.proofs.Terms.{◌≡◌, ◌==◌, ℕ, suc, not, sym, ap, ◌∙◌, List, length, arith, ne_eqb, Option, Some}
 use Rattle.cw_texpart.proofs.Terms.{None, is_some, Span}
-use Rattle.cw_texts.specs.{declared.definitions.Definition.Definition, DefinitionForms.GivesPrinted}
+use Rattle.cw_texts.specs.{declared.definitions.Definition.Definition, model.DefinitionForms.GivesPrinted}
 use Rattle.cw_texts.specs.{Definitions.not_silent}
 use Rattle.cw_texpart.proofs.beside.has_definition.Goals as goal
 

@@ -7,7 +7,7 @@ use Rattle.cw_lex.proofs.{Nesting.c-texts-nested, TokensWithin.tokens-within}
 use Rattle.cw_translator.specs.Opening.{StartsBelow}
 use Rattle.cw_reduce.proofs.ReadSteps.{within-starts}
 use Rattle.cw_scraps.specs.Marking.{MarkList, marked_names}
-use Rattle.cw_texpart.specs.Printing.{text_printed}
+use Rattle.cw_texpart.specs.model.Printing.{text_printed}
 use Rattle.cw_texpart.proofs.TextLaws.{kept-tokens, none-noted}
 use Rattle.cw_texpart.proofs.texts.translate_into.Goals as goal
 

@@ -1,6 +1,6 @@
 -- One definition goes behind those before.
 use Rattle.cw_texts.proofs.Terms.{ap, [], ◌∷◌, ◌++◌, List, length, arith, not_silent, definition_ref, definition_refs}
-use Rattle.cw_texts.specs.{declared.definitions.Definition.Definition, DefinitionForms.loud}
+use Rattle.cw_texts.specs.{declared.definitions.Definition.Definition, model.DefinitionForms.loud}
 use Rattle.cw_texts.proofs.RefLaws.{added, all-added}
 use Rattle.cw_texts.proofs.text_list.add_definitions.Goals as goal
 

@@ -3,7 +3,7 @@ use Rattle.std.proofs.Common.{ℕ, List, Option, ap, ◌∙◌, subst}
 use Rattle.cw_base.specs.declared.exit.Exit.TheVariants.{Errors}
 use Rattle.cw_input.specs.Overwriting.{first_overwriting, overwriting}
 use Rattle.cw_run.specs.Emits.{RunsBy}
-use Rattle.cw_run.specs.EmitsLaws.{runs-by, runs_by-nothing}
+use Rattle.cw_run.specs.laws.EmitsLaws.{runs-by, runs_by-nothing}
 use Rattle.cw_weave.specs.Woven.{weave_unless}
 use Rattle.cw_weave.proofs.ExitLaws.{ok-real}
 use Rattle.cw_weave.proofs.weave.weave_whole.Goals as goal

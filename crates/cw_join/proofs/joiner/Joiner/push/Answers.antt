@@ -1,7 +1,7 @@
 -- A control of a run goes into it and any other item ends it: what is put and kept is that of one item more.
 use Rattle.cw_join.proofs.Terms.{[], ◌∷◌, ◌++◌, sym, subst, arith, common_steps, on_ok_weaker, Printable, JoinerState}
 use Rattle.cw_join.proofs.Terms.{Stands, printable}
-use Rattle.cw_lines.specs.WritesLaws.{puts-bytes}
+use Rattle.cw_lines.specs.laws.WritesLaws.{puts-bytes}
 use Rattle.cw_join.proofs.StateLaws.{control-added, control-stands, other-added, other-stands}
 use Rattle.cw_join.proofs.joiner.Joiner.push.Goals as goal
 

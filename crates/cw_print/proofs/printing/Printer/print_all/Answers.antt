@@ -1,9 +1,9 @@
 -- One item goes behind another, and at the end comes what is left of a run.
 use Rattle.std.proofs.Common.{length, Bool, [], ◌+◌, ap, ◌++◌, ◌∙◌, take, arith}
 use Rattle.cw_tokens.specs.FlatItems.{items_are}
-use Rattle.cw_lines.specs.SheetLaws.{can-print-after, prints-bytes, prints-none}
+use Rattle.cw_lines.specs.laws.SheetLaws.{can-print-after, prints-bytes, prints-none}
 use Rattle.cw_join.specs.Early.{late}
-use Rattle.cw_print.specs.Printing.{shown}
+use Rattle.cw_print.specs.model.Printing.{shown}
 use Rattle.cw_print.proofs.PrintingLaws.{fails-waiting, midway-ended, prints-all}
 use Rattle.cw_print.proofs.PrintingLaws.{stops-waiting, waits-none, waits-on}
 use Rattle.cw_print.proofs.printing.Printer.print_all.Goals as goal

@@ -1,7 +1,7 @@
 -- The printer stands behind the items so far; what they print early is put, or waits.
 use Rattle.std.proofs.Common.{◌-◌, ◌≤◌, Bool, length}
 use Rattle.cw_tokens.specs.FlatItems.{items_are}
-use Rattle.cw_print.specs.Printing.{Midway}
+use Rattle.cw_print.specs.model.Printing.{Midway}
 use Rattle.cw_print.specs.Walk.{Source}
 use Rattle.cw_print.proofs.PrintingLaws.{Waiting}
 use Rattle.cw_print.proofs.printing.Printer.print_all.Given as goal

@@ -1,6 +1,6 @@
 -- A pair with a greater place keeps the order.
 use Rattle.std.proofs.Common.{◌<◌, All, subst, sym}
-use Rattle.cw_secnames.specs.{InsideUses.AreAscending, Uses.NameUse}
+use Rattle.cw_secnames.specs.{model.InsideUses.AreAscending, Uses.NameUse}
 use Rattle.cw_secnames.proofs.Using.{ascending-more}
 use Rattle.cw_secnames.proofs.name_uses.NameUses.add.Goals as goal
 

@@ -1,7 +1,7 @@
 -- The first pair that doesn't stand before a place has it, or none has.
 use Rattle.std.proofs.Common.{◌∙◌, sym, ap, subst, rules, arith}
 use Rattle.std.{proofs.Math.Dec.ltb, specs.Option.option_map, proofs.lemmas.List.Sorted.IsPartitionPoint-from_clause}
-use Rattle.cw_secnames.specs.{Kept.id, Uses.name_at, InsideUses.AreAscending, declared.name_uses.Pair.Pair}
+use Rattle.cw_secnames.specs.{Kept.id, Uses.name_at, model.InsideUses.AreAscending, declared.name_uses.Pair.Pair}
 use Rattle.cw_secnames.proofs.Using.{IsPoint, parted, point-below, at-first, nowhere-by}
 use Rattle.cw_secnames.proofs.name_uses.NameUses.at.Goals as goal
 

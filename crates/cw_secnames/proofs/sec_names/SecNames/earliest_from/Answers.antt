@@ -1,7 +1,7 @@
 -- The least position, of one position more at a time.
 use Rattle.std.proofs.Common.{take, arith}
 use Rattle.std.proofs.lemmas.List.{take_all}
-use Rattle.cw_secnames.specs.Asked.{passes}
+use Rattle.cw_secnames.specs.model.Asked.{passes}
 use Rattle.cw_secnames.proofs.Nearest.{least-next, least-first, least-within}
 use Rattle.cw_secnames.proofs.sec_names.SecNames.earliest_from.Goals as goal
 

@@ -1,6 +1,6 @@
 -- The positions so far, with those from this place on back, are all.
 use Rattle.std.proofs.Common.{◌≡◌, ◌++◌}
-use Rattle.cw_secnames.specs.Marks.{back_from, positions_in}
+use Rattle.cw_secnames.specs.model.Marks.{back_from, positions_in}
 use Rattle.cw_secnames.proofs.tables.Table.add_to.Given as goal
 
 abbrev pub invariant-loop-left : goal.invariant-loop-left

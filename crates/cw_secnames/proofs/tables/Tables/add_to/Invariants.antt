@@ -1,7 +1,7 @@
 -- The positions so far, with those of the tables that are left, are all.
 use Rattle.std.proofs.Common.{◌≡◌, ◌++◌, drop}
 use Rattle.std.specs.List.{flat_map}
-use Rattle.cw_secnames.specs.Marks.{positions_at, positions_in}
+use Rattle.cw_secnames.specs.model.Marks.{positions_at, positions_in}
 use Rattle.cw_secnames.proofs.tables.Tables.add_to.Given as goal
 
 abbrev pub invariant-loop-table : goal.invariant-loop-table

@@ -4,10 +4,10 @@ use Rattle.std.specs.Prelude.{decimal}
 use Rattle.cw_base.specs.Web.{text_of}
 use Rattle.cw_base.specs.declared.event.Out.TheVariants.{Tex}
 use Rattle.cw_desk.specs.Journal.{byte_events}
-use Rattle.cw_lines.specs.WritesLaws.{adds-events}
+use Rattle.cw_lines.specs.laws.WritesLaws.{adds-events}
 use Rattle.cw_phase1.specs.declared.book.Book.{Book}
-use Rattle.cw_tool.specs.PieceLaws.{piece-then, piece-wanting}
-use Rattle.cw_tool_tests.specs.Counting.{number_of}
+use Rattle.cw_run.specs.laws.PieceLaws.{piece-then, piece-wanting}
+use Rattle.cw_tool_tests.specs.model.Counting.{number_of}
 use Rattle.cw_tool_tests.proofs.counting.CountingTool.write.Goals as goal
 
 pub returns-in_err-line : goal.returns-in_err-line

@@ -1,0 +1,2 @@
+-- Laws that other files and crates cite.
+pub mod WebLaws

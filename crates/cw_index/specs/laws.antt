@@ -1,0 +1,3 @@
+-- Laws that other files and crates cite.
+pub mod CollationLaws
+pub mod StandingLaws

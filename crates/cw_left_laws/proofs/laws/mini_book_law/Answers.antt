@@ -1,6 +1,0 @@
--- Small indexes are of the index, since the book is the same.
-use Rattle.cw_left_laws.proofs.LeftBooks.{small-indexes}
-use Rattle.cw_left_laws.proofs.laws.mini_book_law.Goals as goal
-
-pub returns : goal.returns
-returns c = small-indexes c.left_law.ensures.woven c.mini_law.ensures

@@ -1,7 +1,0 @@
--- `sample_web`: answer; said here, so that a wrong one fails at once.
-use Rattle.std.proofs.Common.{arith}
-use Rattle.std.proofs.lemmas.Grind.{common_steps}
-use Rattle.cw_sample.proofs.sections.sample_web.Goals as goal
-
-pub returns : goal.returns
-returns c = grind (arith, common_steps)

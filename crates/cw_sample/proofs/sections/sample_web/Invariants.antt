@@ -1,7 +1,0 @@
--- So many sections stand in the web.
-use Rattle.std.proofs.Common.{◌≡◌}
-use Rattle.cw_sample.specs.Sample.{sample_web}
-use Rattle.cw_sample.proofs.sections.sample_web.Given as goal
-
-abbrev pub invariant-loop-before : goal.invariant-loop-before
-invariant-loop-before l = l.web ≡ sample_web l.before

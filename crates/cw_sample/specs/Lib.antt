@@ -1,2 +1,0 @@
--- The definition of the sample, a web that is made in memory.
-pub mod Sample

@@ -1,0 +1,3 @@
+-- How the code holds its state: models that inner contracts cite.
+pub mod Pressing
+pub mod Written
