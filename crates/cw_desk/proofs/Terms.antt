@@ -7,5 +7,6 @@ pub use Rattle.std.proofs.lemmas.List.{take_rest}
 pub use Rattle.std.specs.Cmp.Lexicographic.{slice_cmp, nat_list_cmp_total}
 pub use Rattle.std.specs.FinMap.{find, get, from_entries, get-from_entries}
 pub use Rattle.std.specs.Ordering.{nat_cmp}
-pub use Rattle.cw_desk.specs.{Journal.byte_events, Journal.grown, Mem.MemState, model.Mem.called, model.Mem.counted, model.Mem.tell}
+pub use Rattle.cw_desk.specs.{Journal.byte_events, Journal.grown, Mem.MemState, model.Mem.called, model.Mem.counted}
+pub use Rattle.cw_desk.specs.{model.Mem.tell}
 pub use Rattle.cw_desk.specs.{Told.Told, Told.Opens, Told.Reads, Told.OnlyPuts, model.Trail.nothing, Trail.noted_after}

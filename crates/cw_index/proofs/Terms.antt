@@ -19,7 +19,8 @@ pub use Rattle.std.specs.declared.cmp.Ordering.TheVariants.{Less, Greater, Equal
 pub use Rattle.cw_base.proofs.TestLaws.{not-both, or-false}
 pub use Rattle.cw_base.specs.declared.category.Cat.TheVariants.{Exp, RawInt}
 pub use Rattle.cw_desk.specs.Told.{Told}
-pub use Rattle.cw_index.specs.{laws.CollationLaws.entry_cmp-total, model.ListForms.list_setting, Sorted.sorted_on, Sorted.sorted}
+pub use Rattle.cw_index.specs.{laws.CollationLaws.entry_cmp-total, model.ListForms.list_setting, Sorted.sorted_on}
+pub use Rattle.cw_index.specs.{Sorted.sorted}
 pub use Rattle.cw_index.specs.{declared.heading.Heading.Heading, declared.standing.Listed.Listed}
 pub use Rattle.cw_index.specs.{declared.standing.Standing.Standing}
 pub use Rattle.cw_index.specs.Closing.{change, changed_from, changes_line, printed_changes, closing_lines, last_lines}
@@ -38,7 +39,8 @@ pub use Rattle.cw_lex.proofs.TexTexts.{name-plain, all-taken, or-notes, name-kin
 pub use Rattle.cw_lex.specs.Lexing.{still_fresh, answers, tokens_of, joined, fresh_at, last_at}
 pub use Rattle.cw_lex.specs.Limbo.{is_name_kind}
 pub use Rattle.cw_lines.specs.{Sheets.Prints, Sheets.IsSameSheet, declared.put_error.PutError.PutError}
-pub use Rattle.cw_lines.specs.laws.SheetLaws.{prints-bytes, prints-none, prints-stop, prints-then, same-sheet, same-then}
+pub use Rattle.cw_lines.specs.laws.SheetLaws.{prints-bytes, prints-none, prints-stop, prints-then, same-sheet}
+pub use Rattle.cw_lines.specs.laws.SheetLaws.{same-then}
 pub use Rattle.cw_lines.specs.laws.SheetLaws.{prints-failing, prints-longer, prints-nothing}
 pub use Rattle.cw_lines.specs.laws.WritesLaws.{puts-stop, can-after, puts-bytes, puts-longer, puts-then, puts-failing}
 pub use Rattle.cw_names.specs.{laws.MentionLaws.sections-at, laws.MentionLaws.sections-ascending}

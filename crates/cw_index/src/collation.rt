@@ -1,10 +1,9 @@
 //! The collation: the order of the entries of the index.
-ghost use Rattle.std.specs.Prelude.{◌≡◌, ◌<◌, Some, length, slice_get};
-ghost use Rattle.cw_names.specs.Names.{Entry};
-ghost use Rattle.cw_index.specs.Collation.{class_of, class_cmp, classes_cmp, entry_cmp, entry_kind_place, text_cmp};
+ghost use Rattle.std.specs.Prelude.{◌≡◌, ◌<◌};
+ghost use Rattle.cw_index.specs.Collation.{class_of, class_cmp, classes_cmp, entry_kind_place, text_cmp};
 ghost use Rattle.cw_index.specs.model.Headings.{collated_cmp};
 
-use cw_names::{EntryKind, NameId, Names};
+use cw_names::EntryKind;
 use std::cmp::Ordering;
 
 /// The class of a byte, with what orders it in its class. The classes stand in their order.
@@ -98,22 +97,4 @@ impl<'a> Collated<'a> {
             other.kind,
         )))
     }
-}
-
-/// The order of two entries in the index. It takes no memory.
-pub fn compare_entries(names: &Names, a: NameId, b: NameId) -> Ordering
-    requires first { a.index < length names.now }
-    requires second { b.index < length names.now }
-    ensures { (e f : Entry) → slice_get names.now a.index ≡ Some e → slice_get names.now b.index ≡ Some f
-        → result ≡ entry_cmp e f }
-{
-    let first = Collated {
-        kind: names.kind(a),
-        text: names.text(a),
-    };
-    let second = Collated {
-        kind: names.kind(b),
-        text: names.text(b),
-    };
-    first.compare(&second)
 }

@@ -12,7 +12,8 @@ use Rattle.cw_rules.specs.Bytes.{apostrophe, slash, star, at_sign, hash, comma, 
 use Rattle.cw_rules.specs.Bytes.{begins, begins_by, begins_with, is_letter, is_in, run}
 use Rattle.cw_rules.specs.Codes.{is_section, code_at, begins_section, has_control_text}
 use Rattle.cw_rules.specs.{Constants.constant, Prefixes.prefix_size, Signs.all_signs, Signs.longest, Signs.spelling}
-use Rattle.cw_rules.specs.{Tokens.head_sign_size, Tokens.is_parameter, model.Apart.in_text_apart, model.Apart.found_apart}
+use Rattle.cw_rules.specs.{Tokens.head_sign_size, Tokens.is_parameter, model.Apart.in_text_apart}
+use Rattle.cw_rules.specs.{model.Apart.found_apart}
 use Rattle.cw_rules.specs.Tokens.{in_hash_line, moved, passed, one, comment_end, inner_cut, all_cut, section, is_quote}
 use Rattle.cw_rules.specs.Tokens.{section_code, section_name, string, control_text, alone_size, control_or_plain}
 use Rattle.cw_rules.specs.Tokens.{line_end, code_token, is_name, include_name, piece_start, word, directive_at}

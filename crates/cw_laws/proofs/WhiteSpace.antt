@@ -8,7 +8,8 @@ use Rattle.cw_base.proofs.TestLaws.{both, not-both}
 use Rattle.cw_rules.specs.declared.{tokens.Mode.Mode, tokens.TokKind.TokKind}
 use Rattle.cw_rules.specs.Answers.{Answer, Token, Begin, Finish, Note, Where, Found}
 use Rattle.cw_rules.specs.{Bytes.at_sign, Codes.is_section, Codes.begins_section, Order.begins_space, Order.AreWithin}
-use Rattle.cw_rules.specs.{Tokens.all_cut, Tokens.in_hash_line, Tokens.section, model.Apart.in_text_apart, model.Apart.found_apart}
+use Rattle.cw_rules.specs.{Tokens.all_cut, Tokens.in_hash_line, Tokens.section, model.Apart.in_text_apart}
+use Rattle.cw_rules.specs.{model.Apart.found_apart}
 use Rattle.cw_rules.proofs.{Choices.if-both, CodeStarts.code_in, Within.found-fits}
 use Rattle.cw_rules.proofs.Taking.{AreBare, AreNotes, TakesAll, Takes, bare-all-cut, found-takes}
 use Rattle.cw_lex.specs.Lexing.{still_fresh, answers, fresh_at, last_at, beginning, tokens_of}

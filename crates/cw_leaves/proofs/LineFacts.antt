@@ -3,7 +3,8 @@ use Rattle.cw_leaves.proofs.Terms.{◌≡◌, ℕ, suc, slice_get, Option, List,
 use Rattle.cw_leaves.proofs.Terms.{Ident as ident_kind, Entry, Tree, Empty, Then, Sub, Inner, Scrap, said, text_by}
 use Rattle.cw_leaves.proofs.Terms.{text_at, leaf_line, Entered, called_by, called, line_sight, HasNoMark, IsIdentEntry}
 use Rattle.cw_leaves.proofs.Terms.{IsTold, log_of_lines}
-use Rattle.cw_leaves.specs.{Sights.heard, Sights.sight, model.Sights.renamed, LogLaws.LinesHaveLog, LogLaws.SameLinesSameLog}
+use Rattle.cw_leaves.specs.{Sights.heard, Sights.sight, model.Sights.renamed, LogLaws.LinesHaveLog}
+use Rattle.cw_leaves.specs.{LogLaws.SameLinesSameLog}
 use Rattle.cw_leaves.proofs.{SightSteps.log-seen, FreeNames.log-renamed, Calling.called-apart}
 
 heard-said : (t : Tree) → HasNoMark t → heard t ≡ said t

@@ -7,7 +7,8 @@ use Rattle.cw_rules.specs.declared.{parts.Part.Part, parts.Opened.Opened}
 use Rattle.cw_rules.specs.{Answers.note_answers, Bytes.is_in, Bytes.run, Pending.pending_notes, Tokens.all_cut}
 use Rattle.cw_rules.specs.Tokens.{is_code, is_code_part, in_hash_line, behind_hash, behind_include, passed, ends_at_bar}
 use Rattle.cw_rules.specs.Tokens.{part_cut}
-use Rattle.cw_lex.specs.{declared.state.State.State, Lexing.answers_at, Lexing.last_at, model.Calm.is_calm_part, model.Calm.is_calm}
+use Rattle.cw_lex.specs.{declared.state.State.State, Lexing.answers_at, Lexing.last_at, model.Calm.is_calm_part}
+use Rattle.cw_lex.specs.{model.Calm.is_calm}
 use Rattle.cw_lex.specs.model.Coming.{where_of, coming, ends_line, is_white_here}
 use Rattle.cw_lex.proofs.{White.white-found, HeadSpaces.skip-run, HeadSpaces.run-byte}
 

@@ -7,7 +7,8 @@ use Rattle.std.proofs.{lemmas.List.drop_all, lemmas.Bool.Decides.nat_tests, lemm
 use Rattle.cw_rules.specs.declared.{classes.Class.Class, parts.Part.Part, parts.Opened.Opened}
 use Rattle.cw_rules.specs.Answers.{Where, plain, note_answers}
 use Rattle.cw_rules.specs.Bytes.{is_in, is_letter, run, begins, begins_by}
-use Rattle.cw_rules.specs.{Codes.begins_section, model.Apart.in_text_apart, model.Cuttings.bytes_at, Pending.pending_notes}
+use Rattle.cw_rules.specs.{Codes.begins_section, model.Apart.in_text_apart, model.Cuttings.bytes_at}
+use Rattle.cw_rules.specs.{Pending.pending_notes}
 use Rattle.cw_lex.specs.{Lexing.fresh_at, Lexing.last_at, Lexing.answers_at, declared.state.State.State}
 use Rattle.cw_rules.specs.Tokens.{section, macro_name, format_name, parameter, is_parameter, behind_white}
 use Rattle.cw_rules.specs.Tokens.{behind_format, identifier, skipped_byte, one, moved, is_head_part}

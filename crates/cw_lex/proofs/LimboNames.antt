@@ -6,7 +6,8 @@ use Rattle.cw_base.proofs.TestLaws.{not-both}
 use Rattle.cw_rules.specs.declared.{bodies.Noted.Noted, codes.Code.Code, parts.Part.Part}
 use Rattle.cw_rules.specs.declared.parts.Part.TheVariants as parts
 use Rattle.cw_rules.specs.Answers.{Answer, Where, Cut, Found, note_answers}
-use Rattle.cw_rules.specs.{Bytes.star, Bytes.begins, Codes.effect_in_limbo, model.Apart.found_apart, model.Apart.part_text_apart}
+use Rattle.cw_rules.specs.{Bytes.star, Bytes.begins, Codes.effect_in_limbo, model.Apart.found_apart}
+use Rattle.cw_rules.specs.{model.Apart.part_text_apart}
 use Rattle.cw_lex.specs.Lexing.{answers, joined, still_fresh}
 use Rattle.cw_lex.specs.{model.Limbo.HasNoNames, model.Limbo.LimboHasNoNames, Nested.is_section_kind}
 use Rattle.cw_rules.specs.Tokens.{section, section_code, limbo_by, limbo_text, format_name, name_follows}

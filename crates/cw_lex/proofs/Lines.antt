@@ -3,7 +3,8 @@ use Rattle.std.proofs.Common.{◌≡◌, ℕ, Bool, true, false, List, [], ◌�
 use Rattle.std.proofs.lemmas.Bool.Decides.{nat_tests}
 use Rattle.cw_rules.specs.declared.{parts.Part.Part, parts.Opened.Opened}
 use Rattle.cw_rules.specs.Tokens.{comment_end, in_hash_line, passed, line_end, is_code, is_code_part}
-use Rattle.cw_rules.specs.{model.Apart.part_text_apart, model.Apart.in_text_apart, model.Apart.code_text_apart, Answers.before}
+use Rattle.cw_rules.specs.{model.Apart.part_text_apart, model.Apart.in_text_apart, model.Apart.code_text_apart}
+use Rattle.cw_rules.specs.{Answers.before}
 use Rattle.cw_lex.specs.{Lexing.last_at, model.Coming.found_at}
 
 -- where C text goes on, the rules of C text hold

@@ -13,7 +13,8 @@ use Rattle.cw_rules.specs.Tokens.{passed, moved, in_hash_line, ends_at_bar, line
 use Rattle.cw_rules.specs.Tokens.{inner_cut, comment_cut, part_cut, inner_or_none, all_cut, inner_end, effect_in}
 use Rattle.cw_rules.specs.Tokens.{code_token, control_or_plain, head_text, section, section_code, behind_word}
 use Rattle.cw_rules.specs.Tokens.{directive_at, is_include, may_head, takes_hash_line, name_follows, macro_name, word}
-use Rattle.cw_rules.specs.model.Apart.{behind_head_apart, code_text_apart, comment_text_apart, part_text_apart, in_text_apart}
+use Rattle.cw_rules.specs.model.Apart.{behind_head_apart, code_text_apart, comment_text_apart, part_text_apart}
+use Rattle.cw_rules.specs.model.Apart.{in_text_apart}
 use Rattle.cw_rules.specs.Answers.{Answer, Note, Where, Cut, Found, before, note_answers, plain}
 use Rattle.cw_lex.specs.Lexing.{answers, joined, tokens_of, still_fresh}
 use Rattle.cw_lex.specs.Nested.{Level, InCode, InComment, after_token, levels_after, all_levels_after, IsNested}

@@ -9,7 +9,8 @@ use Rattle.cw_rules.specs.declared.parts.Part.TheVariants as parts
 use Rattle.cw_rules.specs.declared.parts.Start.TheVariants as start
 use Rattle.cw_rules.specs.declared.tokens.TokKind.TheVariants as kinds
 use Rattle.cw_rules.specs.{Answers.Where, Answers.plain, Constants.constant, Prefixes.prefix_size, Signs.all_signs}
-use Rattle.cw_rules.specs.{Signs.longest, Signs.spelling, Tokens.passed, Tokens.one, Tokens.moved, model.Cuttings.bytes_at}
+use Rattle.cw_rules.specs.{Signs.longest, Signs.spelling, Tokens.passed, Tokens.one, Tokens.moved}
+use Rattle.cw_rules.specs.{model.Cuttings.bytes_at}
 use Rattle.cw_rules.specs.Bytes.{is_in, is_letter, is_mark, begins, begins_by, run}
 use Rattle.cw_rules.specs.Tokens.{in_code, start_of, sign_or_other, is_include, behind_word, ends_at_bar, in_hash_line}
 use Rattle.cw_lex.specs.{model.Coming.found_at, model.Calm.is_calm}

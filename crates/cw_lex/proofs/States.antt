@@ -3,7 +3,8 @@ use Rattle.std.proofs.Common.{◌≡◌, ℕ, ◌+◌, ◌≤◌, Bool, true, fa
 use Rattle.std.proofs.Common.{arith}
 use Rattle.std.proofs.lemmas.Bool.Decides.{nat_tests}
 use Rattle.cw_rules.specs.declared.{parts.Part.Part, parts.Opened.Opened, pending.Pending.Pending}
-use Rattle.cw_lex.specs.{declared.state.State.State, model.Coming.IsNested, model.Coming.AllWithin, model.Coming.IsReady}
+use Rattle.cw_lex.specs.{declared.state.State.State, model.Coming.IsNested, model.Coming.AllWithin}
+use Rattle.cw_lex.specs.{model.Coming.IsReady}
 use Rattle.cw_rules.specs.{Pending.IsInside, Tokens.is_code, Tokens.is_code_part}
 use Rattle.cw_base.specs.model.Conditions.{one_if}
 use Rattle.cw_lex.proofs.Steps.{AllWithin-more}

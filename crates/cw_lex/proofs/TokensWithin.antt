@@ -1,7 +1,8 @@
 -- The tokens of a part of a text lie in it.
 use Rattle.std.proofs.Common.{ℕ, zero, suc, ◌+◌, ◌-◌, ◌≤◌, Bool, List, [], ◌∷◌, length, arith, length-drop}
 use Rattle.std.proofs.{lemmas.List.length-take, lemmas.Bool.Decides.nat_tests}
-use Rattle.cw_rules.specs.{declared.tokens.Mode.Mode, Answers.Where, Order.AreWithin, Tokens.all_cut, model.Apart.found_apart}
+use Rattle.cw_rules.specs.{declared.tokens.Mode.Mode, Answers.Where, Order.AreWithin, Tokens.all_cut}
+use Rattle.cw_rules.specs.{model.Apart.found_apart}
 use Rattle.cw_rules.proofs.Within.{append-within, wider, all_cut-within, found-fits}
 use Rattle.cw_lex.specs.Lexing.{still_fresh, answers, tokens_of}
 

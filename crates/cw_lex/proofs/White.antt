@@ -4,8 +4,10 @@ use Rattle.std.proofs.Common.{drop, refl, ap, ◌∙◌, arith, if◌then◌else
 use Rattle.std.proofs.{lemmas.Bool.eqb-true, lemmas.Bool.Decides.nat_tests}
 use Rattle.cw_base.proofs.TestLaws.{and-false, not-true}
 use Rattle.cw_rules.specs.declared.{parts.Part.Part, parts.Opened.Opened}
-use Rattle.cw_rules.specs.{Answers.Where, Bytes.is_in, Codes.begins_section, model.Apart.in_text_apart, model.Apart.code_text_apart}
-use Rattle.cw_lex.specs.{Lexing.fresh_at, Lexing.last_at, model.Coming.ends_line, model.Coming.is_white_here, model.Coming.found_at}
+use Rattle.cw_rules.specs.{Answers.Where, Bytes.is_in, Codes.begins_section, model.Apart.in_text_apart}
+use Rattle.cw_rules.specs.{model.Apart.code_text_apart}
+use Rattle.cw_lex.specs.{Lexing.fresh_at, Lexing.last_at, model.Coming.ends_line, model.Coming.is_white_here}
+use Rattle.cw_lex.specs.{model.Coming.found_at}
 use Rattle.cw_rules.specs.Tokens.{section, line_end, is_space, in_hash_line, skipped_byte, is_code}
 use Rattle.cw_lex.proofs.{Lines.in_text-code, Lines.found-newline, Walk.fresh-here, Walk.last-here}
 use Rattle.cw_rules.specs.declared.classes.Class.TheVariants as classes

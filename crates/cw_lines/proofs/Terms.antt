@@ -15,7 +15,8 @@ pub use Rattle.std.specs.Prelude.{nat_eq}
 pub use Rattle.cw_base.specs.declared.event.Out.{Out}
 pub use Rattle.cw_desk.specs.{Journal.byte_events, Journal.grown, Journal.GrownByPart, Told.Told, Told.OnlyPuts}
 pub use Rattle.cw_desk.specs.laws.JournalLaws.{byte_events-append, grown-none, grown-after, part-first, part-all}
-pub use Rattle.cw_lines.specs.{laws.CutLaws.divide-short, model.Whole.WholeLines, model.Whole.behind_lines, model.Whole.counted, Writes.HasPut}
+pub use Rattle.cw_lines.specs.{laws.CutLaws.divide-short, model.Whole.WholeLines, model.Whole.behind_lines}
+pub use Rattle.cw_lines.specs.{model.Whole.counted, Writes.HasPut}
 pub use Rattle.cw_lines.specs.{Writes.HasWritten, Writes.Puts, Writes.Writes}
 pub use Rattle.cw_lines.specs.Compared.{OldFile, id_of, behind, Compares, left_by}
 pub use Rattle.cw_lines.specs.laws.ComparedLaws.{compares-as, compares-none, compares-bytes, compares-then, ahead-none}
@@ -23,11 +24,14 @@ pub use Rattle.cw_lines.specs.laws.ComparedLaws.{left-ended, ahead-some, left-lo
 pub use Rattle.cw_lines.specs.laws.ComparedLaws.{left-checked}
 pub use Rattle.cw_lines.specs.Cut.{follows_backslash, has_comment, breaks_at, is_percent, last_below, broken_numbers}
 pub use Rattle.cw_lines.specs.Cut.{cut, unbroken_line, comment_mark, divide_at, divide_by, is_command, last_of}
-pub use Rattle.cw_lines.specs.laws.FillLaws.{fill-text, fill-append, fill-line, fill-none, fill-full, fill-room, fill-end}
+pub use Rattle.cw_lines.specs.laws.FillLaws.{fill-text, fill-append, fill-line, fill-none, fill-full, fill-room}
+pub use Rattle.cw_lines.specs.laws.FillLaws.{fill-end}
 pub use Rattle.cw_lines.specs.Line.{Line, LineState, Filled, fill, filled_on}
 pub use Rattle.cw_lines.specs.model.Line.{HasNoLineEnd, IsEndedLine, with_text}
 pub use Rattle.cw_lines.specs.Line.{next_number, divided, new_line, fill_by, with_byte, ended}
-pub use Rattle.cw_lines.specs.laws.WritesLaws.{puts-known, writes-none, puts-refused, puts-stop, writes-events, writes-file}
-pub use Rattle.cw_lines.specs.laws.WritesLaws.{writes-stop, writes-then, adds-writes, writes-fail, puts-then, puts-bytes}
+pub use Rattle.cw_lines.specs.laws.WritesLaws.{puts-known, writes-none, puts-refused, puts-stop, writes-events}
+pub use Rattle.cw_lines.specs.laws.WritesLaws.{writes-file}
+pub use Rattle.cw_lines.specs.laws.WritesLaws.{writes-stop, writes-then, adds-writes, writes-fail, puts-then}
+pub use Rattle.cw_lines.specs.laws.WritesLaws.{puts-bytes}
 pub use Rattle.cw_lines.specs.laws.WritesLaws.{puts-failing, puts-none, puts-within, can-after}
 pub use Rattle.memchr.specs.Find.{Nowhere, NoneBefore, Passes, is_byte, NoneAfter}

@@ -1,5 +1,5 @@
 //! The rows of one section.
-ghost use Rattle.std.specs.Prelude.{◌≡◌, ◌<◌, ◌≤◌, [], ◌∷◌, ◌++◌, IfOk, OnOk, Some, length, slice_get};
+ghost use Rattle.std.specs.Prelude.{◌≡◌, ◌<◌, [], ◌∷◌, ◌++◌, IfOk, OnOk, Some, length, slice_get};
 ghost use Rattle.cw_mini.specs.Marks.{with_marks};
 ghost use Rattle.cw_mini.specs.Mini.{MiniRow, defining, mini_rows, numbers};
 
@@ -8,7 +8,6 @@ use crate::places::Places;
 use cw_base::Memory;
 use cw_index::index_order;
 use cw_names::{NameId, SectionRef, Xrefs};
-use cw_phase1::Book;
 use std::alloc::Global;
 use std::marker::Model;
 
@@ -77,7 +76,7 @@ impl MiniRows {
 }
 
 // Adds the marks to occurrences.
-fn add_marks(marks: &SectionMarks, occurrences: &mut Xrefs) -> Result<(), Memory>
+pub(crate) fn add_marks(marks: &SectionMarks, occurrences: &mut Xrefs) -> Result<(), Memory>
     ensures { OnOk result (occurrences.new ≡ with_marks occurrences.old marks.now) }
 {
     for mark in marks.as_slice() {
@@ -87,7 +86,7 @@ fn add_marks(marks: &SectionMarks, occurrences: &mut Xrefs) -> Result<(), Memory
 }
 
 // A copy of occurrences, in their order.
-fn copy_of(alloc: Global, occurrences: &Xrefs) -> Result<Xrefs, Memory>
+pub(crate) fn copy_of(alloc: Global, occurrences: &Xrefs) -> Result<Xrefs, Memory>
     ensures { IfOk result (λ copy. copy ≡ occurrences.now) }
 {
     let mut copy = Xrefs::new_in(alloc);
@@ -110,29 +109,8 @@ fn defining_of(alloc: Global, sections: &[SectionRef]) -> Result<Vec<u32>, Memor
     Ok(found)
 }
 
-/// The small index of the section of this number: of the names that a book has and that are marked.
-pub fn mini_rows(
-    alloc: Global,
-    book: &Book,
-    marks: &SectionMarks,
-    section: u32,
-) -> Result<MiniRows, Memory>
-    requires first { 0 < section }
-    requires last { section ≤ length book.now.outline.sections }
-    ensures { IfOk result
-        (λ rows. rows ≡ mini_rows section book.now.names (with_marks book.now.xrefs marks.now)) }
-{
-    let mut occurrences = copy_of(alloc, &book.xrefs)?;
-    add_marks(marks, &mut occurrences)?;
-    let places = Places {
-        names: &book.names,
-        occurrences: &occurrences,
-    };
-    rows_of(alloc, places, section)
-}
-
 // The rows of a section, by the places of names.
-fn rows_of(alloc: Global, places: Places, section: u32) -> Result<MiniRows, Memory>
+pub(crate) fn rows_of(alloc: Global, places: Places, section: u32) -> Result<MiniRows, Memory>
     ensures { IfOk result
         (λ rows. rows ≡ mini_rows section places.entry.names.now places.entry.occurrences.now) }
 {

@@ -13,8 +13,10 @@ pub use Rattle.std.specs.Map.{keys_of}
 pub use Rattle.cw_base.proofs.TestLaws.{both-left, both-right, both}
 pub use Rattle.cw_base.specs.{Category.is_end, declared.category.Cat.Cat}
 pub use Rattle.cw_base.specs.declared.category.Cat.TheVariants.{Exp, End, RawInt}
-pub use Rattle.cw_names.specs.{model.Inside.entry_of, model.Inside.is_wanted, model.Inside.has_no_end_entry, model.Noted.sections_at}
-pub use Rattle.cw_names.specs.{model.Noted.with_mention, model.Table.with_word, model.Table.row, model.Table.with_table, Words.built_in_words}
+pub use Rattle.cw_names.specs.{model.Inside.entry_of, model.Inside.is_wanted, model.Inside.has_no_end_entry}
+pub use Rattle.cw_names.specs.{model.Noted.sections_at}
+pub use Rattle.cw_names.specs.{model.Noted.with_mention, model.Table.with_word, model.Table.row, model.Table.with_table}
+pub use Rattle.cw_names.specs.{Words.built_in_words}
 pub use Rattle.cw_names.specs.{Words.words_of, Words.BeginsWithWords, declared.entry.EntryKind.EntryKind}
 pub use Rattle.cw_names.specs.{declared.entry.Key.Key, declared.xrefs.Occurrence.Occurrence}
 pub use Rattle.cw_names.specs.{declared.xrefs.SectionRef.SectionRef}

@@ -17,13 +17,16 @@ pub use Rattle.cw_base.proofs.TestLaws.{not-both, one-right, or-false, one-left,
 pub use Rattle.cw_base.specs.{Web.MergedLine, Web.text_of, Web.info_from, Web.infos_of, declared.category.Cat.Cat}
 pub use Rattle.cw_base.specs.{declared.notes.NoteKind.NoteKind, declared.span.Span.Span, declared.web.LineInfo.LineInfo}
 pub use Rattle.cw_base.specs.declared.category.Cat.TheVariants.{Exp, RawInt}
-pub use Rattle.cw_lex.specs.{Heads.head_behind, Lexing.answers_at, Lexing.beginning, Lexing.tokens_of, model.Limbo.HasNoNames}
+pub use Rattle.cw_lex.specs.{Heads.head_behind, Lexing.answers_at, Lexing.beginning, Lexing.tokens_of}
+pub use Rattle.cw_lex.specs.{model.Limbo.HasNoNames}
 pub use Rattle.cw_lex.specs.{Limbo.is_name_kind, declared.heads.Wanted.Wanted}
 pub use Rattle.cw_lex.specs.Nested.{is_section_kind, is_section_answer, begins_section_in}
 pub use Rattle.cw_names.specs.{Words.built_in_words, declared.entry.EntryKind.EntryKind, declared.entry.NameId.NameId}
 pub use Rattle.cw_names.specs.declared.entry.EntryKind.TheVariants.{Ident, Roman}
-pub use Rattle.cw_phase1.specs.{Book.answers_of, Book.book, model.LinePlaces.offset, Places.place_from, Places.holds_changed}
-pub use Rattle.cw_phase1.specs.{Places.nowhere, model.Referring.referring_of, Sound.LiesIn, Sound.IsNamedBy, Sound.Ascend}
+pub use Rattle.cw_phase1.specs.{Book.answers_of, Book.book, model.LinePlaces.offset, Places.place_from}
+pub use Rattle.cw_phase1.specs.{Places.holds_changed}
+pub use Rattle.cw_phase1.specs.{Places.nowhere, model.Referring.referring_of, Sound.LiesIn, Sound.IsNamedBy}
+pub use Rattle.cw_phase1.specs.{Sound.Ascend}
 pub use Rattle.cw_phase1.specs.{Sound.RefersUpTo, declared.roles.Part.Part, declared.roles.Role.Role}
 pub use Rattle.cw_phase1.specs.{declared.roles.Standing.Standing, declared.sections.Open.Open}
 pub use Rattle.cw_phase1.specs.{declared.sections.Section.Section, declared.sections.Sections.Sections}
@@ -48,7 +51,8 @@ pub use Rattle.cw_phase1.specs.Roles.{placed, free_step, placed_by, stay, Step, 
 pub use Rattle.cw_phase1.specs.Roles.{section_step, defining}
 pub use Rattle.cw_phase1.specs.Sections.{is_section_code, sections_of, span, is_tex, is_program, ends_section}
 pub use Rattle.cw_phase1.specs.Sections.{ends_definitions, ends_tex, first_start, section_at, c_part_name}
-pub use Rattle.cw_phase1.specs.model.Telling.{told_step, word_told, word_occurrence, IsKnown, told_all, known_of, told_start}
+pub use Rattle.cw_phase1.specs.model.Telling.{told_step, word_told, word_occurrence, IsKnown, told_all, known_of}
+pub use Rattle.cw_phase1.specs.model.Telling.{told_start}
 pub use Rattle.cw_phase1.specs.Texts.{blank_before, name_text, naming, naming_by, reduced}
 pub use Rattle.cw_phase1.specs.model.Texts.{is_reduced_void}
 pub use Rattle.cw_phase1.specs.Texts.{single_blanks, without_first_blank, Naming, Void, Full, Prefix}

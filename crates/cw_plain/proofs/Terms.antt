@@ -7,7 +7,8 @@ pub use Rattle.std.specs.Prelude.{nat_lt, All, IsErrAnd}
 pub use Rattle.cw_texts.specs.EachForms.{Each, HasTranslated, IsWholeRef, GivesText}
 pub use Rattle.cw_texts.specs.declared.each.NextText.{NextText}
 pub use Rattle.cw_plain.specs.{Plain.plain, Plain.plain_tree, Titles.source_by, Titles.titles}
-pub use Rattle.cw_plain.specs.model.Laying.{Laying, begun, ended, ended_text, no_run, piece_text, pieces_text, with_control}
+pub use Rattle.cw_plain.specs.model.Laying.{Laying, begun, ended, ended_text, no_run, piece_text, pieces_text}
+pub use Rattle.cw_plain.specs.model.Laying.{with_control}
 pub use Rattle.cw_plain.specs.model.Laying.{with_piece, Lays}
 pub use Rattle.cw_plain.specs.Lines.{Added, Layout, Other, Run, Stretch, at_start, backed, behind_piece, behind_run}
 pub use Rattle.cw_plain.specs.Lines.{break_text, cut_off, ink_bytes, ink_text, laid, laid_from, level_behind, level_in}

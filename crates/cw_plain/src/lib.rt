@@ -6,8 +6,9 @@ mod comments;
 mod file;
 mod lines;
 mod plainer;
+mod published;
 mod run;
 mod translated;
 
 pub use file::{Plain, plain_command, plain_files};
-pub use translated::plain_text;
+pub use published::plain_text;

@@ -12,14 +12,17 @@ pub use Rattle.cw_join.specs.Tokens.{word_at, CanCome, alone, control_bytes, ite
 pub use Rattle.cw_lex.specs.Nested.{until_section}
 pub use Rattle.cw_lines.specs.laws.SheetLaws.{prints-bytes, prints-none, prints-nothing, prints-stop, prints-then}
 pub use Rattle.cw_lines.specs.laws.SheetLaws.{prints-failing, prints-longer, can-print-after}
-pub use Rattle.cw_print.specs.{model.Coming.AllMay, model.Coming.MayCome, model.Coming.MayStand, Escaping.escaped_byte, Escaping.escaped}
-pub use Rattle.cw_print.specs.{model.Scanning.IsSeeking, Sources.titles, Sources.numbered_in, model.Walked.behind, model.Walked.Walked}
+pub use Rattle.cw_print.specs.{model.Coming.AllMay, model.Coming.MayCome, model.Coming.MayStand, Escaping.escaped_byte}
+pub use Rattle.cw_print.specs.{Escaping.escaped}
+pub use Rattle.cw_print.specs.{model.Scanning.IsSeeking, Sources.titles, Sources.numbered_in, model.Walked.behind}
+pub use Rattle.cw_print.specs.{model.Walked.Walked}
 pub use Rattle.cw_print.specs.{declared.dividing.Portion.Portion}
 pub use Rattle.cw_print.specs.Comments.{comment_piece, piece_of, closing_braces, CommentPiece, Prints, byte_piece}
 pub use Rattle.cw_print.specs.Comments.{is_special, joined_pieces}
 pub use Rattle.cw_print.specs.Constants.{hex_digits, mantissa_bytes, suffix, exponent_bytes}
 pub use Rattle.cw_print.specs.model.Dividing.{has_room, rest_bytes, portion_behind, with_byte}
-pub use Rattle.cw_print.specs.model.Printing.{IsOnlyName, shown, IsBehind, IsMidway, Midway, PrintsOn, shown_next, source_of}
+pub use Rattle.cw_print.specs.model.Printing.{IsOnlyName, shown, IsBehind, IsMidway, Midway, PrintsOn, shown_next}
+pub use Rattle.cw_print.specs.model.Printing.{source_of}
 pub use Rattle.cw_print.specs.Texts.{string_bytes, divided, divided_units, division, units, include_bytes}
 pub use Rattle.cw_print.specs.Walk.{Source, Title, items_shown, outside, own_bytes, placed_shown, stand_after, title_in}
 pub use Rattle.cw_print.specs.Walk.{Fixed, Stand, control_shown, item_shown, own_sign, later_number, PrintsSign, Shown}

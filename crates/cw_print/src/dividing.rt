@@ -1,6 +1,7 @@
 //! The division of long texts in typewriter type.
 ghost use Rattle.std.specs.Prelude.{◌≡◌, ◌++◌, OnOk};
-ghost use Rattle.cw_print.specs.model.Dividing.{has_room, is_full, is_special, next_byte, portion_behind, portion_for_next};
+ghost use Rattle.cw_print.specs.model.Dividing.{has_room, is_full, is_special, next_byte, portion_behind};
+ghost use Rattle.cw_print.specs.model.Dividing.{portion_for_next};
 ghost use Rattle.cw_print.specs.model.Dividing.{with_byte};
 
 use crate::escaping::{is_escaped, put_escaped_byte};

@@ -9,6 +9,7 @@ mod dividing;
 mod escaping;
 mod name_walk;
 mod printing;
+mod published;
 mod scan;
 mod showing;
 mod signs;
@@ -18,6 +19,7 @@ mod tokens;
 mod walk;
 
 pub use book_titles::{defines_first, is_changed};
-pub use printing::{KeptText, print_answers, print_list};
+pub use printing::{KeptText, print_answers};
+pub use published::print_list;
 pub use scan::Finder;
 pub use tokens::put_code_text;

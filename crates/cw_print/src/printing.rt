@@ -1,6 +1,5 @@
 //! The printing of a C text from its translation.
 ghost use Rattle.std.specs.Prelude.{◌≡◌, ◌&&◌, ◌≤◌, ◌<◌, ◌++◌, Bool, List, [], ◌∷◌, IfOk, IfSome, OnOk, false, length};
-ghost use Rattle.cw_lex.specs.Lexing.{tokens_of};
 ghost use Rattle.cw_lex.specs.Nested.{begins_section_in};
 ghost use Rattle.cw_trees.specs.Flat.{Item, Open as open_item, Close as close_item};
 ghost use Rattle.cw_trees.specs.Printing.{ident_bytes, printed};
@@ -17,17 +16,15 @@ ghost use Rattle.cw_join.specs.Tokens.{CanCome, word_at};
 ghost use Rattle.cw_print.specs.model.Coming.{AllMay, MayCome};
 ghost use Rattle.cw_print.specs.model.Printing.{IsBehind, IsMidway, IsOnlyName, Midway, PrintsOn, shown};
 ghost use Rattle.cw_print.specs.model.Printing.{shown_next, source_of};
-ghost use Rattle.cw_print.specs.Sources.{lists_all, source_at, source_by};
+ghost use Rattle.cw_print.specs.Sources.{lists_all, source_by};
 ghost use Rattle.cw_print.specs.Walk.{Source, bracket, tree_bytes, wrapped};
 
 use crate::book_titles::is_first;
-use crate::scan::scanned;
 use crate::walk::{Manner, TextWalk, is_placed};
 use cw_answers::Answers;
-use cw_base::{Bytes, Flags, Memory, Span};
+use cw_base::{Bytes, Flags, Memory};
 use cw_desk::Desk;
 use cw_join::{Joiner, put_ident_of};
-use cw_lex::Mode;
 use cw_lines::{LineOut, PutError, Sheet};
 use cw_names::{NameId, Names};
 use cw_phase1::Book;
@@ -363,41 +360,4 @@ pub fn print_answers<D: Desk>(
     let items = store.flat_trimmed(alloc, id)?;
     let mut sheet = Sheet { line: out, desk };
     print_flat(alloc, c, &items, &mut sheet)
-}
-
-/// The same of a C text that has to be scanned first. `section` is the present section, or 0 in the section list; with
-/// `inner` the text is itself inner C text.
-pub fn print_list<D: Desk>(
-    alloc: Global,
-    text: &[u8],
-    span: Span,
-    mode: Mode,
-    book: &Book,
-    section: u32,
-    flags: &Flags,
-    store: &TokenStore,
-    id: ListId,
-    inner: bool,
-    out: &mut LineOut,
-    desk: &mut D,
-) -> Result<(), PutError>
-    requires can { CanWrite (D.told desk.old) out.old }
-    requires order { span.start ≤ span.end }
-    requires within { span.end ≤ length text.now }
-    requires uncut { begins_section_in (tokens_of text.now span.start span.end mode) ≡ false }
-    requires list { id.index < length store.now.lists }
-    requires named { IsNamedBelow (length book.now.names) (unfolded store.now.lists id.index) }
-    ensures puts { Puts (tree_bytes inner (source_at text.now span mode book.now section flags.now)
-        (unfolded store.now.lists id.index))
-        out.old out.new (D.told desk.old) (D.told desk.new) result }
-{
-    let answers = scanned(alloc, text, span, mode)?;
-    let c = KeptText {
-        answers: &answers,
-        book,
-        section,
-        flags,
-        inner,
-    };
-    print_answers(alloc, c, store, id, out, desk)
 }

@@ -2,9 +2,11 @@
 #![tactic(auto)]
 
 mod gathering;
+mod published;
 mod walk;
 mod watch;
 
 pub use gathering::{put_alone, put_together};
-pub use walk::{Reduced, reduce, reduce_watched};
+pub use published::reduce;
+pub use walk::{Reduced, reduce_watched};
 pub use watch::{Unwatched, Watch};

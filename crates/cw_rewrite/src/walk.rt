@@ -20,7 +20,7 @@ ghost use Rattle.cw_rewrite.specs.model.Reduction.{HasNoMore, IsFirst, IsNext, I
 ghost use Rattle.cw_rewrite.specs.Telling.{EndsWithin, StopsAt, grown_by};
 ghost use Rattle.cw_names.specs.Words.{words_of};
 
-use crate::watch::{Unwatched, Watch};
+use crate::watch::Watch;
 use cw_base::{Cat, Flags, Ledger, Memory, Steps};
 use cw_names::Names;
 use cw_scraps::{Marks, PRODUCTION_TOKENS, Production, ScrapLine};
@@ -37,51 +37,9 @@ pub struct Reduced {
 /// Applies productions to a line, at the least place where one fits and by the first row that fits there, until
 /// none fits. A pointer goes along the line: where a row fits, the line is rewritten and the pointer goes back by
 /// the least safe distance of the row; where none fits, it goes on by one. Each turn counts four steps, and each
-/// production by a row that reserves counts one more for each scrap to the right of the new one. After `Memory` the
-/// line is one that the productions reach, and can be reduced further.
-pub fn reduce<L: Ledger>(
-    line: &mut ScrapLine,
-    store: &mut TokenStore,
-    names: &mut Names,
-    marks: &mut Marks,
-    flags: &Flags,
-    steps: &mut Steps<L>,
-) -> Result<Reduced, Memory>
-    requires sound { IsSoundLine store.old names.old line.old }
-    ensures normal { OnOk result (state_of store.new.lists line.new marks.new names.new ≡
-        normal productions flags.now (state_of store.old.lists line.old marks.old names.old)) }
-    ensures productions { IfOk result (λ done. done.productions ≡
-        count productions flags.now (state_of store.old.lists line.old marks.old names.old)) }
-    ensures light { IfOk result (λ done. done.productions ≤ weight (scraps_of store.old.lists line.old)) }
-    ensures few { IfOk result (λ done. done.productions ≤ 8 * length line.old) }
-    ensures after { IsAfter productions flags.now (state_of store.old.lists line.old marks.old names.old)
-        (state_of store.new.lists line.new marks.new names.new) }
-    ensures words { words_of names.new ≡ words_of names.old }
-    // Each source token stands in the trees once and in order, as before.
-    ensures numbers { numbers_of (scraps_of store.new.lists line.new) ≡
-        numbers_of (scraps_of store.old.lists line.old) }
-    ensures sound { IsSoundLine store.new names.new line.new }
-    ensures others { Keeps store.old.lists store.new.lists (roots_of line.old) (roots_of line.new) }
-    // However many tokens the lists of the scraps hold: they are not copied.
-    ensures tokens { GrowsByProductions flags.now
-        (state_of store.old.lists line.old marks.old names.old) store.old.lists
-        (state_of store.new.lists line.new marks.new names.new) store.new.lists }
-    ensures steps { OnOk result (steps.new ≡ steps.old + ticks productions flags.now (state_of store.old.lists line.old
-        marks.old names.old)) }
-    ensures no_more { steps.new ≤ steps.old + ticks productions flags.now (state_of store.old.lists line.old marks.old
-        names.old) }
-    ensures bound { steps.new ≤ steps.old + (132 * length line.old + length line.old * reservings productions flags.now
-        (state_of store.old.lists line.old marks.old names.old)) }
-{
-    match reduce_watched(line, store, names, marks, flags, &mut Unwatched, steps)? {
-        Some(reduced) => Ok(reduced),
-        // It refuses no production.
-        None => unreachable!(),
-    }
-}
-
-/// The same, where a watch hears of each production before it is done. Where it refuses one, the line is left as it is
-/// before that production, and None is answered.
+/// production by a row that reserves counts one more for each scrap to the right of the new one. A watch hears of each
+/// production before it is done. Where it refuses one, the line is left as it is before that production, and None is
+/// answered.
 #[inline(always)]
 pub fn reduce_watched<L: Ledger, W: Watch>(
     line: &mut ScrapLine,

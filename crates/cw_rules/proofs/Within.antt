@@ -20,7 +20,8 @@ use Rattle.cw_rules.specs.Tokens.{section, passed, line_end, sign_or_other, star
 use Rattle.cw_rules.specs.Tokens.{string, code_token, dropped_code, include_name, piece_start, piece, comment_closed}
 use Rattle.cw_rules.specs.Tokens.{limbo_by, limbo_text, tex_by, tex_text, head_text, behind_white, name_follows}
 use Rattle.cw_rules.specs.Tokens.{macro_name, is_parameter, parameter_follows, parameter, format_name}
-use Rattle.cw_rules.specs.model.Apart.{code_text_apart, comment_text_apart, behind_head_apart, part_text_apart, in_text_apart}
+use Rattle.cw_rules.specs.model.Apart.{code_text_apart, comment_text_apart, behind_head_apart, part_text_apart}
+use Rattle.cw_rules.specs.model.Apart.{in_text_apart}
 use Rattle.cw_rules.proofs.Sizes.{begins-some, begins_with-le, run-le, constant-le, AllFit, longest-fits, extent-le}
 use Rattle.cw_rules.proofs.Sizes.{identifier-le, string-le, include_name-le, control_or_plain-le, code_token-le}
 use Rattle.cw_rules.specs.declared.classes.Class.TheVariants as classes

@@ -19,13 +19,17 @@ pub use Rattle.cw_base.specs.declared.category.Cat.TheVariants.{End, RawInt}
 pub use Rattle.cw_base.specs.declared.mode.MathMode.TheVariants.{Math, Maybe, Text}
 pub use Rattle.cw_names.specs.{declared.NameId.NameId, declared.entry.EntryKind.TheVariants.Ident}
 pub use Rattle.cw_names.specs.Names.{Entry, place_of, with_entry, with_category}
-pub use Rattle.cw_scraps.specs.{model.Building.Joins, model.Changing.Changes, Changing.Keeps, model.Gap.around, model.Gap.IsGap}
-pub use Rattle.cw_scraps.specs.{model.Making.pieces_at, model.Making.IsMade, model.Making.kept, model.Making.joined, model.Modes.piece_agrees}
-pub use Rattle.cw_scraps.specs.{model.Modes.IsSteady, model.Modes.JoinsAgree, model.Replacing.replaced_from, model.Replacing.Replaces}
+pub use Rattle.cw_scraps.specs.{model.Building.Joins, model.Changing.Changes, Changing.Keeps, model.Gap.around}
+pub use Rattle.cw_scraps.specs.{model.Gap.IsGap}
+pub use Rattle.cw_scraps.specs.{model.Making.pieces_at, model.Making.IsMade, model.Making.kept, model.Making.joined}
+pub use Rattle.cw_scraps.specs.{model.Modes.piece_agrees}
+pub use Rattle.cw_scraps.specs.{model.Modes.IsSteady, model.Modes.JoinsAgree, model.Replacing.replaced_from}
+pub use Rattle.cw_scraps.specs.{model.Replacing.Replaces}
 pub use Rattle.cw_scraps.specs.{model.Turning.named_by, model.Turning.Turns, declared.line.LineEntry.LineEntry}
 pub use Rattle.cw_scraps.specs.{declared.pieces.Insert.Insert}
 pub use Rattle.cw_scraps.specs.Applying.{categories, looked_at, state_of, retyped, retyped_by}
-pub use Rattle.cw_scraps.specs.model.Inserting.{insert_in, inserting, IsPieceWithin, toggle, tokens_of, left_of, right_after}
+pub use Rattle.cw_scraps.specs.model.Inserting.{insert_in, inserting, IsPieceWithin, toggle, tokens_of, left_of}
+pub use Rattle.cw_scraps.specs.model.Inserting.{right_after}
 pub use Rattle.cw_scraps.specs.model.Inserting.{IsRun, entry_cats, inserted_by, IsInsertionWithin}
 pub use Rattle.cw_scraps.specs.Leaves.{LeafForm, source, code_form, form_of, word_form, word_cat, own_cat, token_form}
 pub use Rattle.cw_scraps.specs.Leaves.{MakesLeaf, HasForm, entry_of}

@@ -6,7 +6,8 @@ ghost use Rattle.cw_tokens.specs.declared.token.Token.TheVariants.{Control as Co
 ghost use Rattle.cw_tokens.specs.Stored.{MayBePushed};
 ghost use Rattle.cw_scraps.specs.Lines.{roots_of, AreRoots};
 ghost use Rattle.cw_trees.specs.Joining.{after, first_mode};
-ghost use Rattle.cw_scraps.specs.model.Inserting.{inserted_by, inserting, toggle, toggled, tokens_of, left_of, right_after};
+ghost use Rattle.cw_scraps.specs.model.Inserting.{inserted_by, inserting, toggle, toggled, tokens_of, left_of};
+ghost use Rattle.cw_scraps.specs.model.Inserting.{right_after};
 ghost use Rattle.cw_scraps.specs.model.Inserting.{IsInsertionWithin, IsRun};
 
 use crate::PRODUCTION_TOKENS;

@@ -7,7 +7,8 @@ use Rattle.std.specs.Cmp.Lexicographic.{same_text, pointwise}
 use Rattle.cw_base.proofs.TestLaws.{one-left, one-right}
 use Rattle.cw_secnames.specs.declared.{kinds.SecKind.SecKind, marks.Marks.Marks}
 use Rattle.cw_secnames.specs.Kept.{is_beginning_of}
-use Rattle.cw_secnames.specs.model.Marks.{first_mark, next_mark, mark_from, mark_of, is_kept_length, last_kept, Has, HasAll}
+use Rattle.cw_secnames.specs.model.Marks.{first_mark, next_mark, mark_from, mark_of, is_kept_length, last_kept, Has}
+use Rattle.cw_secnames.specs.model.Marks.{HasAll}
 use Rattle.cw_secnames.specs.Marks.{is_one_of}
 use Rattle.cw_secnames.specs.model.Marks.{positions_at, wholes_at, IsMarked, KeepsMarks, IsNear}
 

@@ -6,7 +6,8 @@ use Rattle.std.specs.List.Sorted.{IsPartitionPoint, IsPartitionedBy}
 use Rattle.std.proofs.lemmas.Bool.Decides.{nat_tests}
 use Rattle.cw_base.proofs.NumberLaws.{apart}
 use borrow.Author.Tests.{eq-eqb, ltb-true}
-use Rattle.cw_secnames.specs.{Uses.name_at, model.InsideUses.use_of, model.InsideUses.AreAscending, declared.name_uses.Pair.Pair}
+use Rattle.cw_secnames.specs.{Uses.name_at, model.InsideUses.use_of, model.InsideUses.AreAscending}
+use Rattle.cw_secnames.specs.{declared.name_uses.Pair.Pair}
 
 pub at-first : (place : ℕ) (pairs : List Pair) (i : ℕ) (d : Pair) → i < length pairs
     → ((k : ℕ) → k < i → (get_or pairs k d).place < place) → (get_or pairs i d).place ≡ place

@@ -1,7 +1,8 @@
 //! Marks: numbers by which the names near a text are found.
 ghost use Rattle.std.specs.Prelude.{◌≡◌, ℕ, true, List, ◌++◌, IfOk, OnOk};
 ghost use Rattle.cw_secnames.specs.Marks.{is_one_of};
-ghost use Rattle.cw_secnames.specs.model.Marks.{first_mark, Has, HasAll, is_kept_length, IsMarked, IsNear, KeepsMarks, last_kept, next_mark, wholes_at};
+ghost use Rattle.cw_secnames.specs.model.Marks.{first_mark, Has, HasAll, is_kept_length, IsMarked, IsNear, KeepsMarks};
+ghost use Rattle.cw_secnames.specs.model.Marks.{last_kept, next_mark, wholes_at};
 
 use crate::SecKind;
 use crate::tables::Tables;

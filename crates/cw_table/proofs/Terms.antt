@@ -28,7 +28,8 @@ pub use Rattle.cw_base.specs.declared.category.Cat.TheVariants.{Comma, Colon, St
 pub use Rattle.cw_base.specs.declared.category.Cat.TheVariants.{TypedefLike, Decl, Dot, ConstLike, ForLike, Dots}
 pub use Rattle.cw_base.specs.declared.category.Cat.TheVariants.{TypeofLike, Colcol, AttrHead}
 pub use Rattle.cw_base.specs.declared.mode.MathMode.TheVariants.{Maybe, Math}
-pub use Rattle.cw_table.specs.{model.Joined.joined, model.Joined.zipped, NormalLaws.NoneFitsBelow, NormalLaws.SafeReachesFar}
+pub use Rattle.cw_table.specs.{model.Joined.joined, model.Joined.zipped, NormalLaws.NoneFitsBelow}
+pub use Rattle.cw_table.specs.{NormalLaws.SafeReachesFar}
 pub use Rattle.cw_table.specs.{Productions.productions, declared.masks.RowSet.RowSet, declared.productions.Head.Head}
 pub use Rattle.cw_table.specs.{declared.types.Piece.Piece, declared.types.Piece.TheVariants.Blank}
 pub use Rattle.cw_table.specs.{declared.types.Row.Row, declared.types.RowResult.RowResult}

@@ -19,7 +19,8 @@ pub use Rattle.cw_lines.specs.{Sheets.IsSameSheet, Writes.HasPut, Writes.Puts, d
 pub use Rattle.cw_lines.specs.{declared.put_error.PutError.TheVariants.Memory}
 pub use Rattle.cw_lines.specs.Line.{Line, LineState, fill_by, fill_byte}
 pub use Rattle.cw_lines.specs.model.Line.{HasNoLineEnd}
-pub use Rattle.cw_lines.specs.laws.SheetLaws.{prints-bytes, same-sheet, same-then, prints-failing, prints-none, prints-stop}
+pub use Rattle.cw_lines.specs.laws.SheetLaws.{prints-bytes, same-sheet, same-then, prints-failing, prints-none}
+pub use Rattle.cw_lines.specs.laws.SheetLaws.{prints-stop}
 pub use Rattle.cw_lines.specs.laws.SheetLaws.{prints-then, prints-longer}
 pub use Rattle.cw_lines.specs.laws.WritesLaws.{puts-bytes, puts-none, puts-stop, puts-then, puts-failing, puts-nothing}
 pub use Rattle.cw_lines.specs.laws.WritesLaws.{is_err, can-after}
@@ -28,7 +29,8 @@ pub use Rattle.cw_phase1.specs.{declared.book.Book.Book, declared.sections.Secti
 pub use Rattle.cw_print.specs.Walk.{section_number, changed_mark, tree_bytes}
 pub use Rattle.cw_rules.specs.{declared.tokens.Mode.TheVariants.Inner, declared.tokens.TokKind.TokKind}
 pub use Rattle.cw_rules.specs.Answers.{Seen, Answer, Token, Begin, Finish, Note, has_sign, seen}
-pub use Rattle.cw_texpart.specs.{Limbo.limbo_bytes, Limbo.printed_limbo, model.PartForms.tex_setting, model.PartForms.TexSetting}
+pub use Rattle.cw_texpart.specs.{Limbo.limbo_bytes, Limbo.printed_limbo, model.PartForms.tex_setting}
+pub use Rattle.cw_texpart.specs.{model.PartForms.TexSetting}
 pub use Rattle.cw_texpart.specs.{declared.counts.Counts.Counts}
 pub use Rattle.cw_texpart.specs.Beside.{code_beside, is_nothing, has_prose, is_prose}
 pub use Rattle.cw_texpart.specs.Done.{Done, done_behind, joined_done, as_it_is, reprinted}

@@ -1,20 +1,19 @@
 //! All C texts of a book's sections, in the order in which they are woven.
-ghost use Rattle.std.specs.Prelude.{◌≡◌, ◌++◌, ◌<◌, [], ◌∷◌, IfOk, OnOk, Some, length, slice_get};
+ghost use Rattle.std.specs.Prelude.{◌≡◌, ◌++◌, ◌<◌, [], ◌∷◌, OnOk, Some, length, slice_get};
 ghost use Rattle.cw_base.specs.Conditions.{list_if};
-ghost use Rattle.cw_base.specs.Web.{text_of};
 ghost use Rattle.cw_rules.specs.declared.tokens.Mode.TheVariants.{Inner};
 ghost use Rattle.cw_texts.specs.Definitions.{printed_definitions};
 ghost use Rattle.cw_texts.specs.PieceForms.{piece_is};
 ghost use Rattle.cw_texts.specs.Printed.{is_printed};
 ghost use Rattle.cw_texts.specs.TexPieces.{tex_pieces_of};
-ghost use Rattle.cw_texts.specs.Texts.{definition_refs, piece_refs, section_refs, tex_refs, text_ref, texts_of};
+ghost use Rattle.cw_texts.specs.Texts.{definition_refs, piece_refs, section_refs, tex_refs, text_ref};
 
 use crate::definitions::Definitions;
 use crate::pieces::{Piece, Pieces};
 use crate::printed::{is_kept, is_printed};
-use cw_base::{Memory, Span, Web};
+use cw_base::{Memory, Span};
 use cw_lex::Mode;
-use cw_phase1::{Book, Section};
+use cw_phase1::Section;
 use cw_secnames::NameUses;
 use std::alloc::Global;
 use std::marker::Model;
@@ -92,21 +91,6 @@ impl TextList {
         }
         Ok(())
     }
-}
-
-/// The C texts of a web's sections, in the order in which they are woven: of each section the inner texts and the
-/// citations of its TeX part, then its definitions but those of `@s`, then its C part where it is printed.
-pub fn texts(alloc: Global, web: &Web, book: &Book) -> Result<TextList, Memory>
-    ensures { IfOk result
-        (λ list. list ≡ texts_of (text_of web.now.lines) book.now.name_uses book.now.outline.sections) }
-{
-    let text = web.text();
-    let mut list = TextList::new_in(alloc);
-    for before in 0..book.section_count() {
-        let section = book.section(before + 1);
-        add_section(text, &book.name_uses, before + 1, section, &mut list)?;
-    }
-    Ok(list)
 }
 
 /// Adds the texts of the section of a number.

@@ -20,8 +20,10 @@ pub use Rattle.cw_names.specs.declared.xrefs.Occurrence.{Occurrence}
 pub use Rattle.cw_phase1.specs.{Book.book, declared.book.Book.Book, declared.sections.Section.Section}
 pub use Rattle.cw_run.specs.{Emits.Run, Emits.Runs, Stops.stopped, declared.statistics.Totals.Totals}
 pub use Rattle.cw_run.specs.Closing.{exit_by, closing_run, has_error, has_note}
-pub use Rattle.cw_run.specs.laws.EmitsLaws.{adds-emits, emits-by, emits_by-fail, emits_by-file, emits_by-stop, emits_by-then}
-pub use Rattle.cw_run.specs.laws.EmitsLaws.{emits_by-value, file-not_begun, file-refused, runs-known, runs-stop, runs-then}
+pub use Rattle.cw_run.specs.laws.EmitsLaws.{adds-emits, emits-by, emits_by-fail, emits_by-file, emits_by-stop}
+pub use Rattle.cw_run.specs.laws.EmitsLaws.{emits_by-then}
+pub use Rattle.cw_run.specs.laws.EmitsLaws.{emits_by-value, file-not_begun, file-refused, runs-known, runs-stop}
+pub use Rattle.cw_run.specs.laws.EmitsLaws.{runs-then}
 pub use Rattle.cw_run.specs.laws.EmitsLaws.{emits_by-events, runs_by-exit, runs_by-nothing, emits-faults, faults-then}
 pub use Rattle.cw_run.specs.laws.EmitsLaws.{runs-after, runs_by-over, runs-by, runs_by-stop, runs_by-then}
 pub use Rattle.cw_run.specs.Files.{OutFile, broken_lines, Broken, broken_notes, broken_in}

@@ -7,7 +7,8 @@ use Rattle.std.proofs.lemmas.Result.{on_ok_weaker, on_err_weaker, err_from_is_er
 use Rattle.cw_base.specs.declared.event.Event.{Event}
 use Rattle.cw_base.specs.declared.event.Out.{Out}
 use Rattle.cw_desk.specs.Journal.{byte_events}
-use Rattle.cw_desk.specs.laws.JournalLaws.{grown-none, grown-after, byte_events-append, part-first, part-second, part-same}
+use Rattle.cw_desk.specs.laws.JournalLaws.{grown-none, grown-after, byte_events-append, part-first, part-second}
+use Rattle.cw_desk.specs.laws.JournalLaws.{part-same}
 use Rattle.cw_desk.specs.Meaning.{Rose, is_open}
 use Rattle.cw_desk.specs.Told.{Told, OnlyPuts}
 use Rattle.cw_desk.specs.declared.outputs.Outputs.{Outputs}

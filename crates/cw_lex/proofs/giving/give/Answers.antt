@@ -1,7 +1,8 @@
 -- A token that is cut takes its bytes; its notes follow, and then the text goes on in its part.
 use Rattle.std.proofs.Common.{ℕ, ◌+◌, List, ◌∷◌, refl, sym, ap, ◌∙◌, arith}
 use Rattle.cw_rules.specs.Answers.{Token, note_answers, token_of}
-use Rattle.cw_rules.specs.{Pending.pending_notes, Tokens.one, Tokens.moved, model.Cuttings.bytes_at, model.Cuttings.cut_of}
+use Rattle.cw_rules.specs.{Pending.pending_notes, Tokens.one, Tokens.moved, model.Cuttings.bytes_at}
+use Rattle.cw_rules.specs.{model.Cuttings.cut_of}
 use Rattle.cw_lex.specs.{model.Coming.where_of, declared.state.State.State}
 use Rattle.cw_lex.proofs.{Steps.step-gives, Steps.bytes-here, Steps.AllWithin-more, States.depth-part}
 use Rattle.cw_lex.proofs.giving.give.Goals as goal

@@ -2,7 +2,7 @@
 use Rattle.cw_log.proofs.Terms.{◌≡◌, ◌++◌, ◌∙◌, List, Some, Result, ap, map, take, Flags, TextLog, Told, State}
 use Rattle.cw_log.proofs.Terms.{HasRecorded, logged, HasLogged, LoggedTexts}
 use Rattle.cw_base.specs.declared.memory.Memory.{Memory}
-use Rattle.cw_log.proofs.logged.translate_logged.Goals as goal
+use Rattle.cw_log.proofs.published.translate_logged.Goals as goal
 
 has-logged : {T : Type 0} (flags : Flags) (states : List State) (before after : Told) (old new : List TextLog)
     (result : Result T Memory) → before.ended ≡ old → new ≡ after.ended

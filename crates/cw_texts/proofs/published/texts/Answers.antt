@@ -1,7 +1,7 @@
 -- The texts of one section go behind those of the sections before.
 use Rattle.cw_texts.proofs.Terms.{ap, ◌+◌, ◌++◌, ◌∙◌, arith, drop_all, is_printed, refs_from, texts_of}
 use Rattle.cw_texts.proofs.RefLaws.{added, all-added, section-first}
-use Rattle.cw_texts.proofs.text_list.texts.Goals as goal
+use Rattle.cw_texts.proofs.published.texts.Goals as goal
 
 pub loop-before-init : goal.loop-before-init
 loop-before-init c = ap (λ list. list ++ texts_of c.text-text.result.now c.args.book.now.name_uses

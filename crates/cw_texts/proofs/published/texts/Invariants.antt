@@ -1,6 +1,6 @@
 -- The sections before have given their texts.
 use Rattle.cw_texts.proofs.Terms.{◌≡◌, ◌+◌, ◌++◌, drop, is_printed, refs_from, texts_of}
-use Rattle.cw_texts.proofs.text_list.texts.Given as goal
+use Rattle.cw_texts.proofs.published.texts.Given as goal
 
 abbrev pub invariant-loop-before : goal.invariant-loop-before
 invariant-loop-before l = l.list ++ refs_from (is_printed l.text l.book.name_uses) l.text l.book.name_uses

@@ -1,4 +1,5 @@
-//! A C text is translated, and its log is kept.
+//! A span translated, and its logs added to a log. No program calls it, users of the library do: a thin call of what
+//! programs run.
 ghost use Rattle.std.specs.Prelude.{◌≡◌, ◌+◌, ◌≤◌, length, IfOk, OnErr, None};
 ghost use Rattle.cw_lex.specs.Lexing.{tokens_of};
 ghost use Rattle.cw_scraps.specs.Marking.{marked_names};
