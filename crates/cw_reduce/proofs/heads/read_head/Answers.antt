@@ -29,7 +29,8 @@ returns-then-is_definition-clause-head c =
 pub returns-then-is_section_name-clause-head : goal.returns-then-is_section_name-clause-head
 returns-then-is_section_name-clause-head c =
     let named = name-token (answers_in c.args.first ++ c.args.reader.now.coming) c.args.reader.now.coming
-    c.in-Token.token (token-gives _ _ _ c.in-Token.is) c.requires.nested (sym c.is_section_name.ensures ∙ c.if-is_section_name.true) in
+    c.in-Token.token (token-gives _ _ _ c.in-Token.is) c.requires.nested
+    (sym c.is_section_name.ensures ∙ c.if-is_section_name.true) in
     let is = ap (λ (x : Headed). x.head) named ∙ c.read_sign.ensures.head in
     record {
       made = λ flags names known. rw is (sign-by flags names c.args.store.now.lists (with_names c.args.names.now known)
