@@ -1,5 +1,5 @@
 -- Categories of scraps, their numbers and ranks, and sets of categories.
-use Rattle.std.specs.Prelude.{ℕ, ◌+◌, ◌-◌, ◌^◌, Bool, true, false, not, ltb, bit_and, ◌&&◌, List, [], ◌∷◌}
+use Rattle.std.specs.Prelude.{ℕ, ◌+◌, ◌-◌, ◌^◌, Bool, true, false, not, nat_lt, bit_and, ◌&&◌, List, [], ◌∷◌}
 use Rattle.std.specs.List.{list_any}
 use Rattle.cw_base.specs.declared.category.Cat.{Cat}
 use Rattle.cw_base.specs.declared.category.CatSet.{CatSet}
@@ -121,7 +121,7 @@ may_be_bare _ = false
 
 -- a category is in a set
 abbrev pub in_set : CatSet → Cat → Bool
-in_set s c = ltb 0 (bit_and s.bits (2 ^ number_of c))
+in_set s c = nat_lt 0 (bit_and s.bits (2 ^ number_of c))
 
 -- two sets have a category in common
 unfoldable pub meet : CatSet → CatSet → Bool

@@ -1,5 +1,5 @@
 -- Braces in flat lists and in what they print.
-use Rattle.std.specs.Prelude.{◌≡◌, ℕ, zero, suc, Bool, eqb, Option, Some, None, List, [], ◌∷◌, map}
+use Rattle.std.specs.Prelude.{◌≡◌, ℕ, zero, suc, Bool, nat_eq, Option, Some, None, List, [], ◌∷◌, map}
 use Rattle.std.specs.Prelude.{if◌then◌else◌}
 use Rattle.cw_base.specs.Bytes.{byte_of}
 use Rattle.cw_trees.specs.Flat.{Item, SignItem, Open, Close, flat, trimmed_items}
@@ -35,8 +35,8 @@ closed (suc depth) = Some depth
 -- how many braces of TeX are open behind a byte: `{` opens one and `}` closes one, and `$` stands outside
 abbrev pub byte_depth : ℕ → ℕ → Option ℕ
 byte_depth byte depth =
-    if eqb byte (byte_of "{") then Some (suc depth) else if eqb byte (byte_of "}") then closed depth
-    else if eqb byte (byte_of "$") then outside depth else Some depth
+    if nat_eq byte (byte_of "{") then Some (suc depth) else if nat_eq byte (byte_of "}") then closed depth
+    else if nat_eq byte (byte_of "$") then outside depth else Some depth
 
 abbrev pub bytes_depth : List ℕ → ℕ → Option ℕ
 bytes_depth [] depth = Some depth

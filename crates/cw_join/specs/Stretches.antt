@@ -1,5 +1,5 @@
 -- Printed text: a list is cut into its longest runs and its other items, and each is printed, in order.
-use Rattle.std.specs.Prelude.{ℕ, ◌||◌, Bool, ltb, List, [], ◌∷◌, ◌++◌, Some, None}
+use Rattle.std.specs.Prelude.{ℕ, ◌||◌, Bool, nat_lt, List, [], ◌∷◌, ◌++◌, Some, None}
 use Rattle.cw_trees.specs.declared.Control.{Control}
 use Rattle.cw_trees.specs.Printing.{Printable, run_bytes, run_sign, opened}
 
@@ -22,7 +22,7 @@ stretches (p ∷ ps) = elim (run_sign p.item) [
 
 -- whether a run is one of inner C text: all of the list is, or it stands between brackets
 abbrev pub is_inner : Bool → ℕ → Bool
-is_inner inner depth = inner || ltb 0 depth
+is_inner inner depth = inner || nat_lt 0 depth
 
 -- the bytes of stretches, where `depth` inner texts are open
 abbrev pub stretch_bytes : Bool → ℕ → List Stretch → List ℕ

@@ -1,5 +1,5 @@
 -- What an item prints where it is in no run.
-use Rattle.std.specs.Prelude.{◌≡◌, ℕ, ◌<◌, Bool, eqb, true, false, List, [], ◌∷◌, map, option_map}
+use Rattle.std.specs.Prelude.{◌≡◌, ℕ, ◌<◌, Bool, nat_eq, true, false, List, [], ◌∷◌, map, option_map}
 use Rattle.std.specs.Prelude.{slice_get, unwrap_or, if◌then◌else◌}
 use Rattle.cw_base.specs.Bytes.{byte_of, backslash}
 use Rattle.cw_base.specs.declared.category.Cat.{Cat}
@@ -29,7 +29,7 @@ is_tex_like category = false
 -- A macro prints a backslash and its name, in which `x` stands for `_` and `X` for `$`.
 abbrev pub macro_letter : ℕ → ℕ
 macro_letter byte =
-    if eqb byte (byte_of "_") then byte_of "x" else if eqb byte (byte_of "$") then byte_of "X" else byte
+    if nat_eq byte (byte_of "_") then byte_of "x" else if nat_eq byte (byte_of "$") then byte_of "X" else byte
 
 abbrev pub macro_bytes : List ℕ → List ℕ
 macro_bytes name = backslash ∷ map macro_letter name

@@ -1,5 +1,5 @@
 -- The leaf line of a scrap.
-use Rattle.std.specs.Prelude.{◌≡◌, ℕ, Bool, true, false, ◌&&◌, nat_eq, eqb, slice_get, Option, Some, None, List, []}
+use Rattle.std.specs.Prelude.{◌≡◌, ℕ, Bool, true, false, ◌&&◌, nat_eq, slice_get, Option, Some, None, List, []}
 use Rattle.std.specs.Prelude.{◌∷◌, map, All}
 use Rattle.std.specs.Cmp.Lexicographic.{pointwise}
 use Rattle.cw_base.specs.declared.category.Cat.{Cat}
@@ -76,7 +76,7 @@ called names name = called_by name (slice_get names name)
 
 abbrev pub same_called : Called → Called → Bool
 same_called (Entered kind text) (Entered other other_text) = same_kind kind other && pointwise nat_eq text other_text
-same_called (Unknown name) (Unknown other) = eqb name other
+same_called (Unknown name) (Unknown other) = nat_eq name other
 same_called (Entered kind text) (Unknown other) = false
 same_called (Unknown name) (Entered kind text) = false
 

@@ -1,5 +1,5 @@
 -- What is seen of scraps, and their leaf lines, tell their log.
-use Rattle.std.specs.Prelude.{◌≡◌, eqb, List, map, All}
+use Rattle.std.specs.Prelude.{◌≡◌, nat_eq, List, map, All}
 use Rattle.cw_base.specs.declared.flags.Flags.{Flags}
 use Rattle.cw_names.specs.Names.{Entry, AreDistinct}
 use Rattle.cw_table.specs.declared.types.Row.{Row}
@@ -11,7 +11,7 @@ use Rattle.cw_leaves.specs.Sights.{sight, seen_log}
 -- The log of scraps is that of what is seen of them, whatever the rows are.
 abbrev pub SightsHaveLog : Type 0
 SightsHaveLog = (rows : List Row) (flags : Flags) (state : State)
-    → log rows flags state ≡ seen_log eqb rows flags (map sight state.scraps)
+    → log rows flags state ≡ seen_log nat_eq rows flags (map sight state.scraps)
 
 -- The log of scraps is that of their leaf lines.
 abbrev pub LinesHaveLog : Type 0

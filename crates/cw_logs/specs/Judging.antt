@@ -1,5 +1,5 @@
 -- What is found of a log.
-use Rattle.std.specs.Prelude.{◌≡◌, ◌≢◌, ℕ, suc, ◌≤◌, Bool, true, not, ◌&&◌, ◌==◌, eqb, List, [], ◌∷◌, length}
+use Rattle.std.specs.Prelude.{◌≡◌, ◌≢◌, ℕ, suc, ◌≤◌, Bool, true, not, ◌&&◌, ◌==◌, nat_eq, List, [], ◌∷◌, length}
 use Rattle.std.specs.Prelude.{slice_get, Option, Some, None, if◌then◌else◌}
 use Rattle.cw_base.specs.declared.flags.Flags.{Flags}
 use Rattle.cw_table.specs.Normal.{Production, log as log_of, normal, steps}
@@ -11,7 +11,7 @@ use Rattle.cw_logs.specs.declared.checking.Verdict.{Verdict}
 use Rattle.cw_logs.specs.declared.checking.Verdict.TheVariants.{Accepted, Rejected}
 
 abbrev pub same_item : Production → Production → Bool
-same_item p q = eqb p.number q.number && eqb p.place q.place
+same_item p q = nat_eq p.number q.number && nat_eq p.place q.place
 
 -- the length of the longest common prefix
 abbrev pub common : List Production → List Production → ℕ

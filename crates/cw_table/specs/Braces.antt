@@ -1,6 +1,7 @@
 -- The braces that productions put in. In each row they pair, and no piece between them needs text mode: there TeX would
 -- have to leave math, and between braces it can't.
-use Rattle.std.specs.Prelude.{ℕ, zero, suc, pred, Bool, true, false, not, ◌&&◌, ◌||◌, eqb, ltb, ◌≡◌, List, [], ◌∷◌}
+use Rattle.std.specs.Prelude.{ℕ, zero, suc, pred, Bool, true, false, not, ◌&&◌, ◌||◌, nat_eq, nat_lt, ◌≡◌, List, []}
+use Rattle.std.specs.Prelude.{◌∷◌}
 use Rattle.std.specs.Prelude.{◌++◌}
 use Rattle.std.specs.List.{list_all}
 use Rattle.cw_base.specs.Category.{all_cats, in_set}
@@ -44,7 +45,7 @@ admits_only these set = list_all (λ cat. not (in_set set cat) || these cat) all
 
 -- the braces of pieces pair, where so many are open before them
 abbrev pub braces_pair : ℕ → List Piece → Bool
-braces_pair depth [] = eqb depth 0
+braces_pair depth [] = nat_eq depth 0
 braces_pair depth (OpenBrace ∷ pieces) = braces_pair (suc depth) pieces
 braces_pair depth (OpenRelation ∷ pieces) = braces_pair (suc depth) pieces
 braces_pair zero (CloseBrace ∷ pieces) = false
@@ -66,7 +67,7 @@ is_text _ = false
 
 -- what is put in is a tested scrap of such a category, whichever its test admits, or a control that needs no text
 abbrev pub is_quiet : (ℕ → Cat → Bool) → Row → Insertion → Bool
-is_quiet these row (Scrap k mode) = ltb k row.test_count && admits_only (these k) (test row k)
+is_quiet these row (Scrap k mode) = nat_lt k row.test_count && admits_only (these k) (test row k)
 is_quiet these row (Sign control mode) = not (is_text mode)
 
 abbrev pub are_quiet : (ℕ → Cat → Bool) → Row → List Piece → Bool
@@ -88,7 +89,7 @@ may_be_calm row (SameAs k) = not (admits_only (λ cat. not (is_calm cat)) (test 
 -- Of what a calm result is made: of calm scraps. A scrap that hands its category on is as calm as the result.
 abbrev pub makes_calm : RowResult → ℕ → Cat → Bool
 makes_calm (Is made) k cat = is_calm cat
-makes_calm (SameAs q) k cat = is_calm cat || eqb k q
+makes_calm (SameAs q) k cat = is_calm cat || nat_eq k q
 
 -- The braces of pieces pair, what stands between them needs no text, and where the result may be calm, no piece does.
 abbrev pub pieces_are_braced : Row → List Piece → Bool

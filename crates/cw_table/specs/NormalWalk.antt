@@ -1,5 +1,6 @@
 -- A walk with a pointer: it goes on where no row fits at its place, and after a production it goes back a little.
-use Rattle.std.specs.Prelude.{ℕ, zero, suc, ◌+◌, ◌-◌, ◌*◌, ltb, Some, None, List, [], ◌∷◌, length, drop, if◌then◌else◌}
+use Rattle.std.specs.Prelude.{ℕ, zero, suc, ◌+◌, ◌-◌, ◌*◌, nat_lt, Some, None, List, [], ◌∷◌, length, drop}
+use Rattle.std.specs.Prelude.{if◌then◌else◌}
 use Rattle.cw_base.specs.declared.flags.Flags.{Flags}
 use Rattle.cw_table.specs.declared.types.Row.{Row}
 use Rattle.cw_table.specs.Fitting.{first_of}
@@ -13,7 +14,7 @@ walk_left place state = 4 * weight state.scraps + (length state.scraps - place)
 abbrev pub walk_of : List Row → Flags → (Row → ℕ) → ℕ → ℕ → State → List Production
 walk_of rows flags back zero place state = []
 walk_of rows flags back (suc n) place state =
-    if ltb place (length state.scraps) then elim (first_of rows (drop place (cats_of state.scraps))) [
+    if nat_lt place (length state.scraps) then elim (first_of rows (drop place (cats_of state.scraps))) [
       | None ↦ walk_of rows flags back n (suc place) state
       | Some row ↦ record { number = row.number.number; place = place } ∷ walk_of rows flags back n (place - back row)
           (rewrite flags row place state)
@@ -32,7 +33,7 @@ pub record Position : Type 0 where
 abbrev pub positions_of : List Row → Flags → (Row → ℕ) → ℕ → ℕ → State → List Position
 positions_of rows flags back zero place state = []
 positions_of rows flags back (suc n) place state =
-    if ltb place (length state.scraps) then elim (first_of rows (drop place (cats_of state.scraps))) [
+    if nat_lt place (length state.scraps) then elim (first_of rows (drop place (cats_of state.scraps))) [
       | None ↦ record { place = place; state = state } ∷ positions_of rows flags back n (suc place) state
       | Some row ↦ record { place = place; state = state } ∷ positions_of rows flags back n (place - back row)
           (rewrite flags row place state)
@@ -50,7 +51,7 @@ turns rows flags back place state = length (positions rows flags back place stat
 abbrev pub walked_of : List Row → Flags → (Row → ℕ) → ℕ → ℕ → State → State
 walked_of rows flags back zero place state = state
 walked_of rows flags back (suc n) place state =
-    if ltb place (length state.scraps) then elim (first_of rows (drop place (cats_of state.scraps))) [
+    if nat_lt place (length state.scraps) then elim (first_of rows (drop place (cats_of state.scraps))) [
       | None ↦ walked_of rows flags back n (suc place) state
       | Some row ↦ walked_of rows flags back n (place - back row) (rewrite flags row place state)
     ]

@@ -1,6 +1,7 @@
 -- How far a reducer must step back after a production: which rows may fit before the new scrap that didn't
 -- fit there before.
-use Rattle.std.specs.Prelude.{ℕ, suc, ◌+◌, ◌-◌, ◌<◌, ◌≡◌, Bool, true, false, not, ◌&&◌, ◌||◌, eqb, leb, ltb, List, []}
+use Rattle.std.specs.Prelude.{ℕ, suc, ◌+◌, ◌-◌, ◌<◌, ◌≡◌, Bool, true, false, not, ◌&&◌, ◌||◌, nat_eq, nat_le, nat_lt}
+use Rattle.std.specs.Prelude.{List, []}
 use Rattle.std.specs.Prelude.{if◌then◌else◌}
 use Rattle.std.specs.Prelude.{is_some}
 use Rattle.std.specs.Prelude.{◌∷◌, ◌++◌, drop, filter, map, take, Some, None}
@@ -27,7 +28,7 @@ Pair = Cat × Cat
 abbrev pub pairs_by : RowResult → Row → List Pair
 pairs_by (Is new) row = map (λ old. (old, new)) (members (test row row.offset))
 pairs_by (SameAs k) row =
-    if eqb k row.offset then map (λ old. (old, old)) (members (test row row.offset))
+    if nat_eq k row.offset then map (λ old. (old, old)) (members (test row row.offset))
     else flat_map (λ old. map (λ new. (old, new)) (members (test row k))) (members (test row row.offset))
 
 abbrev pub pairs_of : Row → List Pair
@@ -39,7 +40,7 @@ reserves row = is_some row.action.reserve
 
 -- the other row looks past the new scrap, at what has moved or may have changed there
 abbrev pub sees_moved : Row → Row → ℕ → Bool
-sees_moved row other q = ltb (suc q) other.test_count && (leb 2 row.replaced || reserves row)
+sees_moved row other q = nat_lt (suc q) other.test_count && (nat_le 2 row.replaced || reserves row)
 
 -- test q of the other row admits the new category, and that or what it sees behind is new to it
 abbrev pub brings : Row → Row → ℕ → Pair → Bool
@@ -54,7 +55,7 @@ suits_before row other places =
 -- a test of the other row behind the new scrap suits the test that this row had there, where it had one
 abbrev pub suits_at : Row → Row → ℕ → ℕ → Bool
 suits_at row other places s =
-    leb row.test_count (s + row.replaced - (places + 1))
+    nat_le row.test_count (s + row.replaced - (places + 1))
     || meet (test other s) (test row (s + row.replaced - (places + 1)))
 
 -- what stands behind the new scrap suits both rows
@@ -66,7 +67,7 @@ suits_after row other places =
 -- the row may bring the other row to fit so many places before, where it didn't fit
 abbrev pub is_hazard : Row → Row → ℕ → Bool
 is_hazard row other places =
-    ltb (places + row.offset) other.test_count
+    nat_lt (places + row.offset) other.test_count
     && (list_any (brings row other (places + row.offset)) (pairs_of row)
     && (suits_before row other places && (reserves row || suits_after row other places)))
 
@@ -75,7 +76,7 @@ endangers rows row places = list_any (λ other. is_hazard row other places) rows
 
 -- the distance is safe: the row is a hazard to none further before it
 abbrev pub safe : List Row → Row → ℕ → Bool
-safe rows row distance = list_all (λ places. leb places distance || not (endangers rows row places)) (1 ∷ 2 ∷ 3 ∷ [])
+safe rows row distance = list_all (λ places. nat_le places distance || not (endangers rows row places)) (1 ∷ 2 ∷ 3 ∷ [])
 
 -- the least distance that is safe; 3 always is
 abbrev pub least : List Row → Row → ℕ

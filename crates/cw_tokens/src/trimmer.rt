@@ -22,13 +22,13 @@ pub struct Trimmer {
 }
 
 impl Model for Trimmer {
-    ghost use Rattle.std.specs.Prelude.{◌≤◌, eqb, length};
+    ghost use Rattle.std.specs.Prelude.{◌≤◌, nat_eq, length};
     ghost use Rattle.cw_tokens.specs.Trimming.{Trims};
     ghost use Rattle.cw_tokens.specs.model.Trimming.{parted};
 
     ghost Value = { Trims };
 
-    ghost view = { λ t. parted t.gap t.items.items (eqb t.gap t.text) };
+    ghost view = { λ t. parted t.gap t.items.items (nat_eq t.gap t.text) };
 
     ghost invariant = { λ t. (t.gap ≤ length t.items.items) × (t.text ≤ t.gap) };
 }

@@ -1,6 +1,7 @@
 -- The bytes that a flat list prints. Breaks, blanks, indents and the like that follow one another are a run,
 -- and print as one; every other item prints its own bytes.
-use Rattle.std.specs.Prelude.{ℕ, zero, suc, pred, max, Bool, true, false, ◌&&◌, ◌||◌, eqb, ltb, leb, Option, Some, None}
+use Rattle.std.specs.Prelude.{ℕ, zero, suc, pred, max, Bool, true, false, ◌&&◌, ◌||◌, nat_eq, nat_lt, nat_le, Option}
+use Rattle.std.specs.Prelude.{Some, None}
 use Rattle.std.specs.Prelude.{if◌then◌else◌}
 use Rattle.std.specs.Prelude.{List, [], ◌∷◌, ◌++◌, length, codes}
 use Rattle.std.specs.List.{list_any}
@@ -34,7 +35,7 @@ sign_bytes _ = []
 
 -- Names. In a name `_` and `$` have a backslash.
 abbrev pub name_byte : ℕ → List ℕ
-name_byte byte = if eqb byte (byte_of "_") || eqb byte (byte_of "$") then backslash ∷ byte ∷ [] else byte ∷ []
+name_byte byte = if nat_eq byte (byte_of "_") || nat_eq byte (byte_of "$") then backslash ∷ byte ∷ [] else byte ∷ []
 
 abbrev pub name_bytes : List ℕ → List ℕ
 name_bytes [] = []
@@ -42,7 +43,7 @@ name_bytes (byte ∷ bytes) = name_byte byte ++ name_bytes bytes
 
 -- a lower case letter of ASCII, or a byte of 128 and above
 abbrev pub is_lower : ℕ → Bool
-is_lower byte = (leb (byte_of "a") byte && leb byte (byte_of "z")) || leb 128 byte
+is_lower byte = (nat_le (byte_of "a") byte && nat_le byte (byte_of "z")) || nat_le 128 byte
 
 abbrev pub long_ident_bytes : List ℕ → List ℕ
 long_ident_bytes name =
@@ -51,7 +52,7 @@ long_ident_bytes name =
 
 -- an identifier: one byte, a name with lower case letters, or a name of capitals
 abbrev pub ident_bytes : List ℕ → List ℕ
-ident_bytes name = if eqb (length name) 1 then codes "\\|" ++ name_bytes name else long_ident_bytes name
+ident_bytes name = if nat_eq (length name) 1 then codes "\\|" ++ name_bytes name else long_ident_bytes name
 
 abbrev pub reserved_bytes : List ℕ → List ℕ
 reserved_bytes name = codes "\\&{" ++ name_bytes name ++ codes "}"
@@ -103,7 +104,7 @@ part_run run = indents run ++ (if list_any is_cancel run then [] else break_byte
 abbrev pub inner_run : List Control → List ℕ
 inner_run run =
     if list_any is_cancel run then []
-    else list_if (ltb 0 (strongest run)) (codes " ")
+    else list_if (nat_lt 0 (strongest run)) (codes " ")
 
 abbrev pub run_bytes : Bool → List Control → List ℕ
 run_bytes true run = inner_run run
@@ -122,10 +123,10 @@ opened depth _ = depth
 
 -- The bytes of a list, where `depth` inner texts are open and the controls of `run` stand directly before it.
 abbrev pub printed_from : Bool → ℕ → List Control → List Printable → List ℕ
-printed_from inner depth run [] = run_bytes (inner || ltb 0 depth) run
+printed_from inner depth run [] = run_bytes (inner || nat_lt 0 depth) run
 printed_from inner depth run (p ∷ ps) = elim (run_sign p.item) [
   | Some control ↦ printed_from inner depth (run ++ control ∷ []) ps
-  | None ↦ run_bytes (inner || ltb 0 depth) run ++ (p.bytes ++ printed_from inner (opened depth p.item) [] ps)
+  | None ↦ run_bytes (inner || nat_lt 0 depth) run ++ (p.bytes ++ printed_from inner (opened depth p.item) [] ps)
 ]
 
 -- The bytes of a trimmed list, as inner C text or as that of a part or a definition: its longest runs and all

@@ -1,5 +1,5 @@
 -- The models beside `specs/Runs`.
-use Rattle.std.specs.Prelude.{ℕ, ◌++◌, ◌||◌, Bool, true, false, List, [], ltb, max, codes, if◌then◌else◌}
+use Rattle.std.specs.Prelude.{ℕ, ◌++◌, ◌||◌, Bool, true, false, List, [], nat_lt, max, codes, if◌then◌else◌}
 use Rattle.cw_base.specs.Conditions.{list_if}
 use Rattle.cw_trees.specs.declared.Control.{Control}
 use Rattle.cw_trees.specs.Printing.{break_bytes, is_backup, is_cancel, strength}
@@ -21,7 +21,7 @@ run_more run control = record {
 abbrev pub pause_bytes : Bool → RunState → List ℕ
 pause_bytes true run =
     if run.cancelled then []
-    else list_if (ltb 0 run.strength) (codes " ")
+    else list_if (nat_lt 0 run.strength) (codes " ")
 pause_bytes false run = if run.cancelled then [] else break_bytes run.strength
 
 abbrev pub backs : Bool → RunState → Bool

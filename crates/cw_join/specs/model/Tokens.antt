@@ -1,5 +1,5 @@
 -- The models beside `specs/Tokens`.
-use Rattle.std.specs.Prelude.{◌≡◌, ℕ, ◌||◌, Bool, codes, eqb, true, List, [], ◌∷◌}
+use Rattle.std.specs.Prelude.{◌≡◌, ℕ, ◌||◌, Bool, codes, nat_eq, true, List, [], ◌∷◌}
 use Rattle.std.specs.Prelude.{None, if◌then◌else◌}
 use Rattle.cw_base.specs.Bytes.{byte_of}
 use Rattle.cw_names.specs.Names.{Entry}
@@ -10,7 +10,7 @@ use Rattle.cw_join.specs.Tokens.{item_bytes}
 
 -- a byte that has a backslash in a name
 abbrev pub is_marked : ℕ → Bool
-is_marked byte = eqb byte (byte_of "_") || eqb byte (byte_of "$")
+is_marked byte = nat_eq byte (byte_of "_") || nat_eq byte (byte_of "$")
 
 -- no bytes, or bytes the first of which has one
 abbrev pub BeginsMarked : List ℕ → Type 0

@@ -1,5 +1,5 @@
 -- The pieces of a line: a word before a blank or the end, names each behind a blank, and numbers.
-use Rattle.std.specs.Prelude.{◌≡◌, ◌≢◌, ℕ, ◌<◌, ◌≤◌, Bool, true, not, eqb, List, [], ◌∷◌, ◌++◌, length, All}
+use Rattle.std.specs.Prelude.{◌≡◌, ◌≢◌, ℕ, ◌<◌, ◌≤◌, Bool, true, not, nat_eq, List, [], ◌∷◌, ◌++◌, length, All}
 use Rattle.std.specs.List.{flat_map, list_all}
 use Rattle.std.specs.Fmt.{decimal}
 use Rattle.cw_base.specs.Bytes.{space}
@@ -8,7 +8,7 @@ use Rattle.cw_logs.specs.LogText.{blank_and, is_identifier}
 
 -- no byte is this one
 abbrev pub lacks : ℕ → List ℕ → Bool
-lacks unwanted bytes = list_all (λ byte. not (eqb byte unwanted)) bytes
+lacks unwanted bytes = list_all (λ byte. not (nat_eq byte unwanted)) bytes
 
 -- nothing, or something behind a blank
 pub data IsBlanked : List ℕ → Type 0 where

@@ -1,5 +1,6 @@
 -- The models beside `specs/Walking`.
-use Rattle.std.specs.Prelude.{◌≡◌, ℕ, zero, suc, ◌+◌, ◌<◌, ◌≤◌, eqb, List, [], ◌∷◌, length, Option, Some, if◌then◌else◌}
+use Rattle.std.specs.Prelude.{◌≡◌, ℕ, zero, suc, ◌+◌, ◌<◌, ◌≤◌, nat_eq, List, [], ◌∷◌, length, Option, Some}
+use Rattle.std.specs.Prelude.{if◌then◌else◌}
 use Rattle.std.specs.Prelude.{None, take, drop, get_or, slice_get}
 use Rattle.cw_names.specs.declared.NameId.{NameId}
 use Rattle.cw_trees.specs.Tree.{Tree, Empty, Then, Sub, Inner, Search, Found, Stopped, Nothing, search_leaf}
@@ -72,6 +73,6 @@ size_from lists l p = size (tree_in (trees_from [] lists) (drop p (get_or lists 
 abbrev pub size_above : List (List Token) → List Link → ℕ → ℕ → ℕ → ℕ
 size_above lists links root zero l = 0
 size_above lists links root (suc n) l =
-    if eqb l root then 0
+    if nat_eq l root then 0
     else 1 + (size_from lists (get_or links l no_link).list (get_or links l no_link).place
     + size_above lists links root n (get_or links l no_link).list)
