@@ -3,7 +3,7 @@
 
 It doesn't weave: each kind of section has its text and, beside it, the lines that the rules of docs/language.md give, with the numbers of its
 scraps and productions. Footnotes, notes on names, the index, the section list and the cutting of lines are made here a second time.
-usage: tools/second_way.py > crates/cw_weave_tests/src/forty_sections.rt
+usage: tools/second_way.py > crates/cw_run_tests/src/forty_sections.rt
 """
 SECTIONS = 40
 IDENTIFIER, ROMAN = 0, 1

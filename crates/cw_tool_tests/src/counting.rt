@@ -14,7 +14,7 @@ use std::alloc::Global;
 
 /// Writes the lines of a web, and how many sections it has.
 #[derive(Clone, Copy, Debug)]
-pub struct Counting;
+pub(crate) struct Counting;
 
 // A line with a number.
 fn number_line(alloc: Global, number: u64) -> Result<Bytes, Memory>
@@ -52,7 +52,7 @@ impl Tool for Counting {
 }
 
 /// Writes the lines of a web, and how many sections it has, as the words of a command line ask.
-pub fn count_command<D: Desk, L: Ledger>(
+pub(crate) fn count_command<D: Desk, L: Ledger>(
     alloc: Global,
     words: &Words,
     desk: &mut D,

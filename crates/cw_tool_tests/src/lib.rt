@@ -1,12 +1,33 @@
-//! Programs that read a web and write one file, for tests: whole runs over desks in memory and over real files.
+//! Tests of programs that read a web or a log and write one file: whole runs over desks in memory and over real files.
 #![tactic(auto)]
 
+#[cfg(test)]
 mod counting;
+#[cfg(test)]
+mod counting_tests;
 #[cfg(test)]
 mod failing_tests;
 #[cfg(test)]
-mod run_tests;
+mod judge_tests;
 #[cfg(test)]
-mod runs;
-
-pub use counting::{Counting, count_command};
+mod log_block_tests;
+#[cfg(test)]
+mod log_check_tests;
+#[cfg(test)]
+mod log_text_tests;
+#[cfg(test)]
+mod log_write_tests;
+#[cfg(test)]
+mod logged_tests;
+#[cfg(test)]
+mod mini_row_tests;
+#[cfg(test)]
+mod mini_tests;
+#[cfg(test)]
+mod plain_rows;
+#[cfg(test)]
+mod plain_tests;
+#[cfg(test)]
+mod programs;
+#[cfg(test)]
+mod refused_tests;

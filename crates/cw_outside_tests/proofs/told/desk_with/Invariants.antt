@@ -1,6 +1,0 @@
--- No file is opened.
-use Rattle.std.proofs.Common.{◌≡◌, []}
-use Rattle.cw_outside_tests.proofs.told.desk_with.Given as goal
-
-abbrev pub invariant-loop-name : goal.invariant-loop-name
-invariant-loop-name l = l.desk.rests ≡ []
