@@ -1,6 +1,6 @@
 -- The premise of the law of braces: the operators of which a production makes one hold no text. One holds text where a
 -- comment or a layout code stands inside an operator of two signs, which is no C.
-use Rattle.std.specs.Prelude.{◌≡◌, ℕ, true, List, drop, get_or, All}
+use Rattle.std.specs.Prelude.{◌≡◌, ℕ, true, List, drop, slice_index_or, All}
 use Rattle.cw_base.specs.declared.flags.Flags.{Flags}
 use Rattle.cw_table.specs.Braces.{between, is_binop}
 use Rattle.cw_table.specs.Normal.{At, next_place, steps}
@@ -17,8 +17,8 @@ abbrev pub IsCleanOperator : Scrap → Type 0
 IsCleanOperator scrap = is_binop scrap.cat ≡ true → HoldsNoText scrap
 
 abbrev pub PutsCleanOperator : List Scrap → Piece → Type 0
-PutsCleanOperator scraps (piece.Scrap k) = IsCleanOperator (get_or scraps k no_scrap)
-PutsCleanOperator scraps (piece.MathScrap k) = IsCleanOperator (get_or scraps k no_scrap)
+PutsCleanOperator scraps (piece.Scrap k) = IsCleanOperator (slice_index_or scraps k no_scrap)
+PutsCleanOperator scraps (piece.MathScrap k) = IsCleanOperator (slice_index_or scraps k no_scrap)
 PutsCleanOperator scraps _ = Unit {0}
 
 -- Each operator that a row puts between braces holds no text, where these scraps stand from the row's place on.

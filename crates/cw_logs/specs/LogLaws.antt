@@ -1,5 +1,5 @@
 -- Reading line by line finds the logs, and the first line that no log has.
-use Rattle.std.specs.Prelude.{◌≡◌, ℕ, ◌<◌, List, [], length, take, All, get_or}
+use Rattle.std.specs.Prelude.{◌≡◌, ℕ, ◌<◌, List, [], length, take, All, slice_index_or}
 use Rattle.cw_base.specs.Text.{pieces_of}
 use Rattle.cw_logs.specs.LogText.{Block, log_text, log_lines, IsFineBlock}
 use Rattle.cw_logs.specs.LogReading.{IsLog, IsFault, Stuck, Reads}
@@ -16,7 +16,7 @@ LogIsRead = (lines : List (List ℕ)) → IsLog lines → Reads Outside lines Ou
 -- Where reading can't go on, or ends inside a block, is the fault.
 abbrev pub StuckIsFault : Type 0
 StuckIsFault = (lines : List (List ℕ)) (good : ℕ) (spot : Spot) → good < length lines
-    → Reads Outside (take good lines) spot → Stuck spot (get_or lines good [])
+    → Reads Outside (take good lines) spot → Stuck spot (slice_index_or lines good [])
     → IsFault lines good
 
 abbrev pub InsideIsFault : Type 0

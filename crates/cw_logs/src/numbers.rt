@@ -1,12 +1,12 @@
 //! Numbers in decimal digits.
-ghost use Rattle.std.specs.Prelude.{◌≡◌, ◌&&◌, ◌==◌, nat_lt, get_or, length, MatchOption};
+ghost use Rattle.std.specs.Prelude.{◌≡◌, ◌&&◌, ◌==◌, nat_lt, slice_index_or, length, MatchOption};
 ghost use Rattle.cw_logs.specs.model.LinePieces.{IsNumber, NoNumber};
 
 use cw_rules::classes::is_digit;
 
 // Whether a zero stands before other digits.
 fn has_needless_zero(digits: &[u8]) -> bool
-    ensures { result ≡ (nat_lt 1 (length digits.now) && get_or digits.now 0 0 == 48) }
+    ensures { result ≡ (nat_lt 1 (length digits.now) && slice_index_or digits.now 0 0 == 48) }
 {
     digits.len() > 1 && digits[0] == b'0'
 }

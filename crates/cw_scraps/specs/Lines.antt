@@ -1,5 +1,5 @@
 -- A line of scraps over a store of lists.
-use Rattle.std.specs.Prelude.{◌≡◌, ℕ, ◌<◌, true, List, length, None, map, get_or, All}
+use Rattle.std.specs.Prelude.{◌≡◌, ℕ, ◌<◌, true, List, length, None, map, slice_index_or, All}
 use Rattle.std.specs.List.{list_all}
 use Rattle.cw_base.specs.declared.category.Cat.TheVariants.{End}
 use Rattle.cw_base.specs.declared.mode.MathMode.TheVariants.{Maybe}
@@ -35,15 +35,16 @@ no_entry = record { cat = End; list = record { index = 0 }; left = Maybe; right 
 
 -- distinct lists of the store, to none of which a list refers
 pub record AreRoots (lists : List (List Token)) (roots : List ℕ) : Type 0 where
-  pub there : (i : ℕ) → i < length roots → get_or roots i 0 < length lists
-  pub free : (i : ℕ) → i < length roots → IsUnreferred lists (get_or roots i 0)
-  pub apart : (i j : ℕ) → i < length roots → j < length roots → get_or roots i 0 ≡ get_or roots j 0 → i ≡ j
+  pub there : (i : ℕ) → i < length roots → slice_index_or roots i 0 < length lists
+  pub free : (i : ℕ) → i < length roots → IsUnreferred lists (slice_index_or roots i 0)
+  pub apart : (i j : ℕ) → i < length roots → j < length roots → slice_index_or roots i 0 ≡ slice_index_or roots j 0
+      → i ≡ j
 
 -- a list of the store that stands in the tree of no root, and in whose tree no root stands
 pub record IsOutside (lists : List (List Token)) (roots : List ℕ) (k : ℕ) : Type 0 where
   pub there : k < length lists
-  pub above : (i : ℕ) → i < length roots → Reach lists k (get_or roots i 0) → ⊥
-  pub below : (i : ℕ) → i < length roots → Reach lists (get_or roots i 0) k → ⊥
+  pub above : (i : ℕ) → i < length roots → Reach lists k (slice_index_or roots i 0) → ⊥
+  pub below : (i : ℕ) → i < length roots → Reach lists (slice_index_or roots i 0) k → ⊥
 
 -- every name in a tree is one of so many
 abbrev pub leaf_named_below : ℕ → Leaf → Type 0

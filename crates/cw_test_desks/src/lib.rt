@@ -1,4 +1,5 @@
-//! What tests of several crates share: desks in memory, words, small webs, what a journal tells, and folders of real files.
+//! What tests of several crates share: desks in memory, words, small webs, what a journal tells, and folders of real
+//! files.
 #![tactic(auto)]
 
 mod desks;

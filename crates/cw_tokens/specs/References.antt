@@ -1,5 +1,5 @@
 -- Which lists of a store refer to which.
-use Rattle.std.specs.Prelude.{◌≡◌, ℕ, ◌<◌, List, [], Option, Some, None, get_or, slice_get}
+use Rattle.std.specs.Prelude.{◌≡◌, ℕ, ◌<◌, List, [], Option, Some, None, slice_index_or, slice_get}
 use Rattle.cw_tokens.specs.declared.token.Token.{Token}
 use Rattle.cw_tokens.specs.Shapes.{shape, ref_of}
 
@@ -9,7 +9,7 @@ token_ref (Some token) = ref_of (shape token)
 
 -- the list to which token p of list l refers
 abbrev pub refers : List (List Token) → ℕ → ℕ → Option ℕ
-refers lists l p = token_ref (slice_get (get_or lists l []) p)
+refers lists l p = token_ref (slice_get (slice_index_or lists l []) p)
 
 -- no list refers to list x
 abbrev pub IsUnreferred : List (List Token) → ℕ → Type 0

@@ -1,5 +1,5 @@
 -- Lists of tokens as trees.
-use Rattle.std.specs.Prelude.{ℕ, List, [], ◌∷◌, ◌++◌, Option, Some, None, get_or}
+use Rattle.std.specs.Prelude.{ℕ, List, [], ◌∷◌, ◌++◌, Option, Some, None, slice_index_or}
 use Rattle.cw_trees.specs.Tree.{Leaf, Tree, Empty, Then, Sub, Inner, Source as source_leaf, Ident as ident_leaf}
 use Rattle.cw_trees.specs.Tree.{Reserved as reserved_leaf, Sign}
 use Rattle.cw_tokens.specs.declared.token.Token.{Token}
@@ -29,8 +29,8 @@ ref_of (InnerBelow list) = Some list
 -- the tree of a list of tokens, where those of the lists below it are given in order
 abbrev pub item_of : List Tree → Shape → Tree → Tree
 item_of trees (Plain leaf) rest = Then leaf rest
-item_of trees (Below list) rest = Sub (get_or trees list Empty) rest
-item_of trees (InnerBelow list) rest = Inner (get_or trees list Empty) rest
+item_of trees (Below list) rest = Sub (slice_index_or trees list Empty) rest
+item_of trees (InnerBelow list) rest = Inner (slice_index_or trees list Empty) rest
 
 abbrev pub tree_in : List Tree → List Token → Tree
 tree_in trees [] = Empty
@@ -43,4 +43,4 @@ trees_from done (ts ∷ lists) = trees_from (done ++ tree_in done ts ∷ []) lis
 
 -- the tree of one list of a store, with each list to which it refers opened
 abbrev pub unfolded : List (List Token) → ℕ → Tree
-unfolded lists id = get_or (trees_from [] lists) id Empty
+unfolded lists id = slice_index_or (trees_from [] lists) id Empty

@@ -1,6 +1,6 @@
 //! The store of lists of tokens, with a link from each list to the one token that refers to it.
 ghost use Rattle.std.specs.Prelude.{◌≡◌, ℕ, ◌+◌, ◌-◌, ◌<◌, ◌≤◌, [], ◌∷◌, ◌++◌, length, IsSome, IfSome, IfNone, IfOk};
-ghost use Rattle.std.specs.Prelude.{OnOk, OnErr, get_or, option_map, vec_capacity, vec_len};
+ghost use Rattle.std.specs.Prelude.{OnOk, OnErr, slice_index_or, option_map, vec_capacity, vec_len};
 ghost use Rattle.std.specs.Option.{option_to_list};
 ghost use Rattle.cw_trees.specs.Tree.{first_ident, bare_name};
 ghost use Rattle.cw_trees.specs.Flat.{flat, trimmed_items};
@@ -189,7 +189,7 @@ impl TokenStore {
     /// The tokens of a list, in order. A list below it is one token there.
     pub fn tokens(&self, id: ListId) -> &[Token]
         requires list { id.index < length self.now.lists }
-        ensures tokens { result.now ≡ get_or self.now.lists id.index [] }
+        ensures tokens { result.now ≡ slice_index_or self.now.lists id.index [] }
     {
         list_at(&self.tokens, &self.ends, id.index)
     }

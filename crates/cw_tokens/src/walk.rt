@@ -1,5 +1,5 @@
 //! Walks through a tree in its store: the lists and links that they read, and the search for an identifier.
-ghost use Rattle.std.specs.Prelude.{◌≡◌, ◌+◌, ◌-◌, ◌<◌, ◌≤◌, [], ◌∷◌, length, get_or, MatchOption, drop, take};
+ghost use Rattle.std.specs.Prelude.{◌≡◌, ◌+◌, ◌-◌, ◌<◌, ◌≤◌, [], ◌∷◌, length, slice_index_or, MatchOption, drop, take};
 ghost use Rattle.std.specs.Prelude.{slice_get};
 ghost use Rattle.cw_trees.specs.Tree.{first_ident};
 ghost use Rattle.cw_tokens.specs.Shapes.{shape, unfolded};
@@ -69,7 +69,7 @@ pub fn list_at<'a>(tokens: &'a [Token], ends: &[usize], list: usize) -> &'a [Tok
     requires ascending { IsAscending 0 ends.now }
     requires within { last_end 0 ends.now ≤ length tokens.now }
     requires list { list < length ends.now }
-    ensures { result.now ≡ get_or (cut 0 ends.now tokens.now) list [] }
+    ensures { result.now ≡ slice_index_or (cut 0 ends.now tokens.now) list [] }
 {
     between(tokens, start(ends, list), ends[list])
 }
@@ -100,7 +100,7 @@ fn name_of(token: Token) -> Option<NameId>
 /// The link of a list.
 pub fn link_at(links: &[Link], list: usize) -> Link
     requires { list < length links.now }
-    ensures { result ≡ get_or links.now list no_link }
+    ensures { result ≡ slice_index_or links.now list no_link }
 {
     links[list]
 }
@@ -172,8 +172,8 @@ pub fn token_before(tokens: &[Token], ends: &[usize], up: Link) -> Token
     requires within { last_end 0 ends.now ≤ length tokens.now }
     requires list { up.list < length ends.now }
     requires some { 0 < up.place }
-    requires place { up.place ≤ length (get_or (cut 0 ends.now tokens.now) up.list []) }
-    ensures { slice_get (get_or (cut 0 ends.now tokens.now) up.list []) (up.place - 1) ≡ Some result }
+    requires place { up.place ≤ length (slice_index_or (cut 0 ends.now tokens.now) up.list []) }
+    ensures { slice_get (slice_index_or (cut 0 ends.now tokens.now) up.list []) (up.place - 1) ≡ Some result }
 {
     let items = list_at(tokens, ends, up.list);
     items[up.place - 1]

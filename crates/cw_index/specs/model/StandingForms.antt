@@ -1,5 +1,6 @@
 -- The section names that stand in the web, as they lie in memory.
-use Rattle.std.specs.Prelude.{◌≡◌, ℕ, ◌⊎◌, true, false, List, [], ◌∷◌, Option, Some, None, get_or, map, slice_get}
+use Rattle.std.specs.Prelude.{◌≡◌, ℕ, ◌⊎◌, true, false, List, [], ◌∷◌, Option, Some, None, slice_index_or, map}
+use Rattle.std.specs.Prelude.{slice_get}
 use Rattle.std.specs.declared.cmp.Ordering.{Ordering}
 use Rattle.std.specs.declared.cmp.Ordering.TheVariants.{Equal, Greater}
 use Rattle.cw_secnames.specs.Kept.{SecName}
@@ -30,5 +31,5 @@ HoldsName stands n = (l : Listed) → Holds stand_cmp (record { kind = n.kind; t
 
 -- the kept names that are said to be entered stand there
 abbrev pub IsSorting : List SecName → Sorting → Type 0
-IsSorting names s = (k : ℕ) (n : SecName) → get_or s.entered.items k false ≡ true → slice_get names k ≡ Some n
+IsSorting names s = (k : ℕ) (n : SecName) → slice_index_or s.entered.items k false ≡ true → slice_get names k ≡ Some n
     → HoldsName (map stand_of s.stands.keys) n

@@ -1,6 +1,7 @@
 -- Laws of the sections of occurrences: which are there, and that they ascend.
 use Rattle.std.proofs.Common.{◌≡◌, ℕ, zero, suc, ◌+◌, max, ◌<◌, ◌≤◌, ◌==◌, ◌&&◌, ◌||◌, Bool, true, false}
-use Rattle.std.proofs.Common.{List, [], ◌∷◌, length, get_or, fold, map, cond, refl, sym, ap, subst, ◌∙◌, inl, inr}
+use Rattle.std.proofs.Common.{List, [], ◌∷◌, length, slice_index_or, fold, map, cond, refl, sym, ap, subst, ◌∙◌, inl}
+use Rattle.std.proofs.Common.{inr}
 use Rattle.std.proofs.Common.{arith}
 use Rattle.std.specs.List.{filter, list_any, range_with_len}
 use Rattle.std.proofs.lemmas.Bool.{eq-eqb}
@@ -102,10 +103,10 @@ module _ (test underlined : ℕ → Bool) where
 
 -- all sections of a list are above a number
 abbrev pub Above : ℕ → List SectionRef → Type 0
-Above low ms = (k : ℕ) (d : SectionRef) → k < length ms → low < (get_or ms k d).section
+Above low ms = (k : ℕ) (d : SectionRef) → k < length ms → low < (slice_index_or ms k d).section
 
 above-cons : (low : ℕ) (m : SectionRef) (ms : List SectionRef) → low < m.section → Above low ms
-    → (k : ℕ) (d : SectionRef) → k < length (m ∷ ms) → low < (get_or (m ∷ ms) k d).section
+    → (k : ℕ) (d : SectionRef) → k < length (m ∷ ms) → low < (slice_index_or (m ∷ ms) k d).section
 above-cons low m ms here rest zero d h = here
 above-cons low m ms here rest (suc k) d h = rest k d (omega arith)
 

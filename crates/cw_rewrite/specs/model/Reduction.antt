@@ -1,5 +1,5 @@
 -- The models beside `specs/Reduction`.
-use Rattle.std.specs.Prelude.{◌≡◌, ℕ, ◌+◌, ◌-◌, ◌*◌, ◌<◌, ◌≤◌, Some, None, List, length, drop, get_or}
+use Rattle.std.specs.Prelude.{◌≡◌, ℕ, ◌+◌, ◌-◌, ◌*◌, ◌<◌, ◌≤◌, Some, None, List, length, drop, slice_index_or}
 use Rattle.cw_base.specs.declared.category.Cat.{Cat}
 use Rattle.cw_table.specs.Fitting.{first_of}
 use Rattle.cw_table.specs.Productions.{productions}
@@ -19,8 +19,8 @@ pub record IsFirst (cats : List Cat) (number : ℕ) : Type 0 where
 
 -- these are the categories at a place of a line and at the next
 pub record IsPairAt (line : List LineEntry) (place : ℕ) (first second : Cat) : Type 0 where
-  pub first_is : first ≡ (get_or line place no_entry).cat
-  pub second_is : second ≡ (get_or line (place + 1) no_entry).cat
+  pub first_is : first ≡ (slice_index_or line place no_entry).cat
+  pub second_is : second ≡ (slice_index_or line (place + 1) no_entry).cat
 
 -- No row fits at the places from one up to another, and four steps are counted for each.
 pub record PassesOver (line : List LineEntry) (place steps place' steps' : ℕ) : Type 0 where

@@ -1,5 +1,6 @@
 -- How far the joining of a new list has come.
-use Rattle.std.specs.Prelude.{◌≡◌, ℕ, ◌+◌, ◌-◌, ◌*◌, ◌<◌, ◌≤◌, List, [], ◌∷◌, ◌++◌, length, map, drop, get_or, Some}
+use Rattle.std.specs.Prelude.{◌≡◌, ℕ, ◌+◌, ◌-◌, ◌*◌, ◌<◌, ◌≤◌, List, [], ◌∷◌, ◌++◌, length, map, drop, slice_index_or}
+use Rattle.std.specs.Prelude.{Some}
 use Rattle.cw_base.specs.declared.mode.MathMode.{MathMode}
 use Rattle.cw_base.specs.declared.mode.MathMode.TheVariants.{Maybe}
 use Rattle.cw_trees.specs.Joining.{first_mode}
@@ -28,4 +29,4 @@ pub record Joins (lists : List (List Token)) (entries : List LineEntry) (pieces 
       ≡ right_after Maybe (map (inserting entries) pieces)
   pub rest : IsRun (drop i pieces) (length entries)
   pub fresh : (k : ℕ) → rest.first ≤ k → k < rest.first + rest.more
-      → IsUnreferred (lists ++ done ∷ []) (get_or (roots_of entries) k 0)
+      → IsUnreferred (lists ++ done ∷ []) (slice_index_or (roots_of entries) k 0)

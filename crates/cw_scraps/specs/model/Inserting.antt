@@ -1,5 +1,5 @@
 -- The tokens of a new list: those of its pieces, with the toggles that they need between them.
-use Rattle.std.specs.Prelude.{◌≡◌, ℕ, ◌+◌, ◌-◌, ◌<◌, ◌≤◌, List, [], ◌∷◌, ◌++◌, length, map, get_or, option_map}
+use Rattle.std.specs.Prelude.{◌≡◌, ℕ, ◌+◌, ◌-◌, ◌<◌, ◌≤◌, List, [], ◌∷◌, ◌++◌, length, map, slice_index_or, option_map}
 use Rattle.cw_base.specs.declared.category.Cat.{Cat}
 use Rattle.cw_base.specs.declared.mode.MathMode.{MathMode}
 use Rattle.cw_base.specs.declared.mode.MathMode.TheVariants.{Text, Math, Maybe}
@@ -32,12 +32,12 @@ insert_in mode token left right = record { token = token; left = left; right = r
 -- what an insertion puts into the list, where these entries stand from the row's place on
 abbrev pub inserted_by : List LineEntry → Insertion → Insert
 inserted_by entries (insertion.Sign sign mode) = record { token = ControlOf sign; left = mode; right = mode }
-inserted_by entries (insertion.Scrap k mode) = insert_in mode (ListOf (get_or entries k no_entry).list)
-    (get_or entries k no_entry).left (get_or entries k no_entry).right
+inserted_by entries (insertion.Scrap k mode) = insert_in mode (ListOf (slice_index_or entries k no_entry).list)
+    (slice_index_or entries k no_entry).left (slice_index_or entries k no_entry).right
 
 -- what a piece puts into it
 abbrev pub inserting : List LineEntry → Piece → Insert
-inserting entries (piece.Scrap k) = entry_insert (get_or entries k no_entry)
+inserting entries (piece.Scrap k) = entry_insert (slice_index_or entries k no_entry)
 inserting entries other = inserted_by entries (insertion_of other)
 
 -- a scrap among the insertions, or among the pieces, is one of the line

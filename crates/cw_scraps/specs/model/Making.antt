@@ -1,5 +1,5 @@
 -- The entry of the new scrap: that of a scrap which stays as it is, or of a list that is new in the store.
-use Rattle.std.specs.Prelude.{◌≡◌, ℕ, ◌+◌, ◌≤◌, List, [], ◌∷◌, ◌++◌, length, map, get_or, Some, None}
+use Rattle.std.specs.Prelude.{◌≡◌, ℕ, ◌+◌, ◌≤◌, List, [], ◌∷◌, ◌++◌, length, map, slice_index_or, Some, None}
 use Rattle.cw_base.specs.declared.flags.Flags.{Flags}
 use Rattle.cw_base.specs.declared.mode.MathMode.TheVariants.{Maybe}
 use Rattle.cw_table.specs.declared.types.Piece.{Piece}
@@ -21,9 +21,9 @@ pub data IsMade (flags : Flags) (row : Row) (entries : List LineEntry) (old new 
   kept : (k : ℕ) → alone row.replaced (pieces_at flags row entries) ≡ Some k → new ≡ old
       → made ≡ record {
         cat = result_at row.result (entry_cats entries);
-        list = (get_or entries k no_entry).list;
-        left = (get_or entries k no_entry).left;
-        right = (get_or entries k no_entry).right;
+        list = (slice_index_or entries k no_entry).list;
+        left = (slice_index_or entries k no_entry).left;
+        right = (slice_index_or entries k no_entry).right;
       }
       → IsMade flags row entries old new made
   joined : alone row.replaced (pieces_at flags row entries) ≡ None → new.lists

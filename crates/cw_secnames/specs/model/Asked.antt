@@ -1,7 +1,7 @@
 -- What is asked of the names near a text.
 use Rattle.std.specs.Prelude.{ℕ, Bool, true, false, ◌&&◌, nat_lt, nat_le, List, [], ◌∷◌, length, Option, Some, None}
 use Rattle.std.specs.Prelude.{if◌then◌else◌}
-use Rattle.std.specs.Prelude.{get_or}
+use Rattle.std.specs.Prelude.{slice_index_or}
 use Rattle.cw_secnames.specs.declared.kinds.SecKind.{SecKind}
 use Rattle.cw_secnames.specs.declared.kinds.SecKind.TheVariants.{Named}
 use Rattle.cw_secnames.specs.declared.sec_names.Asked.{Asked}
@@ -22,7 +22,7 @@ passes Candidate text n = is_candidate text n
 
 -- whether there is a name at a position, and it passes a test
 abbrev pub passes_at : (SecName → Bool) → List SecName → ℕ → Bool
-passes_at test names k = nat_lt k (length names) && test (get_or names k (unreferred Named [] false))
+passes_at test names k = nat_lt k (length names) && test (slice_index_or names k (unreferred Named [] false))
 
 abbrev pub is_below : ℕ → Option ℕ → Bool
 is_below k None = true

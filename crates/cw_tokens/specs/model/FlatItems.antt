@@ -1,5 +1,6 @@
 -- The models beside `specs/FlatItems`.
-use Rattle.std.specs.Prelude.{◌≡◌, ℕ, ◌+◌, ◌<◌, ◌≤◌, List, [], ◌∷◌, ◌++◌, length, Option, Some, None, drop, get_or}
+use Rattle.std.specs.Prelude.{◌≡◌, ℕ, ◌+◌, ◌<◌, ◌≤◌, List, [], ◌∷◌, ◌++◌, length, Option, Some, None, drop}
+use Rattle.std.specs.Prelude.{slice_index_or}
 use Rattle.std.specs.Prelude.{slice_get}
 use Rattle.cw_trees.specs.Flat.{Item}
 use Rattle.cw_trees.specs.Flat.{Close as close_item, flat, leaf_item}
@@ -28,12 +29,12 @@ closing_at None = []
 closing_at (Some token) = closing (shape token)
 
 abbrev pub flat_from : List (List Token) → ℕ → ℕ → List Item
-flat_from lists l p = flat (tree_in (trees_from [] lists) (drop p (get_or lists l [])))
+flat_from lists l p = flat (tree_in (trees_from [] lists) (drop p (slice_index_or lists l [])))
 
 -- what stands behind a list on the way up to the root
 abbrev pub to_come : (lists : List (List Token)) (root l : ℕ) → Reach lists root l → List Item
 to_come lists root l here = []
-to_come lists root m (next l p x e way) = closing_at (slice_get (get_or lists l []) p)
+to_come lists root m (next l p x e way) = closing_at (slice_get (slice_index_or lists l []) p)
     ++ (flat_from lists l (p + 1) ++ to_come lists root l way)
 
 -- the items that were given and those still to come are all
@@ -41,4 +42,4 @@ pub record Flattens (lists : List (List Token)) (root list place : ℕ) (given a
   pub way : Reach lists root list
   pub is : given ++ (flat_from lists list place ++ to_come lists root list way) ≡ all
   pub inside : list < length lists
-  pub within : place ≤ length (get_or lists list [])
+  pub within : place ≤ length (slice_index_or lists list [])

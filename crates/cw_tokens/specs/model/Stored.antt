@@ -1,6 +1,6 @@
 -- The models beside `specs/Stored`.
 use Rattle.std.specs.Prelude.{◌≡◌, ℕ, zero, suc, ◌+◌, ◌-◌, ◌<◌, ◌≤◌, Bool, true, false, List, [], ◌∷◌, length}
-use Rattle.std.specs.Prelude.{Option, Some, None, take, drop, set, get_or, if◌then◌else◌}
+use Rattle.std.specs.Prelude.{Option, Some, None, take, drop, set, slice_index_or, if◌then◌else◌}
 use Rattle.cw_base.specs.model.Conditions.{one_if}
 use Rattle.cw_tokens.specs.declared.token.Token.{Token}
 use Rattle.cw_tokens.specs.declared.store.Link.{Link}
@@ -41,7 +41,7 @@ linked (Some x) up links = set links x up
 -- each list but the roots is linked to the one token that refers to it
 pub record IsLinked (lists : List (List Token)) (links : List Link) : Type 0 where
   pub earlier : (l p x : ℕ) → refers lists l p ≡ Some x → x < l
-  pub up : (l p x : ℕ) → refers lists l p ≡ Some x → get_or links x no_link ≡ record { list = l; place = p + 1 }
+  pub up : (l p x : ℕ) → refers lists l p ≡ Some x → slice_index_or links x no_link ≡ record { list = l; place = p + 1 }
 
 -- what the fields of a store keep, among them where the list that is being built begins; the rooms are the capacities
 -- of its three vectors
