@@ -7,7 +7,7 @@ mod files;
 mod program;
 mod words;
 
+pub use cw_desk::command_line;
 pub use ending::status_of;
 pub use files::run_files;
 pub use program::{Program, run_program};
-pub use words::command_line;
