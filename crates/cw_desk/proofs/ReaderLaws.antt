@@ -71,7 +71,7 @@ agree-older (Read j bytes ∷ later) older files agree = agree-older later older
 agree-older (End j ∷ later) older files agree = agree-older later older files agree.0
 
 -- What came of a file and what is unread of it are all its bytes.
-has-all : (i : ℕ) (name : List ℕ) (answers : List Answer) (files : Files) → opened_name i answers ≡ Some name
+pub has-all : (i : ℕ) (name : List ℕ) (answers : List Answer) (files : Files) → opened_name i answers ≡ Some name
     → Agree answers files → get files name ≡ Some (bytes_come i answers ++ rest_of answers files i)
 has-all i name [] files named agree = absurd cc
 has-all i name (Opened j other ∷ older) files named agree = opened-all (i == j) named agree.1

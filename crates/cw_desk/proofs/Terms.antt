@@ -4,6 +4,7 @@ pub use Rattle.std.proofs.Common.{◌≡◌, ℕ, ◌==◌, List, [], if◌then�
 pub use Rattle.std.proofs.Common.{drop, ◌+◌, ◌<◌, cond, ◌∷◌, Option, Some, get_or, ◌-◌, ◌≤◌, length-drop, rules, refl}
 pub use Rattle.std.proofs.lemmas.List.{drop_more, drop_all, take-append-drop, take_at, length-take-le, drop-drop}
 pub use Rattle.std.proofs.lemmas.List.{take_rest}
+pub use Rattle.std.specs.Prelude.{slice_range}
 pub use Rattle.std.specs.Cmp.Lexicographic.{slice_cmp, nat_list_cmp_total}
 pub use Rattle.std.specs.FinMap.{find, get, from_entries, get-from_entries}
 pub use Rattle.std.specs.Ordering.{nat_cmp}

@@ -1,5 +1,5 @@
 -- What a desk of real files has answered so far, the newest first, and which files would have given these answers.
-use Rattle.std.specs.Prelude.{◌≡◌, ◌⊎◌, ℕ, ◌==◌, List, [], ◌∷◌, ◌++◌, Some, None, Option, if◌then◌else◌}
+use Rattle.std.specs.Prelude.{◌≡◌, ◌⊎◌, ℕ, ◌+◌, ◌==◌, List, [], ◌∷◌, ◌++◌, Some, None, Option, if◌then◌else◌}
 use Rattle.std.specs.Prelude.{drop, length, refl}
 use Rattle.std.proofs.Common.{inl, inr}
 use Rattle.std.specs.Coded.{Coded, code_by, coded_ℕ, coded_list, coded×, coded⊎}
@@ -26,6 +26,14 @@ rest_of (Read j bytes ∷ older) files i =
     if i == j then drop (length bytes) (rest_of older files i) else rest_of older files i
 rest_of (End j ∷ older) files i = rest_of older files i
 
+-- how many bytes came in all
+abbrev pub came_in : List Answer → ℕ
+came_in [] = 0
+came_in (Opened j name ∷ older) = came_in older
+came_in (Missing name ∷ older) = came_in older
+came_in (Read j bytes ∷ older) = came_in older + length bytes
+came_in (End j ∷ older) = came_in older
+
 -- These files would have given all the answers.
 abbrev pub Agree : List Answer → Files → Type 0
 Agree [] files = Unit {0}
@@ -34,6 +42,10 @@ Agree (Missing name ∷ older) files = Agree older files × (get files name ≡ 
 Agree (Read j bytes ∷ older) files =
     Agree older files × (rest_of older files j ≡ bytes ++ drop (length bytes) (rest_of older files j))
 Agree (End j ∷ older) files = Agree older files × (rest_of older files j ≡ [])
+
+-- No files would have given these answers.
+abbrev pub NoneAgree : List Answer → Type 0
+NoneAgree answers = (files : Files) → Agree answers files → ⊥
 
 -- ## A code, so that a ghost field can hold a list of answers
 

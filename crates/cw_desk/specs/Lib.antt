@@ -8,6 +8,7 @@ pub mod Make
 pub mod Meaning
 pub mod Mem
 pub mod Open
+pub mod Places
 pub mod Put
 pub mod Quiet
 pub mod Read

@@ -1,7 +1,8 @@
 -- Files that don't change, read by calls in any order; and what files have that agree with such answers.
-use Rattle.std.specs.Prelude.{◌≡◌, ℕ, ◌+◌, ◌==◌, List, [], ◌∷◌, ◌++◌, Some, None, Option, if◌then◌else◌, drop, take}
+use Rattle.std.specs.Prelude.{◌≡◌, ◌⊎◌, ℕ, ◌+◌, ◌==◌, List, [], ◌∷◌, ◌++◌, Some, None, Option, if◌then◌else◌, drop}
+use Rattle.std.specs.Prelude.{take}
 use Rattle.std.specs.FinMap.{get}
-use Rattle.cw_desk.specs.Answer.{Agree, Answer, Opened, Missing, Read, End}
+use Rattle.cw_desk.specs.Answer.{Agree, Answer, NoneAgree, Opened, Missing, Read, End}
 use Rattle.cw_desk.specs.Meaning.{Files}
 
 -- ## Calls on files, and their answers
@@ -92,3 +93,7 @@ abbrev pub WhatWasMissingIsNotThere : Type 0
 WhatWasMissingIsNotThere =
     (later older : List Answer) (name : List ℕ) (files : Files) → Agree (later ++ Missing name ∷ older) files
     → get files name ≡ None
+
+-- Whatever the answers are, some files agree with them, or none do.
+abbrev pub SomeAgreeOrNone : Type 0
+SomeAgreeOrNone = (answers : List Answer) → ((files : Files) × Agree answers files) ⊎ NoneAgree answers

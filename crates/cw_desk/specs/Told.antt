@@ -1,5 +1,5 @@
 -- What a desk tells, and what each call changes of it.
-use Rattle.std.specs.Prelude.{◌≡◌, ◌≢◌, ℕ, ◌<◌, ◌≤◌, List, ◌∷◌}
+use Rattle.std.specs.Prelude.{◌≡◌, ◌≢◌, ℕ, ◌+◌, ◌<◌, ◌≤◌, List, ◌∷◌}
 use Rattle.cw_base.specs.declared.event.Event.{Event}
 use Rattle.cw_base.specs.declared.event.Event.TheVariants.{Drafted, Kept, Made, Replaced}
 use Rattle.cw_base.specs.declared.event.Out.{Out}
@@ -8,7 +8,7 @@ use Rattle.cw_desk.specs.Make.{event_after, outputs_after}
 use Rattle.cw_desk.specs.Meaning.{Files, Rose, with_draft, with_output, without_draft}
 use Rattle.cw_desk.specs.Open.{OpensNext, OpensNamed}
 use Rattle.cw_desk.specs.Put.{TakesSome, put_events}
-use Rattle.cw_desk.specs.Read.{ReadsSome, ReadsNext}
+use Rattle.cw_desk.specs.Read.{ReadsSome, ReadsNext, brought}
 use Rattle.cw_desk.specs.declared.outputs.Outputs.{Outputs}
 use Rattle.cw_desk.specs.declared.desk.Opened.{Opened}
 use Rattle.cw_desk.specs.declared.desk.Opened.TheVariants.{Failed as failed_open}
@@ -25,6 +25,7 @@ pub record Told : Type 1 where
   pub outputs : Outputs  -- which outputs are made, and which have a draft
   pub agrees : Files → Type 0
   pub rest : Files → ℕ → List ℕ  -- what of files that agree is unread of each opened file
+  pub came : ℕ  -- how many bytes its reads have brought
   pub journal : List Event  -- all that was made and written
   pub handed : ℕ  -- so many of these events, if not more, were handed on to a desk below
   pub faults : ℕ
@@ -42,17 +43,20 @@ pub record OnlyPuts (old new : Told) : Type 0 where
   pub same_outputs : new.outputs ≡ old.outputs
   pub narrows : Narrows old new
   pub same_rests : new.rest ≡ old.rest
+  pub same_came : new.came ≡ old.came
   pub handed_kept : old.handed ≤ new.handed
   pub faults_kept : old.faults ≤ new.faults
 
 -- Calls that open and read files: outputs and journal stay, and so does what is unread of the files that were open
--- before. Fewer files may agree, more of the journal may be handed on, and the count of faults may rise.
+-- before. Bytes may have come, fewer files may agree, more of the journal may be handed on, and the count of faults may
+-- rise.
 pub record OnlyReads (old new : Told) : Type 0 where
   pub same_names : new.names ≡ old.names
   pub opened_kept : old.opened ≤ new.opened
   pub same_outputs : new.outputs ≡ old.outputs
   pub narrows : Narrows old new
   pub same_rests : (files : Files) (i : ℕ) → i < old.opened → new.rest files i ≡ old.rest files i
+  pub came_kept : old.came ≤ new.came
   pub same_journal : new.journal ≡ old.journal
   pub handed_kept : old.handed ≤ new.handed
   pub faults_kept : old.faults ≤ new.faults
@@ -62,6 +66,7 @@ pub record Opens (name : List ℕ) (result : Opened) (old new : Told) : Type 0 w
   pub next : OpensNext old.opened new.opened result
   pub named : (files : Files) → new.agrees files → OpensNamed files name (new.rest files) result
   pub same_rests : (files : Files) (i : ℕ) → i < old.opened → new.rest files i ≡ old.rest files i
+  pub same_came : new.came ≡ old.came
   pub narrows : Narrows old new
   pub same_outputs : new.outputs ≡ old.outputs
   pub same_journal : new.journal ≡ old.journal
@@ -75,6 +80,7 @@ pub record Reads (index : ℕ) (buffer : List ℕ) (result : Fetched) (old new :
   pub next : (files : Files) → new.agrees files
       → ReadsNext (old.rest files index) (new.rest files index) buffer result
   pub other_rests : (files : Files) (i : ℕ) → i ≢ index → new.rest files i ≡ old.rest files i
+  pub came : new.came ≡ old.came + brought result
   pub same_opened : new.opened ≡ old.opened
   pub narrows : Narrows old new
   pub same_outputs : new.outputs ≡ old.outputs
@@ -90,6 +96,7 @@ pub record Turns (done : Outputs) (event : Event) (result : MadeOut) (old new : 
   pub journal : new.journal ≡ grown old.journal (event_after result event)
   pub same_opened : new.opened ≡ old.opened
   pub same_rests : new.rest ≡ old.rest
+  pub same_came : new.came ≡ old.came
   pub narrows : Narrows old new
   pub handed_kept : old.handed ≤ new.handed
   pub faults_kept : old.faults ≤ new.faults

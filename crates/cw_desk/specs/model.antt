@@ -2,7 +2,6 @@
 pub mod Count
 pub mod File
 pub mod Mem
-pub mod Places
 pub mod Quiet
 pub mod System
 pub mod Trail

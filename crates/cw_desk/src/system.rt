@@ -1,6 +1,6 @@
 //! The system's calls: its files and outputs, and a note of each answer. What no proof can know stands here and in
-//! the three files below, and nowhere else: that the system was asked, which file was meant, and that the note says
-//! what was answered. No other file can reach the notes.
+//! the files below, and nowhere else: that the system was asked, which file was meant, that the note says what was
+//! answered, and which words and variables the process was given. No other file can reach the notes.
 ghost use Rattle.std.specs.Prelude.{◌≡◌, ◌<◌, length};
 ghost use Rattle.cw_desk.specs.Open.{OpensNext};
 ghost use Rattle.cw_desk.specs.Put.{TakesSome};
@@ -9,6 +9,10 @@ ghost use Rattle.cw_desk.specs.model.System.{after_draft, after_keep, after_make
 ghost use Rattle.cw_desk.specs.model.System.{after_replace, untouched};
 
 mod calls;
+mod drafts;
+mod environment;
+mod failure;
+mod folders;
 mod inputs;
 mod output;
 
@@ -16,6 +20,7 @@ use crate::desk::{Fetched, FileId, MadeOut, Opened, Taken};
 use crate::note::Note;
 use calls::{Calls, Found};
 use cw_base::{Bytes, Memory, Out};
+pub use environment::command_line;
 use inputs::{OpenedFile, OpenedFiles};
 use output::Output;
 use std::alloc::Global;

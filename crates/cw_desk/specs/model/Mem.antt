@@ -18,6 +18,7 @@ tell d = record {
   outputs = d.outputs;
   agrees = λ files. files ≡ files_of d;
   rest = λ files i. slice_index_or d.rests i [];
+  came = d.came;
   journal = d.journal;
   handed = 0;
   faults = d.faults;

@@ -10,6 +10,7 @@ abbrev pub as_mem : QuietState → MemState
 as_mem d = record {
   files = d.files;
   rests = d.rests;
+  came = d.came;
   outputs = d.outputs;
   journal = d.journal;
   failing = [];

@@ -7,11 +7,13 @@ ghost use Rattle.cw_desk.specs.Put.{TakesSome};
 ghost use Rattle.cw_desk.specs.Read.{ReadsSome};
 ghost use Rattle.cw_desk.specs.model.Trail.{nothing};
 
+use super::drafts::DraftPlaces;
+use super::failure::Failure;
+use super::folders::Folders;
 use super::inputs::{FoundFile, OpenedFiles, is_missing};
 use crate::desk::{Fetched, MadeOut, Taken};
-use crate::failure::Failure;
 use crate::note::Note;
-use crate::places::{DraftPlaces, Folders, path_of, place_in};
+use crate::places::path_of;
 use crate::trail::Trail;
 use cw_base::{Bytes, Memory, Out};
 use std::alloc::Global;
@@ -119,13 +121,10 @@ impl Calls {
     fn open_elsewhere(&mut self, number: usize, name: &[u8]) -> Found
         ensures { self.new.trail.noted ≡ after_found number name.now result self.old.trail.noted }
     {
-        let Ok(folders) = self.folders.of_name(&self.rt, self.alloc, name) else {
+        let Ok(places) = self.folders.places_of(&self.rt, self.alloc, name) else {
             return Found::Memory;
         };
-        for folder in folders.iter() {
-            let Ok(place) = place_in(self.alloc, folder.as_slice(), name) else {
-                return Found::Memory;
-            };
+        for place in places.iter() {
             match self.look(number, name, place.as_slice()) {
                 Look::Nothing => {}
                 Look::File(file) => return Found::Elsewhere(file),

@@ -6,10 +6,10 @@ ghost use Rattle.cw_desk.specs.Make.{if_done};
 ghost use Rattle.cw_desk.specs.Put.{TakesSome};
 
 use super::calls::Calls;
+use super::drafts::DraftPlaces;
 use super::inputs::OpenedFiles;
 use crate::desk::{MadeOut, Taken};
 use crate::note::Note;
-use crate::places::DraftPlaces;
 use cw_base::{Bytes, Out};
 use std::fs::File;
 

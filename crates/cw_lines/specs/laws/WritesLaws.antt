@@ -12,7 +12,7 @@ use Rattle.cw_desk.specs.laws.JournalLaws.{part-same}
 use Rattle.cw_desk.specs.Meaning.{Rose, is_open}
 use Rattle.cw_desk.specs.Told.{Told, OnlyPuts}
 use Rattle.cw_desk.specs.declared.outputs.Outputs.{Outputs}
-use Rattle.cw_lines.specs.Compared.{Compares, id_of, rests_without}
+use Rattle.cw_lines.specs.Compared.{Compares, came_without, id_of, rests_without}
 use Rattle.cw_lines.specs.laws.ComparedLaws.{compares-bytes, compares-none, compares-then, shortens-none, shortens-then}
 use Rattle.cw_lines.specs.Cut.{cut, written}
 use Rattle.cw_lines.specs.laws.FillLaws.{fill-none, fill-append, fill-out, fill-cut}
@@ -33,6 +33,7 @@ only_puts-none told = record {
   narrows = λ files is. is;
   handed_kept = omega arith;
   same_rests = refl;
+  same_came = refl;
   faults_kept = omega arith;
 }
 
@@ -45,6 +46,7 @@ only_puts-then {a = a} {b = b} {c = c} first second = record {
   handed_kept = let x : a.handed ≤ b.handed = first.handed_kept in let y : b.handed ≤ c.handed = second.handed_kept in
       omega arith;
   same_rests = second.same_rests ∙ first.same_rests;
+  same_came = second.same_came ∙ first.same_came;
   faults_kept = let x : a.faults ≤ b.faults = first.faults_kept in let y : b.faults ≤ c.faults = second.faults_kept in
       omega arith;
 }
@@ -121,6 +123,7 @@ adds-writes file adds = record {
       narrows = adds.same.narrows;
       handed_kept = adds.same.handed_kept;
       same_rests = ap (rests_without file) adds.same.same_rests;
+      same_came = ap (came_without file) adds.same.same_came;
       faults_kept = adds.same.faults_kept;
     };
     fault = adds.fault;

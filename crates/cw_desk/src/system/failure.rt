@@ -8,7 +8,7 @@ const NUMBER: &[u8] = b" (os error ";
 
 /// A call that the system refused.
 #[derive(Drop)]
-pub(crate) struct Failure {
+pub(super) struct Failure {
     // The file's name; empty where memory for it was wanting.
     name: Bytes,
     error: io::Error,
@@ -16,7 +16,7 @@ pub(crate) struct Failure {
 
 impl Failure {
     /// That the system gave this error for the file of this name.
-    pub(crate) fn new(alloc: Global, name: &[u8], error: io::Error) -> Failure {
+    pub(super) fn new(alloc: Global, name: &[u8], error: io::Error) -> Failure {
         let name = match Bytes::from_slice(alloc, name) {
             Ok(name) => name,
             Err(Memory) => Bytes::new_in(alloc),
@@ -26,7 +26,7 @@ impl Failure {
 
     /// Writes it to standard error as a line: the program, the file's name and the system's words. What standard error
     /// doesn't take is lost.
-    pub(crate) fn tell(&self, rt: &HostRuntime, alloc: Global, program: &str) {
+    pub(super) fn tell(&self, rt: &HostRuntime, alloc: Global, program: &str) {
         if let Ok(line) = self.line(alloc, program) {
             let _ = rt.stderr().write_all(line.as_slice());
         }

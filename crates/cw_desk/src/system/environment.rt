@@ -1,5 +1,5 @@
 //! What the process was given: its arguments and variables, as bytes.
-use cw_base::{Bytes, Memory};
+use cw_base::{Bytes, Memory, Words};
 use std::alloc::Global;
 use std::env::{Env, FillError};
 
@@ -42,12 +42,31 @@ fn bytes_of<E: Env>(env: &E, alloc: Global, asked: Asked<'_>) -> Result<Option<B
     Err(Memory)
 }
 
-/// An argument of the process, whose first is the program's name; none behind the last one.
-pub fn argument<E: Env>(env: &E, alloc: Global, number: usize) -> Result<Option<Bytes>, Memory> {
-    bytes_of(env, alloc, Asked::Argument(number))
+/// A variable of the process; none where it isn't set.
+pub(super) fn variable<E: Env>(
+    env: &E,
+    alloc: Global,
+    name: &str,
+) -> Result<Option<Bytes>, Memory> {
+    bytes_of(env, alloc, Asked::Variable(name))
 }
 
-/// A variable of the process; none where it isn't set.
-pub fn variable<E: Env>(env: &E, alloc: Global, name: &str) -> Result<Option<Bytes>, Memory> {
-    bytes_of(env, alloc, Asked::Variable(name))
+/// The whole command line, the program's own name first. Each word is the bytes that the system gives, whatever they
+/// are.
+pub fn command_line<E: Env>(env: &E, alloc: Global) -> Result<Words, Memory> {
+    let mut line = Words::new_in(alloc);
+    add_words(env, alloc, &mut line).and(Ok(line))
+}
+
+// Adds all words of the command line.
+fn add_words<E: Env>(env: &E, alloc: Global, line: &mut Words) -> Result<(), Memory> {
+    for number in 0..usize::MAX {
+        let Some(word) = bytes_of(env, alloc, Asked::Argument(number))? else {
+            return Ok(());
+        };
+        let added = line.push(word.as_slice());
+        drop(word);
+        added?;
+    }
+    Ok(())
 }
