@@ -8,7 +8,11 @@ use std::test::Fail;
 /// What is written of a web with its changes.
 fn seen(alloc: Global, row: &Row) -> Result<(Bytes, Exit), Memory> {
     let files: [(&[u8], &[u8]); 2] = [(b"foo.w", row.web), (b"foo.ch", row.change)];
-    let change: &[u8] = if row.change.is_empty() { b"-" } else { b"foo.ch" };
+    let change: &[u8] = if row.change.is_empty() {
+        b"-"
+    } else {
+        b"foo.ch"
+    };
     let (text, exit, _) = Program::Plain.told(alloc, &[b"foo", change, b"out"], &files)?;
     Ok((text, exit))
 }

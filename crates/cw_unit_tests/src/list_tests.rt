@@ -149,7 +149,16 @@ fn texts_of(
     let printed = written(alloc, desk.journal())?;
     let names = &book.names;
     let sec_names = &book.sec_names;
-    let plain = plain_text(alloc, store, id, web, names, sec_names, &book.name_uses, span)?;
+    let plain = plain_text(
+        alloc,
+        store,
+        id,
+        web,
+        names,
+        sec_names,
+        &book.name_uses,
+        span,
+    )?;
     Ok((printed, plain))
 }
 
