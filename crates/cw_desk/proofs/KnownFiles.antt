@@ -1,6 +1,7 @@
 -- Files that are made of answers, with of each file just what was read of it: they agree, or no files do.
 use Rattle.std.proofs.Common.{◌≡◌, ℕ, ◌<◌, ◌≤◌, ◌⊎◌, ◌==◌, List, [], ◌∷◌, ◌++◌, Some, None, Option, Bool, true}
-use Rattle.std.proofs.Common.{false, cond, if◌then◌else◌, drop, take, refl, sym, ap, subst, ◌∙◌, arith, append_assoc, length}
+use Rattle.std.proofs.Common.{false, cond, if◌then◌else◌, drop, take, refl, sym, ap, subst, ◌∙◌, arith, append_assoc}
+use Rattle.std.proofs.Common.{length}
 use Rattle.std.proofs.Common.{inl, inr, nat_le, leb-true, leb-false, bytes_eq}
 use Rattle.std.proofs.lemmas.List.{append_cancel_left, append-nil, drop_at, take-append-drop, take-append-le, take_at}
 use Rattle.std.proofs.lemmas.List.{drop-append-le, drop_all}

@@ -1,5 +1,6 @@
 -- The folders of a list, when one byte more of it is read.
-use Rattle.cw_desk.proofs.Terms.{◌≡◌, ℕ, ◌==◌, ◌+◌, ◌-◌, ◌<◌, ◌≤◌, List, [], ◌∷◌, ◌++◌, if◌then◌else◌, get_or, sym, ap, ◌∙◌}
+use Rattle.cw_desk.proofs.Terms.{◌≡◌, ℕ, ◌==◌, ◌+◌, ◌-◌, ◌<◌, ◌≤◌, List, [], ◌∷◌, ◌++◌, if◌then◌else◌, get_or, sym, ap}
+use Rattle.cw_desk.proofs.Terms.{◌∙◌}
 use Rattle.cw_desk.proofs.Terms.{arith, length, take, drop, drop_more, length-drop, slice_range}
 use Rattle.std.proofs.lemmas.List.{get_or-drop, get_or_default, take_more}
 use Rattle.std.proofs.Common.{Bool, false}

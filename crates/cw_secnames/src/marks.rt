@@ -35,7 +35,7 @@ fn first_mark(kind: SecKind) -> u32
 }
 
 // A factor that spreads the marks: an odd number near 2^32 divided by the golden ratio.
-#[tactic(auto, unfolding(crate::specs::Marks::next_mark))]
+#[tactic(auto, unfolding(crate::specs::model::Marks::next_mark))]
 fn next_mark(mark: u32, byte: u8) -> u32
     ensures { result ≡ next_mark mark byte }
 {
@@ -43,7 +43,7 @@ fn next_mark(mark: u32, byte: u8) -> u32
         .wrapping_mul(2654435769)
 }
 
-#[tactic(auto, unfolding(crate::specs::Marks::is_kept_length))]
+#[tactic(auto, unfolding(crate::specs::model::Marks::is_kept_length))]
 fn is_kept_length(count: usize) -> bool
     ensures { result ≡ is_kept_length count }
 {

@@ -1,7 +1,7 @@
 -- White space before a name that a format definition wants gives no answer: the name comes first.
 use Rattle.std.proofs.Common.{◌≡◌, List, true, drop, subst, arith}
 use Rattle.cw_rules.specs.{Bytes.begins_by, Bytes.is_letter, Answers.Answer, Answers.Gives}
-use Rattle.cw_lex.{specs.Coming.coming, proofs.HeadSpaces.format-here, proofs.HeadSpaces.format-coming}
+use Rattle.cw_lex.{specs.model.Coming.coming, proofs.HeadSpaces.format-here, proofs.HeadSpaces.format-coming}
 use Rattle.cw_lex.proofs.lexer.want_format_name.Goals as goal
 
 pub format_name-requires-clause-found : goal.format_name-requires-clause-found

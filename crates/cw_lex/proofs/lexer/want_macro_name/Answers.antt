@@ -1,7 +1,7 @@
 -- White space before the name of a macro gives no answer: the name comes first.
 use Rattle.std.proofs.Common.{◌≡◌, List, true, drop, subst, arith}
 use Rattle.cw_rules.specs.{Bytes.begins_by, Bytes.is_letter, Answers.Answer, Answers.Gives}
-use Rattle.cw_lex.{specs.Coming.coming, proofs.HeadSpaces.macro-here, proofs.HeadSpaces.macro-coming}
+use Rattle.cw_lex.{specs.model.Coming.coming, proofs.HeadSpaces.macro-here, proofs.HeadSpaces.macro-coming}
 use Rattle.cw_lex.proofs.lexer.want_macro_name.Goals as goal
 
 pub macro_name-requires-clause-found : goal.macro_name-requires-clause-found

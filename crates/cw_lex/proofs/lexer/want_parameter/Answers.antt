@@ -1,7 +1,7 @@
 -- White space before a parameter, or a sign among parameters, gives no answer.
 use Rattle.std.proofs.Common.{◌≡◌, List, true, drop, subst}
 use Rattle.cw_rules.specs.{Tokens.is_parameter, Answers.Answer, Answers.Gives}
-use Rattle.cw_lex.{specs.Coming.coming, proofs.HeadSpaces.parameter-here, proofs.HeadSpaces.parameter-coming}
+use Rattle.cw_lex.{specs.model.Coming.coming, proofs.HeadSpaces.parameter-here, proofs.HeadSpaces.parameter-coming}
 use Rattle.cw_lex.proofs.lexer.want_parameter.Goals as goal
 
 pub parameter-requires-clause-found : goal.parameter-requires-clause-found

@@ -1,6 +1,6 @@
 -- The longest sign that fits is a short token where its first byte begins nothing else.
 use Rattle.std.proofs.Common.{◌∷◌, slice_index, ap, sym, ◌∙◌, arith}
-use Rattle.cw_lex.{specs.Short.is_alone, proofs.ShortTokens.sign-short}
+use Rattle.cw_lex.{specs.model.Short.is_alone, proofs.ShortTokens.sign-short}
 use Rattle.cw_rules.specs.Signs.{all_signs, longest}
 use Rattle.cw_lex.proofs.short.sign.Goals as goal
 

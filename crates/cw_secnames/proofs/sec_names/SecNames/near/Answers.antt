@@ -1,6 +1,6 @@
 -- All names are marked.
 use Rattle.std.proofs.Common.{◌∙◌, ap, length, subst, sym}
-use Rattle.cw_secnames.{specs.NameMarks.AreMarkedNames, proofs.Finding.length-named}
+use Rattle.cw_secnames.{specs.model.NameMarks.AreMarkedNames, proofs.Finding.length-named}
 use Rattle.cw_secnames.proofs.sec_names.SecNames.near.Goals as goal
 
 pub returns : goal.returns

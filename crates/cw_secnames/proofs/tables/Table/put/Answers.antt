@@ -1,7 +1,7 @@
 -- The new link is the last of its row, and those before it are found through it.
 use Rattle.std.proofs.Common.{◌≡◌, ◌∙◌, ap, arith, length}
 use Rattle.std.proofs.lemmas.List.{get_or_read}
-use Rattle.cw_secnames.{specs.Marks.row_of, proofs.Linked.has-under, proofs.Linked.keeps-under}
+use Rattle.cw_secnames.{specs.model.Marks.row_of, proofs.Linked.has-under, proofs.Linked.keeps-under}
 use Rattle.cw_secnames.proofs.tables.Table.put.Goals as goal
 
 pub returns-clause-keeps : goal.returns-clause-keeps
