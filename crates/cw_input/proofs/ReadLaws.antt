@@ -6,7 +6,7 @@ use Rattle.std.specs.FinMap.{get}
 use Rattle.cw_base.specs.declared.limits.TheConstants.{INPUT_LIMIT}
 use Rattle.cw_desk.specs.{Meaning.Files, Told.Told, Told.Narrows, Told.Opens}
 use Rattle.cw_desk.specs.declared.{desk.FileId.FileId, desk.Opened.TheVariants.File}
-use Rattle.cw_input.specs.Reading.{AreRead, HasRead, ReadsAtMost, ReadsFirst, ReadsOn, ReadsOnly, ReadsTo}
+use Rattle.cw_input.specs.Reading.{AreRead, CameAtMost, HasRead, ReadsAtMost, ReadsFirst, ReadsOn, ReadsOnly, ReadsTo}
 use Rattle.cw_input.specs.model.State.{Moves}
 use Rattle.cw_input.specs.declared.{error.LoadError.LoadError, found.Found.Found, merger.Merger.Merger}
 
@@ -42,11 +42,11 @@ has_read-more : {files : Files} {first a b : ℕ} {told : Told} → a ≤ b → 
 has_read-more {a = a} {b = b} more had = grind (arith, sum_by)
 
 pub reads_on-none : (sum : ℕ) (told : Told) → ReadsOn sum sum told told
-reads_on-none sum told = record { most = λ files is first had. had }
+reads_on-none sum told = record { came = omega arith; most = λ files is first had. had }
 
-pub reads_on-same : (sum : ℕ) {old new : Told} → new.opened ≡ old.opened
+pub reads_on-same : (sum : ℕ) {old new : Told} → new.opened ≡ old.opened → new.came ≡ old.came
     → ((files : Files) → SameRests files old new) → ReadsOn sum sum old new
-reads_on-same sum {old = old} {new = new} opened same = grind (arith, are_read-same)
+reads_on-same sum {old = old} {new = new} opened came same = grind (arith, are_read-same)
 
 pub reads_on-then : {a b c : ℕ} {first second third : Told} → Narrows second third → ReadsOn a b first second
     → ReadsOn b c second third → ReadsOn a c first third
@@ -58,15 +58,23 @@ reads_on-more more reads = grind (arith, has_read-more)
 pub reads_on-from : {a b c : ℕ} {old new : Told} → a ≤ b → ReadsOn b c old new → ReadsOn a c old new
 reads_on-from more reads = grind (arith, has_read-more)
 
+-- calls that begin with no more than the first had read, and go on with no less than it left
+pub reads_on-both : {a b c d e : ℕ} {first second third : Told} → a ≤ b → c ≤ d → Narrows second third
+    → ReadsOn b c first second → ReadsOn d e second third → ReadsOn a e first third
+reads_on-both before between narrows begun ended =
+    reads_on-from before (reads_on-then narrows begun (reads_on-from between ended))
+
 other : (i index before : ℕ) → index ≡ before → i < before → i ≢ index
 other i index before is less same = omega (arith, is, less, same)
 
 -- a file is opened and read
 pub reads_on-file : (sum most : ℕ) {name : List ℕ} {id : FileId} {first second third : Told}
-    → Opens name (File id) first second → ReadsOnly id.index second third → ((files : Files) → third.agrees files
-    → ReadsAtMost most (second.rest files id.index) (third.rest files id.index)) → ReadsOn sum (sum + most) first third
-reads_on-file sum most {name = name} {id = id} {first = first} {second = second} {third = third} opens same reads =
+    → Opens name (File id) first second → ReadsOnly id.index second third → CameAtMost most second third
+    → ((files : Files) → third.agrees files → ReadsAtMost most (second.rest files id.index) (third.rest files id.index))
+    → ReadsOn sum (sum + most) first third
+reads_on-file sum most {name = name} {id = id} {first = first} {second = second} {third = third} opens same came reads =
     record {
+      came = omega (arith, opens.same_came, came);
       most = λ files is from had.
           let of_file = reads files is in
           let within : sum_by length had.read ≤ sum = had.within in

@@ -8,14 +8,15 @@ use Rattle.cw_desk.specs.Told.{Told, Narrows}
 use Rattle.cw_input.specs.declared.error.LoadError.{LoadError}
 use Rattle.cw_input.specs.declared.found.Found.{Found}
 
--- The reading of one opened file changes what of this file is unread. Fewer files may agree with the desk, and the
--- counts of faults and of what was handed on may rise.
+-- The reading of one opened file changes what of this file is unread. Bytes may have come, fewer files may agree with
+-- the desk, and the counts of faults and of what was handed on may rise.
 pub record ReadsOnly (index : ℕ) (old new : Told) : Type 0 where
   pub same_names : new.names ≡ old.names
   pub same_opened : new.opened ≡ old.opened
   pub same_outputs : new.outputs ≡ old.outputs
   pub narrows : Narrows old new
   pub other_rests : (files : Files) (i : ℕ) → i ≢ index → new.rest files i ≡ old.rest files i
+  pub came_kept : old.came ≤ new.came
   pub same_journal : new.journal ≡ old.journal
   pub handed_kept : old.handed ≤ new.handed
   pub faults_kept : old.faults ≤ new.faults
@@ -45,8 +46,14 @@ pub record HasRead (files : Files) (first most : ℕ) (told : Told) : Type 0 whe
   pub each : AreRead files told first read
   pub within : sum_by length read ≤ most
 
--- Calls after which at most so many bytes have been read in all, if at most so many had been before them.
+-- In these calls at most so many bytes came, whether any files agree or none.
+abbrev pub CameAtMost : ℕ → Told → Told → Type 0
+CameAtMost most old new = new.came ≤ old.came + most
+
+-- Calls after which at most so many bytes have been read in all, if at most so many had been before them: of files that
+-- agree, and, whether any do, by the bytes that came.
 pub record ReadsOn (before now : ℕ) (old new : Told) : Type 0 where
+  pub came : new.came + before ≤ old.came + now
   pub most : (files : Files) → new.agrees files → (first : ℕ) → HasRead files first before old
       → HasRead files first now new
 

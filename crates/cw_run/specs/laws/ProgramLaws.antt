@@ -1,15 +1,18 @@
 -- What was handed on of a run: where the desk above gathered more, a first part of it.
-use Rattle.std.specs.Prelude.{◌≡◌, ◌≢◌, ℕ, ◌+◌, ◌-◌, ◌≤◌, List, [], ◌++◌, take, drop, length}
-use Rattle.std.proofs.Common.{sym, ap, ◌∙◌, subst, arith, length-append, append_assoc}
+use Rattle.std.specs.Prelude.{◌≡◌, ◌≢◌, ◌⊎◌, ℕ, ◌+◌, ◌-◌, ◌≤◌, List, [], ◌++◌, take, drop, length}
+use Rattle.std.specs.FinMap.{get}
+use Rattle.std.proofs.Common.{inl, inr, sym, ap, ◌∙◌, subst, arith, length-append, append_assoc}
 use Rattle.std.proofs.lemmas.List.{take-append-drop, take-append-le, take_all}
 use Rattle.std.proofs.Math.Seq.{take-append-add}
 use Rattle.cw_base.specs.declared.event.Event.{Event}
 use Rattle.cw_base.specs.declared.exit.Exit.{Exit}
 use Rattle.cw_base.specs.declared.exit.Exit.TheVariants.{Clean, Errors, Fault, Memory}
+use Rattle.cw_desk.specs.Answer.{Agree, Answer, NoneAgree}
 use Rattle.cw_desk.specs.Journal.{grown, GrownByPart}
 use Rattle.cw_desk.specs.laws.JournalLaws.{part-first}
+use Rattle.cw_desk.specs.Meaning.{Files, NamedFiles}
 use Rattle.cw_run.specs.Emits.{Run}
-use Rattle.cw_run.specs.Program.{Outcome}
+use Rattle.cw_run.specs.Program.{Outcome, OverSome}
 
 -- what comes behind the beginning of a first part
 behind : (old xs rest : List Event) {new : List Event} → new ++ rest ≡ old ++ xs → length old ≤ length new
@@ -77,3 +80,14 @@ outcome-end run old told new rest exit Fault same longer whole done =
     stopped-part run old told new rest exit same longer done
 outcome-end run old told new rest exit Memory same longer whole done =
     stopped-part run old told new rest exit same longer done
+
+-- What was done over all files that agree, from an empty journal on, was done over some of them, or none agree.
+pub over-some : (run : NamedFiles → Run) (answers : List Answer) (before now : List Event) (exit : Exit) → before ≡ []
+    → ((files : Files) → Agree answers files → Outcome (run (get files)) before now exit)
+    → ((files : Files) × Agree answers files) ⊎ NoneAgree answers → OverSome run answers now exit
+over-some run answers before now exit none done (inl some) = inl (
+  some.0,
+  some.1,
+  subst (λ (journal : List Event). Outcome (run (get some.0)) journal now exit) none (done some.0 some.1),
+)
+over-some run answers before now exit none done (inr not_any) = inr not_any

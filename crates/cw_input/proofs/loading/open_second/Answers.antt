@@ -10,3 +10,6 @@ returns-in-Ok-Some-clause-most g c =
 pub returns-in-Ok-None-clause-most : goal.returns-in-Ok-None-clause-most
 returns-in-Ok-None-clause-most g c =
     reads_on-more {b = 0} (omega arith) (rw c.in-Ok-None.field-0-is at (c.in-Ok-None.ensures.most 0))
+
+pub returns-in-Err-clause-most : goal.returns-in-Err-clause-most
+returns-in-Err-clause-most g c = reads_on-more (omega arith) (c.in-Err.ensures.most 0)

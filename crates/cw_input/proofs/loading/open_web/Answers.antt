@@ -11,3 +11,6 @@ pub returns-in-Ok-None-clause-most : goal.returns-in-Ok-None-clause-most
 returns-in-Ok-None-clause-most g c =
     reads_first-then (g.D.Desk.told c.open_second.new.desk) c.open_second.result c.open_second.ensures.same.narrows
     (rw c.in-Ok-None.field-0-is at (c.in-Ok-None.ensures.most 0)) c.open_second.ensures.most
+
+pub returns-in-Err-clause-most : goal.returns-in-Err-clause-most
+returns-in-Err-clause-most g c = reads_on-more (omega arith) (c.in-Err.ensures.most 0)

@@ -19,19 +19,22 @@ returns-in-Missing-clause-finds g c = grind (arith, option_map)
 
 pub returns-in-Ok-clause-most : goal.returns-in-Ok-clause-most
 returns-in-Ok-clause-most g c sum =
-    reads_on-file sum (length c.in-Ok.bytes) c.in-File.ensures c.in-Ok.ensures.same c.in-Ok.ensures.most
+    reads_on-file sum (length c.in-Ok.bytes) c.in-File.ensures c.in-Ok.ensures.same c.in-Ok.ensures.came
+    c.in-Ok.ensures.most
 
 pub returns-in-Err-clause-most : goal.returns-in-Err-clause-most
 returns-in-Err-clause-most g c sum =
-    reads_on-file sum (c.args.room + 1) c.in-File.ensures c.in-Err.ensures.same c.in-Err.ensures.most
+    reads_on-file sum (c.args.room + 1) c.in-File.ensures c.in-Err.ensures.same c.in-Err.ensures.came
+    c.in-Err.ensures.most
 
 pub returns-in-Missing-clause-most : goal.returns-in-Missing-clause-most
-returns-in-Missing-clause-most g c sum = grind (arith, reads_on-same)
+returns-in-Missing-clause-most g c sum =
+    reads_on-same sum c.in-Missing.ensures.next c.in-Missing.ensures.same_came c.in-Missing.ensures.same_rests
 
 pub returns-in-Failed-clause-most : goal.returns-in-Failed-clause-most
 returns-in-Failed-clause-most g c sum = reads_on-more {b = sum} (omega arith)
-    (reads_on-same sum c.in-Failed.ensures.next c.in-Failed.ensures.same_rests)
+    (reads_on-same sum c.in-Failed.ensures.next c.in-Failed.ensures.same_came c.in-Failed.ensures.same_rests)
 
 pub returns-in-Memory-clause-most : goal.returns-in-Memory-clause-most
 returns-in-Memory-clause-most g c sum = reads_on-more {b = sum} (omega arith)
-    (reads_on-same sum c.in-Memory.ensures.next c.in-Memory.ensures.same_rests)
+    (reads_on-same sum c.in-Memory.ensures.next c.in-Memory.ensures.same_came c.in-Memory.ensures.same_rests)
