@@ -299,7 +299,8 @@ read-best j bytes older low high (Some name) false named test best agree =
 best-known : (answers : List Answer) (files : Files) → Agree answers files → Best answers (known answers) files
 best-known [] files agree = record {
   agree = tt;
-  under = λ name. subst (λ (o : Option (List ℕ)). Below o (get files name)) (sym (get-empty (slice_cmp nat_cmp) name)) tt;
+  under = λ name. subst (λ (o : Option (List ℕ)). Below o (get files name)) (sym (get-empty (slice_cmp nat_cmp) name))
+      tt;
 }
 best-known (Opened j name ∷ older) files agree =
     opened-best j name older (known older) files (best-known older files agree.0) agree

@@ -21,8 +21,8 @@ Outcome run before now Errors = (now ≡ grown before run.rest) × (run.exit ≡
 Outcome run before now Fault = GrownByPart before now run.rest
 Outcome run before now Memory = GrownByPart before now run.rest
 
--- What a run over real files has done, where the system gave these answers: what it does over some files that would have
--- given them, or, after a fault or for want of memory, a first part of it; or no files would have given them.
+-- What a run over real files has done, where the system gave these answers: what it does over some files that would
+-- have given them, or, after a fault or for want of memory, a first part of it; or no files would have given them.
 abbrev pub OverSome : (NamedFiles → Run) → List Answer → List Event → Exit → Type 0
 OverSome run answers journal exit =
     ((files : Files) × Agree answers files × Outcome (run (get files)) [] journal exit) ⊎ NoneAgree answers
