@@ -1,20 +1,27 @@
 //! Desks in memory, and the words of command lines.
-ghost use Rattle.std.specs.Prelude.{◌≡◌, [], IfOk, IsTrue};
+ghost use Rattle.std.specs.Prelude.{◌≡◌, [], IfOk, IsTrue, OnOk};
 ghost use Rattle.cw_desk.specs.Meaning.{is_open};
 
 use cw_base::{Memory, Out, Words};
 use cw_desk::{Desk, MadeOut, MemDesk};
 use std::alloc::Global;
 
+fn add_files(desk: &mut MemDesk, files: &[(&[u8], &[u8])]) -> Result<(), Memory>
+    requires unread { desk.old.rests ≡ [] }
+    ensures unread { OnOk result (desk.new.rests ≡ []) }
+{
+    for (name, bytes) in files {
+        desk.add_file(name, bytes)?;
+    }
+    Ok(())
+}
+
 /// A desk with these files, of which none is opened.
 pub fn desk_with(alloc: Global, files: &[(&[u8], &[u8])]) -> Result<MemDesk, Memory>
     ensures unread { IfOk result (λ desk. desk.rests ≡ []) }
 {
     let mut desk = MemDesk::new_in(alloc);
-    for (name, bytes) in files {
-        desk.add_file(name, bytes)?;
-    }
-    Ok(desk)
+    add_files(&mut desk, files).and(Ok(desk))
 }
 
 /// A desk on which an output is made.
@@ -28,11 +35,15 @@ pub fn desk_making(alloc: Global, out: Out) -> Result<MemDesk, Memory>
     }
 }
 
-/// The words of a command line.
-pub fn words_of(alloc: Global, words: &[&[u8]]) -> Result<Words, Memory> {
-    let mut list = Words::new_in(alloc);
+fn push_all(list: &mut Words, words: &[&[u8]]) -> Result<(), Memory> {
     for word in words {
         list.push(word)?;
     }
-    Ok(list)
+    Ok(())
+}
+
+/// The words of a command line.
+pub fn words_of(alloc: Global, words: &[&[u8]]) -> Result<Words, Memory> {
+    let mut list = Words::new_in(alloc);
+    push_all(&mut list, words).and(Ok(list))
 }

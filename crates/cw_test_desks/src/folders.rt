@@ -4,14 +4,18 @@ use std::fs;
 use std::test::Fail;
 use std::time::{SystemTime, UNIX_EPOCH};
 
+fn enter(rt: HostRuntime, folder: &str) -> Result<(), Fail> {
+    fs::create_dir(&rt, folder)?;
+    rt.set_current_dir(folder)?;
+    Ok(())
+}
+
 /// Goes into a new folder, in which the names of a test stand for themselves.
 pub fn enter_new_folder(rt: HostRuntime) -> Result<(), Fail> {
     let now = SystemTime::now(&rt)?.duration_since(UNIX_EPOCH)?.as_nanos();
     let above = std::env::temp_dir(&rt)?;
     let folder = format!(in rt.alloc(); "{}/cweb-{now}", above.as_str())?;
-    fs::create_dir(&rt, folder.as_str())?;
-    rt.set_current_dir(folder.as_str())?;
-    Ok(())
+    enter(rt, folder.as_str())
 }
 
 /// Whether a file has these bytes.

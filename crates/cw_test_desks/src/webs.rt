@@ -17,14 +17,18 @@ fn add(web: &mut Web, line: &[u8], number: u32) -> Result<(), Memory> {
     Ok(())
 }
 
-/// A web of these lines, of the file `t.w`.
-pub fn web_of(alloc: Global, lines: &[&[u8]]) -> Result<Web, Memory> {
-    let mut web = Web::new_in(alloc);
-    web.add_file(b"t.w")?;
+fn add_lines(web: &mut Web, lines: &[&[u8]]) -> Result<(), Memory> {
     let mut number = 0u32;
     for line in lines {
         number = number.wrapping_add(1);
-        add(&mut web, line, number)?;
+        add(web, line, number)?;
     }
-    Ok(web)
+    Ok(())
+}
+
+/// A web of these lines, of the file `t.w`.
+pub fn web_of(alloc: Global, lines: &[&[u8]]) -> Result<Web, Memory> {
+    let mut web = Web::new_in(alloc);
+    let named = web.add_file(b"t.w");
+    named.and(add_lines(&mut web, lines)).and(Ok(web))
 }
