@@ -18,7 +18,7 @@ ghost use Rattle.cw_run.specs.Tool.{made, made_unless, tool_run, tool_web};
 use crate::asked::{Asked, read_asked};
 use crate::ending::status_of;
 use crate::files::begin_file;
-use crate::reading::read_book;
+use crate::tool_book::read_book;
 use crate::refusal::{refuse, refuse_word};
 use cw_base::{Exit, Ledger, Out, Steps, Web, Words};
 use cw_desk::Desk;
