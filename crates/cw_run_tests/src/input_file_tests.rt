@@ -5,7 +5,6 @@ use cw_desk::{Desk, FileDesk, MadeOut, Opened, Taken};
 use cw_run::run_program;
 use cw_test_desks::{enter_new_folder, has_bytes, write_files};
 use cw_weave::Weaver;
-use std::env::Env;
 use std::fs;
 use std::os::unix::fs::symlink;
 use std::test::Fail;
