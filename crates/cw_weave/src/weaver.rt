@@ -28,8 +28,8 @@ impl Program for Weaver {
 }
 
 /// Weaves over real files. Over all files that would have given the answers that the system gave, just what the words
-/// ask for was handed to the system, and the status is theirs; or a first part of it, with status Fault or Memory. There
-/// are such files, or the system's answers are those of no files.
+/// ask for was handed to the system, and the status is theirs; or a first part of it, with status Fault or Memory.
+/// There are such files, or the system's answers are those of no files.
 pub fn weave_files(rt: HostRuntime, alloc: Global, line: &Words) -> (Exit, FileDesk)
     ensures woven { (files : Files) → Agree result.1.heard files →
         Outcome (woven (words_of line.now) (get files)) [] result.1.journal result.0 }
