@@ -4,6 +4,7 @@ use Rattle.cw_index.proofs.Terms.{EntryKind, Ident, Roman, Typewriter, User, Occ
 use Rattle.cw_index.proofs.Terms.{index_bytes, closing_lines}
 use Rattle.std.specs.Fmt.{digits}
 use Rattle.cw_names.specs.Words.{built_in_words}
+use Rattle.cw_names.proofs.WordPlaces.{own, word}
 use Rattle.cw_phase1.specs.declared.sections.Depth.TheVariants.{Zero}
 use Rattle.cw_base.specs.Flags.{start_flags}
 
@@ -41,30 +42,33 @@ section starred changed = record {
 abbrev three : List Section
 three = section true false ∷ section false true ∷ section false false ∷ []
 
--- the names from position 102 on
+-- the web's own names are these entries
 abbrev index : List Entry → List Occurrence → List ℕ
 index entries occurrences = index_bytes three (built_in_words ++ entries) occurrences
 
 -- Sections ascend, each once, whatever the order of the occurrences; a changed one has its mark.
 sections_row : index (entry Ident (codes "main") ∷ [])
-    (at 102 3 ∷ at 102 1 ∷ at 102 3 ∷ defined_at 102 2 ∷ at 102 2 ∷ []) ≡ codes "\\I\\\\{main}, 1, \\[2\\*], 3.\n"
+    (at (own 0) 3 ∷ at (own 0) 1 ∷ at (own 0) 3 ∷ defined_at (own 0) 2 ∷ at (own 0) 2
+        ∷ []) ≡ codes "\\I\\\\{main}, 1, \\[2\\*], 3.\n"
 unfolding digits
 sections_row = refl
 
 -- An identifier of one byte has only the sections in which it is underlined; so has a built-in word, here `int`.
-one_byte_row : index (entry Ident (codes "i") ∷ []) (at 102 1 ∷ defined_at 102 2 ∷ at 102 3 ∷ at 3 1 ∷ defined_at 3 3
+one_byte_row : index (entry Ident (codes "i") ∷ []) (at (own 0) 1 ∷ defined_at (own 0) 2 ∷ at (own 0) 3
+    ∷ at (word "int") 1 ∷ defined_at (word "int") 3
     ∷ []) ≡ codes "\\I\\|i, \\[2\\*].\n\\I\\&{int}, \\[3].\n"
 unfolding digits
 one_byte_row = refl
 
 -- A text of an index code that has one byte has all its sections.
-one_byte_code_row : index (entry Roman (codes "i") ∷ []) (at 102 1 ∷ []) ≡ codes "\\I{i}, 1.\n"
+one_byte_code_row : index (entry Roman (codes "i") ∷ []) (at (own 0) 1 ∷ []) ≡ codes "\\I{i}, 1.\n"
 unfolding digits
 one_byte_code_row = refl
 
 -- Entries stand in their order, and one without sections is left out.
 entries_row : index (entry Ident (codes "x1") ∷ entry Ident (codes "xa") ∷ entry Typewriter (codes "Xa") ∷ entry Ident
-    (codes "q") ∷ entry Roman (codes "xa") ∷ []) (at 102 1 ∷ at 103 1 ∷ at 104 1 ∷ at 105 1 ∷ at 106 1 ∷ [])
+    (codes "q") ∷ entry Roman (codes "xa") ∷ []) (at (own 0) 1 ∷ at (own 1) 1 ∷ at (own 2) 1 ∷ at (own 3) 1
+        ∷ at (own 4) 1 ∷ [])
     ≡ codes "\\I\\.{Xa}, 1.\n\\I\\\\{xa}, 1.\n\\I{xa}, 1.\n\\I\\\\{x1}, 1.\n"
 unfolding digits
 entries_row = refl

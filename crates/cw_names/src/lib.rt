@@ -9,4 +9,5 @@ mod xrefs;
 
 pub use entry::{EntryKind, NameId};
 pub use names::Names;
+pub use words::WORD_COUNT;
 pub use xrefs::{Occurrence, SectionRef, Xrefs};

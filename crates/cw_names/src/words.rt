@@ -10,9 +10,12 @@ use cw_base::{Cat, Memory};
 use indexmap::IndexMap;
 use std::alloc::Global;
 
+/// How many words are known from the start: a web's own names are counted on from here.
+pub const WORD_COUNT: usize = 102;
+
 /// The reserved words of C with their categories, and then the words that are reserved in `#` lines
 /// only, which are ordinary identifiers elsewhere.
-pub(crate) const WORDS: [(&[u8], Cat); 102] = [
+pub(crate) const WORDS: [(&[u8], Cat); WORD_COUNT] = [
     (b"char", Cat::RawInt),
     (b"double", Cat::RawInt),
     (b"float", Cat::RawInt),

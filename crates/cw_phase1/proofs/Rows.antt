@@ -4,6 +4,7 @@ use Rattle.cw_phase1.proofs.Terms.{drop, refl, Cat, Exp, RawInt, NoteKind, Span,
 use Rattle.cw_phase1.proofs.Terms.{built_in_words, SecKind, SecName, id, NameUse, option_map, Section, span, book}
 use Rattle.cw_base.specs.declared.notes.Note.{Note}
 use Rattle.cw_names.specs.{Names.Entry, declared.xrefs.Occurrence.Occurrence}
+use Rattle.cw_names.proofs.WordPlaces.{own, word}
 use Rattle.cw_secnames.specs.declared.kinds.SecKind.TheVariants.{Named, File}
 use Rattle.cw_phase1.specs.{declared.sections.Depth.Depth, declared.sections.Depth.TheVariants.Zero}
 use Rattle.cw_phase1.specs.{declared.book.Book.Book}
@@ -79,7 +80,7 @@ a_prefix_of_two_names : shown (web ((codes "@ @<Read a@>= x;") ∷ (codes "@ @<R
           false
           ∷ [];
       names = entry Ident (codes "x") Exp ∷ entry Ident (codes "y") Exp ∷ [];
-      occurrences = occ 102 1 false ∷ occ 103 2 false ∷ [];
+      occurrences = occ (own 0) 1 false ∷ occ (own 1) 2 false ∷ [];
       section_names = sec_name Named (codes "Read a") true (1 ∷ []) (3 ∷ []) ([]) ∷ sec_name Named (codes "Read b") true
           (2 ∷ []) ([]) ([]) ∷ [];
       name_uses = at 2 0 ∷ at 19 1 ∷ at 39 0 ∷ [];
@@ -92,7 +93,7 @@ two_parts : shown (web ((codes "@ @c int i;") ∷ (codes "@ @c i=i+1;") ∷ []))
   sections = section false Zero (span 2 2) (span 2 2) (span 2 12) None false ∷ section false Zero (span 14 14)
       (span 14 14) (span 14 24) None false ∷ [];
   names = entry Ident (codes "i") Exp ∷ [];
-  occurrences = occ 3 1 false ∷ occ 102 1 false ∷ occ 102 2 false ∷ occ 102 2 false ∷ [];
+  occurrences = occ (word "int") 1 false ∷ occ (own 0) 1 false ∷ occ (own 0) 2 false ∷ occ (own 0) 2 false ∷ [];
   section_names = [];
   name_uses = [];
   notes = [];
@@ -103,7 +104,7 @@ a_format_definition : shown (web ((codes "@ @f foo int") ∷ (codes "@c foo x;")
   limbo = span 0 0;
   sections = section false Zero (span 2 2) (span 2 13) (span 13 23) None false ∷ [];
   names = entry Ident (codes "foo") RawInt ∷ entry Ident (codes "x") Exp ∷ [];
-  occurrences = occ 102 1 false ∷ occ 3 1 false ∷ occ 102 1 false ∷ occ 103 1 false ∷ [];
+  occurrences = occ (own 0) 1 false ∷ occ (word "int") 1 false ∷ occ (own 0) 1 false ∷ occ (own 1) 1 false ∷ [];
   section_names = [];
   name_uses = [];
   notes = [];
@@ -115,7 +116,7 @@ a_conflict : shown (web ((codes "@ @<Read@>= x;") ∷ (codes "@ @<Read b@>= y;")
   sections = section false Zero (span 2 2) (span 2 2) (span 2 15) (Some 0) false ∷ section false Zero (span 17 17)
       (span 17 17) (span 17 32) (Some 0) false ∷ [];
   names = entry Ident (codes "x") Exp ∷ entry Ident (codes "y") Exp ∷ [];
-  occurrences = occ 102 1 false ∷ occ 103 2 false ∷ [];
+  occurrences = occ (own 0) 1 false ∷ occ (own 1) 2 false ∷ [];
   section_names = sec_name Named (codes "Read") true (1 ∷ 2 ∷ []) ([]) ([]) ∷ [];
   name_uses = at 2 0 ∷ at 17 0 ∷ [];
   notes = note notes.NameConflict 0 0 2 ∷ note notes.NeverUsed 0 0 0 ∷ [];
@@ -135,9 +136,11 @@ an_ordinary_web : shown (web ((92 ∷ 100 ∷ 101 ∷ 102 ∷ 92 ∷ 116 ∷ 105
           (span 173 173) (span 173 223) (Some 0) false ∷ [];
       names = entry Ident (codes "n") Exp ∷ entry Ident (codes "main") Exp ∷ entry Ident (codes "i") Exp
           ∷ entry Ident (codes "printf") Exp ∷ [];
-      occurrences = occ 102 1 false ∷ occ 102 1 true ∷ occ 94 1 false ∷ occ 3 1 false ∷ occ 103 1 false ∷ occ 8 1 false
-          ∷ occ 3 1 false ∷ occ 104 1 false ∷ occ 63 1 false ∷ occ 104 1 false ∷ occ 104 1 false ∷ occ 102 1 false
-          ∷ occ 104 1 false ∷ occ 62 1 false ∷ occ 105 2 false ∷ occ 104 2 false ∷ [];
+      occurrences = occ (own 0) 1 false ∷ occ (own 0) 1 true ∷ occ (word "include") 1 false
+          ∷ occ (word "int") 1 false ∷ occ (own 1) 1 false ∷ occ (word "void") 1 false
+          ∷ occ (word "int") 1 false ∷ occ (own 2) 1 false ∷ occ (word "for") 1 false ∷ occ (own 2) 1 false
+          ∷ occ (own 2) 1 false ∷ occ (own 0) 1 false ∷ occ (own 2) 1 false ∷ occ (word "return") 1 false
+          ∷ occ (own 3) 2 false ∷ occ (own 2) 2 false ∷ [];
       section_names = sec_name Named (codes "Greet") true (2 ∷ []) (1 ∷ []) ([]) ∷ [];
       name_uses = at 134 0 ∷ at 173 0 ∷ [];
       notes = [];
@@ -152,9 +155,10 @@ adjacent_and_apart : shown (web ((codes "@ @d f(a,...)a") ∷ (codes "@d g (a)")
           ∷ entry Ident (codes "h") Exp ∷ entry Ident (codes "b") Exp ∷ entry Ident (codes "c") Exp
           ∷ entry Ident (codes "k") Exp ∷ entry Ident (codes "x") Exp ∷ entry Ident (codes "y") Exp
           ∷ entry Roman (codes "e@x") Exp ∷ [];
-      occurrences = occ 102 1 true ∷ occ 103 1 false ∷ occ 103 1 false ∷ occ 104 1 true ∷ occ 103 1 false
-          ∷ occ 105 1 true
-          ∷ occ 106 1 false ∷ occ 107 1 true ∷ occ 108 1 true ∷ occ 110 1 true ∷ occ 3 1 false ∷ occ 111 1 false ∷ [];
+      occurrences = occ (own 0) 1 true ∷ occ (own 1) 1 false ∷ occ (own 1) 1 false ∷ occ (own 2) 1 true
+          ∷ occ (own 1) 1 false ∷ occ (own 3) 1 true ∷ occ (own 4) 1 false
+          ∷ occ (own 5) 1 true ∷ occ (own 6) 1 true ∷ occ (own 8) 1 true
+          ∷ occ (word "int") 1 false ∷ occ (own 9) 1 false ∷ [];
       section_names = [];
       name_uses = [];
       notes = note notes.ImproperMacro 0 0 3 ∷ note notes.ImproperFormat 0 0 4 ∷ note notes.ImproperMacro 0 0 5
@@ -184,7 +188,7 @@ an_ignored_name_at_the_head : shown (web ((codes "@ @<") ∷ (codes "...@>=x;") 
   limbo = span 0 0;
   sections = section false Zero (span 2 2) (span 2 2) (span 2 14) None false ∷ [];
   names = entry Ident (codes "x") Exp ∷ [];
-  occurrences = occ 102 1 false ∷ [];
+  occurrences = occ (own 0) 1 false ∷ [];
   section_names = [];
   name_uses = [];
   notes = note notes.NameEmpty 0 0 1 ∷ [];
@@ -192,7 +196,7 @@ an_ignored_name_at_the_head : shown (web ((codes "@ @<") ∷ (codes "...@>=x;") 
 an_ignored_name_at_the_head = refl
 
 an_underline_waits : (book (web ((codes "@ @!@<Read@>") ∷ (codes "@ @c x;x;") ∷ []))).xrefs
-    ≡ occ 102 2 true ∷ occ 102 2 false ∷ []
+    ≡ occ (own 0) 2 true ∷ occ (own 0) 2 false ∷ []
 an_underline_waits = refl
 
 formats_in_order : (shown

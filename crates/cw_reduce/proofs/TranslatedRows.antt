@@ -15,6 +15,7 @@ use Rattle.cw_table.specs.Productions.{productions}
 use Rattle.cw_translator.specs.Translating.{translated, NameTexts, unnamed}
 use Prim.Native.String.{String}
 use Rattle.cw_base.specs.Flags.{start_flags}
+use Rattle.cw_names.proofs.WordPlaces.{own, word}
 
 -- ## Texts
 
@@ -190,12 +191,14 @@ cut_part : map (λ answers. shown_numbers (λ number. false) answers) (parts_of_
     ≡ (3 ∷ 5 ∷ 7 ∷ []) ∷ []
 cut_part = refl
 
--- A macro of TeX is a reserved word: `NULL` is the word at 86. In the head of a format definition it has dollars of its
--- own; in that of a macro it stands between those of the head.
+-- A macro of TeX, as `NULL`, is a reserved word. In the head of a format definition it has dollars of its own; in that
+-- of a macro it stands between those of the head.
 word_items : map items (in_bars "NULL" ∷ in_definition "@f x NULL" ∷ in_definition "@d NULL 0" ∷ [])
-    ≡ (SignItem control.Dollar ∷ ReservedItem 86 0 ∷ SignItem control.Dollar ∷ []) ∷ (SignItem control.Backup
-    ∷ SourceItem 0 ∷ IdentItem 102 3 ∷ SignItem control.OptionalBreak ∷ SignItem control.Dollar ∷ ReservedItem 86 5
-    ∷ SignItem control.Dollar ∷ []) ∷ (SignItem control.Backup ∷ SourceItem 0 ∷ SignItem control.Dollar ∷ ReservedItem
-    86 3 ∷ SignItem control.Dollar ∷ SignItem control.OptionalBreak ∷ SignItem control.Blank ∷ SourceItem 8 ∷ []) ∷ []
+    ≡ (SignItem control.Dollar ∷ ReservedItem (word "NULL") 0 ∷ SignItem control.Dollar ∷ []) ∷ (SignItem control.Backup
+    ∷ SourceItem 0 ∷ IdentItem (own 0) 3 ∷ SignItem control.OptionalBreak ∷ SignItem control.Dollar
+    ∷ ReservedItem (word "NULL") 5
+    ∷ SignItem control.Dollar ∷ []) ∷ (SignItem control.Backup ∷ SourceItem 0 ∷ SignItem control.Dollar
+    ∷ ReservedItem (word "NULL") 3 ∷ SignItem control.Dollar ∷ SignItem control.OptionalBreak ∷ SignItem control.Blank
+    ∷ SourceItem 8 ∷ []) ∷ []
 unfolding translated normal log count positions looks productions
 word_items = refl

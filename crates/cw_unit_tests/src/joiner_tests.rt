@@ -13,7 +13,7 @@ use cw_base::{Bytes, Memory, Out};
 use cw_desk::MemDesk;
 use cw_join::{FlatToken, Joiner};
 use cw_lines::{LineOut, PutError};
-use cw_names::{EntryKind, NameId, Names};
+use cw_names::{EntryKind, NameId, Names, WORD_COUNT};
 use cw_test_desks::{desk_making, written};
 use cw_tokens::FlatItem;
 use cw_trees::Control;
@@ -103,17 +103,25 @@ fn push_text(
 /// The first three names behind the built-in words.
 const IDENTIFIERS: [&[u8]; 3] = [b"_next_of$", b"x", b"EOF"];
 
+const FIRST: NameId = NameId { index: WORD_COUNT };
+const SECOND: NameId = NameId {
+    index: WORD_COUNT + 1,
+};
+const THIRD: NameId = NameId {
+    index: WORD_COUNT + 2,
+};
+
 /// Names, signs and runs; the names are the first three behind the built-in words.
 const TEXT: [(FlatItem, &[u8]); 13] = [
-    (FlatItem::Ident(NameId { index: 102 }, 0), b""),
+    (FlatItem::Ident(FIRST, 0), b""),
     (FlatItem::Control(Control::Blank), b""),
     (FlatItem::Control(Control::Indent), b""),
     (FlatItem::Control(Control::Break), b""),
     (FlatItem::Control(Control::Backup), b""),
     (FlatItem::Control(Control::ToMath), b""),
-    (FlatItem::Ident(NameId { index: 103 }, 0), b""),
+    (FlatItem::Ident(SECOND, 0), b""),
     (FlatItem::Source(9), b"\\K"),
-    (FlatItem::Ident(NameId { index: 104 }, 0), b""),
+    (FlatItem::Ident(THIRD, 0), b""),
     (FlatItem::Control(Control::ToText), b""),
     (FlatItem::Control(Control::BigBreak), b""),
     (FlatItem::Control(Control::Cancel), b""),

@@ -2,7 +2,7 @@
 ghost use Rattle.std.specs.Prelude.{◌<◌, length};
 
 use cw_base::{Cat, Memory};
-use cw_names::{EntryKind, NameId, Names, SectionRef, Xrefs};
+use cw_names::{EntryKind, NameId, Names, SectionRef, WORD_COUNT, Xrefs};
 use std::alloc::Global;
 use std::test::Fail;
 
@@ -40,7 +40,7 @@ fn found_again(alloc: Global) -> Result<Found, Memory> {
 #[test]
 fn names_are_found_again(rt: HostRuntime) -> Result<(), Fail> {
     let wanted = (
-        [102, 102, 103, 102],
+        [WORD_COUNT, WORD_COUNT, WORD_COUNT + 1, WORD_COUNT],
         true,
         ([Cat::Exp, Cat::RawInt, Cat::Exp], false),
     );
@@ -96,8 +96,10 @@ fn note_all(xrefs: &mut Xrefs, x: NameId, y: NameId) -> Result<(), Memory> {
 // occurrences there are.
 fn noted_in(xrefs: &mut Xrefs) -> Result<(bool, [usize; 3]), Memory> {
     let (x, y, other) = (
-        NameId { index: 102 },
-        NameId { index: 103 },
+        NameId { index: WORD_COUNT },
+        NameId {
+            index: WORD_COUNT + 1,
+        },
         NameId { index: 3 },
     );
     note_all(xrefs, x, y)?;
