@@ -1,6 +1,6 @@
 -- A reader keeps each answer behind those before it, and all of them stand in the text.
 use Rattle.cw_answers.proofs.Terms.{◌≡◌, ℕ, inl, inr, Bool, true, false, List, [], ◌∷◌, ◌++◌, All, length, refl, sym}
-use Rattle.cw_answers.proofs.Terms.{ap, subst, ◌∙◌, Some, append_assoc, All-push, All-tail, Answer, Note, Kept}
+use Rattle.cw_answers.proofs.Terms.{ap, subst, ◌∙◌, Some, append_assoc, All-push, All-tail, Answer, Note, KeptAnswer}
 use Rattle.cw_answers.proofs.Terms.{IsWithin, answers_at, Goes, GoesByNote, IsReading, Stand, Stays, all_of}
 use Rattle.cw_base.specs.declared.notes.NoteKind.{NoteKind}
 use Rattle.cw_answers.specs.declared.reader.Room.{Room}
@@ -27,7 +27,7 @@ stays text old new xs l m e h = by new.whole refl
         ∙ ap (λ a. answers_at text old.items.items ++ a) (sym e))
         ∙ sym (ap (λ b. all_of b before) goes.0))
 
-pub token-reading : (text : List ℕ) (old new : Room) (one : Kept) (x : Answer) (l m : List Answer) → l ≡ x ∷ m
+pub token-reading : (text : List ℕ) (old new : Room) (one : KeptAnswer) (x : Answer) (l m : List Answer) → l ≡ x ∷ m
     → IsWithin (length text) one → Goes old one new → IsReading text old l → IsReading text new m
 token-reading text old new one x l m e w g h = record {
   within = λ whole. subst (All (IsWithin (length text))) (sym (g whole).1)

@@ -1,7 +1,7 @@
 -- The tokens of a scan stand in the text.
 use Rattle.cw_answers.proofs.Terms.{◌≡◌, ℕ, ◌+◌, ◌≤◌, ◌<◌, List, [], ◌∷◌, ◌++◌, All, arith, length, refl, ap, sym}
 use Rattle.cw_answers.proofs.Terms.{subst, ◌∙◌, get_or, drop, suc, All-nil, All-cons, All-tail, All-push, Answer, Token}
-use Rattle.cw_answers.proofs.Terms.{Begin, Finish, Note, Seen, Kept, BeginWith, StandsIn, IsWithin, answer_at}
+use Rattle.cw_answers.proofs.Terms.{Begin, Finish, Note, Seen, KeptAnswer, BeginWith, StandsIn, IsWithin, answer_at}
 use Rattle.cw_answers.proofs.Terms.{answers_at, Stand, map-append, append_assoc}
 use Rattle.cw_rules.specs.Order.{Covers, AreWithin, Stands, LiesWithin}
 use Rattle.std.proofs.Math.Seq.{drop-cons}
@@ -23,11 +23,12 @@ all-stand text from start end last (Note kind place ∷ answers) le c w =
     All-cons (Stand text) (Note kind place) answers tt (all-stand text from start end last answers le c w)
 
 -- So much is kept, and the rest is still to come.
-pub record Keeping (text inside : List ℕ) (all : List Answer) (kept : List Kept) (rest : List Answer) : Type 0 where
-  pub same : inside ≡ text
-  pub whole : answers_at inside kept ++ rest ≡ all
-  pub stand : All (Stand text) rest
-  pub within : All (IsWithin (length inside)) kept
+pub record Keeping (text inside : List ℕ) (all : List Answer) (kept : List KeptAnswer) (rest : List Answer) : Type 0
+  where
+    pub same : inside ≡ text
+    pub whole : answers_at inside kept ++ rest ≡ all
+    pub stand : All (Stand text) rest
+    pub within : All (IsWithin (length inside)) kept
 
 pub begin : (text inside : List ℕ) (start end : ℕ) (answers : List Answer) → inside ≡ text → end ≤ length text
     → Covers text start end answers → AreWithin start end answers → Keeping text inside answers [] answers
@@ -39,13 +40,14 @@ begin text inside start end answers same le c w = record {
 }
 
 -- What is kept is what all answers begin with.
-pub kept-first : (text inside : List ℕ) (all all' : List Answer) (kept items : List Kept) (rest : List Answer)
+pub kept-first : (text inside : List ℕ) (all all' : List Answer) (kept items : List KeptAnswer) (rest : List Answer)
     → all ≡ all' → items ≡ kept → Keeping text inside all kept rest → BeginWith all' (answers_at inside items)
 kept-first text inside all all' kept items rest same is h =
-    (rest, sym same ∙ sym h.whole ∙ ap (λ (l : List Kept). answers_at inside l ++ rest) (sym is))
+    (rest, sym same ∙ sym h.whole ∙ ap (λ (l : List KeptAnswer). answers_at inside l ++ rest) (sym is))
 
 -- One answer more is kept.
-pub push : (text inside : List ℕ) (all : List Answer) (kept : List Kept) (k : Kept) (x : Answer) (old new : List Answer)
+pub push : (text inside : List ℕ) (all : List Answer) (kept : List KeptAnswer) (k : KeptAnswer) (x : Answer)
+    (old new : List Answer)
     → old ≡ x ∷ new → answer_at text k ≡ x → IsWithin (length text) k → Keeping text inside all kept old
     → Keeping text inside all (kept ++ k ∷ []) new
 push text inside all kept k x old new gives is w h = record {
@@ -57,13 +59,13 @@ push text inside all kept k x old new gives is w h = record {
   within = All-push (IsWithin (length inside)) kept k h.within (subst (λ t. IsWithin (length t) k) (sym h.same) w);
 }
 
-pub pushed : (text inside : List ℕ) (all : List Answer) (kept items : List Kept) (k : Kept) (x : Answer)
+pub pushed : (text inside : List ℕ) (all : List Answer) (kept items : List KeptAnswer) (k : KeptAnswer) (x : Answer)
     (old new : List Answer) → items ≡ kept ++ k ∷ [] → old ≡ x ∷ new → answer_at text k ≡ x → IsWithin (length text) k
     → Keeping text inside all kept old → Keeping text inside all items new
 pushed text inside all kept items k x old new e gives is w h =
     subst (λ l. Keeping text inside all l new) (sym e) (push text inside all kept k x old new gives is w h)
 
-pub ahead : (kept : List Kept) (place : ℕ) (d : Kept) → place < length kept → drop place kept
+pub ahead : (kept : List KeptAnswer) (place : ℕ) (d : KeptAnswer) → place < length kept → drop place kept
     ≡ get_or kept place d ∷ drop (place + 1) kept
 ahead kept place d lt = drop-cons kept place d lt ∙ ap (λ n. get_or kept place d ∷ drop n kept) (more place)
   where

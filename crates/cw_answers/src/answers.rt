@@ -4,7 +4,7 @@ ghost use Rattle.cw_rules.specs.Answers.{Gives};
 ghost use Rattle.cw_lex.specs.Lexing.{tokens_of};
 ghost use Rattle.cw_answers.specs.model.Kept.{BeginWith, IsWithin, answers_at};
 
-use crate::kept::{Kept, NotePlace, Stretch};
+use crate::kept::{KeptAnswer, NotePlace, Stretch};
 use cw_base::{Memory, Span};
 use cw_lex::{Lexed, Lexer, Mode};
 use std::alloc::Global;
@@ -14,7 +14,7 @@ use std::marker::Model;
 #[derive(Drop)]
 pub struct Answers<'a> {
     text: &'a [u8],
-    kept: Vec<Kept>,
+    kept: Vec<KeptAnswer>,
 }
 
 impl<'a> Model for Answers<'a> {
@@ -42,7 +42,7 @@ impl<'a> Answers<'a> {
     }
 
     // Those of a text that are kept.
-    pub(crate) fn of(text: &'a [u8], kept: Vec<Kept>) -> Answers<'a>
+    pub(crate) fn of(text: &'a [u8], kept: Vec<KeptAnswer>) -> Answers<'a>
         requires { All (IsWithin (length text.now)) kept.items }
         ensures { result ≡ answers_at text.now kept.items }
     {
@@ -51,7 +51,7 @@ impl<'a> Answers<'a> {
 
     // The vector in which they are kept.
     #[inline(always)]
-    pub(crate) fn into_room(self) -> Vec<Kept> {
+    pub(crate) fn into_room(self) -> Vec<KeptAnswer> {
         self.kept
     }
 
@@ -71,10 +71,10 @@ impl<'a> Answers<'a> {
         let mut lexer = Lexer::over(text, span.start, span.end, mode);
         loop {
             let kept = match lexer.next() {
-                Lexed::Token(token) => Kept::Token(Stretch::of(text, &token)),
-                Lexed::Begin(token) => Kept::Begin(Stretch::of(text, &token)),
-                Lexed::Finish(token) => Kept::Finish(Stretch::of(text, &token)),
-                Lexed::Note(kind, place) => Kept::Note(NotePlace::of(kind, place)?),
+                Lexed::Token(token) => KeptAnswer::Token(Stretch::of(text, &token)),
+                Lexed::Begin(token) => KeptAnswer::Begin(Stretch::of(text, &token)),
+                Lexed::Finish(token) => KeptAnswer::Finish(Stretch::of(text, &token)),
+                Lexed::Note(kind, place) => KeptAnswer::Note(NotePlace::of(kind, place)?),
                 Lexed::End => return Ok(()),
             };
             self.kept.push(kept)?;

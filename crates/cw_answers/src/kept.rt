@@ -25,7 +25,7 @@ pub(crate) struct NotePlace {
 
 /// An answer of the scanner, by where its bytes lie in the text.
 #[derive(Clone, Copy)]
-pub(crate) enum Kept {
+pub(crate) enum KeptAnswer {
     Token(Stretch),
     Begin(Stretch),
     Finish(Stretch),
@@ -80,7 +80,7 @@ impl NotePlace {
     }
 }
 
-impl Kept {
+impl KeptAnswer {
     /// The answer itself.
     #[inline(always)]
     pub(crate) fn answer<'a>(&self, text: &'a [u8]) -> Lexed<'a>
@@ -88,10 +88,10 @@ impl Kept {
         ensures { (rest : List Answer) → Gives (answer_at text.now self.now ∷ rest) result rest }
     {
         match self {
-            Kept::Token(stretch) => Lexed::Token(stretch.token(text)),
-            Kept::Begin(stretch) => Lexed::Begin(stretch.token(text)),
-            Kept::Finish(stretch) => Lexed::Finish(stretch.token(text)),
-            Kept::Note(note) => Lexed::Note(note.kind, note.place as usize),
+            KeptAnswer::Token(stretch) => Lexed::Token(stretch.token(text)),
+            KeptAnswer::Begin(stretch) => Lexed::Begin(stretch.token(text)),
+            KeptAnswer::Finish(stretch) => Lexed::Finish(stretch.token(text)),
+            KeptAnswer::Note(note) => Lexed::Note(note.kind, note.place as usize),
         }
     }
 }

@@ -6,7 +6,7 @@ ghost use Rattle.cw_answers.specs.Reading.{Stays};
 ghost use Rattle.cw_answers.specs.model.Reading.{Goes, GoesByNote};
 
 use crate::answers::Answers;
-use crate::kept::{Kept, NotePlace, Stretch};
+use crate::kept::{KeptAnswer, NotePlace, Stretch};
 use cw_base::{Memory, NoteKind, Span};
 use cw_lex::{Lexed, Lexer, Mode};
 use std::alloc::Global;
@@ -16,14 +16,14 @@ use std::mem;
 /// What is kept of a scan, and whether that is each answer so far.
 #[derive(Drop)]
 pub(crate) struct Room {
-    items: Vec<Kept>,
+    items: Vec<KeptAnswer>,
     whole: bool,
 }
 
 impl Room {
     // Keeps an answer behind those before it. Where there is no memory for it, none is kept from then on.
     #[inline(always)]
-    fn push(&mut self, one: Kept)
+    fn push(&mut self, one: KeptAnswer)
         ensures { Goes self.old one self.new }
     {
         if self.whole {
@@ -36,7 +36,7 @@ impl Room {
         ensures { GoesByNote self.old kind place self.new }
     {
         match NotePlace::of(kind, place) {
-            Ok(note) => self.push(Kept::Note(note)),
+            Ok(note) => self.push(KeptAnswer::Note(note)),
             Err(_) => self.whole = false,
         }
     }
@@ -111,15 +111,18 @@ impl<'a> Reader<'a> {
         // It is kept by what it is, so that this is asked once.
         match self.lexer.next() {
             Lexed::Token(token) => {
-                self.room.push(Kept::Token(Stretch::of(self.text, &token)));
+                self.room
+                    .push(KeptAnswer::Token(Stretch::of(self.text, &token)));
                 Lexed::Token(token)
             }
             Lexed::Begin(token) => {
-                self.room.push(Kept::Begin(Stretch::of(self.text, &token)));
+                self.room
+                    .push(KeptAnswer::Begin(Stretch::of(self.text, &token)));
                 Lexed::Begin(token)
             }
             Lexed::Finish(token) => {
-                self.room.push(Kept::Finish(Stretch::of(self.text, &token)));
+                self.room
+                    .push(KeptAnswer::Finish(Stretch::of(self.text, &token)));
                 Lexed::Finish(token)
             }
             Lexed::Note(kind, place) => {

@@ -49,7 +49,7 @@ pub use Rattle.cw_trees.specs.Flat.{Item, SourceItem, IdentItem, ReservedItem, S
 pub use Rattle.cw_trees.specs.Flat.{trimmed_items, begins_after, ends_text, is_break, is_inserted, leaf_item, trim_back}
 pub use Rattle.cw_trees.specs.Flat.{trim_front, without_inserted}
 pub use Rattle.cw_trees.specs.Joining.{first_mode, after, Scrap, blank_and_whole, scrap_in_text, whole, no_scrap, join}
-pub use Rattle.cw_trees.specs.Joining.{Joined, Whole, Mark, needs, joined_tree, joined_left, joined_right}
+pub use Rattle.cw_trees.specs.Joining.{JoinPiece, Whole, Mark, needs, joined_tree, joined_left, joined_right}
 pub use Rattle.cw_trees.specs.Tree.{Leaf, Tree, Empty, Then, Sub, Inner, Search, search_leaf, first_ident}
 pub use Rattle.cw_trees.specs.Tree.{reserve_first, Found, Sign, Source, Ident, Reserved, bare_name}
 pub use Rattle.cw_trees.specs.declared.Control.{Control}

@@ -1,6 +1,6 @@
 -- What a quiet desk tells is what the desk in memory that it holds tells.
 use Rattle.cw_desk.proofs.Terms.{◌≡◌, ℕ, ◌==◌, List, [], if◌then◌else◌, sym, ap, subst, ◌∙◌, MemState, called, counted}
-use Rattle.cw_desk.proofs.Terms.{tell as tell_mem, Told}
+use Rattle.cw_desk.proofs.Terms.{tell as tell_mem, DeskState}
 use Rattle.std.specs.List.{list_any}
 use Rattle.cw_desk.specs.Quiet.{QuietState, as_quiet}
 use Rattle.cw_desk.specs.model.Quiet.{as_mem, tell}
@@ -28,7 +28,8 @@ quiet-after {d = d} quiet failing faults = let still = called-quiet d quiet in r
   faults = faults ∙ still.faults;
 }
 
-pub tells-quiet : (R : Told → Told → Type 0) (d e : MemState) (q : QuietState) → as_quiet d ≡ q → IsQuiet d → IsQuiet e
+pub tells-quiet : (R : DeskState → DeskState → Type 0) (d e : MemState) (q : QuietState) → as_quiet d
+    ≡ q → IsQuiet d → IsQuiet e
     → R (tell_mem d) (tell_mem e) → R (tell q) (tell (as_quiet e))
 tells-quiet R d e q is before after done = subst (λ (s : QuietState). R (tell s) (tell (as_quiet e))) is
     (subst (λ (m : MemState). R (tell_mem m) (tell_mem (as_mem (as_quiet e)))) (sym (as_mem-quiet d before))

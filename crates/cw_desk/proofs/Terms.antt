@@ -10,4 +10,5 @@ pub use Rattle.std.specs.FinMap.{find, get, from_entries, get-from_entries}
 pub use Rattle.std.specs.Ordering.{nat_cmp}
 pub use Rattle.cw_desk.specs.{Journal.byte_events, Journal.grown, Mem.MemState, model.Mem.called, model.Mem.counted}
 pub use Rattle.cw_desk.specs.{model.Mem.tell}
-pub use Rattle.cw_desk.specs.{Told.Told, Told.Opens, Told.Reads, Told.OnlyPuts, model.Trail.nothing, Trail.noted_after}
+pub use Rattle.cw_desk.specs.{DeskState.Told, DeskState.Opens, DeskState.Reads, DeskState.OnlyPuts, model.Trail.nothing}
+pub use Rattle.cw_desk.specs.{Trail.noted_after}

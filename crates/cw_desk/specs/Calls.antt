@@ -7,7 +7,7 @@ use Rattle.cw_desk.specs.Answer.{Answer, Opened as opened, Missing as missing, R
 use Rattle.cw_desk.specs.Journal.{grown}
 use Rattle.cw_desk.specs.Make.{event_after, if_done}
 use Rattle.cw_desk.specs.Put.{put_events}
-use Rattle.cw_desk.specs.Trail.{Noted, noted_after, with_answer}
+use Rattle.cw_desk.specs.Trail.{TrailState, noted_after, with_answer}
 use Rattle.cw_desk.specs.declared.desk.Opened.{Opened}
 use Rattle.cw_desk.specs.declared.desk.Opened.TheVariants.{File as was_opened, Missing as was_missing}
 use Rattle.cw_desk.specs.declared.desk.Opened.TheVariants.{Failed as failed_open, Memory as no_open}
@@ -18,15 +18,15 @@ use Rattle.cw_desk.specs.declared.desk.Taken.{Taken}
 use Rattle.cw_desk.specs.declared.note.Note.{Note}
 use Rattle.cw_desk.specs.declared.system.calls.Look.{Look}
 use Rattle.cw_desk.specs.declared.system.calls.Look.TheVariants.{File, Nothing, Failed as look_failed}
-use Rattle.cw_desk.specs.declared.system.calls.Found.{Found}
-use Rattle.cw_desk.specs.declared.system.calls.Found.TheVariants.{Here, Elsewhere, Missing, Failed, Memory}
+use Rattle.cw_desk.specs.declared.system.calls.FoundPlace.{FoundPlace}
+use Rattle.cw_desk.specs.declared.system.calls.FoundPlace.TheVariants.{Here, Elsewhere, Missing, Failed, Memory}
 
-abbrev pub after_look : ℕ → List ℕ → Look → Noted → Noted
+abbrev pub after_look : ℕ → List ℕ → Look → TrailState → TrailState
 after_look number name (File file) noted = with_answer (opened number name) noted
 after_look number name Nothing noted = noted
 after_look number name look_failed noted = noted
 
-abbrev pub after_found : ℕ → List ℕ → Found → Noted → Noted
+abbrev pub after_found : ℕ → List ℕ → FoundPlace → TrailState → TrailState
 after_found number name (Here file) noted = with_answer (opened number name) noted
 after_found number name (Elsewhere file) noted = with_answer (opened number name) noted
 after_found number name Missing noted = with_answer (missing name) noted
@@ -49,26 +49,26 @@ heard_after_read index buffer no_memory heard = heard
 
 -- ## What is noted after a call
 
-abbrev pub after_opening : List ℕ → Opened → Noted → Noted
+abbrev pub after_opening : List ℕ → Opened → TrailState → TrailState
 after_opening name result noted = record noted { heard = heard_after_open name result noted.heard }
 
-abbrev pub after_reading : ℕ → List ℕ → Fetched → Noted → Noted
+abbrev pub after_reading : ℕ → List ℕ → Fetched → TrailState → TrailState
 after_reading number buffer result noted = record noted { heard = heard_after_read number buffer result noted.heard }
 
-abbrev pub after_writing : Out → List ℕ → Taken → Noted → Noted
+abbrev pub after_writing : Out → List ℕ → Taken → TrailState → TrailState
 after_writing out bytes result noted = record noted { journal = grown noted.journal (put_events out bytes result) }
 
 -- ## A call that begins or ends an output
 
 -- one that begins it: this note, where there is a file
-abbrev pub after_creating : Note → Option SystemFile → Noted → Noted
+abbrev pub after_creating : Note → Option SystemFile → TrailState → TrailState
 after_creating note (Some file) noted = noted_after note noted
 after_creating note None noted = noted
 
 -- one that begins or ends it: this note, where it is done
-abbrev pub after_turn : Note → MadeOut → Noted → Noted
+abbrev pub after_turn : Note → MadeOut → TrailState → TrailState
 after_turn note result noted = if_done result (noted_after note noted) noted
 
 -- the same by the event of which the note tells
-abbrev pub after_event : Event → MadeOut → Noted → Noted
+abbrev pub after_event : Event → MadeOut → TrailState → TrailState
 after_event event result noted = record noted { journal = grown noted.journal (event_after result event) }

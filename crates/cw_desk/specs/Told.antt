@@ -20,7 +20,7 @@ use Rattle.cw_desk.specs.declared.desk.Taken.{Taken}
 use Rattle.cw_desk.specs.declared.desk.Taken.TheVariants.{Failed as failed_put}
 
 -- Files agree with a desk if they would have given all that it has answered so far.
-pub record Told : Type 1 where
+pub record DeskState : Type 1 where
   pub opened : ℕ  -- how many files were opened
   pub outputs : Outputs  -- which outputs are made, and which have a draft
   pub agrees : Files → Type 0
@@ -32,12 +32,12 @@ pub record Told : Type 1 where
   pub names : List ℕ  -- the ghost names of the references through which the desk is lent
 
 -- Files that agree after some calls agreed before them.
-abbrev pub Narrows : Told → Told → Type 0
+abbrev pub Narrows : DeskState → DeskState → Type 0
 Narrows old new = (files : Files) → new.agrees files → old.agrees files
 
 -- Calls that put bytes and make nothing: they change the journal alone, but that more of it may be handed on, fewer
 -- files may agree, and the count of faults may rise.
-pub record OnlyPuts (old new : Told) : Type 0 where
+pub record OnlyPuts (old new : DeskState) : Type 0 where
   pub same_names : new.names ≡ old.names
   pub same_opened : new.opened ≡ old.opened
   pub same_outputs : new.outputs ≡ old.outputs
@@ -50,7 +50,7 @@ pub record OnlyPuts (old new : Told) : Type 0 where
 -- Calls that open and read files: outputs and journal stay, and so does what is unread of the files that were open
 -- before. Bytes may have come, fewer files may agree, more of the journal may be handed on, and the count of faults may
 -- rise.
-pub record OnlyReads (old new : Told) : Type 0 where
+pub record OnlyReads (old new : DeskState) : Type 0 where
   pub same_names : new.names ≡ old.names
   pub opened_kept : old.opened ≤ new.opened
   pub same_outputs : new.outputs ≡ old.outputs
@@ -61,7 +61,7 @@ pub record OnlyReads (old new : Told) : Type 0 where
   pub handed_kept : old.handed ≤ new.handed
   pub faults_kept : old.faults ≤ new.faults
 
-pub record Opens (name : List ℕ) (result : Opened) (old new : Told) : Type 0 where
+pub record Opens (name : List ℕ) (result : Opened) (old new : DeskState) : Type 0 where
   pub same_names : new.names ≡ old.names
   pub next : OpensNext old.opened new.opened result
   pub named : (files : Files) → new.agrees files → OpensNamed files name (new.rest files) result
@@ -74,7 +74,7 @@ pub record Opens (name : List ℕ) (result : Opened) (old new : Told) : Type 0 w
   pub faults_kept : old.faults ≤ new.faults
   pub failed : result ≡ failed_open → Rose old.faults new.faults
 
-pub record Reads (index : ℕ) (buffer : List ℕ) (result : Fetched) (old new : Told) : Type 0 where
+pub record Reads (index : ℕ) (buffer : List ℕ) (result : Fetched) (old new : DeskState) : Type 0 where
   pub same_names : new.names ≡ old.names
   pub some : ReadsSome buffer result
   pub next : (files : Files) → new.agrees files
@@ -90,7 +90,7 @@ pub record Reads (index : ℕ) (buffer : List ℕ) (result : Fetched) (old new :
   pub failed : result ≡ failed_read → Rose old.faults new.faults
 
 -- A call that begins or ends an output: after Done the outputs are these, and the journal has this event more.
-pub record Turns (done : Outputs) (event : Event) (result : MadeOut) (old new : Told) : Type 0 where
+pub record Turns (done : Outputs) (event : Event) (result : MadeOut) (old new : DeskState) : Type 0 where
   pub same_names : new.names ≡ old.names
   pub outputs : new.outputs ≡ outputs_after result done old.outputs
   pub journal : new.journal ≡ grown old.journal (event_after result event)
@@ -102,24 +102,24 @@ pub record Turns (done : Outputs) (event : Event) (result : MadeOut) (old new : 
   pub faults_kept : old.faults ≤ new.faults
   pub failed : result ≡ failed_make → Rose old.faults new.faults
 
-abbrev pub Makes : Out → List ℕ → MadeOut → Told → Told → Type 0
+abbrev pub Makes : Out → List ℕ → MadeOut → DeskState → DeskState → Type 0
 Makes out name result old new = Turns (with_output out old.outputs) (Made out name) result old new
 
-abbrev pub Drafts : Out → List ℕ → MadeOut → Told → Told → Type 0
+abbrev pub Drafts : Out → List ℕ → MadeOut → DeskState → DeskState → Type 0
 Drafts out name result old new = Turns (with_draft out old.outputs) (Drafted out name) result old new
 
-abbrev pub KeepsOld : Out → MadeOut → Told → Told → Type 0
+abbrev pub KeepsOld : Out → MadeOut → DeskState → DeskState → Type 0
 KeepsOld out result old new = Turns (without_draft out old.outputs) (Kept out) result old new
 
-abbrev pub Replaces : Out → MadeOut → Told → Told → Type 0
+abbrev pub Replaces : Out → MadeOut → DeskState → DeskState → Type 0
 Replaces out result old new = Turns (without_draft out old.outputs) (Replaced out) result old new
 
-pub record Takes (out : Out) (bytes : List ℕ) (result : Taken) (old new : Told) : Type 0 where
+pub record Takes (out : Out) (bytes : List ℕ) (result : Taken) (old new : DeskState) : Type 0 where
   pub some : TakesSome bytes result
   pub journal : new.journal ≡ grown old.journal (put_events out bytes result)
   pub same : OnlyPuts old new
   pub failed : result ≡ failed_put → Rose old.faults new.faults
 
 -- what is told through a reference of this ghost name
-abbrev pub lent : ℕ → Told → Told
+abbrev pub lent : ℕ → DeskState → DeskState
 lent name told = record told { names = name ∷ told.names }

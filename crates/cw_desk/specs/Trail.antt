@@ -10,24 +10,24 @@ use Rattle.cw_desk.specs.declared.note.Note.TheVariants.{Opened as was_opened, M
 use Rattle.cw_desk.specs.declared.note.Note.TheVariants.{End as was_end, Made as was_made, Drafted as was_drafted}
 use Rattle.cw_desk.specs.declared.note.Note.TheVariants.{Kept as was_kept, Replaced as was_replaced, Took}
 
-pub record Noted : Type 0 where
+pub record TrailState : Type 0 where
   pub heard : List Answer  -- what the system answered, the newest first
   pub journal : List Event  -- what the system took and did
 
 -- one answer more
-abbrev pub with_answer : Answer → Noted → Noted
+abbrev pub with_answer : Answer → TrailState → TrailState
 with_answer answer n = record n { heard = answer ∷ n.heard }
 
 -- one event more
-abbrev pub with_event : Event → Noted → Noted
+abbrev pub with_event : Event → TrailState → TrailState
 with_event event n = record n { journal = n.journal ++ event ∷ [] }
 
 -- bytes more
-abbrev pub with_bytes : Out → List ℕ → Noted → Noted
+abbrev pub with_bytes : Out → List ℕ → TrailState → TrailState
 with_bytes out bytes n = record n { journal = n.journal ++ byte_events out bytes }
 
 -- what is noted of a call
-abbrev pub noted_after : Note → Noted → Noted
+abbrev pub noted_after : Note → TrailState → TrailState
 noted_after (was_opened index name) n = with_answer (Opened index name.now) n
 noted_after (was_missing name) n = with_answer (Missing name.now) n
 noted_after (was_read index bytes) n = with_answer (Read index bytes.now) n

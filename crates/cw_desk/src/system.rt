@@ -18,7 +18,7 @@ mod output;
 
 use crate::desk::{Fetched, FileId, MadeOut, Opened, Taken};
 use crate::note::Note;
-use calls::{Calls, Found};
+use calls::{Calls, FoundPlace};
 use cw_base::{Bytes, Memory, Out};
 pub use environment::command_line;
 use inputs::{OpenedFile, OpenedFiles};
@@ -94,11 +94,11 @@ impl System {
             return Opened::Memory;
         }
         let (found, is_elsewhere) = match self.calls.open(index, name) {
-            Found::Here(found) => (found, false),
-            Found::Elsewhere(found) => (found, true),
-            Found::Missing => return Opened::Missing,
-            Found::Failed => return Opened::Failed,
-            Found::Memory => return Opened::Memory,
+            FoundPlace::Here(found) => (found, false),
+            FoundPlace::Elsewhere(found) => (found, true),
+            FoundPlace::Missing => return Opened::Missing,
+            FoundPlace::Failed => return Opened::Failed,
+            FoundPlace::Memory => return Opened::Memory,
         };
         let opened = OpenedFile::new(kept, found, is_elsewhere);
         match self.opened.list.push(opened) {

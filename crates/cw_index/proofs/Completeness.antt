@@ -4,7 +4,8 @@ use Rattle.cw_index.proofs.Terms.{◌∙◌, subst, List, [], ◌∷◌, ◌++�
 use Rattle.cw_index.proofs.Terms.{true≢false, AllByRecursion, list_any, insert_key, Ordering, Equal, unsigned_ties}
 use Rattle.cw_index.proofs.Terms.{is_eq, ordering_reverse, ordering_then, nat_cmp, Occurrence, SectionRef, sections-at}
 use Rattle.cw_index.proofs.Terms.{any_in, mention_of, mentions, AreDistinct, Entry, is_entry, same_kind, or-false}
-use Rattle.cw_index.proofs.Terms.{EntryKind, classes_cmp, entry_cmp, entry_kind_place, text_cmp, entry_cmp-total, Row}
+use Rattle.cw_index.proofs.Terms.{EntryKind, classes_cmp, entry_cmp, entry_kind_place, text_cmp, entry_cmp-total}
+use Rattle.cw_index.proofs.Terms.{IndexRow}
 use Rattle.cw_index.proofs.Terms.{has_sections, is_listed, listed, needs_underline, row, row_cmp, rows_from, with_row}
 use Rattle.std.specs.List.{IsDistinct}
 use Rattle.std.specs.Cmp.Lexicographic.{lists_ties, pointwise, slice_cmp}
@@ -120,7 +121,7 @@ alike first entry same =
     ap (λ t. t && pointwise nat_eq first.text entry.text) (same-kinds first.kind entry.kind parts.1)
     ∙ lists_ties nat_cmp unsigned_ties first.text entry.text ∙ texts.1
 
-first-differ : (first : Entry) (n : ℕ) (entries : List Entry) (os : List Occurrence) (r : Row) → r.entry ≡ first
+first-differ : (first : Entry) (n : ℕ) (entries : List Entry) (os : List Occurrence) (r : IndexRow) → r.entry ≡ first
     → AllByRecursion (λ (other : Entry). is_entry first.kind first.text other ≡ false) entries
     → AllByRecursion (Apart row_cmp r) (rows_from n entries os)
 first-differ first n [] os r is all = tt
@@ -151,7 +152,7 @@ rows-apart n (entry ∷ entries) os distinct =
 
 pub index-complete : IndexIsComplete
 index-complete before after entry os section distinct =
-    let rows : List Row = rows_from 0 (before ++ entry ∷ after) os in
+    let rows : List IndexRow = rows_from 0 (before ++ entry ∷ after) os in
     any-sorted row_cmp (lists (length before) section) [] rows (none-new row_cmp rows)
     (rows-apart 0 (before ++ entry ∷ after) os distinct) ∙ or-false (list_any (lists (length before) section) rows)
     ∙ subst (λ (name : ℕ). list_any (lists name section) rows ≡ occurs (needs_underline name entry) name section os)

@@ -4,7 +4,8 @@ use Rattle.cw_index.proofs.Terms.{IsTrue, get_or, slice_get, refl, subst, arith,
 use Rattle.cw_index.proofs.Terms.{range_with_len, insert_key, IsTotalOrder, Ordering, Less, on_total, tied_itself}
 use Rattle.cw_index.proofs.Terms.{All-cons, All-filter, All-get_or, All-head, All-map, All-nil, All-tail}
 use Rattle.cw_index.proofs.Terms.{All-insert_key, Occurrence, SectionRef, sections-ascending, AreAscending, above_all}
-use Rattle.cw_index.proofs.Terms.{any_in, mention_of, mentions, Entry, entry_cmp-total, Row, has_sections, index_rows}
+use Rattle.cw_index.proofs.Terms.{any_in, mention_of, mentions, Entry, entry_cmp-total, IndexRow, has_sections}
+use Rattle.cw_index.proofs.Terms.{index_rows}
 use Rattle.cw_index.proofs.Terms.{is_listed, needs_underline, row, row_cmp, rows_from, with_row}
 use Rattle.std.specs.List.Sorted.{IsStrictlySortedBy}
 use Rattle.std.proofs.lemmas.List.Kept.{AllPairs-filter}
@@ -14,7 +15,7 @@ use Rattle.cw_index.proofs.Completeness.{each-inserted, of-name}
 
 -- ## What holds of each row
 
-module _ (os : List Occurrence) (P : Row → Type 0) where
+module _ (os : List Occurrence) (P : IndexRow → Type 0) where
   -- P holds of the row of a name, if it has sections
   abbrev HoldsOfRow : ℕ → Entry → Type 0
   HoldsOfRow name entry = has_sections (row name entry os).sections ≡ true → P (row name entry os)
@@ -39,7 +40,8 @@ module _ (os : List Occurrence) (P : Row → Type 0) where
       by later true is = All-cons P (row n entry os) (rows_from (n + 1) entries os) (here is) later
       by later false is = later
 
-  each-sorted : (rows sorted : List Row) → All P sorted → All P rows → All P (fold (insert_key row_cmp) sorted rows)
+  each-sorted : (rows sorted : List IndexRow) → All P sorted → All P rows → All P (fold
+      (insert_key row_cmp) sorted rows)
   each-sorted [] sorted those all = those
   each-sorted (one ∷ rows) sorted those all = each-sorted rows (insert_key row_cmp sorted one)
       (All-insert_key row_cmp one P sorted those (All-head P one rows all)) (All-tail P one rows all)
@@ -94,10 +96,11 @@ unfolding IsStrictlySortedBy
 none-sorted order = tt
 
 row_cmp-total : IsTotalOrder row_cmp
-row_cmp-total = on_total (λ (row : Row). row.entry) entry_cmp-total
+row_cmp-total = on_total (λ (row : IndexRow). row.entry) entry_cmp-total
 
 -- Of one name there is one entry, so rows that stand apart are of two names.
-names-differ : (names : List Entry) (first second : Row) → slice_get names first.name ≡ Some first.entry → slice_get
+names-differ : (names : List Entry) (first second : IndexRow) → slice_get names first.name
+    ≡ Some first.entry → slice_get
     names second.name ≡ Some second.entry → row_cmp first second ≡ Less → are_of_one_name first second ≡ false
 names-differ names first second here there less = grind (arith, ne_eqb, slice_get, tied_itself, entry_cmp-total)
 
@@ -110,17 +113,17 @@ rows-of-names names os = record {
       (get_or rows j d) (All-get_or HasEntry rows i d (omega arith) entries)
       (All-get_or HasEntry rows j d within entries) (Less-from_sorted row_cmp rows i j d order before within));
   order = order;
-  some = each-row os (λ (r : Row). IsTrue (has_sections r.sections)) names (λ name entry is has. has);
-  ascending = each-row os (λ (r : Row). AreAscending r.sections) names
+  some = each-row os (λ (r : IndexRow). IsTrue (has_sections r.sections)) names (λ name entry is has. has);
+  ascending = each-row os (λ (r : IndexRow). AreAscending r.sections) names
       (λ name entry is has. row-ascending name entry os);
-  underlined = each-row os (λ (r : Row). All (AsOccurring r.name os) r.sections) names
+  underlined = each-row os (λ (r : IndexRow). All (AsOccurring r.name os) r.sections) names
       (λ name entry is has. row-underlined name entry os);
 }
   where
-    rows : List Row
+    rows : List IndexRow
     rows = index_rows names os
 
-    HasEntry : Row → Type 0
+    HasEntry : IndexRow → Type 0
     HasEntry r = slice_get names r.name ≡ Some r.entry
 
     entries : All HasEntry rows

@@ -1,5 +1,5 @@
 -- A listed name: its text between what stands before and behind it.
-use Rattle.cw_index.proofs.Terms.{◌≡◌, ℕ, refl, List, arith, Result, Ok, Err, IsErrAnd, Told, puts-stop, PutError}
+use Rattle.cw_index.proofs.Terms.{◌≡◌, ℕ, refl, List, arith, Result, Ok, Err, IsErrAnd, DeskState, puts-stop, PutError}
 use Rattle.cw_index.proofs.Terms.{Entry, AreSums, Weaving, bytes-refused, no_counts, nothing-more, weaves-bytes}
 use Rattle.cw_index.proofs.Terms.{weaves-stopped, weaving-begun, weaving-last, weaving-last-stopped, weaving-next}
 use Rattle.cw_index.proofs.Terms.{weaves-behind, weaves-refused, Counts, Done, done_behind, as_it_is, done_then}
@@ -21,14 +21,14 @@ behind-text {s = s} text back {old = old} {counts = counts} woven =
 
 -- The front is refused.
 pub front-refused : {T : Type 0} {s : Setting} {front : List ℕ} (d : Done ℕ) {old : Press} {line : LineState}
-    {told : Told} {error : PutError} {result : Result Counts PutError}
+    {told : DeskState} {error : PutError} {result : Result Counts PutError}
     → Puts {T = T} front old.line line old.told told (Err error) → IsErrAnd result (λ found. found ≡ error) → Weaves s
     (done_behind front d) old (record { book = old.book; line = line; told = told; steps = old.steps }) result
 front-refused d {error = error} put is = weaves-refused error (puts-stop d.out put is) refl (omega arith) is
 
 -- The text is refused.
 pub text-refused : {T : Type 0} {s : Setting} {front : List ℕ} {d : Done ℕ} (back : List ℕ) {old new : Press}
-    {line : LineState} {told : Told} {value : T} {error : PutError} {result : Result Counts PutError}
+    {line : LineState} {told : DeskState} {value : T} {error : PutError} {result : Result Counts PutError}
     → Puts {T = T} front old.line line old.told told (Ok value)
     → Weaves s d (record { book = old.book; line = line; told = told; steps = old.steps }) new (Err error) → IsErrAnd
     result (λ found. found ≡ error) → Weaves s (done_behind front (done_then d (as_it_is back))) old new result
@@ -36,7 +36,7 @@ text-refused {d = d} back put woven is = weaves-behind put (weaves-stopped (as_i
 
 -- What stands behind it is refused.
 pub back-refused : {T U : Type 0} {s : Setting} {front : List ℕ} (text : List Entry → Done ℕ) (back : List ℕ)
-    {old mid : Press} {line line' : LineState} {told told' : Told} {value : T} {counts : Counts} {error : PutError}
+    {old mid : Press} {line line' : LineState} {told told' : DeskState} {value : T} {counts : Counts} {error : PutError}
     {result : Result Counts PutError} → Puts {T = T} front old.line line old.told told (Ok value) → Weaves s
     (text old.book.names) (record { book = old.book; line = line; told = told; steps = old.steps }) mid (Ok counts)
     → Puts {T = U} back mid.line line' mid.told told' (Err error) → IsErrAnd result (λ found. found ≡ error)
@@ -47,7 +47,7 @@ back-refused text back put woven ended is =
 
 -- All is put.
 pub listed-woven : {T U : Type 0} {s : Setting} {front : List ℕ} (text : List Entry → Done ℕ) (back : List ℕ)
-    {old mid : Press} {line line' : LineState} {told told' : Told} {value : T} {ended : U} {counts : Counts}
+    {old mid : Press} {line line' : LineState} {told told' : DeskState} {value : T} {ended : U} {counts : Counts}
     → Puts {T = T} front old.line line old.told told (Ok value) → Weaves s (text old.book.names) (record
     { book = old.book; line = line; told = told; steps = old.steps }) mid (Ok counts) → Puts {T = U} back mid.line line'
     mid.told told' (Ok ended) → Weaves s (done_behind front (done_then (text old.book.names) (as_it_is back))) old

@@ -1,7 +1,7 @@
 -- A section name that begins at a place is whole by itself.
 use Rattle.cw_index.proofs.Terms.{◌||◌, ◌≡◌, ℕ, suc, ◌+◌, ◌-◌, ◌≤◌, Bool, true, false, List, [], ◌∷◌, ◌++◌, length}
 use Rattle.cw_index.proofs.Terms.{take, drop, refl, sym, ap, subst, ◌∙◌, arith, length-drop, length-take, take_all}
-use Rattle.cw_index.proofs.Terms.{nat_tests, common_steps, Code, Answer, Where, Found, note_answers, code_of}
+use Rattle.cw_index.proofs.Terms.{nat_tests, common_steps, Code, Answer, Where, ScanStep, note_answers, code_of}
 use Rattle.cw_index.proofs.Terms.{still_fresh, joined, answers, fresh_at, last_at, tokens_of, one, effect_in}
 use Rattle.cw_index.proofs.Terms.{section_name, is_name, code_by, found_apart, drop-part, all-taken, or-notes}
 use Rattle.cw_index.proofs.Terms.{name-kind, name-plain, IsWhole, name_span}
@@ -24,7 +24,7 @@ name_size place bytes = (extent (at_start bodies.SectionName (place + 2)) bytes)
 -- ## A name in C text
 
 -- the name with this code, as a token
-abbrev named : Code → ℕ → List ℕ → Found
+abbrev named : Code → ℕ → List ℕ → ScanStep
 named c place shown = one false inner place shown (section_name c place shown)
 
 name-stands : (c : Code) (place : ℕ) (shown : List ℕ) → is_name c ≡ true
@@ -61,7 +61,7 @@ name-uncut d bs fresh last place n =
     omega (arith, name-take i bs refl, length-take (name_size place bs) bs, extent-le i bs) in
     let behind : begins_section_in last_bytes ≡ false =
     ap (λ m. begins_section_in (rest inner m)) size ∙ all-taken (d ∷ ls) inner (still_fresh fresh 64) 64 (place + 1) in
-    ap (λ (f : Found). begins_section_in (joined f rest)) (name-found d ls fresh last place n) ∙ ap (λ b. b ||
+    ap (λ (f : ScanStep). begins_section_in (joined f rest)) (name-found d ls fresh last place n) ∙ ap (λ b. b ||
     begins_section_in (note_answers notes ++ last_bytes)) (name-kind (code_of d) n) ∙ or-notes notes last_bytes behind
 
 -- a name in its text

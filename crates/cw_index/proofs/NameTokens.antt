@@ -2,7 +2,8 @@
 use Rattle.cw_index.proofs.Terms.{◌≡◌, ℕ, zero, suc, ◌+◌, ◌-◌, Bool, true, false, ◌&&◌, ◌==◌, List, [], ◌∷◌, ◌++◌}
 use Rattle.cw_index.proofs.Terms.{length, drop, refl, sym, ap, subst, ◌∙◌, arith, append_assoc, append-nil}
 use Rattle.cw_index.proofs.Terms.{if◌then◌else◌, take_all, Code, TokKind, Answer, Token, Begin, Finish, Note, Where}
-use Rattle.cw_index.proofs.Terms.{Found, code_of, code_at, is_section, begins_section, still_fresh, answers, tokens_of}
+use Rattle.cw_index.proofs.Terms.{ScanStep, code_of, code_at, is_section, begins_section, still_fresh, answers}
+use Rattle.cw_index.proofs.Terms.{tokens_of}
 use Rattle.cw_index.proofs.Terms.{is_name_kind, name-plain, drop-on, all_cut, is_name, section, section_code}
 use Rattle.cw_index.proofs.Terms.{found_apart, in_text_apart, not-both}
 use Rattle.cw_rules.specs.{declared.tokens.Mode.Mode, Bytes.at_sign}
@@ -49,20 +50,20 @@ found-tells : (w : Where) (fresh : Bool) (last place byte : ℕ) (bytes : List �
     → code_in (found_apart w fresh last place byte bytes).answers ≡ c → is_name c ≡ true → TellsCode byte bytes c
 found-tells w fresh last place byte bytes c is n = by (byte == at_sign && begins_section bytes) refl
   where
-    coded : Found
+    coded : ScanStep
     coded = section w place bytes
 
-    other : Found
+    other : ScanStep
     other = in_text_apart w.part w.comments fresh last place byte bytes
 
     by : (t : Bool) → (byte == at_sign && begins_section bytes) ≡ t → TellsCode byte bytes c
     by true e =
         let f : found_apart w fresh last place byte bytes ≡ coded = ap (λ t. if t then coded else other) e in
-        not-both _ (ap (λ (f : Found). is_section (code_in f.answers)) f ∙ section-found w place bytes)
+        not-both _ (ap (λ (f : ScanStep). is_section (code_in f.answers)) f ∙ section-found w place bytes)
         (ap is_section is ∙ name-plain c n)
     by false e =
         let f : found_apart w fresh last place byte bytes ≡ other = ap (λ t. if t then coded else other) e in
-        let same : code_in other.answers ≡ c = ap (λ (f : Found). code_in f.answers) (sym f) ∙ is in
+        let same : code_in other.answers ≡ c = ap (λ (f : ScanStep). code_in f.answers) (sym f) ∙ is in
         let opens : is_opener (code_in other.answers) ≡ true = ap is_opener same ∙ name-opens c n in
         let told = (in-text-tells w.part w.comments fresh last place byte bytes).code opens in
         (told.0, told.1 ∙ same)

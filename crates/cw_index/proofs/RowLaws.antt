@@ -2,7 +2,7 @@
 use Rattle.cw_index.proofs.Terms.{◌≡◌, ℕ, ◌+◌, Bool, true, refl, ap, ◌∙◌, List, [], ◌∷◌, All, Some, drop, map, fold}
 use Rattle.cw_index.proofs.Terms.{arith, slice_get, drop_more, get_or_from_slice_get, slice_get_within, All-insert_key}
 use Rattle.cw_index.proofs.Terms.{insert_key, Ordering, match_ordering, on, Occurrence, Entry, Heading, entry_cmp}
-use Rattle.cw_index.proofs.Terms.{IsNamed, entered, entered_by, entry_of, row_of, Row, has_sections, row, row_cmp}
+use Rattle.cw_index.proofs.Terms.{IsNamed, entered, entered_by, entry_of, row_of, IndexRow, has_sections, row, row_cmp}
 use Rattle.cw_index.proofs.Terms.{rows_from, with_row}
 
 -- What keys are mapped to is in the same order.
@@ -16,19 +16,19 @@ inserted f order [] k = refl
 inserted f order (x ∷ xs) k = grind (arith, inserted f order xs k, inserted-by)
 
 -- The headings so far, with the rows that are still to come, make the index.
-abbrev pub with_later : ℕ → List Entry → List Occurrence → List Row → List Row
+abbrev pub with_later : ℕ → List Entry → List Occurrence → List IndexRow → List IndexRow
 with_later name later occurrences rows = fold (insert_key row_cmp) rows (rows_from name later occurrences)
 
-later-by : (t : Bool) (r : Row) (rows later : List Row)
+later-by : (t : Bool) (r : IndexRow) (rows later : List IndexRow)
     → fold (insert_key row_cmp) rows (with_row t r later) ≡ fold (insert_key row_cmp) (entered_by t r rows) later
 later-by t r rows later = grind arith
 
-pub later-next : (name : ℕ) (entry : Entry) (later : List Entry) (occurrences : List Occurrence) (rows : List Row)
+pub later-next : (name : ℕ) (entry : Entry) (later : List Entry) (occurrences : List Occurrence) (rows : List IndexRow)
     → with_later name (entry ∷ later) occurrences rows
     ≡ with_later (name + 1) later occurrences (entered (row name entry occurrences) rows)
 later-next name entry later occurrences rows = grind (arith, later-by)
 
-pub later-step : (names : List Entry) (occurrences : List Occurrence) (rows rows' : List Row) (i : ℕ) (h : Heading)
+pub later-step : (names : List Entry) (occurrences : List Occurrence) (rows rows' : List IndexRow) (i : ℕ) (h : Heading)
     → drop i names ≡ entry_of h ∷ drop (i + 1) names
     → row_of h ≡ row i (entry_of h) occurrences → rows' ≡ entered (row_of h) rows
     → with_later (i + 1) (drop (i + 1) names) occurrences rows' ≡ with_later i (drop i names) occurrences rows

@@ -49,7 +49,7 @@ index entries occurrences = index_bytes three (built_in_words ++ entries) occurr
 -- Sections ascend, each once, whatever the order of the occurrences; a changed one has its mark.
 sections_row : index (entry Ident (codes "main") ∷ [])
     (at (own 0) 3 ∷ at (own 0) 1 ∷ at (own 0) 3 ∷ defined_at (own 0) 2 ∷ at (own 0) 2
-        ∷ []) ≡ codes "\\I\\\\{main}, 1, \\[2\\*], 3.\n"
+    ∷ []) ≡ codes "\\I\\\\{main}, 1, \\[2\\*], 3.\n"
 unfolding digits
 sections_row = refl
 
@@ -68,7 +68,7 @@ one_byte_code_row = refl
 -- Entries stand in their order, and one without sections is left out.
 entries_row : index (entry Ident (codes "x1") ∷ entry Ident (codes "xa") ∷ entry Typewriter (codes "Xa") ∷ entry Ident
     (codes "q") ∷ entry Roman (codes "xa") ∷ []) (at (own 0) 1 ∷ at (own 1) 1 ∷ at (own 2) 1 ∷ at (own 3) 1
-        ∷ at (own 4) 1 ∷ [])
+    ∷ at (own 4) 1 ∷ [])
     ≡ codes "\\I\\.{Xa}, 1.\n\\I\\\\{xa}, 1.\n\\I{xa}, 1.\n\\I\\\\{x1}, 1.\n"
 unfolding digits
 entries_row = refl

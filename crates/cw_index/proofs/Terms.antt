@@ -18,7 +18,7 @@ pub use Rattle.std.specs.Prelude.{if◌then◌else◌, slice_get, Result, Ok, Er
 pub use Rattle.std.specs.declared.cmp.Ordering.TheVariants.{Less, Greater, Equal}
 pub use Rattle.cw_base.proofs.TestLaws.{not-both, or-false}
 pub use Rattle.cw_base.specs.declared.category.Cat.TheVariants.{Exp, RawInt}
-pub use Rattle.cw_desk.specs.Told.{Told}
+pub use Rattle.cw_desk.specs.Told.{DeskState}
 pub use Rattle.cw_index.specs.{laws.CollationLaws.entry_cmp-total, model.ListForms.list_setting, Sorted.sorted_on}
 pub use Rattle.cw_index.specs.{Sorted.sorted}
 pub use Rattle.cw_index.specs.{declared.heading.Heading.Heading, declared.standing.Listed.Listed}
@@ -27,7 +27,7 @@ pub use Rattle.cw_index.specs.Closing.{change, changed_from, changes_line, print
 pub use Rattle.cw_index.specs.Collation.{entry_cmp, text_cmp, class_cmp, class_of, classes_cmp, entry_kind_place}
 pub use Rattle.cw_index.specs.model.Headings.{IsNamed, entered, entered_by, entry_of, row_of}
 pub use Rattle.cw_index.specs.Index.{entry_bytes, index_bytes, section_bytes, row_bytes, number_bytes}
-pub use Rattle.cw_index.specs.Mentions.{is_listed, listed, Row, has_sections, row, row_cmp, rows_from, with_row}
+pub use Rattle.cw_index.specs.Mentions.{is_listed, listed, IndexRow, has_sections, row, row_cmp, rows_from, with_row}
 pub use Rattle.cw_index.specs.Mentions.{needs_underline, index_rows}
 pub use Rattle.cw_index.specs.NameList.{IsWholeName, name_span, all_listed, listed_done, name_ending, use_notes}
 pub use Rattle.cw_index.specs.Standing.{StandingName, named_stands, stand_at, stand_cmp, kept_stand, stand_by}
@@ -57,7 +57,8 @@ pub use Rattle.cw_phase1.specs.declared.sections.Section.{Section}
 pub use Rattle.cw_print.specs.Walk.{section_number}
 pub use Rattle.cw_rules.specs.{model.Apart.found_apart, model.Apart.in_text_apart, declared.codes.Code.Code}
 pub use Rattle.cw_rules.specs.{declared.tokens.TokKind.TokKind}
-pub use Rattle.cw_rules.specs.Answers.{Answer, Token, Begin, Finish, Note, Where, Found, Seen, has_sign, note_answers}
+pub use Rattle.cw_rules.specs.Answers.{Answer, Token, Begin, Finish, Note, Where, ScanStep, Seen, has_sign}
+pub use Rattle.cw_rules.specs.Answers.{note_answers}
 pub use Rattle.cw_rules.specs.Codes.{code_of, code_at, is_section, begins_section}
 pub use Rattle.cw_rules.specs.Tokens.{all_cut, is_name, section, section_code, one, effect_in, section_name, code_by}
 pub use Rattle.cw_secnames.specs.{Kept.SecName, Kept.id, Uses.NameUse}

@@ -7,7 +7,7 @@ use Rattle.cw_names.specs.declared.xrefs.Occurrence.{Occurrence}
 use Rattle.cw_names.specs.declared.xrefs.SectionRef.{SectionRef}
 use Rattle.cw_names.specs.Mentions.{AreAscending}
 use Rattle.cw_names.specs.Names.{AreDistinct, Entry}
-use Rattle.cw_index.specs.Mentions.{Row, has_sections, index_rows, is_listed, needs_underline, row_cmp}
+use Rattle.cw_index.specs.Mentions.{IndexRow, has_sections, index_rows, is_listed, needs_underline, row_cmp}
 
 -- an occurrence, as a section that may be listed for it
 abbrev pub as_mention : Occurrence → SectionRef
@@ -23,7 +23,7 @@ occurs underlined_only name section occurrences =
     list_any (λ o. o.name.index == name && is_at underlined_only section (as_mention o)) occurrences
 
 -- whether a row is of this name and lists this section
-abbrev pub lists : ℕ → ℕ → Row → Bool
+abbrev pub lists : ℕ → ℕ → IndexRow → Bool
 lists name section row = row.name == name && list_any (λ m. m.section == section) row.sections
 
 -- Of names no two of which are alike, each is listed with just the sections in which it occurs; identifiers of one
@@ -35,11 +35,11 @@ IndexIsComplete = (before after : List Entry) (entry : Entry) (occurrences : Lis
     ≡ occurs (needs_underline (length before) entry) (length before) section occurrences
 
 -- whether two rows are of the same name
-abbrev pub are_of_one_name : Row → Row → Bool
+abbrev pub are_of_one_name : IndexRow → IndexRow → Bool
 are_of_one_name row other = row.name == other.name
 
 -- what the rows of an index are, of these names and their occurrences
-pub record AreRowsOf (names : List Entry) (occurrences : List Occurrence) (rows : List Row) : Type 0 where
+pub record AreRowsOf (names : List Entry) (occurrences : List Occurrence) (rows : List IndexRow) : Type 0 where
   -- the entry of a row, which is what the row prints, is that of its name
   pub entries : All (λ row. slice_get names row.name ≡ Some row.entry) rows
   -- no name has two rows

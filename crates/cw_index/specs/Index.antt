@@ -14,7 +14,7 @@ use Rattle.cw_print.specs.Sources.{is_changed}
 use Rattle.cw_print.specs.Walk.{section_number}
 use Rattle.cw_table.specs.Sound.{is_exp}
 use Rattle.cw_trees.specs.Printing.{ident_bytes, reserved_bytes}
-use Rattle.cw_index.specs.Mentions.{Row, index_rows}
+use Rattle.cw_index.specs.Mentions.{IndexRow, index_rows}
 
 -- Identifiers print as they do in C text, and macros of TeX in a formula; the other texts are TeX's and stay as they
 -- are.
@@ -44,7 +44,7 @@ section_bytes sections m =
     codes ", " ++ number_bytes m.underlined (section_number m.section (is_changed sections m.section))
 
 -- a row is a line
-abbrev pub row_bytes : List Section → Row → List ℕ
+abbrev pub row_bytes : List Section → IndexRow → List ℕ
 row_bytes sections row =
     codes "\\I" ++ (entry_bytes row.entry ++ (flat_map (section_bytes sections) row.sections ++ codes ".\n"))
 

@@ -14,7 +14,7 @@ use Rattle.cw_index.specs.Collation.{entry_cmp}
 use Rattle.cw_index.specs.Sorted.{sorted}
 
 -- an entry, which is the name of this position, with the sections that are listed for it
-pub record Row : Type 0 where
+pub record IndexRow : Type 0 where
   pub name : ℕ
   pub entry : Entry
   pub sections : List SectionRef
@@ -34,7 +34,7 @@ is_listed underlined_only m = if underlined_only then m.underlined else true
 abbrev pub listed : Bool → List SectionRef → List SectionRef
 listed underlined_only ms = filter (is_listed underlined_only) ms
 
-abbrev pub row : ℕ → Entry → List Occurrence → Row
+abbrev pub row : ℕ → Entry → List Occurrence → IndexRow
 row name entry occurrences = record {
   name = name;
   entry = entry;
@@ -46,18 +46,18 @@ abbrev pub has_sections : List SectionRef → Bool
 has_sections [] = false
 has_sections (m ∷ ms) = true
 
-abbrev pub with_row : Bool → Row → List Row → List Row
+abbrev pub with_row : Bool → IndexRow → List IndexRow → List IndexRow
 with_row any row rows = if any then row ∷ rows else rows
 
 -- the rows of the names from a position on
-abbrev pub rows_from : ℕ → List Entry → List Occurrence → List Row
+abbrev pub rows_from : ℕ → List Entry → List Occurrence → List IndexRow
 rows_from name [] occurrences = []
 rows_from name (entry ∷ entries) occurrences =
     with_row (has_sections (row name entry occurrences).sections) (row name entry occurrences)
     (rows_from (name + 1) entries occurrences)
 
-abbrev pub row_cmp : Row → Row → Ordering
+abbrev pub row_cmp : IndexRow → IndexRow → Ordering
 row_cmp = on (λ row. row.entry) entry_cmp
 
-abbrev pub index_rows : List Entry → List Occurrence → List Row
+abbrev pub index_rows : List Entry → List Occurrence → List IndexRow
 index_rows names occurrences = sorted row_cmp (rows_from 0 names occurrences)

@@ -4,30 +4,30 @@ use Rattle.std.proofs.Common.{OnOk}
 use Rattle.std.proofs.{lemmas.List.Sums.sum_by-append, lemmas.Bool.Decides.nat_tests}
 use Rattle.std.specs.FinMap.{get}
 use Rattle.cw_base.specs.declared.limits.TheConstants.{INPUT_LIMIT}
-use Rattle.cw_desk.specs.{Meaning.Files, Told.Told, Told.Narrows, Told.Opens}
+use Rattle.cw_desk.specs.{Meaning.Files, DeskState.Told, DeskState.Narrows, DeskState.Opens}
 use Rattle.cw_desk.specs.declared.{desk.FileId.FileId, desk.Opened.TheVariants.File}
 use Rattle.cw_input.specs.Reading.{AreRead, CameAtMost, HasRead, ReadsAtMost, ReadsFirst, ReadsOn, ReadsOnly, ReadsTo}
 use Rattle.cw_input.specs.model.State.{Moves}
 use Rattle.cw_input.specs.declared.{error.LoadError.LoadError, found.Found.Found, merger.Merger.Merger}
 
 -- all files from the first on have been read
-are_read-count : (files : Files) (told : Told) (first : ℕ) (read : List (List ℕ)) → AreRead files told first read
+are_read-count : (files : Files) (told : DeskState) (first : ℕ) (read : List (List ℕ)) → AreRead files told first read
     → told.opened ≡ first + length read
 are_read-count files told first [] each = omega (arith, each)
 are_read-count files told first (bytes ∷ more) each = grind (arith, are_read-count files told (first + 1) more each.1)
 
 -- what is unread of the files that were open
-abbrev SameRests : Files → Told → Told → Type 0
+abbrev SameRests : Files → DeskState → DeskState → Type 0
 SameRests files old new = (i : ℕ) → i < old.opened → new.rest files i ≡ old.rest files i
 
-are_read-same : (files : Files) (old new : Told) (first : ℕ) (read : List (List ℕ)) → new.opened ≡ old.opened
+are_read-same : (files : Files) (old new : DeskState) (first : ℕ) (read : List (List ℕ)) → new.opened ≡ old.opened
     → SameRests files old new → AreRead files old first read → AreRead files new first read
 are_read-same files old new first [] opened same each = opened ∙ each
 are_read-same files old new first (bytes ∷ more) opened same each =
     grind (arith, are_read-same files old new (first + 1) more opened same each.1, are_read-count)
 
 -- a file more is opened and read
-are_read-more : (files : Files) (old new : Told) (first : ℕ) (read : List (List ℕ)) (last : List ℕ)
+are_read-more : (files : Files) (old new : DeskState) (first : ℕ) (read : List (List ℕ)) (last : List ℕ)
     → SameRests files old new → AreRead files new old.opened (last ∷ []) → AreRead files old first read
     → AreRead files new first (read ++ last ∷ [])
 are_read-more files old new first [] last same done each = grind arith
@@ -37,29 +37,29 @@ are_read-more files old new first (bytes ∷ more) last same done each =
 sum-more : (read : List (List ℕ)) (last : List ℕ) → sum_by length (read ++ last ∷ []) ≡ sum_by length read + length last
 sum-more read last = grind (arith, sum_by-append length read (last ∷ []))
 
-has_read-more : {files : Files} {first a b : ℕ} {told : Told} → a ≤ b → HasRead files first a told
+has_read-more : {files : Files} {first a b : ℕ} {told : DeskState} → a ≤ b → HasRead files first a told
     → HasRead files first b told
 has_read-more {a = a} {b = b} more had = grind (arith, sum_by)
 
-pub reads_on-none : (sum : ℕ) (told : Told) → ReadsOn sum sum told told
+pub reads_on-none : (sum : ℕ) (told : DeskState) → ReadsOn sum sum told told
 reads_on-none sum told = record { came = omega arith; most = λ files is first had. had }
 
-pub reads_on-same : (sum : ℕ) {old new : Told} → new.opened ≡ old.opened → new.came ≡ old.came
+pub reads_on-same : (sum : ℕ) {old new : DeskState} → new.opened ≡ old.opened → new.came ≡ old.came
     → ((files : Files) → SameRests files old new) → ReadsOn sum sum old new
 reads_on-same sum {old = old} {new = new} opened came same = grind (arith, are_read-same)
 
-pub reads_on-then : {a b c : ℕ} {first second third : Told} → Narrows second third → ReadsOn a b first second
+pub reads_on-then : {a b c : ℕ} {first second third : DeskState} → Narrows second third → ReadsOn a b first second
     → ReadsOn b c second third → ReadsOn a c first third
 reads_on-then narrows begun ended = grind arith
 
-pub reads_on-more : {a b c : ℕ} {old new : Told} → b ≤ c → ReadsOn a b old new → ReadsOn a c old new
+pub reads_on-more : {a b c : ℕ} {old new : DeskState} → b ≤ c → ReadsOn a b old new → ReadsOn a c old new
 reads_on-more more reads = grind (arith, has_read-more)
 
-pub reads_on-from : {a b c : ℕ} {old new : Told} → a ≤ b → ReadsOn b c old new → ReadsOn a c old new
+pub reads_on-from : {a b c : ℕ} {old new : DeskState} → a ≤ b → ReadsOn b c old new → ReadsOn a c old new
 reads_on-from more reads = grind (arith, has_read-more)
 
 -- calls that begin with no more than the first had read, and go on with no less than it left
-pub reads_on-both : {a b c d e : ℕ} {first second third : Told} → a ≤ b → c ≤ d → Narrows second third
+pub reads_on-both : {a b c d e : ℕ} {first second third : DeskState} → a ≤ b → c ≤ d → Narrows second third
     → ReadsOn b c first second → ReadsOn d e second third → ReadsOn a e first third
 reads_on-both before between narrows begun ended =
     reads_on-from before (reads_on-then narrows begun (reads_on-from between ended))
@@ -68,7 +68,7 @@ other : (i index before : ℕ) → index ≡ before → i < before → i ≢ ind
 other i index before is less same = omega (arith, is, less, same)
 
 -- a file is opened and read
-pub reads_on-file : (sum most : ℕ) {name : List ℕ} {id : FileId} {first second third : Told}
+pub reads_on-file : (sum most : ℕ) {name : List ℕ} {id : FileId} {first second third : DeskState}
     → Opens name (File id) first second → ReadsOnly id.index second third → CameAtMost most second third
     → ((files : Files) → third.agrees files → ReadsAtMost most (second.rest files id.index) (third.rest files id.index))
     → ReadsOn sum (sum + most) first third
@@ -91,21 +91,23 @@ reads_on-file sum most {name = name} {id = id} {first = first} {second = second}
 -- ## Answers
 
 -- nothing more is read
-pub reads_on-kept : {a b : ℕ} (told : Told) → a ≤ b → ReadsOn a b told told
+pub reads_on-kept : {a b : ℕ} (told : DeskState) → a ≤ b → ReadsOn a b told told
 reads_on-kept {a = a} told less = reads_on-more {b = a} less (reads_on-none a told)
 
 -- a call that reads nothing after others
-pub reads_to-kept : {T : Type 0} {a : ℕ} (m new : Merger) {old now : Told} (result : Result T LoadError) → OnOk result
+pub reads_to-kept : {T : Type 0} {a : ℕ} (m new : Merger) {old now : DeskState} (result : Result T LoadError)
+    → OnOk result
     (Moves 0 0 0 0 m new) → m.sum ≤ INPUT_LIMIT → ReadsOn a m.sum old now → ReadsTo a new.sum old now result
 reads_to-kept m new result moves less reads = grind (arith, reads_on-more)
 
 -- whatever is answered, at most one byte more than the limit on input
-pub reads_to-within : {T : Type 0} {a : ℕ} (text files text_left files_left : ℕ) (m new : Merger) {old now : Told}
+pub reads_to-within : {T : Type 0} {a : ℕ} (text files text_left files_left : ℕ) (m new : Merger) {old now : DeskState}
     (result : Result T LoadError) → OnOk result (Moves text files text_left files_left m new)
     → ReadsTo a new.sum old now result → ReadsOn a (INPUT_LIMIT + 1) old now
 reads_to-within text files text_left files_left m new result moves reads = grind (arith, reads_on-more)
 
 -- the file was not there under the first name
-pub reads_first-then : {first second : Told} (third : Told) (result : Result Found LoadError) → Narrows second third
+pub reads_first-then : {first second : DeskState} (third : DeskState) (result : Result InputFile LoadError)
+    → Narrows second third
     → ReadsOn 0 0 first second → ReadsFirst second third result → ReadsFirst first third result
 reads_first-then third result narrows begun ended = grind (arith, reads_on-then)

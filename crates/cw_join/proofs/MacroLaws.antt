@@ -1,9 +1,9 @@
 -- The letters of a name that is a macro of TeX.
 use Rattle.cw_join.proofs.Terms.{◌≡◌, ℕ, ◌+◌, ◌<◌, List, [], ◌∷◌, ◌++◌, length, map, get_or, drop, ap, ◌∙◌, sym}
-use Rattle.cw_join.proofs.Terms.{add-one, drop-cons, append_assoc, Ok, ⊤, Told, Prints, Sheet, macro_letter}
+use Rattle.cw_join.proofs.Terms.{add-one, drop-cons, append_assoc, Ok, ⊤, DeskState, Prints, Sheet, macro_letter}
 
 -- what the walk over a name holds: what is put already, with the letters of the rest
-pub record LettersPut {D : Type 0} (told : D → Told) (name rest : List ℕ) (old new : Sheet D) : Type 0 where
+pub record LettersPut {D : Type 0} (told : D → DeskState) (name rest : List ℕ) (old new : Sheet D) : Type 0 where
   pub done : List ℕ
   pub put : Prints {T = ⊤} told done old new (Ok (tt {0}))
   pub is : done ++ map macro_letter rest ≡ map macro_letter name

@@ -1,11 +1,11 @@
 -- The pieces of a name.
 use Rattle.cw_join.proofs.Terms.{◌≡◌, ◌≢◌, ℕ, suc, ◌+◌, ◌<◌, eqb, Bool, true, false, not, cond, codes, List, [], ◌∷◌}
 use Rattle.cw_join.proofs.Terms.{◌++◌, length, take, drop, refl, sym, ap, subst, ◌∙◌, arith, if◌then◌else◌, list_any}
-use Rattle.cw_join.proofs.Terms.{position_or_len, eqb-true, append_assoc, Ok, ⊤, Told, Prints, Sheet, ident_bytes}
+use Rattle.cw_join.proofs.Terms.{position_or_len, eqb-true, append_assoc, Ok, ⊤, DeskState, Prints, Sheet, ident_bytes}
 use Rattle.cw_join.proofs.Terms.{is_lower, long_ident_bytes, name_bytes, BeginsMarked, font_bytes, is_marked}
 
 -- what the walk over a name holds: what is put already, and that a byte with a backslash or the end comes next
-pub record PiecesPut {D : Type 0} (told : D → Told) (bytes rest : List ℕ) (old new : Sheet D) : Type 0 where
+pub record PiecesPut {D : Type 0} (told : D → DeskState) (bytes rest : List ℕ) (old new : Sheet D) : Type 0 where
   pub done : List ℕ
   pub put : Prints {T = ⊤} told done old new (Ok (tt {0}))
   pub is : done ++ name_bytes rest ≡ name_bytes bytes

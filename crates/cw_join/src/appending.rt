@@ -16,7 +16,7 @@ ghost use Rattle.cw_join.specs.model.Tokens.{PrintsByte};
 use crate::joiner::{Joiner, depth_behind, step};
 use crate::names_behind::{append_few, append_ident_of, append_reserved_of};
 use crate::pieces::sign;
-use crate::run::{Pause, Run, run_control};
+use crate::run::{ControlRun, Pause, run_control};
 use cw_base::{Bytes, Memory};
 use cw_names::Names;
 use cw_tokens::FlatItem;
@@ -55,7 +55,7 @@ impl Joiner {
         ensures stays { OnErr result (StaysBefore out.old out.new) }
     {
         self.append_rare_run(out)?;
-        self.run = Run::new();
+        self.run = ControlRun::new();
         Ok(())
     }
 
@@ -82,9 +82,9 @@ impl Joiner {
         ensures stays { OnErr result (StaysBefore out.old out.new) }
     {
         match self.run {
-            Run::Plain(Pause::Blank) => out.push(b' '),
-            Run::Plain(pause) if !self.is_inner() => append_break(pause, out),
-            Run::Marked {
+            ControlRun::Plain(Pause::Blank) => out.push(b' '),
+            ControlRun::Plain(pause) if !self.is_inner() => append_break(pause, out),
+            ControlRun::Marked {
                 cancelled: true,
                 ..
             } => Ok(()),
@@ -144,7 +144,7 @@ impl Joiner {
     {
         if !self.run.is_empty() {
             self.append_run(out)?;
-            self.run = Run::new();
+            self.run = ControlRun::new();
         }
         Ok(())
     }

@@ -13,7 +13,7 @@ ghost use Rattle.cw_join.specs.Tokens.{CanCome, HasRoom, IsNamed, item_bytes, pr
 
 use crate::naming::{put_identifier, put_reserved_of};
 use crate::pieces::{put_some, sign};
-use crate::run::{Run, indent, run_control};
+use crate::run::{ControlRun, indent, run_control};
 use crate::token::FlatToken;
 use cw_desk::Desk;
 use cw_lines::{LineOut, PutError, Sheet};
@@ -26,7 +26,7 @@ use std::marker::Model;
 /// break, and whether it has a Cancel and a Backup. It takes no memory.
 #[derive(Drop)]
 pub struct Joiner {
-    pub(crate) run: Run,
+    pub(crate) run: ControlRun,
     pub(crate) inner: bool,
     pub(crate) depth: u64,
 }
@@ -50,7 +50,7 @@ impl Joiner {
         Joiner {
             inner,
             depth: 0,
-            run: Run::new(),
+            run: ControlRun::new(),
         }
     }
 
@@ -102,7 +102,7 @@ impl Joiner {
         ensures inner { OnOk result (self.new.inner ≡ self.old.inner) }
     {
         end_run(self.run, self.is_inner(), sheet)?;
-        self.run = Run::new();
+        self.run = ControlRun::new();
         Ok(())
     }
 
@@ -153,13 +153,13 @@ impl Joiner {
         end_run(self.run, self.is_inner(), sheet)?;
         put_item(token, names, sheet)?;
         self.depth = depth_behind(self.depth, token.item);
-        self.run = Run::new();
+        self.run = ControlRun::new();
         Ok(())
     }
 }
 
 // Puts what a run prints when it has ended.
-fn end_run<D: Desk>(run: Run, inner: bool, sheet: &mut Sheet<D>) -> Result<(), PutError>
+fn end_run<D: Desk>(run: ControlRun, inner: bool, sheet: &mut Sheet<D>) -> Result<(), PutError>
     requires can { CanPrint D.told sheet.old }
     ensures { Prints D.told (state_back inner (state_of run)) sheet.old sheet.new result }
 {

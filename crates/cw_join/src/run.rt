@@ -22,7 +22,7 @@ pub(crate) enum Pause {
 /// What is kept of a run: of one that has begun the strongest break or blank, and whether it has a Cancel and a Backup.
 /// Most have neither.
 #[derive(Clone, Copy)]
-pub(crate) enum Run {
+pub(crate) enum ControlRun {
     Empty,
     Plain(Pause),
     Marked {
@@ -91,12 +91,12 @@ impl Pause {
     }
 }
 
-impl Run {
+impl ControlRun {
     /// A run of no controls.
-    pub(crate) fn new() -> Run
+    pub(crate) fn new() -> ControlRun
         ensures { state_of result ≡ record { strength = 0; cancelled = false; backed = false } }
     {
-        Run::Empty
+        ControlRun::Empty
     }
 
     /// Whether it has no control, and so prints nothing when it has ended.
@@ -104,7 +104,7 @@ impl Run {
     pub(crate) fn is_empty(self) -> bool
         ensures { OnTrue result (state_of self ≡ record { strength = 0; cancelled = false; backed = false }) }
     {
-        matches!(self, Run::Empty)
+        matches!(self, ControlRun::Empty)
     }
 
     /// Adds a control, in place: most runs end after one or two.
@@ -128,13 +128,13 @@ impl Run {
         } }
     {
         match self {
-            Run::Empty => {
-                *self = Run::Plain(other);
+            ControlRun::Empty => {
+                *self = ControlRun::Plain(other);
             }
-            Run::Plain(pause) => {
+            ControlRun::Plain(pause) => {
                 *pause = pause.stronger(other);
             }
-            Run::Marked { pause, .. } => {
+            ControlRun::Marked { pause, .. } => {
                 *pause = pause.stronger(other);
             }
         }
@@ -147,14 +147,14 @@ impl Run {
         ensures { state_of self.new ≡ run_more (state_of self.old) control }
     {
         match self {
-            Run::Empty => {
-                *self = Run::marked(Pause::Nothing, control);
+            ControlRun::Empty => {
+                *self = ControlRun::marked(Pause::Nothing, control);
             }
-            Run::Plain(pause) => {
+            ControlRun::Plain(pause) => {
                 let pause = *pause;
-                *self = Run::marked(pause, control);
+                *self = ControlRun::marked(pause, control);
             }
-            Run::Marked {
+            ControlRun::Marked {
                 cancelled,
                 backed,
                 ..
@@ -166,14 +166,14 @@ impl Run {
     }
 
     // The run of a break or a blank and of a control that is neither.
-    fn marked(pause: Pause, control: Control) -> Run
+    fn marked(pause: Pause, control: Control) -> ControlRun
         ensures { state_of result ≡ record {
           strength = strength_of pause;
           cancelled = is_cancel_sign control;
           backed = is_backup_sign control;
         } }
     {
-        Run::Marked {
+        ControlRun::Marked {
             pause,
             cancelled: is_cancel(control),
             backed: is_backup(control),
@@ -185,8 +185,8 @@ impl Run {
         ensures { result.now ≡ pause_bytes inner (state_of self) }
     {
         match self {
-            Run::Plain(pause) => pause.bytes_in(inner),
-            Run::Marked {
+            ControlRun::Plain(pause) => pause.bytes_in(inner),
+            ControlRun::Marked {
                 pause,
                 cancelled,
                 ..
@@ -200,12 +200,12 @@ impl Run {
         ensures { result ≡ backs inner (state_of self) }
     {
         match self {
-            Run::Marked {
+            ControlRun::Marked {
                 cancelled,
                 backed,
                 ..
             } => !inner && !cancelled && backed,
-            Run::Empty | Run::Plain(_) => false,
+            ControlRun::Empty | ControlRun::Plain(_) => false,
         }
     }
 }

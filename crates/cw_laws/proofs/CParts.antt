@@ -8,7 +8,7 @@ use Rattle.cw_base.proofs.TestLaws.{both-failed, both-left, not-both, or-true}
 use Rattle.cw_base.specs.{Bytes.backslash, declared.notes.NoteKind.NoteKind}
 use Rattle.cw_rules.specs.declared.{bodies.Noted.Noted, codes.Code.Code, codes.Effect.Effect, parts.Part.Part}
 use Rattle.cw_rules.specs.declared.{parts.Opened.Opened, signs.Sign.Sign, tokens.TokKind.TokKind}
-use Rattle.cw_rules.specs.Answers.{Answer, Where, Cut, Found, note_answers, plain}
+use Rattle.cw_rules.specs.Answers.{Answer, Where, Cut, ScanStep, note_answers, plain}
 use Rattle.cw_rules.specs.model.Apart.{part_text_apart, in_text_apart, found_apart}
 use Rattle.cw_rules.specs.Bodies.{ended, extent, noted, note_unless, one_note}
 use Rattle.cw_rules.specs.Bytes.{apostrophe, at_sign, equals, hash, less, begins, begins_with, is_in}
@@ -205,25 +205,25 @@ module _ (text : List ℕ) where
   abbrev Signs : Bool → Bool → ℕ → List Answer → Type 0
   Signs line named depth answers = AllFitC text line named depth answers
 
-  abbrev Follows : Found → List Answer → Type 0
+  abbrev Follows : ScanStep → List Answer → Type 0
   Follows f later = (line named : Bool) (depth : ℕ) → opens f.next.comments ≤ depth
       → Stands line named f.next.part f.next.comments → Signs line named depth later
 
   -- In what begins at a place it is so, if it is in what follows.
-  abbrev Goes : Bool → Bool → ℕ → Found → Type 0
+  abbrev Goes : Bool → Bool → ℕ → ScanStep → Type 0
   Goes line named depth f = (later : List Answer) → Follows f later → Signs line named depth (f.answers ++ later)
 
-  notes-so : (line named : Bool) (depth : ℕ) (ns : List Noted) (later : List Answer) → Signs line named depth later
+  notes-so : (line named : Bool) (depth : ℕ) (ns : List NoteAt) (later : List Answer) → Signs line named depth later
       → Signs line named depth (note_answers ns ++ later)
   notes-so line named depth [] later h = h
   notes-so line named depth (n ∷ ns) later h = notes-so line named depth ns later h
 
-  notes-between : (line named : Bool) (depth : ℕ) (ns : List Noted) (ys later : List Answer)
+  notes-between : (line named : Bool) (depth : ℕ) (ns : List NoteAt) (ys later : List Answer)
       → Signs line named depth (ys ++ later) → Signs line named depth ((note_answers ns ++ ys) ++ later)
   notes-between line named depth [] ys later h = h
   notes-between line named depth (n ∷ ns) ys later h = notes-between line named depth ns ys later h
 
-  abbrev missing : Opened → ℕ → List Noted
+  abbrev missing : Opened → ℕ → List NoteAt
   missing c place = one_note (note_unless (c.braces == 0) NoteKind.MissingBrace place)
 
   one-goes : (line named : Bool) (depth : ℕ) (hash_line : Bool) (next : Where) (place : ℕ) (bytes : List ℕ) (cut : Cut)
@@ -266,7 +266,7 @@ module _ (text : List ℕ) where
   section-goes w place bytes line named depth k later rest =
       let cut = section_code (at_sign ∷ bytes) in
       let tex : Where = record { part = parts.Tex; comments = [] } in
-      let token : Found = one false tex place (at_sign ∷ bytes) cut in
+      let token : ScanStep = one false tex place (at_sign ∷ bytes) cut in
       subst (Signs line named depth) (sym (append_assoc (all_cut w.part w.comments place place) token.answers later))
       (cut-so w.part w.comments place place line named depth (token.answers ++ later) k.hash_line
       (no-part-cut w.part w.comments place place k.c)
@@ -376,7 +376,7 @@ module _ (text : List ℕ) where
 
   code-goes : (w : Where) (fresh : Bool) (last place byte : ℕ) (bytes : List ℕ) (line named : Bool) (depth : ℕ)
       → drop place text ≡ byte ∷ bytes → fresh_at text place ≡ fresh → InText line named w.part → twice w.comments ≤
-      depth → IsInner w.comments → (f : Found) → CodeRule w fresh last place byte bytes f → Goes line named depth f
+      depth → IsInner w.comments → (f : ScanStep) → CodeRule w fresh last place byte bytes f → Goes line named depth f
   code-goes w fresh last place byte bytes line named depth here f k o q _ (LineEnd h) =
       line-end-goes w.part w.comments last place line named depth k (quiet-inner named w.comments q) o
   code-goes w fresh last place byte bytes line named depth here f k o q _ (Space end h) = λ later rest.
@@ -413,7 +413,7 @@ module _ (text : List ℕ) where
 
   comment-goes : (part : Part) (c : Opened) (comments : List Opened) (last place byte : ℕ) (bytes : List ℕ)
       (line named : Bool) (depth : ℕ) → InText line false part → opens (c ∷ comments) ≤ depth → 1 + twice comments ≤
-      depth → (f : Found) → CommentRule part c comments last place byte bytes f → Goes line named depth f
+      depth → (f : ScanStep) → CommentRule part c comments last place byte bytes f → Goes line named depth f
   comment-goes part c comments last place byte bytes line named depth k o n _ (Closed long h) = λ later rest. (
     k.hash_line,
     notes-so line false (depth - 1) (missing c place) later (rest line false (depth - 1)

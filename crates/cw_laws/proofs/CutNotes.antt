@@ -16,20 +16,20 @@ use Rattle.cw_rules.specs.declared.bodies.Body.TheVariants as bodies
 use Rattle.cw_rules.specs.declared.tokens.TokKind.TheVariants as kinds
 
 -- Notes lie from one place up to another.
-abbrev pub NotedIn : ℕ → ℕ → List Noted → Type 0
+abbrev pub NotedIn : ℕ → ℕ → List NoteAt → Type 0
 NotedIn low high [] = Unit {0}
 NotedIn low high (n ∷ ns) = (low ≤ n.place) × (n.place < high) × NotedIn low high ns
 
-pub answers-lie : (low high : ℕ) (ns : List Noted) → NotedIn low high ns → NotesLie low high (note_answers ns)
+pub answers-lie : (low high : ℕ) (ns : List NoteAt) → NotedIn low high ns → NotesLie low high (note_answers ns)
 answers-lie low high [] h = tt
 answers-lie low high (n ∷ ns) h = (h.0, h.1, answers-lie low high ns h.2)
 
-append-in : (low high : ℕ) (xs ys : List Noted) → NotedIn low high xs → NotedIn low high ys
+append-in : (low high : ℕ) (xs ys : List NoteAt) → NotedIn low high xs → NotedIn low high ys
     → NotedIn low high (xs ++ ys)
 append-in low high [] ys h g = g
 append-in low high (n ∷ xs) ys h g = (h.0, h.1, append-in low high xs ys h.2 g)
 
-wider-in : (low high last : ℕ) (ns : List Noted) → high ≤ last → NotedIn low high ns → NotedIn low last ns
+wider-in : (low high last : ℕ) (ns : List NoteAt) → high ≤ last → NotedIn low high ns → NotedIn low last ns
 wider-in low high last [] w h = tt
 wider-in low high last (n ∷ ns) w h = (h.0, omega (arith, h.1, w), wider-in low high last ns w h.2)
 
@@ -37,11 +37,11 @@ pub one-in : (b : Bool) (kind : NoteKind) (low high place : ℕ) → low ≤ pla
     → NotedIn low high (one_note (note_unless b kind place))
 one-in b kind low high place l h = grind (arith, nat_tests)
 
-last-in : (b : Bool) (kind : NoteKind) (low high place : ℕ) (ns : List Noted) → NotedIn low high ns → low ≤ place
+last-in : (b : Bool) (kind : NoteKind) (low high place : ℕ) (ns : List NoteAt) → NotedIn low high ns → low ≤ place
     → place < high → NotedIn low high (and_last ns (note_unless b kind place))
 last-in b kind low high place ns n l h = grind (arith, nat_tests, append-in)
 
-with-in : (o : Option NoteKind) (low high place : ℕ) (ns : List Noted) → low ≤ place → place < high
+with-in : (o : Option NoteKind) (low high place : ℕ) (ns : List NoteAt) → low ≤ place → place < high
     → NotedIn low high ns → NotedIn low high (with_note o place ns)
 with-in o low high place ns l h n = grind (arith, nat_tests)
 

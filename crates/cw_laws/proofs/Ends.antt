@@ -6,7 +6,7 @@ use Rattle.cw_base.specs.{declared.notes.NoteKind.NoteKind, Text.bar, Bytes.newl
 use Rattle.cw_base.proofs.TestLaws.{both-left}
 use Rattle.cw_rules.specs.declared.{bodies.Noted.Noted, codes.Effect.Effect, parts.Part.Part, parts.Opened.Opened}
 use Rattle.cw_rules.specs.declared.{signs.Sign.Sign, tokens.Mode.Mode, tokens.TokKind.TokKind}
-use Rattle.cw_rules.specs.Answers.{Answer, Where, Cut, Found, before, note_answers, plain, dropped}
+use Rattle.cw_rules.specs.Answers.{Answer, Where, Cut, ScanStep, before, note_answers, plain, dropped}
 use Rattle.cw_rules.specs.Bodies.{note_unless, one_note, noted, ended, extent}
 use Rattle.cw_rules.specs.Bytes.{slash, star, at_sign, equals, run, begins}
 use Rattle.cw_rules.specs.{Codes.code_at, Codes.begins_section, Codes.is_section, Signs.spelling}
@@ -58,21 +58,21 @@ IsQuiet cut = (mode : Mode) (opened : List TokKind) (bytes : List ℕ) → IsWho
 module _ (text : List ℕ) where
   -- ## Notes
 
-  notes-end : (mode : Mode) (opened : List TokKind) (ns : List Noted) (later : List Answer)
+  notes-end : (mode : Mode) (opened : List TokKind) (ns : List NoteAt) (later : List Answer)
       → AllEnd text mode opened later → AllEnd text mode opened (note_answers ns ++ later)
   notes-end mode opened [] later h = h
   notes-end mode opened (n ∷ ns) later h = notes-end mode opened ns later h
 
-  notes-between : (mode : Mode) (opened : List TokKind) (ns : List Noted) (ys later : List Answer)
+  notes-between : (mode : Mode) (opened : List TokKind) (ns : List NoteAt) (ys later : List Answer)
       → AllEnd text mode opened (ys ++ later) → AllEnd text mode opened ((note_answers ns ++ ys) ++ later)
   notes-between mode opened [] ys later h = h
   notes-between mode opened (n ∷ ns) ys later h = notes-between mode opened ns ys later h
 
-  abbrev missing : Opened → ℕ → List Noted
+  abbrev missing : Opened → ℕ → List NoteAt
   missing c place = one_note (note_unless (c.braces == 0) NoteKind.MissingBrace place)
 
   -- What begins at a place goes to its end, if what follows does.
-  abbrev Goes : Mode → List TokKind → Found → Type 0
+  abbrev Goes : Mode → List TokKind → ScanStep → Type 0
   Goes mode opened f = (later : List Answer) → ((after : Mode) (next : List TokKind) → Stands f.next after next → AllEnd
       text after next later) → AllEnd text mode opened (f.answers ++ later)
 
@@ -136,7 +136,7 @@ module _ (text : List ℕ) where
   line-end-goes part (c ∷ cs) last place bytes mode opened here a f =
       let hash_line = in_hash_line part in
       let more = line_end (passed part) cs last place in
-      let ends : Found = before (inner_cut hash_line place place ++ comment_end hash_line c place 0 []) more in
+      let ends : ScanStep = before (inner_cut hash_line place place ++ comment_end hash_line c place 0 []) more in
       if-both (Goes mode opened) c.long _ ends (λ h. skip-goes mode opened (record { part = part; comments = c ∷ cs })
       (record { fit = fits part (c ∷ cs) opened f; agrees = a }))
       (λ h. subst (λ o. Goes mode o ends) (sym f.whole) (λ later rest. (
@@ -229,7 +229,7 @@ module _ (text : List ℕ) where
 
   code-goes : (w : Where) (fresh : Bool) (last place byte : ℕ) (bytes : List ℕ) (mode : Mode) (opened : List TokKind)
       → drop place text ≡ byte ∷ bytes → (byte == at_sign && begins_section bytes) ≡ false → InCode w mode opened
-      → (f : Found) → CodeRule w fresh last place byte bytes f → Goes mode opened f
+      → (f : ScanStep) → CodeRule w fresh last place byte bytes f → Goes mode opened f
   code-goes w fresh last place byte bytes mode opened here other c _ (LineEnd h) = line-end-goes w.part w.comments last
       place bytes mode opened (here ∙ ap (λ b. b ∷ bytes) (eqb-true byte newline h)) c.agrees c.around
   code-goes w fresh last place byte bytes mode opened here other c _ (Space line h) =
@@ -271,7 +271,7 @@ module _ (text : List ℕ) where
 
   comment-goes : (part : Part) (c : Opened) (cs : List Opened) (last place byte : ℕ) (bytes : List ℕ)
       (mode : Mode) (opened : List TokKind) → drop place text ≡ byte ∷ bytes → Agrees part mode
-      → (i : InComment c false (Around part cs) opened) → (f : Found)
+      → (i : InComment c false (Around part cs) opened) → (f : ScanStep)
       → CommentRule part c cs last place byte bytes f → Goes mode (comment_kind c.long ∷ i.rest) f
   comment-goes part c cs last place byte bytes mode opened here a i _ (Closed long h) = λ later rest. (
     refl,
@@ -333,7 +333,7 @@ module _ (text : List ℕ) where
 
   limbo-goes : (place byte : ℕ) (bytes : List ℕ) (mode : Mode) (opened : List TokKind)
       → drop place text ≡ byte ∷ bytes → (byte == at_sign && begins_section bytes) ≡ false
-      → Stands (bare parts.Limbo) mode opened → (f : Found) → LimboRule place byte bytes f → Goes mode opened f
+      → Stands (bare parts.Limbo) mode opened → (f : ScanStep) → LimboRule place byte bytes f → Goes mode opened f
   limbo-goes place byte bytes mode opened here other s _ (LimboCode at e) = one-goes mode opened false
       (bare parts.Limbo) place (byte ∷ bytes) (code_token (code_at bytes) place (byte ∷ bytes)) s
       (standing-whole place byte bytes mode opened here other at)
@@ -383,7 +383,8 @@ module _ (text : List ℕ) where
 
   part-goes : (fresh : Bool) (last place byte : ℕ) (bytes : List ℕ) (mode : Mode) (opened : List TokKind)
       → drop place text ≡ byte ∷ bytes → (byte == at_sign && begins_section bytes) ≡ false → (part : Part)
-      → Stands (bare part) mode opened → (f : Found) → PartRule fresh last place byte bytes part f → Goes mode opened f
+      → Stands (bare part) mode opened → (f : ScanStep) → PartRule fresh last place byte bytes part f
+      → Goes mode opened f
   part-goes fresh last place byte bytes mode opened here other _ s _ (OfCode part f is r) = code-goes (bare part) fresh
       last place byte bytes mode opened here other (bare-code part mode opened (no-limbo part is) s) f r
   part-goes fresh last place byte bytes mode opened here other _ s _ (OfLimbo f r) =

@@ -14,7 +14,7 @@ use Rattle.cw_texpart.specs.Limbo.{limbo_bytes}
 use Rattle.cw_texpart.specs.Texts.{Setting, setting, text_done}
 use Rattle.cw_index.specs.Closing.{changes_line, closing_lines, last_line, last_lines}
 use Rattle.cw_index.specs.Index.{entry_bytes, row_bytes, section_bytes}
-use Rattle.cw_index.specs.Mentions.{Row}
+use Rattle.cw_index.specs.Mentions.{IndexRow}
 use Rattle.cw_index.specs.NameList.{all_listed, listed_done, name_ending, name_span, use_notes}
 use Rattle.cw_index.specs.Standing.{listed_names}
 use Rattle.cw_run.specs.Files.{OutFile}
@@ -50,7 +50,7 @@ tex-ends line text b =
 
 -- ## The index
 
-row-ends : (sections : List Section) (row : Row) → HasLineEnd (row_bytes sections row)
+row-ends : (sections : List Section) (row : IndexRow) → HasLineEnd (row_bytes sections row)
 row-ends sections row =
     let refs : List ℕ = flat_map (section_bytes sections) row.sections in
     behind-any (codes "\\I") (entry_bytes row.entry ++ (refs ++ codes ".\n"))

@@ -6,7 +6,7 @@ use Rattle.cw_base.proofs.TestLaws.{both-left, both-right, not-both}
 use Rattle.cw_base.specs.declared.{notes.NoteKind.NoteKind, notes.NoteKind.TheVariants.MissingBrace}
 use Rattle.cw_rules.specs.declared.{bodies.Noted.Noted, codes.Code.Code, codes.Effect.Effect, parts.Part.Part}
 use Rattle.cw_rules.specs.declared.{parts.Opened.Opened, tokens.TokKind.TokKind}
-use Rattle.cw_rules.specs.Answers.{Answer, Token, Begin, Finish, Note, Where, Cut, Found, note_answers}
+use Rattle.cw_rules.specs.Answers.{Answer, Token, Begin, Finish, Note, Where, Cut, ScanStep, note_answers}
 use Rattle.cw_rules.specs.{Bodies.note_unless, Bodies.one_note, Codes.code_at}
 use Rattle.cw_rules.specs.Tokens.{in_hash_line, passed, line_end, code_by, code_token}
 use Rattle.cw_rules.specs.model.Apart.{code_text_apart, comment_text_apart, part_text_apart, in_text_apart, found_apart}
@@ -34,7 +34,7 @@ line_with line None = line
 line_with line (Some kind) = hash_line_by line kind
 
 -- If a `#` line goes on behind what begins at a place, its tokens say so.
-abbrev Lined : Bool → Found → Type 0
+abbrev Lined : Bool → ScanStep → Type 0
 Lined line f = in_hash_line f.next.part ≡ true → line_with line (kind_in f.answers) ≡ true
 
 passed-same : (part : Part) → in_hash_line (passed part) ≡ in_hash_line part
@@ -43,11 +43,11 @@ passed-same part = grind (arith, nat_tests)
 passed-line : (part : Part) → in_hash_line (passed part) ≡ true → in_hash_line part ≡ true
 passed-line part e = sym (passed-same part) ∙ e
 
-kind-behind : (ns : List Noted) (ys : List Answer) → kind_in (note_answers ns ++ ys) ≡ kind_in ys
+kind-behind : (ns : List NoteAt) (ys : List Answer) → kind_in (note_answers ns ++ ys) ≡ kind_in ys
 kind-behind [] ys = refl
 kind-behind (n ∷ ns) ys = kind-behind ns ys
 
-kind-none : (ns : List Noted) → kind_in (note_answers ns) ≡ None
+kind-none : (ns : List NoteAt) → kind_in (note_answers ns) ≡ None
 kind-none [] = refl
 kind-none (n ∷ ns) = kind-none ns
 
@@ -78,7 +78,7 @@ begun-outside : (place : ℕ) (effect : Effect) (part : Part) → BeginsPart pla
 begun-outside place _ _ Macro = refl
 begun-outside place _ _ _ = refl
 
-code-lined : (w : Where) (fresh : Bool) (last place byte : ℕ) (bytes : List ℕ) (f : Found)
+code-lined : (w : Where) (fresh : Bool) (last place byte : ℕ) (bytes : List ℕ) (f : ScanStep)
     → CodeRule w fresh last place byte bytes f → Lined (in_hash_line w.part) f
 code-lined w fresh last place byte bytes _ (LineEnd h) = line-end-lined w.part w.comments last place
 code-lined w fresh last place byte bytes _ (Space line h) = λ e. e
@@ -92,7 +92,8 @@ code-lined w fresh last place byte bytes _ (Beginning effect part at e begun) =
 code-lined w fresh last place byte bytes _ (Comment long h) = λ e. passed-line w.part e
 code-lined w fresh last place byte bytes _ (InnerEnd h ends) = grind (arith, nat_tests, passed-line)
 
-comment-lined : (part : Part) (c : Opened) (comments : List Opened) (last place byte : ℕ) (bytes : List ℕ) (f : Found)
+comment-lined : (part : Part) (c : Opened) (comments : List Opened) (last place byte : ℕ) (bytes : List ℕ)
+    (f : ScanStep)
     → CommentRule part c comments last place byte bytes f → Lined (in_hash_line part) f
 comment-lined part c comments last place byte bytes _ (Closed long h) =
     λ e. ap (line_with (in_hash_line part)) (kind-none (one_note (note_unless (c.braces == 0) MissingBrace place))) ∙ e
@@ -101,11 +102,11 @@ comment-lined part c comments last place byte bytes _ (EndedLine short h) = λ e
     (line_end part comments last place).answers) ∙ line-end-lined part comments last place e
 comment-lined part c comments last place byte bytes _ _ = λ e. e
 
-limbo-lined : (place byte : ℕ) (bytes : List ℕ) (f : Found) → LimboRule place byte bytes f → Lined false f
+limbo-lined : (place byte : ℕ) (bytes : List ℕ) (f : ScanStep) → LimboRule place byte bytes f → Lined false f
 limbo-lined place byte bytes _ (LimboText h) = λ e. absurd cc
 limbo-lined place byte bytes _ _ = λ e. absurd cc
 
-part-lined : (fresh : Bool) (last place byte : ℕ) (bytes : List ℕ) (part : Part) (f : Found)
+part-lined : (fresh : Bool) (last place byte : ℕ) (bytes : List ℕ) (part : Part) (f : ScanStep)
     → PartRule fresh last place byte bytes part f → Lined (in_hash_line part) f
 part-lined fresh last place byte bytes _ _ (OfCode part f is r) =
     code-lined (within part) fresh last place byte bytes f r
@@ -145,7 +146,7 @@ has_start (Finish t ∷ answers) = has_start answers
 has_start (Note kind place ∷ answers) = has_start answers
 
 -- A backslash is a token or begins one, or a `#` line goes on.
-abbrev pub Starts : Bool → Found → Type 0
+abbrev pub Starts : Bool → ScanStep → Type 0
 Starts line f = (has_start f.answers ≡ true) ⊎ (line ≡ true)
 
 code-by-starts : (effect : Effect) (code : Code) (w : Where) (place : ℕ) (bytes : List ℕ)

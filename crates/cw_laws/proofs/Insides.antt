@@ -120,22 +120,22 @@ two-with first second (x ∷ y ∷ ys) = by (x == first) (y == second)
     by a b = grind (arith, nat_tests)
 two-with first second _ = refl
 
-noted-behind : (kind : NoteKind) (ns : List Noted) (n : Noted) (later : List Answer) → n.kind ≡ kind
+noted-behind : (kind : NoteKind) (ns : List NoteAt) (n : NoteAt) (later : List Answer) → n.kind ≡ kind
     → IsNoted kind (note_answers (ns ++ n ∷ []) ++ later)
 noted-behind kind [] n later e = inl e
 noted-behind kind (m ∷ ns) n later e = inr (noted-behind kind ns n later e)
 
-unended-noted : (kind : NoteKind) (ns : List Noted) (closed : Bool) (stop : ℕ) (later : List Answer) → closed ≡ false
+unended-noted : (kind : NoteKind) (ns : List NoteAt) (closed : Bool) (stop : ℕ) (later : List Answer) → closed ≡ false
     → IsNoted kind (note_answers (and_last ns (note_unless closed kind stop)) ++ later)
 unended-noted kind ns closed stop later e = grind (arith, nat_tests, noted-behind)
 
 -- ## A single `@`
 
-abbrev HasNote : NoteKind → List Noted → Type 0
+abbrev HasNote : NoteKind → List NoteAt → Type 0
 HasNote kind [] = ⊥
 HasNote kind (n ∷ ns) = (n.kind ≡ kind) ⊎ HasNote kind ns
 
-with-behind : (kind : NoteKind) (o : Option NoteKind) (place : ℕ) (ns : List Noted) → HasNote kind ns
+with-behind : (kind : NoteKind) (o : Option NoteKind) (place : ℕ) (ns : List NoteAt) → HasNote kind ns
     → HasNote kind (with_note o place ns)
 with-behind kind None place ns h = h
 with-behind kind (Some other) place ns h = inr h
@@ -192,22 +192,22 @@ module _ (body : Body) (ends pairs : List ℕ → Bool) (r : Rules body ends pai
           pairs ys → HasNote kind (noted (stepped one y ys) ys)) → HasNote kind (noted i (x ∷ y ∷ ys))
       by e s p k l m less rest behind = grind (arith, nat_tests, here-step, on, along, behind-step, one)
 
-note-in : (kind : NoteKind) (ns : List Noted) (later : List Answer) → HasNote kind ns
+note-in : (kind : NoteKind) (ns : List NoteAt) (later : List Answer) → HasNote kind ns
     → IsNoted kind (note_answers ns ++ later)
 note-in kind [] later h = absurd h
 note-in kind (n ∷ ns) later (inl e) = inl e
 note-in kind (n ∷ ns) later (inr h) = inr (note-in kind ns later h)
 
-note-before : (kind : NoteKind) (ns ms : List Noted) → HasNote kind ns → HasNote kind (ns ++ ms)
+note-before : (kind : NoteKind) (ns ms : List NoteAt) → HasNote kind ns → HasNote kind (ns ++ ms)
 note-before kind [] ms h = absurd h
 note-before kind (n ∷ ns) ms (inl e) = inl e
 note-before kind (n ∷ ns) ms (inr h) = inr (note-before kind ns ms h)
 
-before-last : (kind : NoteKind) (ns : List Noted) (o : Option Noted) → HasNote kind ns → HasNote kind (and_last ns o)
+before-last : (kind : NoteKind) (ns : List NoteAt) (o : Option NoteAt) → HasNote kind ns → HasNote kind (and_last ns o)
 before-last kind ns None h = h
 before-last kind ns (Some n) h = note-before kind ns (n ∷ []) h
 
-note-behind : (kind : NoteKind) (ns ms : List Noted) → HasNote kind ms → HasNote kind (ns ++ ms)
+note-behind : (kind : NoteKind) (ns ms : List NoteAt) → HasNote kind ms → HasNote kind (ns ++ ms)
 note-behind kind [] ms h = h
 note-behind kind (n ∷ ns) ms h = inr (note-behind kind ns ms h)
 

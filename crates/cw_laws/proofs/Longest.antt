@@ -6,7 +6,7 @@ use Rattle.std.proofs.{lemmas.Bool.eqb-true, lemmas.Bool.Decides.nat_tests}
 use Rattle.cw_base.proofs.TestLaws.{both-failed, both-left, both-right, not-both, not-true, other-one}
 use Rattle.cw_rules.specs.declared.{bodies.Noted.Noted, codes.Code.Code, parts.Part.Part, parts.Opened.Opened}
 use Rattle.cw_rules.specs.declared.{signs.Sign.Sign, tokens.TokKind.TokKind}
-use Rattle.cw_rules.specs.Answers.{Answer, Token, Finish, Note, Where, Cut, Found, note_answers, plain}
+use Rattle.cw_rules.specs.Answers.{Answer, Token, Finish, Note, Where, Cut, ScanStep, note_answers, plain}
 use Rattle.cw_base.specs.{Bytes.newline, Bytes.backslash, declared.notes.NoteKind.NoteKind}
 use Rattle.cw_rules.specs.Bytes.{apostrophe, slash, star, at_sign, hash, comma, equals, plus, left_paren, right_paren}
 use Rattle.cw_rules.specs.Bytes.{begins, begins_by, begins_with, is_letter, is_in, run}
@@ -110,12 +110,12 @@ bare-longest text place (Finish t ∷ xs) h = bare-longest text place xs h.3
 bare-longest text place (Note kind about ∷ xs) h = bare-longest text place xs h
 bare-longest text place (_ ∷ xs) h = absurd h
 
-noted-longest : (text : List ℕ) (ns : List Noted) → AreLongest text (note_answers ns)
+noted-longest : (text : List ℕ) (ns : List NoteAt) → AreLongest text (note_answers ns)
 noted-longest text [] = tt
 noted-longest text (n ∷ ns) = noted-longest text ns
 
 module _ (text : List ℕ) where
-  abbrev Longest : Found → Type 0
+  abbrev Longest : ScanStep → Type 0
   Longest f = AreLongest text f.answers
 
   abbrev Says : Bool → ℕ → ℕ → TokKind → Type 0
@@ -138,7 +138,7 @@ module _ (text : List ℕ) where
       size : (n : ℕ) → n ≡ (place + n) - place
       size n = omega arith
 
-  abbrev missing : Opened → ℕ → List Noted
+  abbrev missing : Opened → ℕ → List NoteAt
   missing c place = one_note (note_unless (c.braces == 0) NoteKind.MissingBrace place)
 
   line-end-longest : (part : Part) (comments : List Opened) (last place : ℕ) → begins newline (drop place text) ≡ true
@@ -218,7 +218,7 @@ module _ (text : List ℕ) where
       subst (λ l. IsOtherByte (in_hash_line w.part) l 1) (sym here.here) (other-is w fresh byte bytes b e)
 
   code-longest : (w : Where) (fresh : Bool) (last place byte : ℕ) (bytes : List ℕ) → At fresh last place byte bytes
-      → (f : Found) → CodeRule w fresh last place byte bytes f → Longest f
+      → (f : ScanStep) → CodeRule w fresh last place byte bytes f → Longest f
   code-longest w fresh last place byte bytes here _ (LineEnd h) =
       line-end-longest w.part w.comments last place (ap (begins newline) here.here ∙ h) here.behind
   code-longest w fresh last place byte bytes here _ (HashLine h takes first) =
@@ -238,7 +238,7 @@ module _ (text : List ℕ) where
   -- ## Comments, limbo, TeX text and heads
 
   comment-longest : (part : Part) (c : Opened) (comments : List Opened) (fresh : Bool) (last place byte : ℕ)
-      (bytes : List ℕ) → At fresh last place byte bytes → (f : Found)
+      (bytes : List ℕ) → At fresh last place byte bytes → (f : ScanStep)
       → CommentRule part c comments last place byte bytes f → Longest f
   comment-longest part c comments fresh last place byte bytes here _ (Closed long h) =
       noted-longest text (missing c place)
@@ -250,7 +250,7 @@ module _ (text : List ℕ) where
       (tt, noted-longest text (noted (piece_start part comments c place) (byte ∷ bytes)))
 
   limbo-longest : (fresh : Bool) (last place byte : ℕ) (bytes : List ℕ) → At fresh last place byte bytes
-      → (f : Found) → LimboRule place byte bytes f → Longest f
+      → (f : ScanStep) → LimboRule place byte bytes f → Longest f
   limbo-longest fresh last place byte bytes here _ (LimboCode at e) =
       code-here false (within parts.Limbo) fresh last place byte bytes here at
   limbo-longest fresh last place byte bytes here _ (LimboFormat at e) =
@@ -265,7 +265,7 @@ module _ (text : List ℕ) where
       (other-one (byte == comma) _ (other-one (is_letter byte) _ h letter) none) more))
 
   part-longest : (fresh : Bool) (last place byte : ℕ) (bytes : List ℕ) → At fresh last place byte bytes → (part : Part)
-      → Wants part (byte ∷ bytes) → (f : Found) → PartRule fresh last place byte bytes part f → Longest f
+      → Wants part (byte ∷ bytes) → (f : ScanStep) → PartRule fresh last place byte bytes part f → Longest f
   part-longest fresh last place byte bytes here _ p _ (OfCode part f is r) =
       code-longest (within part) fresh last place byte bytes here f r
   part-longest fresh last place byte bytes here _ p _ (OfLimbo f r) = limbo-longest fresh last place byte bytes here f r

@@ -6,7 +6,7 @@ use Rattle.cw_base.specs.{declared.notes.NoteKind.NoteKind, Bytes.newline, Bytes
 use Rattle.cw_rules.specs.declared.{codes.Code.Code, codes.Effect.Effect, parts.Part.Part, tokens.Mode.Mode}
 use Rattle.cw_rules.specs.{declared.parts.Opened.Opened, Bodies.note_unless, Bodies.one_note, Bodies.noted}
 use Rattle.cw_rules.specs.{Bytes.at_sign, Prefixes.prefix_size, model.Apart.in_text_apart, model.Apart.found_apart}
-use Rattle.cw_rules.specs.Answers.{Answer, Note, Where, Cut, Found, before, plain}
+use Rattle.cw_rules.specs.Answers.{Answer, Note, Where, Cut, ScanStep, before, plain}
 use Rattle.cw_rules.specs.Codes.{code_at, begins_section, effect_in_limbo, effect_in_tex}
 use Rattle.cw_rules.proofs.{StringPrefixes.prefix-below, Choices.if-both}
 use Rattle.cw_rules.specs.Tokens.{in_hash_line, moved, passed, one, skipped_byte, missing_brace, comment_end, inner_cut}
@@ -87,7 +87,7 @@ passed-open low place _ h = tt
 -- ## Rules
 
 -- The notes of what begins at a place lie in the text, and so does what is open behind it.
-record Lies (low place left : ℕ) (f : Found) : Type 0 where
+record Lies (low place left : ℕ) (f : ScanStep) : Type 0 where
   notes : NotesLie low (place + left) f.answers
   next : Open low (place + 1) f.next
 
@@ -96,7 +96,7 @@ one-lies : (low place left : ℕ) (hash_line : Bool) (next : Where) (bytes : Lis
 one-lies low place left hash_line next bytes cut n o =
     record { notes = answers-lie low (place + left) cut.notes n; next = o }
 
-before-lies : (low place left : ℕ) (xs : List Answer) (f : Found) → NotesLie low (place + left) xs
+before-lies : (low place left : ℕ) (xs : List Answer) (f : ScanStep) → NotesLie low (place + left) xs
     → Lies low place left f → Lies low place left (before xs f)
 before-lies low place left xs f h g =
     record { notes = append-lie low (place + left) xs f.answers h g.notes; next = g.next }
@@ -174,7 +174,7 @@ known-in : (part : Part) (comments : List Opened) (code : Code) → effect_in pa
 known-in part comments code e u = grind (arith, nat_tests)
 
 module _ (low place byte : ℕ) (bytes : List ℕ) (l : low ≤ place) where
-  abbrev LiesHere : Found → Type 0
+  abbrev LiesHere : ScanStep → Type 0
   LiesHere f = Lies low place (length (byte ∷ bytes)) f
 
   abbrev InHere : Cut → Type 0
@@ -214,7 +214,7 @@ passed-in low place byte bytes l w fresh _ (Dropping note at e) = drop-in low pl
 passed-in low place byte bytes l w fresh _ _ = tt
 
 code-lies : (low place byte : ℕ) (bytes : List ℕ) → low ≤ place → (w : Where) (fresh : Bool) (last : ℕ) → Open low
-    (place + 1) w → (f : Found) → CodeRule w fresh last place byte bytes f → Lies low place (length (byte ∷ bytes)) f
+    (place + 1) w → (f : ScanStep) → CodeRule w fresh last place byte bytes f → Lies low place (length (byte ∷ bytes)) f
 code-lies low place byte bytes l w fresh last o _ (LineEnd h) =
     line-end-lies low place (length (byte ∷ bytes)) w.part w.comments last l (omega arith) o.0 o.1
 code-lies low place byte bytes l w fresh last o _ (Space line h) = record { notes = tt; next = o }
@@ -248,7 +248,7 @@ code-lies low place byte bytes l w fresh last o _ (InnerEnd h ends) =
 
 comment-lies : (low place byte : ℕ) (bytes : List ℕ) → low ≤ place → (part : Part) (c : Opened)
     (comments : List Opened) (last : ℕ) → PartOpen low (place + 1) part → CommentsOpen low (place + 1) (c ∷ comments)
-    → (f : Found) → CommentRule part c comments last place byte bytes f → Lies low place (length (byte ∷ bytes)) f
+    → (f : ScanStep) → CommentRule part c comments last place byte bytes f → Lies low place (length (byte ∷ bytes)) f
 comment-lies low place byte bytes l part c comments last p o _ (Closed long h) =
     record { notes = missing-lie low (place + length (byte ∷ bytes)) c place l (omega arith); next = (p, o.2) }
 comment-lies low place byte bytes l part c comments last p o _ (EndedLine short h) =
@@ -266,7 +266,7 @@ comment-lies low place byte bytes l part c comments last p o _ (Piece closes lin
       next = (p, o);
     }
 
-limbo-lies : (low place byte : ℕ) (bytes : List ℕ) → low ≤ place → (f : Found) → LimboRule place byte bytes f
+limbo-lies : (low place byte : ℕ) (bytes : List ℕ) → low ≤ place → (f : ScanStep) → LimboRule place byte bytes f
     → Lies low place (length (byte ∷ bytes)) f
 limbo-lies low place byte bytes l _ (LimboCode at e) = one-here low place byte bytes l false (within parts.Limbo)
     (code_token (code_at bytes) place (byte ∷ bytes)) (token-in low place byte bytes l
@@ -276,7 +276,7 @@ limbo-lies low place byte bytes l _ (LimboDropped note at e) = record { notes = 
 limbo-lies low place byte bytes l _ (LimboText h) = record { notes = tt; next = (tt, tt) }
 
 part-lies : (low place byte : ℕ) (bytes : List ℕ) → low ≤ place → (fresh : Bool) (last : ℕ) (part : Part)
-    → PartOpen low (place + 1) part → (f : Found) → PartRule fresh last place byte bytes part f
+    → PartOpen low (place + 1) part → (f : ScanStep) → PartRule fresh last place byte bytes part f
     → Lies low place (length (byte ∷ bytes)) f
 part-lies low place byte bytes l fresh last _ p _ (OfCode part f is r) =
     code-lies low place byte bytes l (within part) fresh last (p, tt) f r

@@ -3,11 +3,11 @@ use Rattle.std.proofs.Common.{◌≡◌, ℕ, zero, suc, ◌+◌, Bool, true, fa
 use Rattle.std.proofs.Common.{drop, Some, if◌then◌else◌, sym, ap, subst, ◌∙◌, arith}
 use Rattle.std.proofs.lemmas.Bool.Decides.{nat_tests}
 use Rattle.cw_base.proofs.TestLaws.{not-both}
-use Rattle.cw_rules.specs.declared.bodies.Noted.{Noted}
+use Rattle.cw_rules.specs.declared.bodies.NoteAt.{NoteAt}
 use Rattle.cw_rules.specs.declared.codes.Code.{Code}
 use Rattle.cw_rules.specs.declared.tokens.Mode.TheVariants as modes
 use Rattle.cw_rules.specs.declared.tokens.TokKind.{TokKind}
-use Rattle.cw_rules.specs.Answers.{Answer, Token, Begin, Finish, Note, Seen, Where, Found, note_answers}
+use Rattle.cw_rules.specs.Answers.{Answer, Token, Begin, Finish, Note, Seen, Where, ScanStep, note_answers}
 use Rattle.cw_rules.specs.Bytes.{at_sign, begins}
 use Rattle.cw_rules.specs.Codes.{code_at, begins_section}
 use Rattle.cw_rules.specs.Tokens.{section, section_code}
@@ -57,7 +57,7 @@ notes-openers text [] h = tt
 notes-openers text (Note kind about ∷ xs) h = notes-openers text xs h
 notes-openers _ _ h = absurd h
 
-noted-openers : (text : List ℕ) (ns : List Noted) → AreOpeners text (note_answers ns)
+noted-openers : (text : List ℕ) (ns : List NoteAt) → AreOpeners text (note_answers ns)
 noted-openers text [] = tt
 noted-openers text (n ∷ ns) = noted-openers text ns
 
@@ -109,7 +109,7 @@ openers text [] w fresh last place taken here = grind (arith, nat_tests, bare-op
 openers text (byte ∷ bytes) w fresh last place zero here =
     let f = found_apart w fresh last place byte bytes in
     append-openers text f.answers (answers bytes f.next (still_fresh fresh byte) byte (place + 1) f.more)
-    (if-both (λ (f : Found). AreOpeners text f.answers) (byte == at_sign && begins_section bytes)
+    (if-both (λ (f : ScanStep). AreOpeners text f.answers) (byte == at_sign && begins_section bytes)
     (section w place bytes) (in_text_apart w.part w.comments fresh last place byte bytes)
     (λ h. section-openers text w place bytes) (plain-openers text w fresh last place byte bytes here))
     (openers text bytes f.next (still_fresh fresh byte) byte (place + 1) f.more (drop-on text place byte bytes here))

@@ -13,7 +13,7 @@ use Rattle.cw_rules.specs.declared.tokens.Mode.{Mode}
 use Rattle.cw_rules.specs.declared.tokens.Mode.TheVariants as modes
 use Rattle.cw_rules.specs.declared.tokens.TokKind.TheVariants as kinds
 use Rattle.cw_rules.specs.declared.parts.Part.TheVariants as parts
-use Rattle.cw_rules.specs.Answers.{Answer, Token, Where, Found, plain as cut_plain, token_of}
+use Rattle.cw_rules.specs.Answers.{Answer, Token, Where, ScanStep, plain as cut_plain, token_of}
 use Rattle.cw_base.specs.Bytes.{newline}
 use Rattle.cw_base.specs.Web.{MergedLine, text_of}
 use Rattle.cw_rules.specs.Bytes.{at_sign, is_in, run}
@@ -82,7 +82,8 @@ one-token : (class : Class) (w : Where) → ((place about : ℕ) → all_cut w.p
     → (fresh : Bool) (last place byte : ℕ) (bytes : List ℕ) → All (λ b. is_in class b ≡ true) (byte ∷ bytes)
     → found_apart w fresh last place byte bytes ≡ one false w place (byte ∷ bytes) (cut_plain kinds.Text
     (run class (byte ∷ bytes))) → answers (byte ∷ bytes) w fresh last place zero ≡ text_answers place (byte ∷ bytes)
-one-token class w cut fresh last place byte bytes all is = ap (λ (f : Found). joined f (λ next more. answers bytes next
+one-token class w cut fresh last place byte bytes all is = ap (λ (f : ScanStep). joined f
+    (λ next more. answers bytes next
     (still_fresh fresh byte) byte (place + 1) more)) is ∙ ap (λ (n : ℕ). Token (token_of false kinds.Text place n (byte
     ∷ bytes)) ∷ answers bytes w (still_fresh fresh byte) byte (place + 1) (n - 1)) (run-all class (byte ∷ bytes) all)
     ∙ ap (λ (l : List Answer). Token (token_of false kinds.Text place (length (byte ∷ bytes)) (byte ∷ bytes)) ∷ l)

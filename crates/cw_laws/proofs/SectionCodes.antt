@@ -4,9 +4,9 @@ use Rattle.std.proofs.Common.{sym, ap, subst, ◌∙◌, arith}
 use Rattle.std.specs.Prelude.{if◌then◌else◌}
 use Rattle.std.proofs.{lemmas.Bool.eqb-true, lemmas.Bool.Decides.nat_tests}
 use Rattle.cw_base.proofs.TestLaws.{both-left, both, not-both}
-use Rattle.cw_rules.specs.{declared.bodies.Noted.Noted, Bytes.at_sign, Bytes.begins, Codes.is_section}
+use Rattle.cw_rules.specs.{declared.bodies.NoteAt.Noted, Bytes.at_sign, Bytes.begins, Codes.is_section}
 use Rattle.cw_rules.specs.{Codes.begins_section, model.Apart.in_text_apart, model.Apart.found_apart}
-use Rattle.cw_rules.specs.Answers.{Answer, Token, Begin, Finish, Note, Seen, Where, Found, note_answers, cut_token}
+use Rattle.cw_rules.specs.Answers.{Answer, Token, Begin, Finish, Note, Seen, Where, ScanStep, note_answers, cut_token}
 use Rattle.cw_rules.specs.Tokens.{all_cut, section, section_code}
 use Rattle.cw_rules.proofs.{Choices.if-both, CodeStarts.code_in, CodeStarts.in-text-tells}
 use Rattle.cw_rules.proofs.Taking.{AreBare, AreNotes, TakesAll, Takes, bare-all-cut, found-takes}
@@ -43,7 +43,7 @@ notes-coded text [] h = tt
 notes-coded text (Note kind about ∷ xs) h = notes-coded text xs h
 notes-coded _ _ h = absurd h
 
-noted-coded : (text : List ℕ) (notes : List Noted) → AreCoded text (note_answers notes)
+noted-coded : (text : List ℕ) (notes : List NoteAt) → AreCoded text (note_answers notes)
 noted-coded text [] = tt
 noted-coded text (n ∷ notes) = noted-coded text notes
 
@@ -107,7 +107,7 @@ coded text [] w fresh last place taken here = grind (arith, nat_tests, bare-code
 coded text (byte ∷ bytes) w fresh last place zero here =
     let f = found_apart w fresh last place byte bytes in
     append-coded text f.answers (answers bytes f.next (still_fresh fresh byte) byte (place + 1) f.more)
-    (if-both (λ (f : Found). AreCoded text f.answers) (byte == at_sign && begins_section bytes)
+    (if-both (λ (f : ScanStep). AreCoded text f.answers) (byte == at_sign && begins_section bytes)
     (section w place bytes) (in_text_apart w.part w.comments fresh last place byte bytes)
     (section-coded text w place byte bytes here) (plain-coded text w fresh last place byte bytes))
     (coded text bytes f.next (still_fresh fresh byte) byte (place + 1) f.more (drop-on text place byte bytes here))

@@ -50,13 +50,13 @@ free-wants-in part [] bytes h = free-wants part bytes h
 free-wants-in part (c ∷ comments) bytes h = h
 
 -- What is wanted behind what begins at a place stands there.
-abbrev pub Goes : List ℕ → Found → Type 0
+abbrev pub Goes : List ℕ → ScanStep → Type 0
 Goes bytes f = WantsIn f.next.part f.next.comments (drop f.more bytes)
 
-free-goes : (bytes : List ℕ) (f : Found) → IsFree f.next.part → Goes bytes f
+free-goes : (bytes : List ℕ) (f : ScanStep) → IsFree f.next.part → Goes bytes f
 free-goes bytes f h = free-wants-in f.next.part f.next.comments (drop f.more bytes) h
 
-abbrev Frees : Found → Type 0
+abbrev Frees : ScanStep → Type 0
 Frees f = IsFree f.next.part
 
 passed-free : (part : Part) → IsFree part → IsFree (passed part)
@@ -94,7 +94,7 @@ begun-free : (place : ℕ) (effect : Effect) (part : Part) → BeginsPart place 
 begun-free place _ _ Macro = tt
 begun-free place _ _ _ = tt
 
-code-goes : (w : Where) (fresh : Bool) (last place byte : ℕ) (bytes : List ℕ) → IsFree w.part → (f : Found)
+code-goes : (w : Where) (fresh : Bool) (last place byte : ℕ) (bytes : List ℕ) → IsFree w.part → (f : ScanStep)
     → CodeRule w fresh last place byte bytes f → Goes bytes f
 code-goes w fresh last place byte bytes p _ (LineEnd h) =
     free-goes bytes (line_end w.part w.comments last place) (line-end-free w.part w.comments last place p)
@@ -118,13 +118,13 @@ code-goes w fresh last place byte bytes p _ (InnerEnd h ends) =
     behind part comments p = grind (arith, nat_tests, passed-free)
 
 comment-goes : (part : Part) (c : Opened) (comments : List Opened) (last place byte : ℕ) (bytes : List ℕ)
-    → IsFree part → (f : Found) → CommentRule part c comments last place byte bytes f → Goes bytes f
+    → IsFree part → (f : ScanStep) → CommentRule part c comments last place byte bytes f → Goes bytes f
 comment-goes part c comments last place byte bytes p _ (Closed long h) = free-wants-in part comments (drop 1 bytes) p
 comment-goes part c comments last place byte bytes p _ (EndedLine short h) =
     free-goes bytes (line_end part comments last place) (line-end-free part comments last place p)
 comment-goes part c comments last place byte bytes p _ _ = p
 
-limbo-goes : (place byte : ℕ) (bytes : List ℕ) (f : Found) → LimboRule place byte bytes f → Goes bytes f
+limbo-goes : (place byte : ℕ) (bytes : List ℕ) (f : ScanStep) → LimboRule place byte bytes f → Goes bytes f
 limbo-goes place byte bytes _ (LimboText h) = tt
 limbo-goes place byte bytes _ _ = tt
 
@@ -166,7 +166,7 @@ code-free (parts.MacroParen code) h = absurd cc
 code-free _ h = tt
 
 part-goes : (fresh : Bool) (last place byte : ℕ) (bytes : List ℕ) (part : Part) → Wants part (byte ∷ bytes)
-    → (f : Found) → PartRule fresh last place byte bytes part f → Goes bytes f
+    → (f : ScanStep) → PartRule fresh last place byte bytes part f → Goes bytes f
 part-goes fresh last place byte bytes _ p _ (OfCode part f is r) =
     code-goes (within part) fresh last place byte bytes (code-free part is) f r
 part-goes fresh last place byte bytes _ p _ (OfLimbo f r) = limbo-goes place byte bytes f r

@@ -6,7 +6,7 @@ use Rattle.std.proofs.lemmas.Bool.{cases_lt, eqb-true}
 use Rattle.std.proofs.{lemmas.List.length-take, lemmas.Bool.Decides.nat_tests}
 use Rattle.cw_base.proofs.TestLaws.{both, not-both}
 use Rattle.cw_rules.specs.declared.{tokens.Mode.Mode, tokens.TokKind.TokKind}
-use Rattle.cw_rules.specs.Answers.{Answer, Token, Begin, Finish, Note, Where, Found}
+use Rattle.cw_rules.specs.Answers.{Answer, Token, Begin, Finish, Note, Where, ScanStep}
 use Rattle.cw_rules.specs.{Bytes.at_sign, Codes.is_section, Codes.begins_section, Order.begins_space, Order.AreWithin}
 use Rattle.cw_rules.specs.{Tokens.all_cut, Tokens.in_hash_line, Tokens.section, model.Apart.in_text_apart}
 use Rattle.cw_rules.specs.{model.Apart.found_apart}
@@ -50,7 +50,7 @@ found-line : (w : Where) (fresh : Bool) (last place byte : ℕ) (bytes : List �
     ≡ true → line_after line (kind_in (found_apart w fresh last place byte bytes).answers) ≡ true
 found-line w fresh last place byte bytes line h =
     let g = in_text_apart w.part w.comments fresh last place byte bytes in
-    if-both (λ (f : Found). in_hash_line f.next.part ≡ true → line_after line (kind_in f.answers) ≡ true)
+    if-both (λ (f : ScanStep). in_hash_line f.next.part ≡ true → line_after line (kind_in f.answers) ≡ true)
     (byte == at_sign && begins_section bytes) (section w place bytes) g (λ k e. absurd cc)
     (λ k e. after-grows (in_hash_line w.part) line (kind_in g.answers) h (no-section-in g.answers
     (no-section w fresh last place byte bytes k)) (in-text-lined w.part w.comments fresh last place byte bytes e))
@@ -142,7 +142,7 @@ whole-leaves text line from place more end bytes (Finish t ∷ xs) ys h s low sp
 )
 whole-leaves text line from place more end bytes (Note kind about ∷ xs) ys h s low space rest = absurd h
 
-found-leaves : (text : List ℕ) (line : Bool) (from place end : ℕ) (bytes : List ℕ) (f : Found) (ys : List Answer)
+found-leaves : (text : List ℕ) (line : Bool) (from place end : ℕ) (bytes : List ℕ) (f : ScanStep) (ys : List Answer)
     → Takes place bytes f → (has_start f.answers ≡ false → begins_space bytes ≡ true → begins_space_in line
     (drop place text) ≡ true) → from ≤ place → IsSpaceIn text line from place → ((low : ℕ) → low ≤ (place + 1) + f.more
     → IsSpaceIn text (line_after line (kind_in f.answers)) low ((place + 1) + f.more) → LeavesSpace text

@@ -19,7 +19,7 @@ use Rattle.cw_phase1.specs.declared.roles.Standing.{Standing}
 use Rattle.cw_phase1.specs.declared.sections.Section.{Section}
 use Rattle.cw_phase1.specs.Book.{answers_of}
 use Rattle.cw_phase1.specs.Entering.{kept_behind}
-use Rattle.cw_phase1.specs.Roles.{Placed, at_limbo, token_step, behind_begin, placed, placed_from}
+use Rattle.cw_phase1.specs.Roles.{Placement, at_limbo, token_step, behind_begin, placed, placed_from}
 use Rattle.cw_phase1.specs.Sections.{span, is_section_code, ends_section, first_start, section_at, sections_of}
 use Rattle.cw_phase1.specs.Sound.{LiesIn}
 use Rattle.cw_phase1.specs.declared.roles.Part.TheVariants as parts
@@ -38,7 +38,7 @@ lie-by : (b : Bool) (start later size : ℕ) (s : Section) (rest : List Section)
     (if b then start else later) size (pieces_from (if b then start else later) (if b then s ∷ rest else rest))
 lie-by b start later size s rest h e a k = grind (arith, nat_tests)
 
-lie : (lines : List MergedLine) (from size : ℕ) (ps : List Placed) → Follow from size ps → EndToEnd (first_start
+lie : (lines : List MergedLine) (from size : ℕ) (ps : List Placement) → Follow from size ps → EndToEnd (first_start
     ends_section size ps) size (pieces_from (first_start ends_section size ps) (sections_of lines size ps))
 lie lines from size [] f = refl
 lie lines from size (p ∷ ps) f = lie-by (is_section_code p.role) p.token.span.start

@@ -3,7 +3,8 @@ use Rattle.cw_leaves.proofs.Terms.{◌≡◌, ℕ, zero, suc, ◌+◌, eqb, Opti
 use Rattle.cw_leaves.proofs.Terms.{ap, map}
 use Rattle.cw_leaves.proofs.Terms.{take, drop, set, get_or, arith, map-append, map-set, take-map, drop-map, get_or-map}
 use Rattle.cw_leaves.proofs.Terms.{Flags, MathMode, Tree, Empty, Then, Sub, Inner, Source, Reserved, Sign, search_sign}
-use Rattle.cw_leaves.proofs.Terms.{reserve_first, bare_name, Scrap, no_scrap, Joined, Whole, Mark, joined_tree, needs}
+use Rattle.cw_leaves.proofs.Terms.{reserve_first, bare_name, Scrap, no_scrap, JoinPiece, Whole, Mark, joined_tree}
+use Rattle.cw_leaves.proofs.Terms.{needs}
 use Rattle.cw_leaves.proofs.Terms.{after, Action, Piece, Row, Place, Nowhere, At, least_place, weight, Production}
 use Rattle.cw_leaves.proofs.Terms.{log_of}
 use Rattle.cw_trees.specs.Tree.{Ident}
@@ -11,7 +12,7 @@ use Rattle.cw_table.specs.Rewriting.{cats_of, joined_of, new_scrap, search_in, r
 use Rattle.cw_table.specs.Rewriting.{bolded_at}
 use Rattle.cw_table.specs.Rewriting.{worded_at, named_scrap, named_right, rewrite_from, State, rewrite}
 use Rattle.cw_table.specs.Normal.{log}
-use Rattle.cw_leaves.specs.Sights.{Heard, silence, followed, told_by, heard, Sight, sight, no_sight, seen_cats}
+use Rattle.cw_leaves.specs.Sights.{Utterance, silence, followed, told_by, heard, Sight, sight, no_sight, seen_cats}
 use Rattle.cw_leaves.specs.Sights.{heard_all, seen_new, seen_reserved, seen_reserved_at, seen_named, seen_named_by}
 use Rattle.cw_leaves.specs.Sights.{seen_bolded, seen_bolded_at, seen_worded_at}
 use Rattle.cw_leaves.specs.Sights.{names_at, seen_rewritten_from, seen_rewritten, seen_weight, seen_log_of, seen_log}
@@ -27,21 +28,21 @@ reserve-bare (Then (Sign control) rest) = grind arith
 reserve-bare (Sub tree rest) = grind arith
 reserve-bare (Inner tree rest) = refl
 
-joined-bare : (m : MathMode) (js : List Joined) → bare_name (joined_tree m js) ≡ None
+joined-bare : (m : MathMode) (js : List JoinPiece) → bare_name (joined_tree m js) ≡ None
 joined-bare m [] = refl
 joined-bare m (Whole t l r ∷ js) = grind arith
 joined-bare m (Mark c ∷ js) = grind arith
 
 -- what is heard of pieces
-abbrev piece_heard : Joined → Heard ℕ
+abbrev piece_heard : JoinPiece → Utterance ℕ
 piece_heard (Whole tree left right) = heard tree
 piece_heard (Mark control) = told_by (search_sign control)
 
-abbrev pieces_heard : List Joined → Heard ℕ
+abbrev pieces_heard : List JoinPiece → Utterance ℕ
 pieces_heard [] = silence
 pieces_heard (j ∷ js) = followed (piece_heard j) (pieces_heard js)
 
-joined-heard : (m : MathMode) (js : List Joined) → heard (joined_tree m js) ≡ pieces_heard js
+joined-heard : (m : MathMode) (js : List JoinPiece) → heard (joined_tree m js) ≡ pieces_heard js
 joined-heard m [] = refl
 joined-heard m (Whole t l r ∷ js) = grind (arith, joined-heard (after m l r) js, heard-toggled)
 joined-heard m (Mark c ∷ js) = grind (arith, joined-heard (after m (needs c) (needs c)) js, heard-toggled)

@@ -11,6 +11,6 @@ pub use Rattle.cw_names.specs.Names.{Entry, is_entry, AreDistinct}
 pub use Rattle.cw_names.specs.declared.entry.EntryKind.TheVariants.{Ident}
 pub use Rattle.cw_table.specs.{declared.types.Action.Action, declared.types.Piece.Piece, declared.types.Row.Row}
 pub use Rattle.cw_table.specs.Normal.{Place, Nowhere, At, least_place, Production, weight, log_of}
-pub use Rattle.cw_trees.specs.Joining.{toggled, Scrap, no_scrap, Joined, Whole, Mark, joined_tree, needs, after}
+pub use Rattle.cw_trees.specs.Joining.{toggled, Scrap, no_scrap, JoinPiece, Whole, Mark, joined_tree, needs, after}
 pub use Rattle.cw_trees.specs.Tree.{Leaf, Tree, Empty, Then, Sub, Inner, Search, Found, Stopped, Nothing, search_leaf}
 pub use Rattle.cw_trees.specs.Tree.{first_ident, reserve_first, Source, Reserved, Sign, search_sign, bare_name}

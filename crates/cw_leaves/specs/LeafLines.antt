@@ -15,7 +15,7 @@ use Rattle.cw_table.specs.declared.types.Row.{Row}
 use Rattle.cw_table.specs.Normal.{Production}
 use Rattle.cw_leaves.specs.declared.kinds.LeafKind.{LeafKind}
 use Rattle.cw_leaves.specs.declared.kinds.LeafKind.TheVariants as leaf
-use Rattle.cw_leaves.specs.Sights.{Heard, silence, followed, told_by, Sight, seen_log}
+use Rattle.cw_leaves.specs.Sights.{Utterance, silence, followed, told_by, Sight, seen_log}
 
 -- ## The identifiers of a leaf
 
@@ -26,7 +26,7 @@ said_by (Ident name number) = Found name
 said_by (Reserved name number cat) = search_word cat
 said_by (Sign control) = Nothing
 
-abbrev pub said : Tree → Heard ℕ
+abbrev pub said : Tree → Utterance ℕ
 said Empty = silence
 said (Then leaf rest) = followed (told_by (said_by leaf)) (said rest)
 said (Sub tree rest) = followed (said tree) (said rest)
@@ -63,29 +63,29 @@ leaf_line names scrap = record {
 -- ## What it tells of the productions
 
 -- A name by its entry, so that names of two lists can be compared.
-pub data Called : Type 0 where
-  Entered : (kind : EntryKind) → (text : List ℕ) → Called
-  Unknown : (name : ℕ) → Called
+pub data EntryName : Type 0 where
+  Entered : (kind : EntryKind) → (text : List ℕ) → EntryName
+  Unknown : (name : ℕ) → EntryName
 
-abbrev pub called_by : ℕ → Option Entry → Called
+abbrev pub called_by : ℕ → Option Entry → EntryName
 called_by name None = Unknown name
 called_by name (Some entry) = Entered entry.kind entry.text
 
-abbrev pub called : List Entry → ℕ → Called
+abbrev pub called : List Entry → ℕ → EntryName
 called names name = called_by name (slice_get names name)
 
-abbrev pub same_called : Called → Called → Bool
+abbrev pub same_called : EntryName → EntryName → Bool
 same_called (Entered kind text) (Entered other other_text) = same_kind kind other && pointwise nat_eq text other_text
 same_called (Unknown name) (Unknown other) = nat_eq name other
 same_called (Entered kind text) (Unknown other) = false
 same_called (Unknown name) (Entered kind text) = false
 
 -- what productions see of a scrap that has this line
-abbrev pub first_called : List (List ℕ) → Option Called
+abbrev pub first_called : List (List ℕ) → Option EntryName
 first_called [] = None
 first_called (text ∷ texts) = Some (Entered ident_kind text)
 
-abbrev pub bare_in : LeafKind → List (List ℕ) → Option Called
+abbrev pub bare_in : LeafKind → List (List ℕ) → Option EntryName
 bare_in leaf.B texts = first_called texts
 bare_in leaf.C texts = None
 bare_in leaf.I texts = None
@@ -97,7 +97,7 @@ stops_in leaf.C = true
 stops_in leaf.I = false
 stops_in leaf.S = false
 
-abbrev pub line_sight : Line → Sight Called
+abbrev pub line_sight : Line → Sight EntryName
 line_sight line = record {
   cat = line.cat;
   bare = bare_in line.kind line.names;

@@ -5,7 +5,7 @@ use Rattle.std.specs.Prelude.{slice_range}
 use Rattle.std.proofs.{lemmas.Bool.cases_lt, lemmas.Bool.Decides.nat_tests, lemmas.Grind.common_steps}
 use Rattle.std.proofs.lemmas.List.{drop-drop, length-take, drop-take, take-take}
 use Rattle.cw_rules.specs.{declared.tokens.Mode.Mode, Bytes.begins, Tokens.all_cut, model.Apart.found_apart}
-use Rattle.cw_rules.specs.Answers.{Answer, Token, Begin, Finish, Note, Seen, Where, Found}
+use Rattle.cw_rules.specs.Answers.{Answer, Token, Begin, Finish, Note, Seen, Where, ScanStep}
 use Rattle.cw_lex.specs.Lexing.{still_fresh, answers, fresh_at, last_at, beginning, tokens_of}
 use Rattle.cw_rules.specs.Order.{begins_space, IsSpace, Stands, Covers}
 use Rattle.cw_rules.proofs.Taking.{AreBare, AreNotes, IsWhole, TakesAll, Takes, bare-all-cut, found-takes}
@@ -62,7 +62,8 @@ whole-covers : (text : List ℕ) (from place more end : ℕ) (bytes : List ℕ) 
 whole-covers text from place more end bytes xs ys h here low space rest =
     grind (arith, nat_tests, more-space, space-on, whole-stands, notes-cover, no-space)
 
-found-covers : (text : List ℕ) (from place end : ℕ) (bytes : List ℕ) (f : Found) (ys : List Answer) → Takes place bytes
+found-covers : (text : List ℕ) (from place end : ℕ) (bytes : List ℕ) (f : ScanStep) (ys : List Answer)
+    → Takes place bytes
     f → drop place text ≡ bytes → from ≤ place → IsSpace text from place → ((low : ℕ) → low ≤ (place + 1) + f.more
     → IsSpace text low ((place + 1) + f.more) → Covers text low end ys) → Covers text from end (f.answers ++ ys)
 found-covers text from place end bytes f ys t here low space rest =

@@ -2,7 +2,8 @@
 use Rattle.std.proofs.Common.{◌≡◌, Bool, true, false, Option, Some, None, List, [], ◌∷◌, refl, sym, ap, if◌then◌else◌}
 use Rattle.std.proofs.Common.{arith}
 use Rattle.std.proofs.{lemmas.Bool.Decides.nat_tests, lemmas.Grind.common_steps}
-use Rattle.cw_lex.specs.{declared.heads.Wanted.Wanted, Nested.Level, Nested.InCode, Nested.after_token, Nested.IsNested}
+use Rattle.cw_lex.specs.{declared.heads.Expectation.Wanted, Nested.Level, Nested.InCode, Nested.after_token}
+use Rattle.cw_lex.specs.{Nested.IsNested}
 use Rattle.cw_rules.specs.declared.tokens.TokKind.{TokKind}
 use Rattle.cw_rules.specs.Answers.{Answer, Token, Begin, Note, Seen, is_head_sign}
 use Rattle.cw_lex.specs.Nest.{Nest, Leaf, leaf, group, nests, first_nest, nest}
@@ -10,7 +11,7 @@ use Rattle.cw_lex.specs.Heads.{head_behind, behind_sign, Words, no_word, word_be
 use Rattle.cw_lex.specs.Heads.{headed_by, headed, without_words, without_name, without_head_of, without_head}
 use Rattle.cw_lex.proofs.Nests.{some-levels, first-levels, nests-nested}
 use Rattle.cw_rules.specs.declared.codes.Code.TheVariants as code
-use Rattle.cw_lex.specs.declared.heads.Wanted.TheVariants as wants
+use Rattle.cw_lex.specs.declared.heads.Expectation.TheVariants as wants
 use Rattle.cw_rules.specs.declared.tokens.TokKind.TheVariants as kind
 
 stays : (k : TokKind) (l : List Level) → after_token k (InCode ∷ []) ≡ Some l → l ≡ InCode ∷ []
@@ -26,7 +27,7 @@ nest-token t answers h = ap (λ ns. first_nest (leaf t ns)) (nests-nested answer
 
 -- ## Words
 
-group-words : (wanted : Wanted) (t : Seen) (ns : List Nest) → (head_words wanted (first_nest (group t ns))).rest
+group-words : (wanted : Expectation) (t : Seen) (ns : List Nest) → (head_words wanted (first_nest (group t ns))).rest
     ≡ first_nest (group t ns)
 group-words wanted t ns = grind arith
 
@@ -34,20 +35,20 @@ group-words wanted t ns = grind arith
 abbrev Leaves : List Answer → Nest → Type 0
 Leaves answers rest = IsNested answers × (nest answers ≡ rest)
 
-pub words-leave : (wanted : Wanted) (answers : List Answer) → IsNested answers
+pub words-leave : (wanted : Expectation) (answers : List Answer) → IsNested answers
     → Leaves (without_words wanted answers) (head_words wanted (nest answers)).rest
 words-leave wanted (Token t ∷ answers) h = by (head_behind wanted t.kind t.span) refl
     (λ next. words-leave next answers (nested-behind t answers h))
   where
-    leaf-words : (o : Option Wanted) → head_behind wanted t.kind t.span ≡ o → (head_words wanted
+    leaf-words : (o : Option Expectation) → head_behind wanted t.kind t.span ≡ o → (head_words wanted
         (nest (Token t ∷ answers))).rest ≡ (elim o as (λ o. Words) [
           | Some next ↦ word_before t (head_words next (nest answers))
           | None ↦ no_word (Leaf t (nest answers))
         ]).rest
     leaf-words o e = grind (arith, nat_tests, nest-token)
 
-    by : (o : Option Wanted) → head_behind wanted t.kind t.span ≡ o
-        → ((next : Wanted) → Leaves (without_words next answers) (head_words next (nest answers)).rest)
+    by : (o : Option Expectation) → head_behind wanted t.kind t.span ≡ o
+        → ((next : Expectation) → Leaves (without_words next answers) (head_words next (nest answers)).rest)
         → Leaves (without_words wanted (Token t ∷ answers)) (head_words wanted (nest (Token t ∷ answers))).rest
     by o e rec = grind (arith, nat_tests, leaf-words, nest-token)
 words-leave wanted (Begin t ∷ answers) h = (h, sym (group-words wanted t (nests answers)))

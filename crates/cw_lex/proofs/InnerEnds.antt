@@ -21,7 +21,7 @@ use Rattle.cw_base.proofs.TestLaws.{not-both, both-left}
 
 -- ## What leaves inner C text
 
-record Inside (f : Found) : Type 0 where
+record Inside (f : ScanStep) : Type 0 where
   is : is_tex_inner f.next.part ≡ true
 
 line-inside : (cs : List Opened) (last place : ℕ) → Inside (line_end parts.TexInner cs last place)
@@ -100,7 +100,7 @@ to-end end (byte ∷ bytes) cs fresh last place zero e n u =
     by (is_tex_inner (found_apart (tex_inner cs) fresh last place byte bytes).next.part) refl
     (λ ds more k v. to-end end bytes ds (still_fresh fresh byte) byte (place + 1) more (omega (arith, e)) k v)
   where
-    f : Found
+    f : ScanStep
     f = found_apart (tex_inner cs) fresh last place byte bytes
 
     none-is : (p : ℕ) → ◌≡◌ {A = Option ℕ} (Some p) None → ⊥
@@ -136,21 +136,21 @@ to-end end (byte ∷ bytes) cs fresh last place zero e n u =
         ap (λ t. if t then section (alone cs) place bytes else in_text_apart parts.Inner cs fresh last place byte bytes)
         plain in
         let twin = (in_text-twin cs fresh last place byte bytes).same
-        (ap (λ (f : Found). is_tex_inner f.next.part) (sym of-f) ∙ h) in
+        (ap (λ (f : ScanStep). is_tex_inner f.next.part) (sym of-f) ∙ h) in
         let same : f ≡ in_tex g = of-f ∙ twin.0 ∙ ap in_tex (sym of-g) in
-        let part : g.next.part ≡ parts.Inner = ap (λ (f : Found). f.next.part) of-g ∙ twin.1 in
+        let part : g.next.part ≡ parts.Inner = ap (λ (f : ScanStep). f.next.part) of-g ∙ twin.1 in
         let here : alone g.next.comments ≡ g.next = (λ i. record { part = sym part i; comments = g.next.comments }) in
         let rest : Where → ℕ → List Answer = λ next more. answers bytes next (still_fresh fresh byte) byte (place + 1)
         more in
         let closes : closing_bar bytes (tex_inner g.next.comments) (still_fresh fresh byte) byte (place + 1) g.more
         ≡ None =
-        ap (λ (f : Found). closing_bar bytes f.next (still_fresh fresh byte) byte (place + 1) f.more) (sym same)
+        ap (λ (f : ScanStep). closing_bar bytes f.next (still_fresh fresh byte) byte (place + 1) f.more) (sym same)
         ∙ sym (ap (λ t. if t then closing_bar bytes f.next (still_fresh fresh byte) byte (place + 1) f.more else
         (if byte == bar then Some place else None)) h) ∙ n in
         let uncut : begins_section_in (rest (tex_inner g.next.comments) g.more)
-        ≡ false = ap (λ (f : Found). begins_section_in (rest f.next f.more)) (sym same)
+        ≡ false = ap (λ (f : ScanStep). begins_section_in (rest f.next f.more)) (sym same)
         ∙ uncut-right f.answers (rest f.next f.more) u in
-        ap (λ (f : Found). joined f rest) same
+        ap (λ (f : ScanStep). joined f rest) same
         ∙ ap (λ l. g.answers ++ l) (rec g.next.comments g.more closes uncut)
         ∙ ap (λ (w : Where). g.answers ++ (rest w g.more ++ inner_cut false end (end - 1))) here
         ∙ sym (append_assoc g.answers (rest g.next g.more) (inner_cut false end (end - 1)))

@@ -6,7 +6,7 @@ use Rattle.std.proofs.{lemmas.Bool.eqb-true, lemmas.Bool.Decides.nat_tests, lemm
 use Rattle.std.proofs.lemmas.List.{drop-drop, drop_all, take-take, take_all}
 use Rattle.cw_rules.specs.{declared.parts.Opened.Opened, Bytes.begins, Tokens.is_tex_inner, model.Apart.found_apart}
 use Rattle.cw_base.specs.Text.{bar}
-use Rattle.cw_rules.specs.Answers.{Answer, Begin, Finish, Where, Found, token_of}
+use Rattle.cw_rules.specs.Answers.{Answer, Begin, Finish, Where, ScanStep, token_of}
 use Rattle.cw_lex.specs.Lexing.{still_fresh, joined, answers, fresh_after, last_after, fresh_at, last_at, answers_at}
 use Rattle.cw_lex.specs.{Lexing.beginning, Lexing.tokens_of, Parts.closing_bar, Parts.closing_bar_from}
 use Rattle.cw_rules.proofs.{Choices.if-both, Choices.and-none, Ahead.drop-same, Ahead.take-same}
@@ -79,17 +79,17 @@ closed (byte ∷ bytes) w fresh last place (suc taken) end h =
 -- ## What the bar makes
 
 -- what a bar that closes inner C text makes
-abbrev closing : ℕ → List ℕ → Found
+abbrev closing : ℕ → List ℕ → ScanStep
 closing place more = record {
   answers = Finish (token_of false kinds.InnerText place 1 (124 ∷ more)) ∷ [];
   more = 0;
   next = record { part = parts.Tex; comments = [] };
 }
 
-record Closes (place : ℕ) (more : List ℕ) (f : Found) : Type 0 where
+record Closes (place : ℕ) (more : List ℕ) (f : ScanStep) : Type 0 where
   is : is_tex_inner f.next.part ≡ false → f ≡ closing place more
 
-record Stays (f : Found) : Type 0 where
+record Stays (f : ScanStep) : Type 0 where
   is : is_tex_inner f.next.part ≡ true
 
 bar-closes : (fresh : Bool) (last place : ℕ) (more : List ℕ)
@@ -109,7 +109,7 @@ from_bar more fresh place = Finish (token_of false kinds.InnerText place 1 (124 
     (record { part = parts.Tex; comments = [] }) (still_fresh fresh 124) 124 (place + 1) 0
 
 -- the scan goes on in inner C text of TeX text, or its bar stands here
-goes-on : (byte : ℕ) (bytes : List ℕ) (cs : List Opened) (fresh : Bool) (last place end : ℕ) (f : Found)
+goes-on : (byte : ℕ) (bytes : List ℕ) (cs : List Opened) (fresh : Bool) (last place end : ℕ) (f : ScanStep)
     → found_apart (tex_inner cs) fresh last place byte bytes ≡ f → closing_bar (byte ∷ bytes) (tex_inner cs) fresh last
     place 0 ≡ Some end → ((is_tex_inner f.next.part ≡ true) × (closing_bar bytes f.next (still_fresh fresh byte) byte
     (place + 1) f.more ≡ Some end)) ⊎ ((is_tex_inner f.next.part ≡ false) × (place ≡ end))
@@ -135,7 +135,7 @@ scans more [] [] fresh last place zero h =
         (found_apart (tex_inner []) fresh last place 124 more).next.part ≡ false) × (place ≡ place + 0)) → answers
         (124 ∷ more) (tex_inner []) fresh last place 0 ≡ from_bar more fresh (place + 0)
     by (inl on) = absurd (not-before more _ _ _ place _ (place + 0) on.1 (omega arith))
-    by (inr e) = ap (λ (f : Found). joined f (λ next size. answers more next (still_fresh fresh 124) 124
+    by (inr e) = ap (λ (f : ScanStep). joined f (λ next size. answers more next (still_fresh fresh 124) 124
         (place + 1) size)) ((bar-closes fresh last place more).is e.0) ∙ ap (from_bar more fresh) e.1
 scans more [] (c ∷ cs) fresh last place zero h =
     let f = found_apart (tex_inner (c ∷ cs)) fresh last place 124 more in
@@ -148,7 +148,7 @@ scans more (byte ∷ bs) cs fresh last place zero h =
     by f refl (goes-on byte (bs ++ 124 ∷ more) cs fresh last place (place + suc (length bs)) f refl h)
     (λ cs taken g. scans more bs cs (still_fresh fresh byte) byte (place + 1) taken g)
   where
-    by : (f : Found) → found_apart (tex_inner cs) fresh last place byte (bs ++ 124 ∷ more) ≡ f
+    by : (f : ScanStep) → found_apart (tex_inner cs) fresh last place byte (bs ++ 124 ∷ more) ≡ f
         → ((is_tex_inner f.next.part ≡ true) × (closing_bar (bs ++ 124 ∷ more) f.next (still_fresh fresh byte) byte
         (place + 1) f.more ≡ Some (place + suc (length bs)))) ⊎ ((is_tex_inner f.next.part ≡ false)
         × (place ≡ place + suc (length bs))) → ((cs : List Opened) (taken : ℕ) → closing_bar (bs ++ 124 ∷ more)
@@ -168,11 +168,11 @@ scans more (byte ∷ bs) cs fresh last place zero h =
         let twin = found-twin more cs fresh last place byte bs f is fits on.0 in
         let to : place + suc (length bs) ≡ (place + 1) + length bs = omega arith in
         let rest = rec g.next.comments g.more (sym
-        (ap (λ (f : Found). closing_bar (bs ++ 124 ∷ more) f.next (still_fresh fresh byte) byte (place + 1) f.more)
+        (ap (λ (f : ScanStep). closing_bar (bs ++ 124 ∷ more) f.next (still_fresh fresh byte) byte (place + 1) f.more)
         twin.0) ∙ on.1 ∙ ap (λ n. Some n) to) in
         let here : alone g.next.comments ≡ g.next = (λ i. record { part = sym twin.1 i; comments = g.next.comments }) in
         let behind = from_bar more (fresh_after (still_fresh fresh byte) bs) ((place + 1) + length bs) in
-        ap (λ (f : Found). joined f (λ next size. answers (bs ++ 124 ∷ more) next (still_fresh fresh byte) byte
+        ap (λ (f : ScanStep). joined f (λ next size. answers (bs ++ 124 ∷ more) next (still_fresh fresh byte) byte
         (place + 1) size)) (is ∙ twin.0)
         ∙ ap (λ l. g.answers ++ l) (rest ∙ ap (λ (w : Where). answers bs w (still_fresh fresh byte) byte (place + 1)
         g.more ++ behind) here)

@@ -5,7 +5,7 @@ use Rattle.std.proofs.lemmas.Bool.Decides.{nat_tests}
 use Rattle.cw_base.proofs.TestLaws.{not-both}
 use Rattle.cw_rules.specs.declared.{bodies.Noted.Noted, codes.Code.Code, parts.Part.Part}
 use Rattle.cw_rules.specs.declared.parts.Part.TheVariants as parts
-use Rattle.cw_rules.specs.Answers.{Answer, Where, Cut, Found, note_answers}
+use Rattle.cw_rules.specs.Answers.{Answer, Where, Cut, ScanStep, note_answers}
 use Rattle.cw_rules.specs.{Bytes.star, Bytes.begins, Codes.effect_in_limbo, model.Apart.found_apart}
 use Rattle.cw_rules.specs.{model.Apart.part_text_apart}
 use Rattle.cw_lex.specs.Lexing.{answers, joined, still_fresh}
@@ -22,14 +22,14 @@ abbrev within : Part → Where
 within part = record { part = part; comments = [] }
 
 -- What begins at a place has no section name before the first section code, if nothing behind it has.
-abbrev IsFree : Found → Type 0
+abbrev IsFree : ScanStep → Type 0
 IsFree f = (rest : Where → ℕ → List Answer) → ((part : Part) → is_limbo part ≡ true → (more : ℕ)
     → HasNoNames (rest (within part) more)) → HasNoNames (joined f rest)
 
-free-if : (b : Bool) (f g : Found) → IsFree f → IsFree g → IsFree (if b then f else g)
+free-if : (b : Bool) (f g : ScanStep) → IsFree f → IsFree g → IsFree (if b then f else g)
 free-if b f g h k = grind arith
 
-free-notes : (notes : List Noted) (rest : List Answer) → HasNoNames rest → HasNoNames (note_answers notes ++ rest)
+free-notes : (notes : List NoteAt) (rest : List Answer) → HasNoNames rest → HasNoNames (note_answers notes ++ rest)
 free-notes [] rest h = h
 free-notes (n ∷ notes) rest h = free-notes notes rest h
 

@@ -15,7 +15,7 @@ use Rattle.cw_rules.specs.Tokens.{code_token, control_or_plain, head_text, secti
 use Rattle.cw_rules.specs.Tokens.{directive_at, is_include, may_head, takes_hash_line, name_follows, macro_name, word}
 use Rattle.cw_rules.specs.model.Apart.{behind_head_apart, code_text_apart, comment_text_apart, part_text_apart}
 use Rattle.cw_rules.specs.model.Apart.{in_text_apart}
-use Rattle.cw_rules.specs.Answers.{Answer, Note, Where, Cut, Found, before, note_answers, plain}
+use Rattle.cw_rules.specs.Answers.{Answer, Note, Where, Cut, ScanStep, before, note_answers, plain}
 use Rattle.cw_lex.specs.Lexing.{answers, joined, tokens_of, still_fresh}
 use Rattle.cw_lex.specs.Nested.{Level, InCode, InComment, after_token, levels_after, all_levels_after, IsNested}
 use Rattle.cw_lex.specs.Nested.{is_section_kind, is_section_answer, begins_section_in, until_section, is_c_mode}
@@ -41,7 +41,7 @@ levels-append (a ∷ xs) bs ls ms h = go (levels_after a ls) refl (λ next. leve
         ≡ all_levels_after bs ms
     go o e rec = grind (arith, nat_tests)
 
-pub notes-stay : (ns : List Noted) (ls : List Level) → all_levels_after (note_answers ns) ls ≡ Some ls
+pub notes-stay : (ns : List NoteAt) (ls : List Level) → all_levels_after (note_answers ns) ls ≡ Some ls
 notes-stay [] ls = refl
 notes-stay (n ∷ ns) ls = notes-stay ns ls
 
@@ -107,14 +107,14 @@ head-tex : (p : Part) (cs : List Opened) → may_head p cs ≡ true → false �
 head-tex p cs h = grind arith
 
 -- what holds of what begins at a place
-pub record Goes (tex : Bool) (ls : List Level) (f : Found) : Type 0 where
+pub record Goes (tex : Bool) (ls : List Level) (f : ScanStep) : Type 0 where
   pub part : is_c f.next.part ≡ true
   pub same : in_tex f.next.part ≡ tex
   pub nested : nested_in f.next.comments ≡ true
   pub levels : all_levels_after f.answers ls ≡ Some (levels_in f.next.comments)
   pub uncut : begins_section_in f.answers ≡ false
 
-same-goes : (a b : Bool) (ls : List Level) (f : Found) → a ≡ b → Goes a ls f → Goes b ls f
+same-goes : (a b : Bool) (ls : List Level) (f : ScanStep) → a ≡ b → Goes a ls f → Goes b ls f
 same-goes a b ls f e g = grind (arith, nat_tests)
 
 -- what stands in C text
@@ -130,7 +130,7 @@ token-stays k ls h = grind arith
 token-uncut : (k : TokKind) → in_c k ≡ true → is_section_kind k ≡ false
 token-uncut k h = grind arith
 
-notes-uncut : (ns : List Noted) → begins_section_in (note_answers ns) ≡ false
+notes-uncut : (ns : List NoteAt) → begins_section_in (note_answers ns) ≡ false
 notes-uncut [] = refl
 notes-uncut (n ∷ ns) = notes-uncut ns
 
@@ -151,7 +151,7 @@ pub skip-goes : (w : Where) → is_c w.part ≡ true → all_inner w.comments �
     → Goes (in_tex w.part) (levels_in w.comments) (skipped_byte w)
 skip-goes w part inner = grind (arith, nat_tests, inner-nested)
 
-before-goes : (tex : Bool) (xs : List Answer) (ls ms : List Level) (f : Found) → all_levels_after xs ls ≡ Some ms
+before-goes : (tex : Bool) (xs : List Answer) (ls ms : List Level) (f : ScanStep) → all_levels_after xs ls ≡ Some ms
     → begins_section_in xs ≡ false → Goes tex ms f → Goes tex ls (before xs f)
 before-goes tex xs ls ms f h u g = grind (arith, nat_tests, levels-append, append-uncut)
 
@@ -245,10 +245,10 @@ passed-in-c w fresh place byte bytes section _ (Standing at e) =
 passed-in-c w fresh place byte bytes section _ _ = refl
 
 -- What begins at a byte of C text, but for a bar that ends it.
-pub rule-goes : (P : Found → Type 0) (w : Where) (fresh : Bool) (last place byte : ℕ) (bytes : List ℕ)
+pub rule-goes : (P : ScanStep → Type 0) (w : Where) (fresh : Bool) (last place byte : ℕ) (bytes : List ℕ)
     → (byte == at_sign && begins_section bytes) ≡ false → is_c w.part ≡ true → all_inner w.comments ≡ true
-    → ((f : Found) → Goes (in_tex w.part) (levels_in w.comments) f → P f) → (ends_at_bar w.part w.comments ≡ true → P
-    (inner_end w place (byte ∷ bytes))) → (f : Found) → CodeRule w fresh last place byte bytes f → P f
+    → ((f : ScanStep) → Goes (in_tex w.part) (levels_in w.comments) f → P f) → (ends_at_bar w.part w.comments ≡ true → P
+    (inner_end w place (byte ∷ bytes))) → (f : ScanStep) → CodeRule w fresh last place byte bytes f → P f
 rule-goes P w fresh last place byte bytes section p inner goes ends _ (LineEnd h) =
     goes (line_end w.part w.comments last place) (line-goes w.part w.comments last place p inner)
 rule-goes P w fresh last place byte bytes section p inner goes ends _ (Space line h) =
@@ -288,7 +288,7 @@ text-goes part cs fresh last place byte bytes section p inner opens =
 
 -- the text of a comment
 comment-text-goes : (part : Part) (c : Opened) (cs : List Opened) (last place byte : ℕ) (bytes : List ℕ)
-    → is_c part ≡ true → all_inner cs ≡ true → c.inner ≡ false → (f : Found)
+    → is_c part ≡ true → all_inner cs ≡ true → c.inner ≡ false → (f : ScanStep)
     → CommentRule part c cs last place byte bytes f → Goes (in_tex part) (InComment ∷ levels_in cs) f
 comment-text-goes part c cs last place byte bytes p inner f _ (Closed long h) = record {
   part = p;
@@ -445,7 +445,8 @@ answers-nest [] w fresh last place taken p t n = grind (arith, until-none, cut-u
 answers-nest (byte ∷ bytes) w fresh last place zero p t n = by (byte == at_sign && begins_section bytes) refl
     (λ f g. answers-nest bytes f.next (still_fresh fresh byte) byte (place + 1) f.more g.part g.same g.nested)
   where
-    by : (s : Bool) → (byte == at_sign && begins_section bytes) ≡ s → ((f : Found) → Goes false (levels_in w.comments) f
+    by : (s : Bool) → (byte == at_sign && begins_section bytes) ≡ s → ((f : ScanStep)
+        → Goes false (levels_in w.comments) f
         → all_levels_after (until_section (answers bytes f.next (still_fresh fresh byte) byte (place + 1) f.more))
         (levels_in f.next.comments) ≡ Some (InCode ∷ [])) → all_levels_after
         (until_section (joined (found_apart w fresh last place byte bytes) (λ next more. answers bytes next

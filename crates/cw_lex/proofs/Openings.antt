@@ -7,7 +7,7 @@ use Rattle.std.proofs.{lemmas.Bool.eqb-true, lemmas.Bool.Decides.nat_tests}
 use Rattle.std.proofs.lemmas.List.{drop-drop, take-take, take_all, drop_all}
 use Rattle.cw_base.proofs.TestLaws.{both-left, both-right, not-both}
 use Rattle.cw_rules.specs.declared.{codes.Code.Code, tokens.Mode.Mode, tokens.TokKind.TokKind}
-use Rattle.cw_rules.specs.Answers.{Answer, Token, Finish, Note, Seen, Where, Cut, Found, note_answers, cut_token}
+use Rattle.cw_rules.specs.Answers.{Answer, Token, Finish, Note, Seen, Where, Cut, ScanStep, note_answers, cut_token}
 use Rattle.cw_rules.specs.{Answers.has_sign, Answers.is_head_sign, Bytes.at_sign, Bytes.greater, Bytes.begins}
 use Rattle.cw_rules.specs.{Codes.code_at, Codes.is_section, Codes.begins_section, Tokens.all_cut, Tokens.section}
 use Rattle.cw_rules.specs.{Tokens.section_code, model.Apart.in_text_apart, model.Apart.found_apart}
@@ -31,7 +31,7 @@ abbrev tex : Where
 tex = record { part = parts.Tex; comments = [] }
 
 -- where a code with which a part begins is told
-record Opening (w : Where) (place byte : ℕ) (bytes : List ℕ) (f : Found) : Type 0 where
+record Opening (w : Where) (place byte : ℕ) (bytes : List ℕ) (f : ScanStep) : Type 0 where
   byte-is : byte ≡ 64
   opener : is_opener (code_at bytes) ≡ true
   same : is_section (code_in f.answers) ≡ false → code_at bytes ≡ code_in f.answers
@@ -56,7 +56,7 @@ opening : (w : Where) (fresh : Bool) (last place byte : ℕ) (bytes : List ℕ) 
     last place byte bytes).answers) ≡ true → Opening w place byte bytes (found_apart w fresh last place byte bytes)
 opening w fresh last place byte bytes o = by (byte == at_sign && begins_section bytes) refl
   where
-    f : Found
+    f : ScanStep
     f = found_apart w fresh last place byte bytes
 
     by : (t : Bool) → (byte == at_sign && begins_section bytes) ≡ t → Opening w place byte bytes f
@@ -65,7 +65,7 @@ opening w fresh last place byte bytes o = by (byte == at_sign && begins_section 
         record {
           byte-is = eqb-true byte at_sign (both-left (byte == at_sign) (begins_section bytes) e);
           opener = section-opens (code_at bytes) (both-right (byte == at_sign) (begins_section bytes) e);
-          same = λ h. not-both _ (section-found w place bytes) (ap (λ (f : Found). is_section (code_in f.answers))
+          same = λ h. not-both _ (section-found w place bytes) (ap (λ (f : ScanStep). is_section (code_in f.answers))
               (sym is-section) ∙ h);
           behind = λ h. is-section;
         }
@@ -73,8 +73,8 @@ opening w fresh last place byte bytes o = by (byte == at_sign && begins_section 
         let g = in_text_apart w.part w.comments fresh last place byte bytes in
         let plain : f ≡ g = ap (λ t. if t then section w place bytes else g) e in
         let told = (in-text-tells w.part w.comments fresh last place byte bytes).code
-        (ap (λ (f : Found). is_opener (code_in f.answers)) (sym plain) ∙ o) in
-        let same : code_at bytes ≡ code_in f.answers = told.1 ∙ ap (λ (f : Found). code_in f.answers) (sym plain) in
+        (ap (λ (f : ScanStep). is_opener (code_in f.answers)) (sym plain) ∙ o) in
+        let same : code_at bytes ≡ code_in f.answers = told.1 ∙ ap (λ (f : ScanStep). code_in f.answers) (sym plain) in
         let none : begins_section bytes ≡ false = ap (λ b. b == at_sign && begins_section bytes) (sym told.0) ∙ e in
         record {
           byte-is = told.0;
@@ -85,7 +85,8 @@ opening w fresh last place byte bytes o = by (byte == at_sign && begins_section 
 
 limbo-stays : (w : Where) (fresh : Bool) (last place byte : ℕ) (bytes : List ℕ) → is_limbo w.part ≡ false
     → is_limbo (found_apart w fresh last place byte bytes).next.part ≡ false
-limbo-stays w fresh last place byte bytes h = if-both (λ (f : Found). is_limbo f.next.part ≡ false) (byte == at_sign &&
+limbo-stays w fresh last place byte bytes h = if-both (λ (f : ScanStep). is_limbo f.next.part
+    ≡ false) (byte == at_sign &&
     begins_section bytes) (section w place bytes) (in_text_apart w.part w.comments fresh last place byte bytes)
     (λ e. refl) (λ e. (in-text-tells w.part w.comments fresh last place byte bytes).limbo h)
 
@@ -135,9 +136,9 @@ signless (byte ∷ bytes) w fresh last place zero h =
         let g = in_text_apart w.part w.comments fresh last place byte bytes in
         let rest = answers bytes f.next (still_fresh fresh byte) byte (place + 1) f.more in
         let plain : f ≡ g = ap (λ t. if t then section w place bytes else g) e in
-        ap (λ (f : Found). has_sign (f.answers ++ rest)) plain
+        ap (λ (f : ScanStep). has_sign (f.answers ++ rest)) plain
         ∙ (in-text-tells w.part w.comments fresh last place byte bytes).sign h rest
-        (λ k. rec (ap (λ (f : Found). is_head_where f.next) plain ∙ k))
+        (λ k. rec (ap (λ (f : ScanStep). is_head_where f.next) plain ∙ k))
 signless (byte ∷ bytes) w fresh last place (suc taken) h = signless bytes w (still_fresh fresh byte) byte (place + 1)
     taken h
 
@@ -261,7 +262,8 @@ past bytes w fresh last place byte xs zs t ys e s =
       starts = s.starts;
       body = f.answers ++ s.body;
       cut = s.cut;
-      alone = ap (λ (h : Found). h.answers ++ answers s.inside h.next (still_fresh fresh byte) byte (place + 1) h.more)
+      alone = ap (λ (h : ScanStep). h.answers ++ answers s.inside h.next (still_fresh fresh byte) byte
+          (place + 1) h.more)
           (sym same) ∙ ap (λ l. f.answers ++ l) s.alone ∙ sym (append_assoc f.answers s.body s.cut);
       whole = e ∙ ap (λ l. f.answers ++ l) s.whole ∙ sym (append_assoc f.answers s.body s.front);
       cut-tokens = s.cut-tokens;
@@ -398,7 +400,7 @@ module _ (text : List ℕ) (start : ℕ) (mode : Mode) (xs : List Answer) (t : S
   last-end = grind (arith, part, drop-part, order, last-more)
 
   -- what begins at the end, where the scan of the whole stands there
-  abbrev stopped : Found
+  abbrev stopped : ScanStep
   stopped = found_apart s.next (fresh_after (fresh_at text start) s.inside)
       (last_after (last_at text start) s.inside) s.end s.byte s.behind
 
@@ -456,12 +458,12 @@ ends-at-sections text start mode xs t ys e k =
     let alone = ap note_answers (section-code-is (64 ∷ s.behind)).notes in
     let same = same-token s.end s.end cut s.front (cut_token false code s.end (64 ∷ s.behind)) t
     (note_answers code.notes) s.notes (bare-all-cut s.next.part s.next.comments s.end s.end) s.bare
-    (ap (λ (f : Found). f.answers) (sym is) ∙ s.found-is) in
+    (ap (λ (f : ScanStep). f.answers) (sym is) ∙ s.found-is) in
     let none : s.notes ≡ [] = sym same.behind ∙ alone in (
       ends-before text start mode xs t ys s,
       s.rest ∙ ap (λ l. l ++ answers s.behind f.next
           (still_fresh (fresh_after (fresh_at text start) s.inside) s.byte) s.byte (s.end + 1) f.more) none
-          ∙ rest-end text start mode xs t ys s ∙ ap (λ (f : Found). answers_at text f.next t.span.end) is,
+          ∙ rest-end text start mode xs t ys s ∙ ap (λ (f : ScanStep). answers_at text f.next t.span.end) is,
     )
 
 -- ## At the beginnings of other parts
@@ -502,7 +504,7 @@ wanted-sign : (bytes : List ℕ) (w : Where) (fresh : Bool) (last place taken : 
 wanted-sign bytes w fresh last place taken notes n h =
     grind (arith, nat_tests, is_head_where, not-both, notes-sign, signless)
 
-opens-by : (o : Opens) (f : Found) (headed : Bool) → OpensAt o (code_in f.answers) → SignBy o headed
+opens-by : (o : Opens) (f : ScanStep) (headed : Bool) → OpensAt o (code_in f.answers) → SignBy o headed
     → (headed ≡ true → is_head_where f.next ≡ true) → OpensBy o f
 opens-by o f headed c s h = grind arith
 
@@ -530,11 +532,11 @@ ends-at-openings text start mode opened xs t ys l e k =
     let g = found_apart (beginning_of so.by) fresh last s.end s.byte s.behind in
     let same = same-token s.end s.end twin.notes s.front twin.token t twin.behind s.notes
     (notes-bare s.end twin.notes twin.only) s.bare
-    (ap (λ l. twin.notes ++ l) (sym twin.first) ∙ ap (λ (f : Found). f.answers) (sym twin.same) ∙ s.found-is) in
+    (ap (λ l. twin.notes ++ l) (sym twin.first) ∙ ap (λ (f : ScanStep). f.answers) (sym twin.same) ∙ s.found-is) in
     let rest : Where → ℕ → List Answer = λ next size. answers s.behind next (still_fresh fresh s.byte) s.byte
     (s.end + 1) size in (
       ends-before text start mode xs t ys s,
-      ap (λ l. Token t ∷ l) (s.rest ∙ ap (λ (f : Found). s.notes ++ rest f.next f.more) twin.same)
+      ap (λ l. Token t ∷ l) (s.rest ∙ ap (λ (f : ScanStep). s.notes ++ rest f.next f.more) twin.same)
           ∙ (λ i. (Token (sym same.token i) ∷ sym same.behind i) ++ rest g.next g.more)
           ∙ ap (λ l. l ++ rest g.next g.more) (sym twin.first) ∙ sym (answers-end text start mode xs t ys s
           (beginning_of so.by)) ∙ (λ i. answers_at text (sym so.begins i) (sym s.starts i)),

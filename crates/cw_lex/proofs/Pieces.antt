@@ -13,7 +13,7 @@ use Rattle.cw_rules.proofs.Inside.{ended-some}
 use Rattle.cw_lex.proofs.Steps.{bytes-here}
 
 -- what a piece gives, by where it ends
-abbrev pub piece_found : Part → List Opened → Opened → ℕ → Inside → Inside → List ℕ → Found
+abbrev pub piece_found : Part → List Opened → Opened → ℕ → Inside → Inside → List ℕ → ScanStep
 piece_found part rest comment place inside end bytes = one (in_hash_line part) (record {
   part = part;
   comments = record {
@@ -30,7 +30,7 @@ piece_found part rest comment place inside end bytes = one (in_hash_line part) (
       bytes;
 })
 
-abbrev piece_by : Part → List Opened → Opened → ℕ → Inside → List ℕ → Found
+abbrev piece_by : Part → List Opened → Opened → ℕ → Inside → List ℕ → ScanStep
 piece_by part rest comment place i bytes = one (in_hash_line part)
     (record { part = part; comments = record comment { braces = (ended i bytes).braces } ∷ rest }) place bytes
     (record { kind = kinds.Text; directive = directives.No; size = (extent i bytes).size; notes = noted i bytes })

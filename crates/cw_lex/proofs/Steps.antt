@@ -4,7 +4,7 @@ use Rattle.std.proofs.Common.{drop}
 use Rattle.std.proofs.lemmas.Bool.Decides.{nat_tests}
 use Rattle.cw_rules.specs.declared.{parts.Opened.Opened, tokens.TokKind.TokKind}
 use Rattle.cw_lex.specs.{declared.state.State.State, Lexing.answers_at}
-use Rattle.cw_rules.specs.Answers.{Answer, Seen, Where, Found, before, note_answers, token_of}
+use Rattle.cw_rules.specs.Answers.{Answer, Seen, Where, ScanStep, before, note_answers, token_of}
 use Rattle.cw_rules.specs.{Pending.pending_notes, Pending.no_notes, model.Cuttings.bytes_at, Tokens.skipped_byte}
 use Rattle.cw_lex.specs.model.Coming.{where_of, coming, found_at, AllWithin}
 use Rattle.cw_lex.proofs.Walk.{answers-at, answers-here, rest_at}
@@ -16,7 +16,7 @@ pub coming-quiet : (text : List ℕ) (s : State) → s.pending ≡ no_notes → 
 coming-quiet text s h = ap (λ p. note_answers (pending_notes text p) ++ answers_at text (where_of s) s.at) h
 
 -- a step that takes bytes
-pub step-gives : (text : List ℕ) (old new : State) (a : Answer) (f : Found) → old.pending ≡ no_notes
+pub step-gives : (text : List ℕ) (old new : State) (a : Answer) (f : ScanStep) → old.pending ≡ no_notes
     → old.at < length text → found_at text (where_of old) old.at ≡ f
     → f.answers ≡ a ∷ note_answers (pending_notes text new.pending) → new.at ≡ (old.at + 1) + f.more
     → new.at ≤ length text → where_of new ≡ f.next → coming text old ≡ a ∷ coming text new

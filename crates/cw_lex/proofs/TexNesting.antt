@@ -6,7 +6,7 @@ use Rattle.cw_rules.specs.declared.{bodies.Noted.Noted, codes.Code.Code, codes.E
 use Rattle.cw_rules.specs.declared.{parts.Opened.Opened, tokens.TokKind.TokKind}
 use Rattle.cw_rules.specs.{Bytes.at_sign, model.Apart.in_text_apart, model.Apart.found_apart}
 use Rattle.cw_rules.specs.Codes.{code_at, begins_section, effect_in_tex}
-use Rattle.cw_rules.specs.Answers.{Answer, Where, Cut, Found, note_answers}
+use Rattle.cw_rules.specs.Answers.{Answer, Where, Cut, ScanStep, note_answers}
 use Rattle.cw_lex.{specs.Lexing.answers, specs.Lexing.tokens_of, specs.Lexing.still_fresh, specs.Nested.begins_part_in}
 use Rattle.cw_lex.{specs.Nested.is_part_answer, proofs.Nesting.cut-one, proofs.Nesting.section-kind}
 use Rattle.cw_rules.specs.Tokens.{one, dropped_code, moved, is_name, is_head, code_token, comment_cut, inner_or_none}
@@ -59,7 +59,7 @@ tex-append (a ∷ xs) ys ls ms h = go (tex_levels_after a ls) refl (λ next. tex
         ≡ all_tex_levels_after ys ms) → all_tex_levels_after (a ∷ xs ++ ys) ls ≡ all_tex_levels_after ys ms
     go o e rec = grind (arith, nat_tests, tex-step)
 
-notes-tex : (ns : List Noted) (ls : List Level) → all_tex_levels_after (note_answers ns) ls ≡ Some ls
+notes-tex : (ns : List NoteAt) (ls : List Level) → all_tex_levels_after (note_answers ns) ls ≡ Some ls
 notes-tex [] ls = refl
 notes-tex (n ∷ ns) ls = notes-tex ns ls
 
@@ -76,11 +76,11 @@ abbrev tex_levels : Part → List Opened → List Level
 tex_levels parts.TexInner cs = levels_in cs
 tex_levels _ cs = []
 
-record TexGoes (ls : List Level) (f : Found) : Type 0 where
+record TexGoes (ls : List Level) (f : ScanStep) : Type 0 where
   stays : stands f.next.part f.next.comments ≡ true
   levels : all_tex_levels_after f.answers ls ≡ Some (tex_levels f.next.part f.next.comments)
 
-record Unless (ls : List Level) (f : Found) : Type 0 where
+record Unless (ls : List Level) (f : ScanStep) : Type 0 where
   goes : begins_part_in f.answers ≡ false → TexGoes ls f
 
 inner-stands : (p : Part) (cs : List Opened) → in_tex p ≡ true → stands p cs ≡ nested_in cs
@@ -89,7 +89,7 @@ inner-stands p cs h = grind arith
 inner-levels : (p : Part) (cs : List Opened) → in_tex p ≡ true → levels_in cs ≡ tex_levels p cs
 inner-levels p cs h = grind arith
 
-inner-goes : (ls : List Level) (f : Found) → Goes true ls f → Unless ls f
+inner-goes : (ls : List Level) (f : ScanStep) → Goes true ls f → Unless ls f
 inner-goes ls f g = grind (arith, inner-stands, all-same, levels_in, inner-levels)
 
 token-goes : (hash_line : Bool) (next : Where) (place : ℕ) (bytes : List ℕ) (cut : Cut) → stands next.part next.comments

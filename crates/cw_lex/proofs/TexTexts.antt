@@ -7,7 +7,8 @@ use Rattle.std.proofs.{lemmas.Bool.eqb-true, lemmas.Bool.Decides.nat_tests}
 use Rattle.std.proofs.lemmas.List.{drop-drop, length-take}
 use Rattle.cw_base.proofs.TestLaws.{both-right, one-failed-left, one-failed-right, not-both}
 use Rattle.cw_rules.specs.declared.{bodies.Noted.Noted, codes.Code.Code, codes.Effect.Effect, tokens.TokKind.TokKind}
-use Rattle.cw_rules.specs.Answers.{Answer, Token, Begin, Finish, Note, Seen, Where, Cut, Found, note_answers, token_of}
+use Rattle.cw_rules.specs.Answers.{Answer, Token, Begin, Finish, Note, Seen, Where, Cut, ScanStep, note_answers}
+use Rattle.cw_rules.specs.Answers.{token_of}
 use Rattle.cw_rules.specs.{Answers.cut_token}
 use Rattle.cw_rules.specs.{Answers.plain, Answers.has_sign, Bodies.at_start, Bodies.extent, Bytes.at_sign, Bytes.equals}
 use Rattle.cw_rules.specs.{Bytes.run, Bytes.begins, Bytes.is_in, Order.Covers, model.Apart.found_apart}
@@ -58,11 +59,11 @@ opens-uncut more (Token t ∷ answers) h = both (is_section_kind t.kind) (one-fa
     both a e k = grind (arith, nat_tests)
 opens-uncut more (_ ∷ answers) h = opens-uncut more answers h
 
-notes-only : (ns : List Noted) → AreNotes (note_answers ns)
+notes-only : (ns : List NoteAt) → AreNotes (note_answers ns)
 notes-only [] = tt
 notes-only (n ∷ ns) = notes-only ns
 
-notes-are : (ns : List Noted) → are_notes (note_answers ns) ≡ true
+notes-are : (ns : List NoteAt) → are_notes (note_answers ns) ≡ true
 notes-are [] = refl
 notes-are (n ∷ ns) = notes-are ns
 
@@ -110,7 +111,7 @@ pub all-taken : (bytes : List ℕ) (w : Where) (fresh : Bool) (last place : ℕ)
 all-taken [] w fresh last place = grind (arith, nat_tests, bare-uncut, bare-all-cut)
 all-taken (b ∷ bytes) w fresh last place = all-taken bytes w (still_fresh fresh b) b (place + 1)
 
-pub or-notes : (ns : List Noted) (ys : List Answer) → begins_section_in ys ≡ false
+pub or-notes : (ns : List NoteAt) (ys : List Answer) → begins_section_in ys ≡ false
     → begins_section_in (note_answers ns ++ ys) ≡ false
 or-notes [] ys h = h
 or-notes (n ∷ ns) ys h = or-notes ns ys h
@@ -154,7 +155,7 @@ name-uncut c d bs fresh last place n h =
       nat_tests,
       all-taken,
     ) in
-    ap (λ (f : Found). begins_section_in (joined f rest)) is ∙ ap
+    ap (λ (f : ScanStep). begins_section_in (joined f rest)) is ∙ ap
     (λ b. b || begins_section_in (note_answers cut.notes ++ rest inner ((2 + (extent i ls).size) - 1))) (name-kind c n)
     ∙ or-notes cut.notes (rest inner ((2 + (extent i ls).size) - 1)) behind
 
@@ -172,22 +173,22 @@ name-whole text start end d bs c here n h e =
 -- ## What begins in TeX text
 
 -- A code stands as a token, behind which TeX text goes on; or it is a name that heads a C part; or another part begins.
-record Stands (c : Code) (place : ℕ) (shown : List ℕ) (f : Found) : Type 0 where
+record Stands (c : Code) (place : ℕ) (shown : List ℕ) (f : ScanStep) : Type 0 where
   cut : Cut
   is : f ≡ one false tex place shown cut
   name : is_name_kind cut.kind ≡ true → (is_name c ≡ true) × (cut ≡ section_name c place shown)
 
-record Heads (c : Code) (place : ℕ) (shown : List ℕ) (f : Found) : Type 0 where
+record Heads (c : Code) (place : ℕ) (shown : List ℕ) (f : ScanStep) : Type 0 where
   name : is_name c ≡ true
   headed : is_head place shown ≡ true
   is : f ≡ one false head place shown (section_name c place shown)
 
-record Opens (f : Found) : Type 0 where
+record Opens (f : ScanStep) : Type 0 where
   token : Seen
   answers : f.answers ≡ Token token ∷ []
   opened : is_some (opened_by token.kind false) ≡ true
 
-abbrev Begins : Code → ℕ → List ℕ → Found → Type 0
+abbrev Begins : Code → ℕ → List ℕ → ScanStep → Type 0
 Begins c place shown f = Stands c place shown f ⊎ (Heads c place shown f ⊎ Opens f)
 
 name-begins : (c : Code) (place : ℕ) (shown : List ℕ) (t : Bool) → is_head place shown ≡ t → is_name c ≡ true
@@ -236,7 +237,7 @@ module _ (text : List ℕ) (place : ℕ) (within : place < length text) (quiet :
   abbrev behind : List ℕ
   behind = drop (place + 1) text
 
-  abbrev here : Found
+  abbrev here : ScanStep
   here = found_at text tex place
 
   abbrev next : ℕ
@@ -266,12 +267,12 @@ module _ (text : List ℕ) (place : ℕ) (within : place < length text) (quiet :
       let t = cut_token false cut place (byte ∷ behind) in
       let takes = found-takes tex (fresh_at text place) (last_at text place) place byte behind in
       let b = begun place (byte ∷ behind) here.more takes.first takes.rest [] t (note_answers cut.notes) takes.bare
-      takes.whole (sym takes.split ∙ ap (λ (f : Found). f.answers) e) in
+      takes.whole (sym takes.split ∙ ap (λ (f : ScanStep). f.answers) e) in
       let to : t.span.end ≡ next = b.whole.to in
       record {
         token = t;
         notes = note_answers cut.notes;
-        answers = goes ∙ ap (λ (f : Found). f.answers ++ answers_at text f.next next) e
+        answers = goes ∙ ap (λ (f : ScanStep). f.answers ++ answers_at text f.next next) e
             ∙ ap (λ n. Token t ∷ (note_answers cut.notes ++ tex_at text n)) (sym to);
         only = notes-are cut.notes;
         starts = refl;
@@ -288,14 +289,14 @@ module _ (text : List ℕ) (place : ℕ) (within : place < length text) (quiet :
       let x = extent (at_start bodies.SectionName (place + 2)) bs in
       let cut = section_name c place (byte ∷ behind) in
       let t = cut_token false cut place (byte ∷ behind) in
-      let to : next ≡ place + (2 + x.size) = omega (arith, ap (λ (f : Found). f.more) e) in
+      let to : next ≡ place + (2 + x.size) = omega (arith, ap (λ (f : ScanStep). f.more) e) in
       let two : drop (place + 2) text ≡ bs = sym (drop-drop 2 place text) ∙ ap (drop 2) (drop-here text place within) in
       let at-next : drop next text ≡ drop x.size bs =
       ap (λ n. drop n text) (to ∙ omega arith) ∙ sym (drop-drop x.size (place + 2) text) ∙ ap (drop x.size) two in
       let sign : has_sign (answers_at text head next) ≡ true = grind (arith, nat_tests, signed, both-right) in
       let rest = note_answers cut.notes ++ answers_at text head next in
       let all : tex_at text place ≡ Token t ∷ rest = goes
-      ∙ ap (λ (f : Found). f.answers ++ answers_at text f.next next) e in
+      ∙ ap (λ (f : ScanStep). f.answers ++ answers_at text f.next next) e in
       let unopened = ap opens_part_in (sym all) ∙ quiet in
       let behind-name : has_sign (rest ++ []) ≡ true = ap has_sign (append-nil rest)
       ∙ notes-sign (note_answers cut.notes) (answers_at text head next) (notes-only cut.notes) ∙ sign in
@@ -334,7 +335,7 @@ module _ (text : List ℕ) (place : ℕ) (within : place < length text) (quiet :
       by (inr (inr o)) =
           let rest = answers_at text here.next next in
           let all : tex_at text place ≡ Token o.token ∷ rest = goes
-          ∙ ap (λ l. l ++ rest) (ap (λ (f : Found). f.answers) is ∙ o.answers) in
+          ∙ ap (λ l. l ++ rest) (ap (λ (f : ScanStep). f.answers) is ∙ o.answers) in
           let unopened = ap opens_part_in (sym all) ∙ quiet in
           not-both _ (more-opened o.token.kind (has_sign (rest ++ [])) o.opened)
           (one-failed-left (is_some (opened_by o.token.kind (has_sign (rest ++ [])))) (opens_part_before [] rest)

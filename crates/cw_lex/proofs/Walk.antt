@@ -51,7 +51,7 @@ pub answers-here : (text : List ℕ) (w : Where) (place : ℕ) → place < lengt
 answers-here text w place h = grind (arith, nat_tests, drop-here)
 
 -- the answers from a place on are those that begin there and those from where they end
-pub answers-at : (text : List ℕ) (w : Where) (place : ℕ) (f : Found) (next : ℕ) → place < length text
+pub answers-at : (text : List ℕ) (w : Where) (place : ℕ) (f : ScanStep) (next : ℕ) → place < length text
     → found_at text w place ≡ f → next ≡ (place + 1) + f.more → next ≤ length text
     → answers_at text w place ≡ f.answers ++ answers_at text f.next next
 answers-at text w place f next h e n within =

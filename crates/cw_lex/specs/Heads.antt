@@ -3,8 +3,8 @@ use Rattle.std.specs.Prelude.{ℕ, true, false, ◌==◌, Option, Some, None, Li
 use Rattle.cw_base.specs.declared.span.Span.{Span}
 use Rattle.cw_rules.specs.Answers.{Answer, Token, Begin, Finish, Note, Seen, is_head_sign}
 use Rattle.cw_rules.specs.declared.codes.Code.TheVariants as code
-use Rattle.cw_lex.specs.declared.heads.Wanted.{Wanted}
-use Rattle.cw_lex.specs.declared.heads.Wanted.TheVariants as wants
+use Rattle.cw_lex.specs.declared.heads.Expectation.{Expectation}
+use Rattle.cw_lex.specs.declared.heads.Expectation.TheVariants as wants
 use Rattle.cw_rules.specs.declared.signs.Sign.TheVariants as sign
 use Rattle.cw_rules.specs.declared.tokens.TokKind.{TokKind}
 use Rattle.cw_rules.specs.declared.tokens.TokKind.TheVariants as kind
@@ -13,7 +13,7 @@ use Rattle.cw_lex.specs.Nest.{Nest, Leaf}
 -- ## Which tokens belong to the head of a definition
 
 -- What a head wants behind a name that belongs to it and ends at this place; None where the name doesn't belong to it.
-abbrev pub word_behind : Wanted → ℕ → Option Wanted
+abbrev pub word_behind : Expectation → ℕ → Option Expectation
 word_behind wants.Macro end = Some (wants.Parenthesis end)
 word_behind wants.Parameters end = Some wants.Parameters
 word_behind (wants.First silent) end = Some (wants.Second silent)
@@ -21,21 +21,21 @@ word_behind (wants.Second silent) end = Some wants.Nothing
 word_behind wanted end = None
 
 -- A `(` directly behind the name of a macro opens its parameters.
-abbrev pub opening_behind : Wanted → ℕ → Option Wanted
+abbrev pub opening_behind : Expectation → ℕ → Option Expectation
 opening_behind (wants.Parenthesis place) start = if place == start then Some wants.Parameters else None
 opening_behind wanted start = None
 
 -- Commas and `...` stand among parameters, and `)` ends them.
-abbrev pub separator_behind : Wanted → Option Wanted
+abbrev pub separator_behind : Expectation → Option Expectation
 separator_behind wants.Parameters = Some wants.Parameters
 separator_behind wanted = None
 
-abbrev pub closing_behind : Wanted → Option Wanted
+abbrev pub closing_behind : Expectation → Option Expectation
 closing_behind wants.Parameters = Some wants.Nothing
 closing_behind wanted = None
 
 -- A token: what the head wants behind it; None where the head ends before it. A comment always ends a head.
-abbrev pub head_behind : Wanted → TokKind → Span → Option Wanted
+abbrev pub head_behind : Expectation → TokKind → Span → Option Expectation
 head_behind wanted kind.Identifier span = word_behind wanted span.«end»
 head_behind wanted (kind.Sign sign.LeftParen) span = opening_behind wanted span.start
 head_behind wanted (kind.Sign sign.Comma) span = separator_behind wanted
@@ -44,7 +44,7 @@ head_behind wanted (kind.Sign sign.RightParen) span = closing_behind wanted
 head_behind wanted k span = None
 
 -- what the code of a definition wants; the other codes begin no head
-abbrev pub wanted_by : TokKind → Wanted
+abbrev pub wanted_by : TokKind → Expectation
 wanted_by (kind.Code code.Define) = wants.Macro
 wanted_by (kind.Code code.Format) = wants.First false
 wanted_by (kind.Code code.SilentFormat) = wants.First true
@@ -88,7 +88,7 @@ abbrev pub word_before : Seen → Words → Words
 word_before token more = record { words = token ∷ more.words; rest = more.rest }
 
 -- the words that belong to a head which wants this
-abbrev pub head_words : Wanted → Nest → Words
+abbrev pub head_words : Expectation → Nest → Words
 head_words wanted (Leaf token rest) = elim (head_behind wanted token.kind token.span) [
   | Some next ↦ word_before token (head_words next rest)
   | None ↦ no_word (Leaf token rest)
@@ -130,7 +130,7 @@ headed rest = headless rest
 -- ## The answers behind a head
 
 -- the answers behind the words of a head that wants this
-abbrev pub without_words : Wanted → List Answer → List Answer
+abbrev pub without_words : Expectation → List Answer → List Answer
 without_words wanted [] = []
 without_words wanted (Token token ∷ answers) = elim (head_behind wanted token.kind token.span) [
   | Some next ↦ without_words next answers

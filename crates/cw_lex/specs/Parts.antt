@@ -8,11 +8,11 @@ use Rattle.cw_rules.specs.declared.tokens.TokKind.TheVariants as kinds
 use Rattle.cw_rules.specs.Bytes.{at_sign, greater, begins}
 use Rattle.cw_base.specs.Text.{bar}
 use Rattle.cw_rules.specs.Codes.{begins_section}
-use Rattle.cw_rules.specs.Answers.{Answer, Begin, Finish, Where, Found, token_of}
+use Rattle.cw_rules.specs.Answers.{Answer, Begin, Finish, Where, ScanStep, token_of}
 use Rattle.cw_rules.specs.Tokens.{found, all_cut, is_tex_inner}
 use Rattle.cw_lex.specs.Lexing.{still_fresh, joined, fresh_at, last_at, answers_at, beginning, tokens_of}
 
-abbrev pub followed : Found → (Where → ℕ → Option Where) → Option Where
+abbrev pub followed : ScanStep → (Where → ℕ → Option Where) → Option Where
 followed f rest = rest f.next f.more
 
 -- Where the scan of these bytes stands behind the first `n` of them; None inside a token. The first `taken` belong to

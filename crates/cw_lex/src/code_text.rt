@@ -15,7 +15,7 @@ ghost use Rattle.cw_rules.specs.model.Cuttings.{bytes_at, cut_of};
 ghost use Rattle.cw_rules.specs.Tokens.{is_code, is_code_part};
 ghost use Rattle.cw_lex.specs.model.Coming.{is_white_here, IsClear, IsReady, CanStep};
 ghost use Rattle.cw_rules.specs.model.Cuttings.{IsCut};
-ghost use Rattle.cw_lex.specs.model.Starts.{SignFits, CommentFits, CodeIs};
+ghost use Rattle.cw_lex.specs.model.Starts.{StartFits, start_by_byte};
 ghost use Rattle.cw_rules.specs.Constants.{constant};
 
 use crate::comment_text::{begin_comment, end_inner};
@@ -309,11 +309,7 @@ fn in_code<'a>(text: &'a [u8], state: &mut State) -> Lexed<'a>
 fn start_at(bar_ends: bool, text: &[u8], at: usize) -> Start
     requires { at < length text.now }
     ensures value { result ≡ start_of bar_ends (slice_index text.now at) (drop (at + 1) text.now) }
-    ensures sign { SignFits result (length text.now - at) }
-    ensures comment { CommentFits result (length text.now - at) }
-    ensures constant { result ≡ Start.Constant → 0 < constant (drop at text.now) }
-    ensures letter { result ≡ Start.Identifier → is_letter (slice_index text.now at) ≡ true }
-    ensures code { CodeIs result (code_at (drop (at + 1) text.now)) }
+    ensures fits { StartFits result (slice_index text.now at) (drop (at + 1) text.now) }
 {
     let byte = text[at];
     let bytes = from(text, at);
@@ -328,6 +324,15 @@ fn start_at(bar_ends: bool, text: &[u8], at: usize) -> Start
     if is_constant(byte, bytes) {
         return Start::Constant;
     }
+    start_by_byte(bar_ends, byte, rest)
+}
+
+// What begins with this byte before the others, where no prefix, identifier or constant does.
+#[inline(always)]
+fn start_by_byte(bar_ends: bool, byte: u8, rest: &[u8]) -> Start
+    ensures value { result ≡ start_by_byte bar_ends byte rest.now }
+    ensures fits { StartFits result byte rest.now }
+{
     if is_mark(byte) {
         return Start::Quoted(byte);
     }

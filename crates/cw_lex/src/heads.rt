@@ -7,7 +7,7 @@ use cw_base::Span;
 
 /// What the head of a definition still wants.
 #[derive(Clone, Copy, Debug, PartialEq, Eq)]
-pub enum Wanted {
+pub enum Expectation {
     /// Nothing: no head is open.
     Nothing,
     /// The name of a macro.
@@ -22,24 +22,26 @@ pub enum Wanted {
     Second(bool),
 }
 
-impl Wanted {
+impl Expectation {
     /// What the head wants behind a token of C text that belongs to it. None where the token doesn't
     /// belong to the head, which ends before it then.
-    pub fn behind(self, kind: TokKind, span: Span) -> Option<Wanted>
+    pub fn behind(self, kind: TokKind, span: Span) -> Option<Expectation>
         ensures { result ≡ head_behind self kind span }
     {
         match kind {
             TokKind::Identifier => self.behind_word(span.end),
             TokKind::Sign(Sign::LeftParen) => match self {
-                Wanted::Parenthesis(place) if place == span.start => Some(Wanted::Parameters),
+                Expectation::Parenthesis(place) if place == span.start => Some(
+                    Expectation::Parameters,
+                ),
                 _ => None,
             },
             TokKind::Sign(Sign::Comma | Sign::Ellipsis) => match self {
-                Wanted::Parameters => Some(Wanted::Parameters),
+                Expectation::Parameters => Some(Expectation::Parameters),
                 _ => None,
             },
             TokKind::Sign(Sign::RightParen) => match self {
-                Wanted::Parameters => Some(Wanted::Nothing),
+                Expectation::Parameters => Some(Expectation::Nothing),
                 _ => None,
             },
             _ => None,
@@ -47,15 +49,15 @@ impl Wanted {
     }
 
     // An identifier, which ends at this place.
-    fn behind_word(self, end: usize) -> Option<Wanted>
+    fn behind_word(self, end: usize) -> Option<Expectation>
         ensures { result ≡ word_behind self end }
     {
         match self {
-            Wanted::Macro => Some(Wanted::Parenthesis(end)),
-            Wanted::Parameters => Some(Wanted::Parameters),
-            Wanted::First(silent) => Some(Wanted::Second(silent)),
-            Wanted::Second(_) => Some(Wanted::Nothing),
-            Wanted::Nothing | Wanted::Parenthesis(_) => None,
+            Expectation::Macro => Some(Expectation::Parenthesis(end)),
+            Expectation::Parameters => Some(Expectation::Parameters),
+            Expectation::First(silent) => Some(Expectation::Second(silent)),
+            Expectation::Second(_) => Some(Expectation::Nothing),
+            Expectation::Nothing | Expectation::Parenthesis(_) => None,
         }
     }
 }

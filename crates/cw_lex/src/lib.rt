@@ -15,7 +15,7 @@ mod short;
 mod state;
 
 pub use cw_rules::{Code, Directive, Lexed, Mode, Sign, Tok, TokKind};
-pub use heads::Wanted;
+pub use heads::Expectation;
 pub use kinds::is_section_name;
 pub use laws::{limbo_law, nest_law, nesting_law, openings_law, parts_law, tex_texts_law};
 pub use lexer::Lexer;

@@ -1,13 +1,13 @@
 -- What a log of texts tells.
 use Rattle.cw_log.proofs.Terms.{◌≡◌, ℕ, zero, suc, ◌<◌, Option, Some, List, [], ◌∷◌, ◌++◌, length, map, get_or, refl}
-use Rattle.cw_log.proofs.Terms.{sym, ◌∙◌, ap, arith, LeafLine, LogItem, TextLog, item_of, production_of, Told}
+use Rattle.cw_log.proofs.Terms.{sym, ◌∙◌, ap, arith, LeafLine, LogItem, TextLog, item_of, production_of, WatchState}
 use Rattle.cw_log.proofs.Terms.{LineEntry, AreRoots, roots_of, Token, ended_now}
 
 items-back : (items : List LogItem) → map item_of (map production_of items) ≡ items
 items-back [] = refl
 items-back (item ∷ items) = ap (λ xs. item ∷ xs) (items-back items)
 
-abbrev told_of : List LogItem → List LeafLine → List TextLog → Option Told
+abbrev told_of : List LogItem → List LeafLine → List TextLog → Option WatchState
 told_of items leaves ended = Some (record { items = map production_of items; begun = leaves; ended = ended })
 
 -- a text that has ended stands behind the others

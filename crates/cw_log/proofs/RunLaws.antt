@@ -5,7 +5,7 @@ use Rattle.cw_log.proofs.Terms.{judged, no_log_text, run_of, too_long_text, chec
 use Rattle.cw_log.proofs.Terms.{LOG_LIMIT}
 use Rattle.std.proofs.lemmas.Result.{IfOk-weaker}
 use Rattle.cw_base.specs.{declared.exit.Exit.Exit, declared.exit.Exit.TheVariants.Fault}
-use Rattle.cw_desk.specs.Told.{Told}
+use Rattle.cw_desk.specs.Told.{DeskState}
 use Rattle.cw_logs.specs.Judgement.{Judgement, log, no_log}
 use Rattle.cw_logs.proofs.Faults.{fault-no-log, fault-same}
 use Rattle.cw_run.specs.Emits.{Run, Runs}
@@ -49,7 +49,7 @@ pub judged-real : {lines : List (List ℕ)} (j : Judgement lines) → (judged j)
 judged-real (log is) e = exit-real (checked is.blocks) e
 judged-real (no_log line fault) e = cc
 
-pub runs-real : (run : Run) (a b : Told) (result : Result Exit PutError) → run.exit ≢ Fault → Runs run a b result
+pub runs-real : (run : Run) (a b : DeskState) (result : Result Exit PutError) → run.exit ≢ Fault → Runs run a b result
     → IfOk result (λ exit. exit ≢ Fault)
 runs-real run a b result real runs =
     IfOk-weaker result (λ e. e ≡ run.exit) (λ e. e ≢ Fault) (λ e same is. real (sym same ∙ is)) runs.exit

@@ -1,7 +1,7 @@
 -- The tokens of a list say its names, one after another.
 use Rattle.cw_log.proofs.Terms.{◌≡◌, ℕ, zero, suc, ◌+◌, ◌*◌, ◌<◌, ◌≤◌, Bool, true, false, Option, Some, None, List, []}
 use Rattle.cw_log.proofs.Terms.{◌∷◌, ◌++◌, length, map, drop, get_or, slice_get, refl, sym, ◌∙◌, ap, subst, arith}
-use Rattle.cw_log.proofs.Terms.{drop-cons, append_assoc, map-append, NameId, Cat, Tree, search_word, said, Heard}
+use Rattle.cw_log.proofs.Terms.{drop-cons, append_assoc, map-append, NameId, Cat, Tree, search_word, said, Utterance}
 use Rattle.cw_log.proofs.Terms.{followed, silence, told_by, Token, refers, token_ref, IsTied, Shape, Plain, Below}
 use Rattle.cw_log.proofs.Terms.{InnerBelow, shape, ref_of, tree_in, trees_from, unfolded, with_built, unfold-is, id_of}
 use Rattle.cw_log.proofs.Terms.{token_said, IsSaid}
@@ -56,19 +56,19 @@ said-item lists (Plain leaf) rest = refl
 said-item lists (Below list) rest = refl
 said-item lists (InnerBelow list) rest = refl
 
-abbrev pub names_alone : List ℕ → Heard ℕ
+abbrev pub names_alone : List ℕ → Utterance ℕ
 names_alone names = record { names = names; stops = false }
 
-abbrev pub names_stopped : List ℕ → Heard ℕ
+abbrev pub names_stopped : List ℕ → Utterance ℕ
 names_stopped names = record { names = names; stops = true }
 
-followed-twice : (ns ms : List ℕ) (h : Heard ℕ) → followed (names_alone ns) (followed (names_alone ms) h)
+followed-twice : (ns ms : List ℕ) (h : Utterance ℕ) → followed (names_alone ns) (followed (names_alone ms) h)
     ≡ followed (names_alone (ns ++ ms)) h
 followed-twice ns ms h = ap (λ xs. record { names = xs; stops = h.stops }) (sym (append_assoc ns ms h.names))
 
 -- ## The tokens so far
 
-abbrev pub list_said : List (List Token) → List Token → Heard ℕ
+abbrev pub list_said : List (List Token) → List Token → Utterance ℕ
 list_said lists tokens = said (tree_in (trees_from [] lists) tokens)
 
 -- the tokens before a place have said so many names, and did not stop

@@ -10,7 +10,7 @@ pub use Rattle.std.specs.{FinMap.get, List.flat_map, Result.IfOk}
 pub use Rattle.cw_base.proofs.TestLaws.{both-left, both-right}
 pub use Rattle.cw_base.specs.{Text.pieces_of, Text.pieces_by, declared.category.Cat.Cat, declared.flags.Flags.Flags}
 pub use Rattle.cw_logs.specs.Judging.{Judges, same_item}
-pub use Rattle.cw_texts.specs.EachText.{EndedText, Source, text_ended}
+pub use Rattle.cw_texts.specs.EachText.{EndedText, TextSource, text_ended}
 pub use Rattle.cw_leaves.specs.{Sights.Heard, Sights.followed, Sights.silence, Sights.told_by}
 pub use Rattle.cw_leaves.specs.{declared.kinds.LeafKind.LeafKind, declared.lines.LeafLine.LeafLine}
 pub use Rattle.cw_leaves.specs.{declared.lines.LogItem.LogItem, declared.lines.TextLog.TextLog}
@@ -32,7 +32,7 @@ pub use Rattle.cw_logs.specs.{LogReading.IsFaultAt}
 pub use Rattle.cw_logs.specs.LogText.{IsFineLine, fits_kind, Block, block_lines, end_text, item_text, line_text}
 pub use Rattle.cw_logs.specs.LogText.{log_lines, IsFineBlock, ended, log_text}
 pub use Rattle.cw_names.specs.{Names.Entry, Names.AreDistinct, declared.entry.NameId.NameId}
-pub use Rattle.cw_rewrite.specs.Telling.{Told}
+pub use Rattle.cw_rewrite.specs.Telling.{WatchState}
 pub use Rattle.cw_run.specs.laws.EmitsLaws.{runs-known, runs-after}
 pub use Rattle.cw_scraps.proofs.LeafForms.{leaf-sound, IsGood}
 pub use Rattle.cw_scraps.specs.Lines.{seen, scraps_of, IsSoundLine, IsNamedBelow, AreRoots, roots_of}

@@ -1,14 +1,15 @@
 -- The log of a web is written text by text.
 use Rattle.cw_log.proofs.Terms.{◌≡◌, ℕ, zero, suc, ◌+◌, All, Some, Result, Ok, Err, List, [], ◌∷◌, ◌++◌, IsErrAnd, map}
 use Rattle.cw_log.proofs.Terms.{take, slice_get, refl, sym, ◌∙◌, ap, subst, arith, append_assoc, flat_map}
-use Rattle.cw_log.proofs.Terms.{flat_map-append, append-nil, take_all, Flags, EndedText, Source, text_ended, TextLog}
+use Rattle.cw_log.proofs.Terms.{flat_map-append, append-nil, take_all, Flags, EndedText, TextSource, text_ended}
+use Rattle.cw_log.proofs.Terms.{TextLog}
 use Rattle.cw_log.proofs.Terms.{item_of, production_of, PutError, block_of, Block, block_lines, ended, log_lines}
-use Rattle.cw_log.proofs.Terms.{log_text, Entry, Told as Recorded, Production, log, productions, State, TextRef}
+use Rattle.cw_log.proofs.Terms.{log_text, Entry, DeskState as Recorded, Production, log, productions, State, TextRef}
 use Rattle.cw_log.proofs.Terms.{HasRecorded, logged, blocks_from, state_block, text_blocks, block_bytes, ended_by}
 use Rattle.cw_log.proofs.Terms.{recorded_of}
 use Rattle.std.proofs.lemmas.List.Elements.{All-head, All-tail}
 use Rattle.cw_base.specs.declared.event.Out.TheVariants.{Tex}
-use Rattle.cw_desk.specs.{Journal.byte_events, Told.Told}
+use Rattle.cw_desk.specs.{Journal.byte_events, DeskState.Told}
 use Rattle.cw_texts.specs.EachForms.{IsWholeRef}
 use Rattle.cw_lines.specs.{declared.put_error.PutError.TheVariants.Memory as no_memory, Writes.Adds, Writes.HasAdded}
 use Rattle.cw_lines.specs.{laws.WritesLaws.adds-events, laws.WritesLaws.adds-none}
@@ -30,14 +31,14 @@ recorded-all flags states before after value none h =
     ∙ ap (map (logged flags)) (take_all h.number states h.all))
 
 -- the names that a translation leaves that begins without marks
-pub text-names : (s : Source) (part : TextRef) (names after : List Entry) (marks : List ℕ) → marks ≡ []
+pub text-names : (s : TextSource) (part : TextRef) (names after : List Entry) (marks : List ℕ) → marks ≡ []
     → after ≡ (translated s.flags (name_texts s.sec_names s.name_uses) (scanned part.mode s.text part.span) names
     marks).known.names → after ≡ (text_ended s part names).known.names
 text-names s part names after marks none is = is ∙ ap (λ (m : List ℕ). (translated s.flags
     (name_texts s.sec_names s.name_uses) (scanned part.mode s.text part.span) names m).known.names) none
 
 -- the texts that it tells
-pub text-recorded : (s : Source) (part : TextRef) (names : List Entry) (after : List TextLog) (marks : List ℕ)
+pub text-recorded : (s : TextSource) (part : TextRef) (names : List Entry) (after : List TextLog) (marks : List ℕ)
     → marks ≡ [] → after ≡ map (logged s.flags) (translated s.flags (name_texts s.sec_names s.name_uses)
     (scanned part.mode s.text part.span) names marks).known.ended → after ≡ recorded_of s (ended_by s part names)
 text-recorded s part names after marks none is = is ∙ ap (λ (m : List ℕ). map (logged s.flags) (translated s.flags
@@ -70,7 +71,7 @@ states-bytes flags names (state ∷ states) = ap (λ (bytes : List ℕ). block_b
     (block_lines (state_block flags names state)) (log_lines (map (state_block flags names) states))))
 
 -- the bytes of the blocks that are recorded
-pub recorded-bytes : (s : Source) (t : EndedText)
+pub recorded-bytes : (s : TextSource) (t : EndedText)
     → flat_map (block_bytes t.ended.known.names) (recorded_of s t) ≡ log_text (text_blocks s.flags t)
 recorded-bytes s t = states-bytes s.flags t.ended.known.names t.ended.known.ended
 
@@ -92,23 +93,24 @@ bytes-more names texts i text old new there so_far is = is ∙ (ap (λ (bytes : 
 
 -- ## Text after text
 
-abbrev pub texts_log : Source → List TextRef → List Entry → List ℕ
+abbrev pub texts_log : TextSource → List TextRef → List Entry → List ℕ
 texts_log s texts names = log_text (blocks_from s texts names)
 
-log-first : (s : Source) (text : TextRef) (texts : List TextRef) (names : List Entry) → texts_log s (text ∷ texts) names
+log-first : (s : TextSource) (text : TextRef) (texts : List TextRef) (names : List Entry) → texts_log s (text
+    ∷ texts) names
     ≡ log_text (text_blocks s.flags (ended_by s text names)) ++ texts_log s texts (text_ended s text names).known.names
 log-first s text texts names = text-of-both (text_blocks s.flags (ended_by s text names))
     (blocks_from s texts (text_ended s text names).known.names)
 
 -- Blocks are written, and behind them come those of the texts that are left.
-pub record Written (s : Source) (all coming : List TextRef) (names names' : List Entry) (before now : Told)
+pub record Written (s : TextSource) (all coming : List TextRef) (names names' : List Entry) (before now : DeskState)
     : Type 0 where
   pub done : List ℕ
   pub added : HasAdded (byte_events Tex done) before now
   pub left : done ++ texts_log s coming names' ≡ texts_log s all names
   pub whole : All (IsWholeRef s.text) coming
 
-pub none-written : (s : Source) (texts : List TextRef) (names : List Entry) (told : Told)
+pub none-written : (s : TextSource) (texts : List TextRef) (names : List Entry) (told : DeskState)
     → All (IsWholeRef s.text) texts → Written s texts texts names names told told
 none-written s texts names told whole = record {
   done = [];
@@ -117,7 +119,7 @@ none-written s texts names told whole = record {
   whole = whole;
 }
 
-module _ (s : Source) (all coming : List TextRef) (names names' : List Entry) (before now : Told)
+module _ (s : TextSource) (all coming : List TextRef) (names names' : List Entry) (before now : DeskState)
     (w : Written s all coming names names' before now) where
   -- memory was wanting before a text was translated
   pub written-wanting : {U : Type 0} {result : Result U PutError} → IsErrAnd result (λ found. found ≡ no_memory)
@@ -135,15 +137,15 @@ module _ (s : Source) (all coming : List TextRef) (names names' : List Entry) (b
 -- ## The next text
 
 -- the text of its blocks
-abbrev pub text_log : Source → TextRef → List Entry → List ℕ
+abbrev pub text_log : TextSource → TextRef → List Entry → List ℕ
 text_log s text names = log_text (text_blocks s.flags (ended_by s text names))
 
 -- the names that it leaves
-abbrev pub names_behind : Source → TextRef → List Entry → List Entry
+abbrev pub names_behind : TextSource → TextRef → List Entry → List Entry
 names_behind s text names = (text_ended s text names).known.names
 
-module _ (s : Source) (all coming coming' : List TextRef) (text : TextRef) (names names' : List Entry)
-    (before now : Told) (w : Written s all coming names names' before now) (gives : coming ≡ text ∷ coming') where
+module _ (s : TextSource) (all coming coming' : List TextRef) (text : TextRef) (names names' : List Entry)
+    (before now : DeskState) (w : Written s all coming names names' before now) (gives : coming ≡ text ∷ coming') where
   text-left : w.done ++ (text_log s text names' ++ texts_log s coming' (names_behind s text names'))
       ≡ texts_log s all names
   text-left = ap (λ (bytes : List ℕ). w.done ++ bytes) (sym (log-first s text coming' names'))
@@ -153,7 +155,7 @@ module _ (s : Source) (all coming coming' : List TextRef) (text : TextRef) (name
   text-whole = All-head (IsWholeRef s.text) text coming' (subst (All (IsWholeRef s.text)) gives w.whole)
 
   -- its blocks are written
-  pub written-more : {U : Type 0} {later : Told} {value : U} (names'' : List Entry) → names''
+  pub written-more : {U : Type 0} {later : DeskState} {value : U} (names'' : List Entry) → names''
       ≡ names_behind s text names' → Adds {T = U} (byte_events Tex (text_log s text names')) now later (Ok value)
       → Written s all coming' names names'' before later
   written-more names'' same piece = record {
@@ -166,7 +168,7 @@ module _ (s : Source) (all coming coming' : List TextRef) (text : TextRef) (name
   }
 
   -- they are refused
-  pub written-refused : {T U : Type 0} {later : Told} {error : PutError} {result : Result U PutError}
+  pub written-refused : {T U : Type 0} {later : DeskState} {error : PutError} {result : Result U PutError}
       → Adds {T = T} (byte_events Tex (text_log s text names')) now later (Err error)
       → IsErrAnd result (λ found. found ≡ error) → Adds (byte_events Tex (texts_log s all names)) before later result
   written-refused piece refused = adds-events (ap (byte_events Tex) text-left)

@@ -3,7 +3,7 @@ use Rattle.std.specs.Prelude.{ℕ, List, map}
 use Rattle.std.specs.List.{flat_map}
 use Rattle.cw_base.specs.declared.flags.Flags.{Flags}
 use Rattle.cw_base.specs.Web.{MergedLine, text_of}
-use Rattle.cw_texts.specs.EachText.{EndedText, Source, book_source, each_text}
+use Rattle.cw_texts.specs.EachText.{EndedText, TextSource, book_source, each_text}
 use Rattle.cw_leaves.specs.LeafLines.{leaf_line}
 use Rattle.cw_logs.specs.LogText.{Block, log_text}
 use Rattle.cw_names.specs.Names.{Entry}
@@ -28,7 +28,7 @@ abbrev pub text_blocks : Flags → EndedText → List Block
 text_blocks flags t = map (state_block flags t.ended.known.names) t.ended.known.ended
 
 -- those of these texts, the first of which begins with these names
-abbrev pub blocks_from : Source → List TextRef → List Entry → List Block
+abbrev pub blocks_from : TextSource → List TextRef → List Entry → List Block
 blocks_from s texts names = flat_map (text_blocks s.flags) (each_text s texts names)
 
 -- ## A web, with the flags of the start

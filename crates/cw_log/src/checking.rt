@@ -43,7 +43,7 @@ fn check_block<L: Ledger>(
         verdict) }
 {
     store.reset();
-    let _distinct = names.len();
+    let _distinct = names.len(); // (for the proof)
     let mut line = scrap_line(alloc, log.leaves.as_slice(), names, store)?;
     let mut marks = Marks::new_in(alloc);
     let flags = Flags::start();

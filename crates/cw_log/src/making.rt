@@ -80,11 +80,11 @@ pub fn scrap_line(
     ensures sound { IfOk result (λ line. IsSoundLine store.new names.now line) }
     ensures idle { store.new.building ≡ None }
 {
-    let _words = names.len();
+    let _words = names.len(); // (for the proof)
     let word = NameId { index: 0 };
     let mut line = ScrapLine::with_room(alloc, leaves.len())?;
     for leaf in leaves {
-        store.tied_law();
+        store.tied_law(); // (for the proof)
         let made = put_leaf(leaf, word, store)?;
         line.add(made.cat, made.list, made.left, made.right)?;
     }

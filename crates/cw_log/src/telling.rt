@@ -49,7 +49,7 @@ fn say(list: ListId, store: &TokenStore, names: &mut Vec<NameId>) -> Result<bool
     ensures { IfOk result (λ stops.
         IsSaid (said (unfolded store.now.lists list.index)) names.old.items names.new.items stops) }
 {
-    store.tied_law();
+    store.tied_law(); // (for the proof)
     for token in store.tokens(list) {
         if say_token(*token, store, names)? {
             return Ok(true);

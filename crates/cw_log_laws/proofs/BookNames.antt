@@ -3,7 +3,7 @@ use Rattle.cw_log_laws.proofs.Terms.{◌≡◌, ◌≢◌, ℕ, zero, suc, ◌�
 use Rattle.cw_log_laws.proofs.Terms.{Option, None, length, slice_get, All, refl, arith, AllByRecursion, list_all}
 use Rattle.cw_log_laws.proofs.Terms.{All-from_recursion, All-weaker, both-left, both-right, not-true, Cat, End}
 use Rattle.cw_log_laws.proofs.Terms.{MergedLine, text_of, tokens-cover, EntryKind, Ident, NameId, Entry, AreDistinct}
-use Rattle.cw_log_laws.proofs.Terms.{is_entry, with_category, with_entry, built_in_words, answers_of, book, Placed}
+use Rattle.cw_log_laws.proofs.Terms.{is_entry, with_category, with_entry, built_in_words, answers_of, book, Placement}
 use Rattle.cw_log_laws.proofs.Terms.{placed, SecName, AreNames}
 use Rattle.std.specs.List.{IsDistinct}
 use Rattle.cw_phase1.proofs.NameSizes.{all-short}
@@ -84,7 +84,7 @@ good-behind (roles.SecondName silent) text k g =
 good-behind (roles.Entry kind) text k g = good-entry kind (text_behind_code text) k.names g
 good-behind _ text k g = g
 
-good-after : (ps : List Placed) (k : KnownNames) → Good k.names → Good (known_after ps k).names
+good-after : (ps : List Placement) (k : KnownNames) → Good k.names → Good (known_after ps k).names
 good-after [] k g = g
 good-after (p ∷ ps) k g = good-after ps (known_behind p.role p.token.text k) (good-behind p.role p.token.text k g)
 

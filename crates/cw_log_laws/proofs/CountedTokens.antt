@@ -1,7 +1,7 @@
 -- There are at most as many tokens and comments as bytes, and a nest has no more of them.
 use Rattle.cw_log_laws.proofs.Terms.{◌≡◌, ℕ, zero, suc, ◌+◌, ◌-◌, ◌≤◌, Bool, List, [], ◌∷◌, ◌++◌, length, refl, sym, ap}
 use Rattle.cw_log_laws.proofs.Terms.{◌∙◌, arith, append_assoc, append-nil, length-drop, length-take, Mode, Answer}
-use Rattle.cw_log_laws.proofs.Terms.{Token, Begin, Finish, Note, Seen, Where, Found, found_apart, AreBare, AreNotes}
+use Rattle.cw_log_laws.proofs.Terms.{Token, Begin, Finish, Note, Seen, Where, ScanStep, found_apart, AreBare, AreNotes}
 use Rattle.cw_log_laws.proofs.Terms.{TakesAll, Takes, bare-all-cut, found-takes, still_fresh, answers, tokens_of, Nest}
 use Rattle.cw_log_laws.proofs.Terms.{Leaf, Group, group, leaf, nests, first_nest, nest, until_section}
 use Rattle.cw_rules.specs.Tokens.{all_cut}
@@ -32,7 +32,7 @@ whole-count : (place : ℕ) (bytes : List ℕ) (more : ℕ) (xs ys : List Answer
     → tokens_in (xs ++ ys) ≤ suc (tokens_in ys)
 whole-count place bytes more xs ys h = grind (arith, notes-count)
 
-found-count : (place : ℕ) (bytes : List ℕ) (f : Found) (ys : List Answer) → Takes place bytes f
+found-count : (place : ℕ) (bytes : List ℕ) (f : ScanStep) (ys : List Answer) → Takes place bytes f
     → tokens_in (f.answers ++ ys) ≤ suc (tokens_in ys)
 found-count place bytes f ys t = grind (arith, append_assoc, bare-count, whole-count)
 

@@ -2,7 +2,8 @@
 use Rattle.cw_log_laws.proofs.Terms.{ℕ, zero, suc, ◌<◌, ◌≤◌, ◌^◌, Bool, not, List, [], ◌∷◌, ◌++◌, Option, Some, None}
 use Rattle.cw_log_laws.proofs.Terms.{length, All, arith, if◌then◌else◌, flat_map-cons, All-append, All-filter, All-head}
 use Rattle.cw_log_laws.proofs.Terms.{All-map, All-nil, All-tail, All-weaker, MergedLine, text_of, Span, Code, TokKind}
-use Rattle.cw_log_laws.proofs.Terms.{Answer, Seen, Token, Begin, Finish, Note, tokens-cover, answers_of, book, Placed}
+use Rattle.cw_log_laws.proofs.Terms.{Answer, Seen, Token, Begin, Finish, Note, tokens-cover, answers_of, book}
+use Rattle.cw_log_laws.proofs.Terms.{Placement}
 use Rattle.cw_log_laws.proofs.Terms.{at_limbo, placed, NameUse, definition_ref, definition_refs, part_refs, piece_refs}
 use Rattle.cw_log_laws.proofs.Terms.{refs_from, section_refs, tex_refs, text_ref, texts_of, TextRef, IsInside}
 use Rattle.cw_base.specs.Conditions.{list_if}
@@ -10,7 +11,7 @@ use Rattle.cw_rules.specs.Order.{AreWithin}
 use Rattle.cw_lex.proofs.TokensWithin.{tokens-within}
 use Rattle.cw_phase1.specs.{Sections.sections_of, Sound.LiesIn, declared.sections.Section.Section}
 use Rattle.cw_phase1.proofs.SpanLaws.{Follow, all-lie, follows}
-use Rattle.cw_texts.specs.{Printed.is_printed, Scans.scanned, declared.definitions.Begun.Begun}
+use Rattle.cw_texts.specs.{Printed.is_printed, Scans.scanned, declared.definitions.OpenDefinition.Begun}
 use Rattle.cw_texts.specs.{declared.definitions.Definition.Definition}
 use Rattle.cw_texts.specs.Definitions.{begun_by, next_begin, definitions_in, definitions_of, not_silent}
 use Rattle.cw_texts.specs.Definitions.{printed_definitions, with_begun}
@@ -63,7 +64,7 @@ module _ (low high : ℕ) where
     starts : d.span.start ≤ high
     ends : d.span.«end» ≤ high
 
-  abbrev MayBegin : Option Begun → Type 0
+  abbrev MayBegin : Option OpenDefinition → Type 0
   MayBegin None = Unit {0}
   MayBegin (Some b) = (low ≤ b.start) × (b.start ≤ high)
 
@@ -78,7 +79,7 @@ module _ (low high : ℕ) where
     beginning-in [] all = within
     beginning-in (d ∷ ds) all = (All-head IsDefined d ds all).starts
 
-    begun-in : (o : Option Begun) (ds : List Definition) → MayBegin o → All IsDefined ds
+    begun-in : (o : Option OpenDefinition) (ds : List Definition) → MayBegin o → All IsDefined ds
         → All IsDefined (with_begun o end ds)
     begun-in o ds h all = grind (arith, beginning-in)
 
@@ -154,7 +155,7 @@ behind-by : (b : Bool) (s : Section) (rest : List Section) → 0 < s.tex.start �
     → AreBehind (if b then s ∷ rest else rest)
 behind-by b s rest h all = grind arith
 
-behind : (lines : List MergedLine) (from size : ℕ) (ps : List Placed) → Follow from size ps
+behind : (lines : List MergedLine) (from size : ℕ) (ps : List Placement) → Follow from size ps
     → AreBehind (sections_of lines size ps)
 behind lines from size [] f = tt
 behind lines from size (p ∷ ps) f = grind (arith, behind lines p.token.span.«end» size ps f.2, behind-by)

@@ -4,7 +4,7 @@ use Rattle.cw_log_laws.proofs.Terms.{Answer, Seen, TokKind, Nest, Leaf, Group, n
 use Rattle.cw_log_laws.proofs.Terms.{Sign, tree_in, names_with, token_form, greatest}
 use Rattle.cw_base.specs.declared.mode.MathMode.{MathMode}
 use Rattle.cw_base.specs.declared.mode.MathMode.TheVariants.{Text, Maybe}
-use Rattle.cw_lex.specs.{declared.heads.Wanted.Wanted, Nest.End}
+use Rattle.cw_lex.specs.{declared.heads.Expectation.Wanted, Nest.End}
 use Rattle.cw_lex.specs.Heads.{Head, Headless, Macro, Format, Silent, Named, Headed, headed, headed_by, head_behind}
 use Rattle.cw_lex.specs.Heads.{Words, head_words, headless, named_headed, no_word, word_before}
 use Rattle.cw_tokens.specs.declared.token.Token.{Token}
@@ -218,12 +218,12 @@ record AreWordsOf (n : Nest) (w : Words) : Type 0 where
   rest : IsSpeltNest w.rest
   few : nest_size w.rest ≤ nest_size n
 
-words-fit : (wanted : Wanted) (n : Nest) → IsSpeltNest n → AreWordsOf n (head_words wanted n)
+words-fit : (wanted : Expectation) (n : Nest) → IsSpeltNest n → AreWordsOf n (head_words wanted n)
 words-fit wanted End h = record { words = tt; rest = tt; few = omega arith }
 words-fit wanted (Group t inner rest) h = record { words = tt; rest = h; few = omega arith }
 words-fit wanted (Leaf t rest) h = by (head_behind wanted t.kind t.span) (λ next. words-fit next rest h.1)
   where
-    by : (o : Option Wanted) → ((next : Wanted) → AreWordsOf rest (head_words next rest))
+    by : (o : Option Expectation) → ((next : Expectation) → AreWordsOf rest (head_words next rest))
         → AreWordsOf (Leaf t rest) (elim o as (λ o. Words) [
           | Some next ↦ word_before t (head_words next rest)
           | None ↦ no_word (Leaf t rest)

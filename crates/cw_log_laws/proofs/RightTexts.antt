@@ -8,7 +8,7 @@ use Rattle.cw_log_laws.proofs.Terms.{IsInside, IsLater, IsRightBlock, TextsAreLo
 use Rattle.cw_rules.specs.declared.tokens.Mode.TheVariants.{Inner}
 use Rattle.cw_secnames.specs.Parts.{begins_with_bar, one_more, part_here, parts_from, size_to_bar}
 use Rattle.cw_secnames.specs.declared.kinds.SecKind.{SecKind}
-use Rattle.cw_texts.specs.EachText.{Source}
+use Rattle.cw_texts.specs.EachText.{TextSource}
 use Rattle.cw_translator.specs.NameParts.{name_texts, parts_by_kind, texts_kept, texts_of_name}
 use Rattle.cw_translator.specs.Translating.{begin}
 use Rattle.cw_log_laws.proofs.{LaterNames.HaveCats, MadeTexts.AreFine, MadeTexts.Grows, MadeTexts.fine-later}
@@ -114,7 +114,7 @@ names-cats names h = have-cats names (recursion_from_All (λ (e : Entry). e.cate
 
 -- ## Whole texts
 
-module _ (s : Source) (ref : TextRef) (names : List Entry) (short : HasShortNames s) (are : AreNames names) where
+module _ (s : TextSource) (ref : TextRef) (names : List Entry) (short : HasShortNames s) (are : AreNames names) where
   abbrev answers : List Answer
   answers = tokens_of s.text ref.span.start ref.span.«end» ref.mode
 

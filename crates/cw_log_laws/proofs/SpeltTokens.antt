@@ -2,11 +2,11 @@
 use Rattle.cw_log_laws.proofs.Terms.{◌≡◌, ℕ, zero, suc, ◌+◌, Bool, true, false, ◌&&◌, ◌||◌, not, ◌==◌, nat_lt, List, []}
 use Rattle.cw_log_laws.proofs.Terms.{◌∷◌, ◌++◌, Option, slice_index, take, refl, sym, ap, ◌∙◌, arith, if◌then◌else◌}
 use Rattle.cw_log_laws.proofs.Terms.{list_all, both, Code, Mode, TokKind, Answer, Token, Begin, Finish, Note, Where}
-use Rattle.cw_log_laws.proofs.Terms.{Cut, Found, note_answers, bar, code_text_apart, comment_text_apart}
+use Rattle.cw_log_laws.proofs.Terms.{Cut, ScanStep, note_answers, bar, code_text_apart, comment_text_apart}
 use Rattle.cw_log_laws.proofs.Terms.{behind_head_apart, part_text_apart, in_text_apart, found_apart, AreBare}
 use Rattle.cw_log_laws.proofs.Terms.{bare-all-cut, still_fresh, answers, tokens_of, is_section_answer, until_section}
 use Rattle.cw_log_laws.proofs.Terms.{is_identifier}
-use Rattle.cw_rules.specs.{declared.bodies.Noted.Noted, declared.codes.Effect.Effect, declared.parts.Part.Part}
+use Rattle.cw_rules.specs.{declared.bodies.NoteAt.Noted, declared.codes.Effect.Effect, declared.parts.Part.Part}
 use Rattle.cw_rules.specs.{declared.parts.Opened.Opened, declared.parts.Start.Start, declared.signs.Sign.Sign}
 use Rattle.cw_rules.specs.{Codes.code_at, Codes.begins_section, Constants.constant, Prefixes.prefix_size}
 use Rattle.cw_rules.specs.{Signs.all_signs, Signs.longest, Bodies.one_note, Bodies.note_unless, Bodies.noted}
@@ -70,7 +70,7 @@ bare-spelt place (Finish t ∷ xs) h = bare-spelt place xs h.3
 bare-spelt place (Note kind about ∷ xs) h = bare-spelt place xs h
 bare-spelt _ _ h = absurd h
 
-noted-spelt : (ns : List Noted) → AreSpelt (note_answers ns)
+noted-spelt : (ns : List NoteAt) → AreSpelt (note_answers ns)
 noted-spelt [] = tt
 noted-spelt (n ∷ ns) = noted-spelt ns
 
@@ -86,10 +86,10 @@ section-other bytes = grind (arith, if-both)
 
 -- ## What begins at a place
 
-abbrev Spelt : Found → Type 0
+abbrev Spelt : ScanStep → Type 0
 Spelt f = AreSpelt f.answers
 
-abbrev missing : Opened → ℕ → List Noted
+abbrev missing : Opened → ℕ → List NoteAt
 missing c place = one_note (note_unless (c.braces == 0) NoteKind.MissingBrace place)
 
 line-end-spelt : (part : Part) (comments : List Opened) (last place : ℕ) → Spelt (line_end part comments last place)

@@ -33,7 +33,7 @@ pub use Rattle.cw_names.specs.Words.{built_in_words, category_among, directive_w
 pub use Rattle.cw_phase1.specs.{Book.book, Book.answers_of, Roles.Placed, Roles.placed, Roles.at_limbo}
 pub use Rattle.cw_rules.proofs.Taking.{AreBare, AreNotes, TakesAll, Takes, bare-all-cut, found-takes}
 pub use Rattle.cw_rules.specs.{declared.codes.Code.Code, declared.tokens.Mode.Mode, declared.tokens.TokKind.TokKind}
-pub use Rattle.cw_rules.specs.Answers.{Answer, Token, Begin, Finish, Note, Seen, Where, Found, Cut, note_answers}
+pub use Rattle.cw_rules.specs.Answers.{Answer, Token, Begin, Finish, Note, Seen, Where, ScanStep, Cut, note_answers}
 pub use Rattle.cw_rules.specs.model.Apart.{found_apart, code_text_apart, comment_text_apart, behind_head_apart}
 pub use Rattle.cw_rules.specs.model.Apart.{part_text_apart, in_text_apart}
 pub use Rattle.cw_scraps.specs.Leaves.{LeafForm, names_with, token_form, code_form, form_of, own_cat, sign_cat}

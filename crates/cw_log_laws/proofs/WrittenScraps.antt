@@ -11,7 +11,7 @@ use Rattle.cw_trees.specs.{declared.Control.Control, declared.Control.TheVariant
 use Rattle.cw_table.specs.Sound.{is_exp}
 use Rattle.cw_leaves.specs.LeafLines.{HasNoMark, IsClear, IsIdentEntry, IsTold, kind_by, leaf_line, said, said_by}
 use Rattle.cw_leaves.specs.LeafLines.{text_at, text_by}
-use Rattle.cw_leaves.specs.Sights.{Heard, behind, told_by}
+use Rattle.cw_leaves.specs.Sights.{Utterance, behind, told_by}
 use Rattle.cw_leaves.specs.Spelling.{id_of, item_of, line_of, production_of, spelled}
 use Rattle.cw_leaves.proofs.LineFacts.{lines-have-log}
 use Rattle.cw_log_laws.proofs.FineItems.{log-fine}
@@ -82,7 +82,7 @@ module _ (names : List Entry) where
   abbrev Words : List ℕ → Type 0
   Words ns = All (IsWord names) ns
 
-  behind-words : (ns : List ℕ) (stops : Bool) (rest : Heard ℕ) → Words ns → Words rest.names
+  behind-words : (ns : List ℕ) (stops : Bool) (rest : Utterance ℕ) → Words ns → Words rest.names
       → Words (behind ns stops rest).names
   behind-words ns true rest h g = h
   behind-words ns false rest h g = All-append (IsWord names) ns rest.names h g

@@ -10,7 +10,7 @@ use Rattle.cw_logs.specs.Appending.{block_of}
 use Rattle.cw_logs.specs.LogText.{Block, IsFineBlock}
 use Rattle.cw_texts.specs.declared.text_list.TextRef.{TextRef}
 use Rattle.cw_translator.specs.Recording.{logged}
-use Rattle.cw_texts.specs.EachText.{Source, text_ended}
+use Rattle.cw_texts.specs.EachText.{TextSource, text_ended}
 
 -- ## Names
 
@@ -43,16 +43,16 @@ pub record IsInside (span : Span) : Type 0 where
   pub behind : 0 < span.start
   pub within : span.«end» ≤ 2 ^ 24
 
-abbrev pub HasShortNames : Source → Type 0
+abbrev pub HasShortNames : TextSource → Type 0
 HasShortNames s = All (λ name. length name.text ≤ 2 ^ 24) s.sec_names
 
 -- The names behind a text are names again, and later ones.
 abbrev pub TextsKeepNames : Type 0
-TextsKeepNames = (s : Source) (ref : TextRef) (names : List Entry) → HasShortNames s → AreNames names
+TextsKeepNames = (s : TextSource) (ref : TextRef) (names : List Entry) → HasShortNames s → AreNames names
     → AreNames (text_ended s ref names).known.names × IsLater names (text_ended s ref names).known.names
 
 -- Each text whose reduction ends in it has a right block, spelled with any later names.
 abbrev pub TextsAreLogged : Type 0
-TextsAreLogged = (s : Source) (ref : TextRef) (names later : List Entry) → IsInside ref.span → HasShortNames s
+TextsAreLogged = (s : TextSource) (ref : TextRef) (names later : List Entry) → IsInside ref.span → HasShortNames s
     → AreNames names → AreDistinct later → IsLater (text_ended s ref names).known.names later
     → All (λ state. IsRightBlock s.flags (block_of later (logged s.flags state))) (text_ended s ref names).known.ended

@@ -4,14 +4,14 @@ use Rattle.cw_logs.proofs.CheckTerms.{[]}
 use Rattle.cw_logs.proofs.CheckTerms.{◌∷◌, ◌++◌, length, take, slice_get, Option, Some, None, IfSome, is_some, refl}
 use Rattle.cw_logs.proofs.CheckTerms.{sym}
 use Rattle.cw_logs.proofs.CheckTerms.{◌∙◌, ap, subst, arith, if◌then◌else◌, same_item, differs_from, refused_by, common}
-use Rattle.cw_logs.proofs.CheckTerms.{Compared, Judges, StandsAt, StopsWithin, told_alone, verdict_of}
+use Rattle.cw_logs.proofs.CheckTerms.{LogPosition, Judges, StandsAt, StopsWithin, told_alone, verdict_of}
 use Rattle.std.proofs.{Math.Seq.take-length, lemmas.Bool.eq-eqb, lemmas.Bool.eqb-true, lemmas.List.length-take-le}
 use Rattle.cw_base.specs.declared.flags.Flags.{Flags}
 use Rattle.cw_table.specs.{declared.types.Row.Row, Productions.productions, Reaching.IsAfter, Rewriting.State}
 use Rattle.cw_table.specs.{Rewriting.rewrite}
 use Rattle.cw_table.specs.Normal.{Place, Nowhere, At, next_place, Production, steps, log_of, log, count, normal, weight}
 use Rattle.cw_table.proofs.Normals.{log-none-of, log-turn-of, steps-none, steps-turn}
-use Rattle.cw_rewrite.specs.Telling.{EndsWithin, StopsAt, Told, grown_by}
+use Rattle.cw_rewrite.specs.Telling.{EndsWithin, StopsAt, WatchState, grown_by}
 use Rattle.cw_logs.specs.declared.checking.Verdict.{Verdict}
 use Rattle.cw_logs.specs.declared.checking.Verdict.TheVariants.{Accepted, Rejected}
 
@@ -158,7 +158,7 @@ unfolding count
 counts f start n lt = lt
 
 -- what is told of the one text
-abbrev items_in : Option Told → List Production
+abbrev items_in : Option WatchState → List Production
 items_in None = []
 items_in (Some told) = told.items
 
@@ -242,6 +242,6 @@ ended-within f start now ps qs at after e same =
       within = rw (← same) (let k : after.number ≤ common ps is = omega (arith, number, e.all, most) in k);
     }
 
-pub seen-taken : (x y : Compared) (q : Production) → x ≡ y → not (refused_by y.log y.at q) ≡ true
+pub seen-taken : (x y : LogPosition) (q : Production) → x ≡ y → not (refused_by y.log y.at q) ≡ true
     → told_alone (take (x.at + 1) x.log) ≡ told_alone (take y.at y.log ++ q ∷ [])
 seen-taken x y q e h = ap (λ z. told_alone (take (z.at + 1) z.log)) e ∙ ap told_alone (next-taken y.log y.at q h)

@@ -6,7 +6,7 @@ use Rattle.cw_table.specs.Normal.{Production, log as log_of, normal, steps}
 use Rattle.cw_table.specs.Productions.{productions}
 use Rattle.cw_table.specs.Reaching.{IsAfter}
 use Rattle.cw_table.specs.Rewriting.{State}
-use Rattle.cw_rewrite.specs.Telling.{Told}
+use Rattle.cw_rewrite.specs.Telling.{WatchState}
 use Rattle.cw_logs.specs.declared.checking.Verdict.{Verdict}
 use Rattle.cw_logs.specs.declared.checking.Verdict.TheVariants.{Accepted, Rejected}
 
@@ -35,12 +35,12 @@ pub record StopsWithin (flags : Flags) (start now : State) (log : List Productio
   pub within : after.number ≤ common log (log_of productions flags start)
 
 -- a log, and how many of its productions were done
-pub record Compared : Type 0 where
+pub record LogPosition : Type 0 where
   pub log : List Production
   pub at : ℕ
 
 -- these productions were told, of a text that isn't looked at
-abbrev pub told_alone : List Production → Option Told
+abbrev pub told_alone : List Production → Option WatchState
 told_alone items = Some (record { items = items; begun = []; ended = [] })
 
 -- the next production of the log isn't this one
@@ -51,5 +51,5 @@ differs_from (Some q) p = not (same_item q p)
 abbrev pub refused_by : List Production → ℕ → Production → Bool
 refused_by log at p = differs_from (slice_get log at) p
 
-abbrev pub verdict_of : Bool → Compared → Verdict
+abbrev pub verdict_of : Bool → LogPosition → Verdict
 verdict_of ended c = if ended && (c.at == length c.log) then Accepted else Rejected c.at

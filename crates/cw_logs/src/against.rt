@@ -20,9 +20,9 @@ pub(crate) struct Against<'a> {
 impl<'a> Model for Against<'a> {
     ghost use Rattle.std.specs.Prelude.{length, map, ◌≤◌};
     ghost use Rattle.cw_leaves.specs.Spelling.{production_of};
-    ghost use Rattle.cw_logs.specs.Judging.{Compared};
+    ghost use Rattle.cw_logs.specs.Judging.{LogPosition};
 
-    ghost Value = { Compared };
+    ghost Value = { LogPosition };
 
     ghost view = { λ a. record { log = map production_of a.log.now; at = a.at } };
 

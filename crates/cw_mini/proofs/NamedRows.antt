@@ -1,11 +1,11 @@
 -- Each row of the index is that of its name.
 use Rattle.cw_mini.proofs.Terms.{◌≡◌, ℕ, zero, suc, ◌+◌, Bool, true, false, List, [], ◌∷◌, All, Some, ap, arith, drop}
 use Rattle.cw_mini.proofs.Terms.{fold, refl, subst, slice_get, All-cons, All-head, All-nil, All-tail, Occurrence, Entry}
-use Rattle.cw_mini.proofs.Terms.{Row, has_sections, index_rows, row, row_cmp, rows_from, with_row}
+use Rattle.cw_mini.proofs.Terms.{IndexRow, has_sections, index_rows, row, row_cmp, rows_from, with_row}
 use Rattle.std.proofs.lemmas.Map.Views.{All-insert_key}
 use Rattle.std.specs.{BTreeSet.insert_key, declared.cmp.Ordering.Ordering}
 
-pub record IsRowOf (names : List Entry) (occurrences : List Occurrence) (r : Row) : Type 0 where
+pub record IsRowOf (names : List Entry) (occurrences : List Occurrence) (r : IndexRow) : Type 0 where
   pub there : slice_get names r.name ≡ Some r.entry
   pub is : r ≡ row r.name r.entry occurrences
 
@@ -33,7 +33,7 @@ rows-named names occurrences name (entry ∷ later) e = by (has_sections (row na
     (rows-named names occurrences (name + 1) later
     (subst (λ n. drop n names ≡ later) (more name) (later-at names name entry later e)))
   where
-    rest : List Row
+    rest : List IndexRow
     rest = rows_from (name + 1) later occurrences
 
     by : (t : Bool) → All (IsRowOf names occurrences) rest

@@ -1,7 +1,7 @@
 -- The lines of rows, one behind the other.
 use Rattle.cw_mini.proofs.Terms.{◌≡◌, ℕ, ◌+◌, ◌&&◌, Bool, true, false, List, [], ◌∷◌, ◌++◌, All, codes, refl, sym, ap}
 use Rattle.cw_mini.proofs.Terms.{◌∙◌, append_assoc, cond, drop, filter, flat_map, flat_map-cons, All-cons, All-head}
-use Rattle.cw_mini.proofs.Terms.{All-nil, All-tail, Cat, mentions, Entry, EntryKind, Occurrence, SectionRef, Row}
+use Rattle.cw_mini.proofs.Terms.{All-nil, All-tail, Cat, mentions, Entry, EntryKind, Occurrence, SectionRef, IndexRow}
 use Rattle.cw_mini.proofs.Terms.{index_rows, is_ident, needs_underline, row, defining, is_listed_in, section_rows}
 use Rattle.cw_mini.proofs.Terms.{defining_bytes, row_line, arith}
 use Rattle.cw_phase1.specs.declared.sections.Section.{Section}
@@ -30,20 +30,20 @@ ident-line sections name entry occurrences before is =
 
 -- ## The rows of a section
 
-pub record IsIdentRow (names : List Entry) (occurrences : List Occurrence) (r : Row) : Type 0 where
+pub record IsIdentRow (names : List Entry) (occurrences : List Occurrence) (r : IndexRow) : Type 0 where
   pub of_name : IsRowOf names occurrences r
   pub ident : is_ident r.entry.kind ≡ true
 
 and-first : (a b : Bool) → (a && b) ≡ true → a ≡ true
 and-first a b e = grind arith
 
-listed-idents : (section : ℕ) (names : List Entry) (occurrences : List Occurrence) (rows : List Row) → All (IsRowOf
+listed-idents : (section : ℕ) (names : List Entry) (occurrences : List Occurrence) (rows : List IndexRow) → All (IsRowOf
     names occurrences) rows → All (IsIdentRow names occurrences) (filter (is_listed_in section occurrences) rows)
 listed-idents section names occurrences [] all = All-nil (IsIdentRow names occurrences)
 listed-idents section names occurrences (r ∷ rows) all = by (is_listed_in section occurrences r) refl
     (listed-idents section names occurrences rows (All-tail (IsRowOf names occurrences) r rows all))
   where
-    rest : List Row
+    rest : List IndexRow
     rest = filter (is_listed_in section occurrences) rows
 
     by : (t : Bool) → is_listed_in section occurrences r ≡ t → All (IsIdentRow names occurrences) rest
@@ -61,10 +61,10 @@ section-idents section names occurrences =
 
 -- ## One row more
 
-pub lines-next : (f : Row → List ℕ) (lines new all : List ℕ) (r : Row) (rows : List Row) (i : ℕ)
+pub lines-next : (f : IndexRow → List ℕ) (lines new all : List ℕ) (r : IndexRow) (rows : List IndexRow) (i : ℕ)
     → drop i rows ≡ r ∷ drop (i + 1) rows → new ≡ lines ++ f r → lines ++ flat_map f (drop i rows) ≡ all
     → new ++ flat_map f (drop (i + 1) rows) ≡ all
 lines-next f lines new all r rows i next is so =
-    let rest : List Row = drop (i + 1) rows in
+    let rest : List IndexRow = drop (i + 1) rows in
     ap (λ (l : List ℕ). l ++ flat_map f rest) is ∙ append_assoc lines (f r) (flat_map f rest)
     ∙ ap (λ (l : List ℕ). lines ++ l) (sym (flat_map-cons f r rest) ∙ ap (flat_map f) (sym next)) ∙ so

@@ -1,6 +1,6 @@
 -- Each row of a small index is that of a row of the index.
 use Rattle.cw_mini.proofs.Terms.{◌||◌, ◌≡◌, ℕ, Bool, true, false, ◌&&◌, not, ◌==◌, List, [], ◌∷◌, refl, ◌∙◌, inl, inr}
-use Rattle.cw_mini.proofs.Terms.{filter, map, cond, arith, ◌≢◌, nat_tests, Occurrence, SectionRef, mentions, Row}
+use Rattle.cw_mini.proofs.Terms.{filter, map, cond, arith, ◌≢◌, nat_tests, Occurrence, SectionRef, mentions, IndexRow}
 use Rattle.cw_mini.proofs.Terms.{has_sections, index_rows, defining, is_listed_in, is_own_name, is_used_in, mini_row}
 use Rattle.cw_mini.proofs.Terms.{numbers, stands_in}
 use Rattle.cw_mini.specs.MiniLaws.{AreDefining, AreOf, IsIn, IsOf, NamesOtherSections, underlined}
@@ -15,7 +15,7 @@ other : (a b : ℕ) → (a == b) ≡ false → a ≢ b
 other a b e = grind (arith, nat_tests)
 
 -- the underlined sections of a row
-defined : (own : ℕ) (row : Row) (ms : List SectionRef)
+defined : (own : ℕ) (row : IndexRow) (ms : List SectionRef)
     → ((m : SectionRef) → m.underlined ≡ true → IsIn m ms → IsIn (underlined m.section) row.sections)
     → not (stands_in own (defining ms)) ≡ true → AreDefining own row (numbers (defining ms))
 defined own row [] there apart = tt
@@ -29,7 +29,7 @@ defined own row (m ∷ ms) there apart = by m.underlined refl apart (defined own
         (other m.section own both.0, there m e (inl refl), rest both.1)
     by false e apart rest = rest apart
 
-of-row : (own : ℕ) (occurrences : List Occurrence) (rows : List Row) (row : Row) → IsIn row rows
+of-row : (own : ℕ) (occurrences : List Occurrence) (rows : List IndexRow) (row : IndexRow) → IsIn row rows
     → is_listed_in own occurrences row ≡ true → IsOf own rows (mini_row row)
 of-row own occurrences rows row is listed = record {
   row = row;
@@ -49,13 +49,14 @@ of-row own occurrences rows row is listed = record {
     at m (n ∷ ms) u (inl e) = inl (e ∙ same m u)
     at m (n ∷ ms) u (inr later) = inr (at m ms u later)
 
-of-rows : (own : ℕ) (occurrences : List Occurrence) (rows some : List Row) → ((row : Row) → IsIn row some → IsIn row
+of-rows : (own : ℕ) (occurrences : List Occurrence) (rows some : List IndexRow) → ((row : IndexRow) → IsIn row some
+    → IsIn row
     rows) → AreOf own rows (map mini_row (filter (is_listed_in own occurrences) some))
 of-rows own occurrences rows [] embed = tt
 of-rows own occurrences rows (row ∷ some) embed = by (is_listed_in own occurrences row) refl
     (of-rows own occurrences rows some (λ other is. embed other (inr is)))
   where
-    rest : List Row
+    rest : List IndexRow
     rest = filter (is_listed_in own occurrences) some
 
     by : (t : Bool) → is_listed_in own occurrences row ≡ t → AreOf own rows (map mini_row rest)

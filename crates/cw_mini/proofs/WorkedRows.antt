@@ -46,12 +46,12 @@ two_names_rows = (refl, refl, refl)
 -- Entries stand in the order of the index: letters before digits, capitals with small letters.
 order_row : rows 2 (ident (codes "a1") ∷ ident (codes "aB") ∷ ident (codes "a_") ∷ ident (codes "A") ∷ [])
     (defined (own 0) 1 ∷ defined (own 1) 1 ∷ defined (own 2) 1 ∷ defined (own 3) 1 ∷ used (own 0) 2 ∷ used (own 1) 2
-        ∷ used (own 2) 2 ∷ used (own 3) 2 ∷ [])
+    ∷ used (own 2) 2 ∷ used (own 3) 2 ∷ [])
     ≡ line (own 3) (1 ∷ []) ∷ line (own 2) (1 ∷ []) ∷ line (own 1) (1 ∷ []) ∷ line (own 0) (1 ∷ []) ∷ []
 order_row = refl
 
 -- A built-in word isn't listed, here `int`, nor is the text of an index code, nor a name that no section defines.
 unlisted_row : rows 2 (entry Roman (codes "x") ∷ ident (codes "abc") ∷ [])
     (defined (word "int") 1 ∷ used (word "int") 2 ∷ defined (own 0) 1 ∷ used (own 0) 2 ∷ used (own 1) 1
-        ∷ used (own 1) 2 ∷ []) ≡ []
+    ∷ used (own 1) 2 ∷ []) ≡ []
 unlisted_row = refl

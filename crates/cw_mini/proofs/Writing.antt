@@ -2,18 +2,18 @@
 use Rattle.cw_mini.proofs.Terms.{◌≡◌, ℕ, suc, ◌+◌, ◌-◌, ◌<◌, ap, arith, ◌∙◌, List, [], ◌++◌, append_assoc, Result, Ok}
 use Rattle.cw_mini.proofs.Terms.{Err, IsErrAnd, IsTrue, ⊤, flat_map, range_with_len, append-nil, flat_map-cons, Tex}
 use Rattle.cw_mini.proofs.Terms.{byte_events, adds-events, adds-none, open-after, piece-stop, piece-then, piece-wanting}
-use Rattle.cw_desk.specs.{Meaning.is_open, Told.Told}
+use Rattle.cw_desk.specs.{Meaning.is_open, DeskState.Told}
 use Rattle.cw_lines.specs.{Writes.Adds, Writes.HasAdded, declared.put_error.PutError.PutError}
 use Rattle.cw_lines.specs.{declared.put_error.PutError.TheVariants.Memory}
 
 -- Bytes are written; with the rest they are all.
-pub record Writing (rest all : List ℕ) (before now : Told) : Type 0 where
+pub record Writing (rest all : List ℕ) (before now : DeskState) : Type 0 where
   pub done : List ℕ
   pub written : HasAdded (byte_events Tex done) before now
   pub goes : done ++ rest ≡ all
   pub made : IsTrue (is_open now.outputs Tex)
 
-pub writing-next : {T : Type 0} (bytes : List ℕ) {rest all : List ℕ} {before between now : Told} {value : T}
+pub writing-next : {T : Type 0} (bytes : List ℕ) {rest all : List ℕ} {before between now : DeskState} {value : T}
     → Writing (bytes ++ rest) all before between → Adds {T = T} (byte_events Tex bytes) between now (Ok value)
     → Writing rest all before now
 writing-next bytes {rest = rest} {now = now} w piece = record {
@@ -25,20 +25,22 @@ writing-next bytes {rest = rest} {now = now} w piece = record {
 }
 
 -- the piece was refused, and the rest is not written
-pub writing-stopped : {T U : Type 0} (bytes rest : List ℕ) {all : List ℕ} {before between now : Told} {error : PutError}
+pub writing-stopped : {T U : Type 0} (bytes rest : List ℕ) {all : List ℕ} {before between now : DeskState} {error :
+    PutError}
     {result : Result U PutError} → Writing (bytes ++ rest) all before between → Adds {T = T} (byte_events Tex bytes)
     between now (Err error) → IsErrAnd result (λ found. found ≡ error) → Adds (byte_events Tex all) before now result
 writing-stopped bytes rest w piece is = adds-events (ap (byte_events Tex) w.goes)
     (piece-then Tex w.done (bytes ++ rest) w.written (piece-stop Tex bytes rest piece is))
 
 -- memory was wanting before the rest
-pub writing-wanting : {U : Type 0} {rest all : List ℕ} {before now : Told} {result : Result U PutError} → Writing rest
+pub writing-wanting : {U : Type 0} {rest all : List ℕ} {before now : DeskState} {result : Result U PutError}
+    → Writing rest
     all before now → IsErrAnd result (λ found. found ≡ Memory) → Adds (byte_events Tex all) before now result
 writing-wanting {rest = rest} w is = adds-events (ap (byte_events Tex) w.goes)
     (piece-then Tex w.done rest w.written (piece-wanting Tex rest is))
 
 -- the same rest
-pub writing-as : {rest rest' all : List ℕ} {before now : Told} → rest ≡ rest' → Writing rest all before now
+pub writing-as : {rest rest' all : List ℕ} {before now : DeskState} → rest ≡ rest' → Writing rest all before now
     → Writing rest' all before now
 writing-as same w = rw (← same) w
 

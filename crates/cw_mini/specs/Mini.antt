@@ -6,7 +6,7 @@ use Rattle.cw_names.specs.declared.xrefs.SectionRef.{SectionRef}
 use Rattle.cw_names.specs.Mentions.{mentions}
 use Rattle.cw_names.specs.Names.{Entry}
 use Rattle.cw_names.specs.Words.{built_in_words}
-use Rattle.cw_index.specs.Mentions.{Row, has_sections, index_rows, is_ident}
+use Rattle.cw_index.specs.Mentions.{IndexRow, has_sections, index_rows, is_ident}
 
 -- A name is defined in the sections in which it is underlined.
 abbrev pub defining : List SectionRef → List SectionRef
@@ -23,14 +23,14 @@ is_own_name name entry = is_ident entry.kind && not (nat_lt name (length built_i
 abbrev pub is_used_in : ℕ → List SectionRef → List SectionRef → Bool
 is_used_in section occurring defined = stands_in section occurring && not (stands_in section defined)
 
-abbrev pub is_listed_in : ℕ → List Occurrence → Row → Bool
+abbrev pub is_listed_in : ℕ → List Occurrence → IndexRow → Bool
 is_listed_in section occurrences row =
     (is_own_name row.name row.entry && has_sections (defining row.sections))
     && is_used_in section (mentions row.name occurrences) (defining row.sections)
 
 -- The rows of the index that a section has, by the names of a book and where they occur. A mark is an underlined
 -- occurrence.
-abbrev pub section_rows : ℕ → List Entry → List Occurrence → List Row
+abbrev pub section_rows : ℕ → List Entry → List Occurrence → List IndexRow
 section_rows section names occurrences = filter (is_listed_in section occurrences) (index_rows names occurrences)
 
 -- a name, with the sections that define it, ascending, each once
@@ -41,7 +41,7 @@ pub record MiniRow : Type 0 where
 abbrev pub numbers : List SectionRef → List ℕ
 numbers ms = map (λ m. m.section) ms
 
-abbrev pub mini_row : Row → MiniRow
+abbrev pub mini_row : IndexRow → MiniRow
 mini_row row = record { name = row.name; sections = numbers (defining row.sections) }
 
 abbrev pub mini_rows : ℕ → List Entry → List Occurrence → List MiniRow

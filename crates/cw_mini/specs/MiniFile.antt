@@ -7,14 +7,14 @@ use Rattle.cw_names.specs.declared.xrefs.SectionRef.{SectionRef}
 use Rattle.cw_print.specs.Sources.{is_changed}
 use Rattle.cw_print.specs.Walk.{section_number}
 use Rattle.cw_index.specs.Index.{entry_bytes}
-use Rattle.cw_index.specs.Mentions.{Row}
+use Rattle.cw_index.specs.Mentions.{IndexRow}
 use Rattle.cw_mini.specs.Mini.{defining, section_rows}
 
 -- a section that defines a name, with `\*` where it holds a changed line
 abbrev pub defining_bytes : List Section → SectionRef → List ℕ
 defining_bytes sections m = codes ", " ++ section_number m.section (is_changed sections m.section)
 
-abbrev pub row_line : List Section → Row → List ℕ
+abbrev pub row_line : List Section → IndexRow → List ℕ
 row_line sections row =
     entry_bytes row.entry ++ (flat_map (defining_bytes sections) (defining row.sections) ++ codes ".\n")
 

@@ -3,7 +3,7 @@ use Rattle.std.specs.Prelude.{◌≡◌, ◌≢◌, ◌⊎◌, ℕ, true, List, 
 use Rattle.cw_names.specs.declared.xrefs.Occurrence.{Occurrence}
 use Rattle.cw_names.specs.declared.xrefs.SectionRef.{SectionRef}
 use Rattle.cw_names.specs.Names.{Entry}
-use Rattle.cw_index.specs.Mentions.{Row, index_rows}
+use Rattle.cw_index.specs.Mentions.{IndexRow, index_rows}
 use Rattle.cw_mini.specs.Mini.{MiniRow, mini_rows}
 
 -- an element of a list
@@ -16,19 +16,19 @@ abbrev pub underlined : ℕ → SectionRef
 underlined section = record { section = section; underlined = true }
 
 -- Each of these is another section than this one, and is underlined in the row.
-abbrev pub AreDefining : ℕ → Row → List ℕ → Type 0
+abbrev pub AreDefining : ℕ → IndexRow → List ℕ → Type 0
 AreDefining own row [] = Unit {0}
 AreDefining own row (section ∷ sections) =
     (section ≢ own) × IsIn (underlined section) row.sections × AreDefining own row sections
 
 -- The index has a row of the same name, in which the sections are underlined.
-pub record IsOf (own : ℕ) (rows : List Row) (mini : MiniRow) : Type 0 where
-  pub row : Row
+pub record IsOf (own : ℕ) (rows : List IndexRow) (mini : MiniRow) : Type 0 where
+  pub row : IndexRow
   pub stands : IsIn row rows
   pub name : mini.name ≡ row.name
   pub sections : AreDefining own row mini.sections
 
-abbrev pub AreOf : ℕ → List Row → List MiniRow → Type 0
+abbrev pub AreOf : ℕ → List IndexRow → List MiniRow → Type 0
 AreOf own rows [] = Unit {0}
 AreOf own rows (mini ∷ minis) = IsOf own rows mini × AreOf own rows minis
 

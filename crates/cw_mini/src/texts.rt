@@ -74,7 +74,7 @@ pub(crate) fn leave_texts<L: Ledger>(
     requires { IsBookOf web.now.lines book.old }
     ensures { OnOk result (book.new ≡ left_book web.now.lines) }
 {
-    whole_texts_law();
+    whole_texts_law(); // (for the proof)
     let list = texts(alloc, web, book)?;
     leave_each(alloc, web.text(), &list, book, steps)
 }

@@ -6,3 +6,4 @@ pub mod First
 pub mod Apart
 pub mod Table
 pub mod Mentions
+pub mod WordPlaces

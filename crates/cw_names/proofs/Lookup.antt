@@ -6,7 +6,7 @@ use Rattle.cw_names.proofs.Terms.{keys_of, insert_entry, set_value_at, Cat, Exp,
 use Rattle.cw_names.proofs.Terms.{place_of, with_entry, with_category, entry_of, is_wanted, nat_tests}
 use Rattle.std.specs.List.{IsDistinct}
 use Rattle.std.proofs.lemmas.Bool.{ltb-false, lt-ltb, le-ltb}
-use Rattle.cw_names.specs.{contracts.entry.KeyPartialEq.TheImpl.eq-value, declared.entry.Wanted.Wanted}
+use Rattle.cw_names.specs.{contracts.entry.KeyPartialEq.TheImpl.eq-value, declared.entry.NameQuery.Wanted}
 use Rattle.cw_names.specs.{model.Wanting.alike}
 
 -- what `==` says of two keys
@@ -27,7 +27,7 @@ place-keys k [] = refl
 place-keys k (e ∷ es) = grind (arith, nat_tests, place-keys k es, key_eq-is)
 
 -- so is the position of a key that is looked for
-place-wanted : (wanted : Wanted) (es : List (Key × Cat)) → position_or_len (is_wanted wanted) (keys_of es)
+place-wanted : (wanted : NameQuery) (es : List (Key × Cat)) → position_or_len (is_wanted wanted) (keys_of es)
     ≡ place_of wanted.kind wanted.text.now (map entry_of es)
 place-wanted wanted [] = refl
 place-wanted wanted (e ∷ es) = grind (arith, nat_tests, place-wanted wanted es)
@@ -59,19 +59,19 @@ module _ (es : List (Key × Cat)) (names : List Entry) (view : map entry_of es �
       ≡ place_of kind text names
   place-names k p q = place-keys k es ∙ (λ i. place_of (p i) (q i) (view i))
 
-  place-looked-for : (wanted : Wanted) → wanted.kind ≡ kind → wanted.text.now ≡ text
+  place-looked-for : (wanted : NameQuery) → wanted.kind ≡ kind → wanted.text.now ≡ text
       → position_or_len (is_wanted wanted) (keys_of es) ≡ place_of kind text names
   place-looked-for wanted p q = place-wanted wanted es ∙ (λ i. place_of (p i) (q i) (view i))
 
-  pub found-place : (wanted : Wanted) → wanted.kind ≡ kind → wanted.text.now ≡ text → (i : ℕ)
+  pub found-place : (wanted : NameQuery) → wanted.kind ≡ kind → wanted.text.now ≡ text → (i : ℕ)
       → Some i ≡ position (is_wanted wanted) (keys_of es) → i ≡ place_of kind text names
   found-place wanted p q i h = grind (arith, nat_tests, position-found, place-looked-for)
 
-  pub new-place : (wanted : Wanted) → wanted.kind ≡ kind → wanted.text.now ≡ text
+  pub new-place : (wanted : NameQuery) → wanted.kind ≡ kind → wanted.text.now ≡ text
       → position (is_wanted wanted) (keys_of es) ≡ None → length es ≡ place_of kind text names
   new-place wanted p q h = grind (arith, nat_tests, length-map, position-none, place-looked-for)
 
-  pub new-last : (wanted : Wanted) → wanted.kind ≡ kind → wanted.text.now ≡ text
+  pub new-last : (wanted : NameQuery) → wanted.kind ≡ kind → wanted.text.now ≡ text
       → position (is_wanted wanted) (keys_of es) ≡ None → place_of kind text names ≡ length names
   new-last wanted p q h = sym (new-place wanted p q h) ∙ sym (length-map es entry_of) ∙ ap length view
 
@@ -94,7 +94,7 @@ said-at {X = X} P (x ∷ es) zero e all is = let same : x ≡ e = cc in subst (�
 said-at P (x ∷ es) (suc i) e all is = said-at P es i e all.1 is
 
 -- a key that is wanted stands at its place: none before it is wanted, since no two keys are equal
-pub wanted-place : (wanted : Wanted) (es : List (Key × Cat)) (i : ℕ) (e : Key × Cat) → IsDistinct key_eq (keys_of es)
+pub wanted-place : (wanted : NameQuery) (es : List (Key × Cat)) (i : ℕ) (e : Key × Cat) → IsDistinct key_eq (keys_of es)
     → slice_get es i ≡ Some e → IsTrue (is_wanted wanted e.0)
     → i ≡ place_of wanted.kind wanted.text.now (map entry_of es)
 unfolding IsDistinct

@@ -54,12 +54,12 @@ impl Hash for Key {
 
 /// A name that is looked for, by a text that lies elsewhere.
 #[derive(Clone, Copy, PartialEq, Eq)]
-pub(crate) struct Wanted<'a> {
+pub(crate) struct NameQuery<'a> {
     pub kind: EntryKind,
     pub text: &'a [u8],
 }
 
-impl<'a> Hash for Wanted<'a> {
+impl<'a> Hash for NameQuery<'a> {
     ghost hash_input = { λ wanted. wanted.text.now ∷ [] };
 
     ghost respects_eq = { λ x y. same_text _ x.text.now y.text.now };
@@ -69,7 +69,7 @@ impl<'a> Hash for Wanted<'a> {
     }
 }
 
-impl<'a> Equivalent<Key> for Wanted<'a> {
+impl<'a> Equivalent<Key> for NameQuery<'a> {
     ghost equivalent = { is_wanted };
 
     ghost respects_hash = { alike (λ kind text. text ∷ []) };

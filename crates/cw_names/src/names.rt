@@ -5,7 +5,7 @@ ghost use Rattle.std.specs.Option.{option_map};
 ghost use Rattle.cw_names.specs.Names.{Entry, AreDistinct, place_of, with_entry, with_category};
 ghost use Rattle.cw_names.specs.Words.{BeginsWithWords, built_in_words};
 
-use crate::entry::{Key, Wanted};
+use crate::entry::{Key, NameQuery};
 use crate::words::{WORDS, built_in_table};
 use crate::{EntryKind, NameId};
 use cw_base::{Cat, Memory};
@@ -138,7 +138,7 @@ impl Names {
         ensures ok { OnOk result (self.new ≡ with_entry kind text.now self.old) }
         ensures err { OnErr result (self.new ≡ self.old) }
     {
-        match self.categories.get_index_of(Wanted { kind, text }) {
+        match self.categories.get_index_of(NameQuery { kind, text }) {
             Some(index) => {
                 self.remember(slot, index);
                 Ok(NameId { index })

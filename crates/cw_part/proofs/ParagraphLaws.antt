@@ -1,6 +1,6 @@
 -- A paragraph is translated, and then printed or not.
 use Rattle.cw_part.proofs.Terms.{◌≡◌, ℕ, ◌||◌, Bool, true, false, sym, ap, ◌∙◌, List, ◌++◌, codes, arith, Result, Ok}
-use Rattle.cw_part.proofs.Terms.{Err, IsErrAnd, nat_lt, append-nil, Told, LineState, Puts, puts-bytes, puts-none}
+use Rattle.cw_part.proofs.Terms.{Err, IsErrAnd, nat_lt, append-nil, DeskState, LineState, Puts, puts-bytes, puts-none}
 use Rattle.cw_part.proofs.Terms.{puts-stop, puts-then, puts-nothing, PutError, paragraph_if, Book, Counts, Done}
 use Rattle.cw_part.proofs.Terms.{reprinted, Setting, Press, Weaves, weaves-refused}
 use Rattle.cw_base.specs.declared.memory.Memory.{Memory}
@@ -12,7 +12,7 @@ reprint out d = reprinted (λ bytes. out) d
 
 -- the call was refused before it printed anything
 refused : {s : Setting} {d : Done ℕ} (front : List ℕ) (printed : Bool) {old new : Book} {before after : ℕ}
-    {error : Memory} (line : LineState) (told : Told) {result : Result Counts PutError}
+    {error : Memory} (line : LineState) (told : DeskState) {result : Result Counts PutError}
     → Translates s d old new before after (Err error) → IsErrAnd result (λ found. found ≡ puts.Memory)
     → Weaves s (paragraph_if printed front d) (record { book = old; line = line; told = told; steps = before })
     (record { book = new; line = line; told = told; steps = after }) result
@@ -20,7 +20,7 @@ refused front true line told t is = weaves-refused puts.Memory (puts-nothing _ l
 refused front false line told t is = weaves-refused puts.Memory (puts-nothing _ line told is) t.same t.bound is
 
 pub paragraph-refused : {s : Setting} {d : Done ℕ} (front : List ℕ) (printed : Bool) {old new : Book}
-    {before after : ℕ} {error : Memory} (line : LineState) (told : Told) {result : Result Counts PutError}
+    {before after : ℕ} {error : Memory} (line : LineState) (told : DeskState) {result : Result Counts PutError}
     → Translates s d old new before after (Err error) → IsErrAnd result (λ found. found ≡ puts.Memory)
     → Weaves s (paragraph_if printed front d) (record { book = old; line = line; told = told; steps = before })
     (record { book = new; line = line; told = told; steps = after }) result
@@ -28,7 +28,7 @@ paragraph-refused front printed line told t is = refused front printed line told
 
 -- these bytes were printed of a piece that was translated
 woven : {T : Type 0} {s : Setting} {d : Done ℕ} {out : List ℕ} {old new : Book} {before after : ℕ}
-    {text : TranslatedState} {line line' : LineState} {told told' : Told} {value : T}
+    {text : TranslatedState} {line line' : LineState} {told told' : DeskState} {value : T}
     → Translates s d old new before after (Ok text) → Puts {T = T} out line line' told told' (Ok value)
     → Weaves s (reprint out d) (record { book = old; line = line; told = told; steps = before })
     (record { book = new; line = line'; told = told'; steps = after }) (Ok text.counts)
@@ -39,7 +39,7 @@ abbrev shown : List ℕ → Done ℕ → List ℕ
 shown front d = front ++ d.out ++ codes "\\par\n"
 
 pub paragraph-put : {T : Type 0} {s : Setting} {d : Done ℕ} (front : List ℕ) (printed : Bool) {old new : Book}
-    {before after : ℕ} {text : TranslatedState} {line line' : LineState} {told told' : Told} {value : T}
+    {before after : ℕ} {text : TranslatedState} {line line' : LineState} {told told' : DeskState} {value : T}
     → printed ≡ true → Translates s d old new before after (Ok text)
     → Puts {T = T} (front ++ d.out ++ codes "\\par\n") line line' told told' (Ok value)
     → Weaves s (paragraph_if printed front d) (record { book = old; line = line; told = told; steps = before })
@@ -48,7 +48,7 @@ paragraph-put {s = s} {d = d} front true is t put = woven {s = s} {d = d} {out =
 paragraph-put front false is t put = absurd (cc)
 
 pub paragraph-cut : {T : Type 0} {s : Setting} {d : Done ℕ} (front : List ℕ) (printed : Bool) {old new : Book}
-    {before after : ℕ} {text : TranslatedState} {line line' : LineState} {told told' : Told} {error : PutError}
+    {before after : ℕ} {text : TranslatedState} {line line' : LineState} {told told' : DeskState} {error : PutError}
     {result : Result Counts PutError} → printed ≡ true → Translates s d old new before after (Ok text) → Puts {T = T}
     (front ++ d.out ++ codes "\\par\n") line line' told told' (Err error) → IsErrAnd result (λ found. found ≡ error)
     → Weaves s (paragraph_if printed front d) (record { book = old; line = line; told = told; steps = before })
@@ -57,7 +57,7 @@ paragraph-cut front true {error = error} is t put e = grind (arith, weaves-refus
 paragraph-cut front false is t put e = absurd (cc)
 
 pub paragraph-kept : {s : Setting} {d : Done ℕ} (front : List ℕ) (printed : Bool) {old new : Book} {before after : ℕ}
-    {text : TranslatedState} (line : LineState) (told : Told)
+    {text : TranslatedState} (line : LineState) (told : DeskState)
     → printed ≡ false → Translates s d old new before after (Ok text)
     → Weaves s (paragraph_if printed front d) (record { book = old; line = line; told = told; steps = before })
     (record { book = new; line = line; told = told; steps = after }) (Ok text.counts)

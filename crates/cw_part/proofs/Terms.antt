@@ -8,7 +8,7 @@ pub use Rattle.std.proofs.lemmas.List.Elements.{All-nil, All-cons, All-weaker, A
 pub use Rattle.std.proofs.lemmas.List.Elements.{All-map, All-tail, All-rest, All-same}
 pub use Rattle.std.specs.Prelude.{Result, Ok, Err, IsErrAnd, Some, ⊤, nat_lt, ◌^◌, is_some, slice_get}
 pub use Rattle.cw_base.specs.{Conditions.list_if, declared.flags.Flags.Flags, declared.span.Span.Span}
-pub use Rattle.cw_desk.specs.Told.{Told}
+pub use Rattle.cw_desk.specs.Told.{DeskState}
 pub use Rattle.cw_lex.specs.Lexing.{answers_at, tokens_of, beginning}
 pub use Rattle.cw_lines.specs.{Line.LineState, Sheets.Prints, Sheets.IsSameSheet, Writes.Puts}
 pub use Rattle.cw_lines.specs.{declared.put_error.PutError.PutError, declared.put_error.PutError.TheVariants.Memory}

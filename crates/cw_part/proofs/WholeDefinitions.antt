@@ -9,7 +9,7 @@ use Rattle.cw_rules.specs.{declared.codes.Code.Code, declared.tokens.TokKind.Tok
 use Rattle.cw_rules.specs.Answers.{Answer, Token, Begin, Finish, Note, has_sign}
 use Rattle.cw_lex.specs.{Nested.begins_section_in, Openings.opened_by, Openings.TextsEndAtOpenings}
 use Rattle.cw_lex.proofs.{TokensWithin.tokens-within, Openings.uncut-right}
-use Rattle.cw_texts.specs.{declared.definitions.Begun.Begun, Scans.scanned}
+use Rattle.cw_texts.specs.{declared.definitions.OpenDefinition.Begun, Scans.scanned}
 use Rattle.cw_rules.specs.declared.tokens.Mode.TheVariants as modes
 use Rattle.cw_rules.specs.declared.tokens.TokKind.TheVariants as kinds
 
@@ -22,12 +22,12 @@ uncut-left (x ∷ xs) ys h = grind (arith, uncut-left xs ys)
 -- ## Where a definition begins
 
 -- A token begins a definition, or none.
-record Begins (kind : TokKind) (start : ℕ) (b : Begun) : Type 0 where
+record Begins (kind : TokKind) (start : ℕ) (b : OpenDefinition) : Type 0 where
   at : b.start ≡ start
   opened : (headed : Bool) → opened_by kind headed ≡ Some modes.Definition
 
 record Told (kind : TokKind) (start : ℕ) : Type 0 where
-  so : (begun_by kind start ≡ None) ⊎ ((b : Begun) × (begun_by kind start ≡ Some b) × Begins kind start b)
+  so : (begun_by kind start ≡ None) ⊎ ((b : OpenDefinition) × (begun_by kind start ≡ Some b) × Begins kind start b)
 
 told-code : (code : Code) (start : ℕ) → Told (kinds.Code code) start
 told-code code start = grind arith
@@ -47,7 +47,7 @@ abbrev IsGoodDefinition : List ℕ → Definition → Type 0
 IsGoodDefinition text d = IsGood text d.span.start d.span.«end»
 
 -- where a token begins no definition, and where one does
-abbrev next_by : ℕ → Option Begun → List Answer → ℕ
+abbrev next_by : ℕ → Option OpenDefinition → List Answer → ℕ
 next_by size b ys = next_begin size (with_begun b size (definitions_of size ys))
 
 module _ (openings : TextsEndAtOpenings) (text : List ℕ) where
@@ -63,14 +63,16 @@ module _ (openings : TextsEndAtOpenings) (text : List ℕ) where
       (up-to-next start (xs ++ Token t ∷ []) ys l (e ∙ sym (append_assoc xs (Token t ∷ []) ys))
       (ap begins_section_in (append_assoc xs (Token t ∷ []) ys) ∙ h) a.1)
     where
-      by : (begun_by t.kind t.span.start ≡ None) ⊎ ((b : Begun) × (begun_by t.kind t.span.start ≡ Some b) × Begins
+      by : (begun_by t.kind t.span.start ≡ None) ⊎ ((b : OpenDefinition) × (begun_by t.kind t.span.start
+          ≡ Some b) × Begins
           t.kind t.span.start b) → IsGood text start (next_begin (length text) (definitions_of (length text) ys))
           → IsGood text start (next_by (length text) (begun_by t.kind t.span.start) ys)
-      by (inl none) rec = subst (λ (o : Option Begun). IsGood text start (next_by (length text) o ys)) (sym none) rec
+      by (inl none) rec = subst (λ (o : Option OpenDefinition). IsGood text start (next_by (length text) o ys))
+          (sym none) rec
       by (inr some) rec =
           let law = openings text start modes.Definition modes.Definition xs t ys refl e
           (some.2.opened (has_sign ys)) in
-          subst (λ (o : Option Begun). IsGood text start (next_by (length text) o ys)) (sym some.1)
+          subst (λ (o : Option OpenDefinition). IsGood text start (next_by (length text) o ys)) (sym some.1)
           (subst (λ n. IsGood text start n) (sym some.2.at)
           (record {
             order = law.0.order;
@@ -91,10 +93,11 @@ module _ (openings : TextsEndAtOpenings) (text : List ℕ) where
   each start xs (Token t ∷ ys) e h a = by (told t.kind t.span.start).so (each start (xs ++ Token t ∷ []) ys (e
       ∙ sym (append_assoc xs (Token t ∷ []) ys)) (ap begins_section_in (append_assoc xs (Token t ∷ []) ys) ∙ h) a.1)
     where
-      by : (begun_by t.kind t.span.start ≡ None) ⊎ ((b : Begun) × (begun_by t.kind t.span.start ≡ Some b) × Begins
+      by : (begun_by t.kind t.span.start ≡ None) ⊎ ((b : OpenDefinition) × (begun_by t.kind t.span.start
+          ≡ Some b) × Begins
           t.kind t.span.start b) → All (IsGoodDefinition text) (definitions_of (length text) ys) → All (IsGoodDefinition
           text) (with_begun (begun_by t.kind t.span.start) (length text) (definitions_of (length text) ys))
-      by (inl none) rec = subst (λ (o : Option Begun). All (IsGoodDefinition text)
+      by (inl none) rec = subst (λ (o : Option OpenDefinition). All (IsGoodDefinition text)
           (with_begun o (length text) (definitions_of (length text) ys))) (sym none) rec
       by (inr some) rec =
           let b = some.0 in
@@ -103,7 +106,7 @@ module _ (openings : TextsEndAtOpenings) (text : List ℕ) where
           let d = ended_at (next_begin (length text) (definitions_of (length text) ys)) b in
           let good = up-to-next t.span.start (Token t ∷ []) ys (omega (arith, a.0.1, a.0.2)) (sym law.1)
           (uncut-right xs (Token t ∷ ys) h) a.1 in
-          subst (λ (o : Option Begun). All (IsGoodDefinition text)
+          subst (λ (o : Option OpenDefinition). All (IsGoodDefinition text)
           (with_begun o (length text) (definitions_of (length text) ys))) (sym some.1)
           (All-cons (IsGoodDefinition text) d (definitions_of (length text) ys)
           (subst (λ n. IsGood text n (next_begin (length text) (definitions_of (length text) ys))) (sym some.2.at)

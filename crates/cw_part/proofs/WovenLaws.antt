@@ -1,6 +1,7 @@
 -- Pieces of a book are woven one after another.
 use Rattle.cw_part.proofs.Terms.{◌≡◌, ℕ, ◌+◌, ◌≤◌, refl, sym, ap, ◌∙◌, List, [], ◌++◌, append_assoc, arith, Result, Ok}
-use Rattle.cw_part.proofs.Terms.{Err, IsErrAnd, append-nil, Told, LineState, Puts, puts-bytes, puts-none, puts-stop}
+use Rattle.cw_part.proofs.Terms.{Err, IsErrAnd, append-nil, DeskState, LineState, Puts, puts-bytes, puts-none}
+use Rattle.cw_part.proofs.Terms.{puts-stop}
 use Rattle.cw_part.proofs.Terms.{puts-then, puts-nothing, PutError, Memory, Entry, limit_in, Counts, Done, joined_done}
 use Rattle.cw_part.proofs.Terms.{as_it_is, done_then, Setting, Press, Weaves, underlined, joined-joined, limit-append}
 use Rattle.cw_part.proofs.Terms.{productions-append, scraps-append, ticks-append, underlined-append, underlined-none}
@@ -21,7 +22,7 @@ pub nothing-more : (counts : Counts) → AreSums counts counts no_counts
 nothing-more counts = record { scraps = omega arith; productions = omega arith }
 
 -- bytes that no text prints
-pub weaves-bytes : {T : Type 0} {s : Setting} {bytes : List ℕ} {old : Press} {line : LineState} {told : Told}
+pub weaves-bytes : {T : Type 0} {s : Setting} {bytes : List ℕ} {old : Press} {line : LineState} {told : DeskState}
     {value : T} → Puts {T = T} bytes old.line line old.told told (Ok value) → Weaves s (as_it_is bytes old.book.names)
     old (record { book = old.book; line = line; told = told; steps = old.steps }) (Ok no_counts)
 weaves-bytes {s = s} {old = old} {line = line} {told = told} put =
@@ -30,7 +31,7 @@ weaves-bytes {s = s} {old = old} {line = line} {told = told} put =
 pub weaves-nothing : (s : Setting) (old : Press) → Weaves s (as_it_is [] old.book.names) old old (Ok no_counts)
 weaves-nothing s old = weaves-bytes (puts-none old.line old.told (tt {0}))
 
-pub bytes-refused : {T : Type 0} {s : Setting} {bytes : List ℕ} {old : Press} {line : LineState} {told : Told}
+pub bytes-refused : {T : Type 0} {s : Setting} {bytes : List ℕ} {old : Press} {line : LineState} {told : DeskState}
     {error : PutError} {result : Result Counts PutError} → Puts {T = T} bytes old.line line old.told told (Err error)
     → IsErrAnd result (λ found. found ≡ error) → Weaves s (as_it_is bytes old.book.names) old
     (record { book = old.book; line = line; told = told; steps = old.steps }) result

@@ -1,10 +1,11 @@
 -- The first token of a list of answers at which a part of a section ends.
 use Rattle.cw_phase1.proofs.Terms.{arith, ◌≡◌, ℕ, Bool, true, false, not, ◌||◌, List, [], ◌∷◌, ◌++◌, Option, Some, None}
 use Rattle.cw_phase1.proofs.Terms.{append-nil, refl, sym, ap, subst, ◌∙◌, ◌⊎◌, inl, inr, if◌then◌else◌, list_any}
-use Rattle.cw_phase1.proofs.Terms.{one-failed-left, one-failed-right, Span, Code, Wanted, Mode, TokKind, Answer, Token}
+use Rattle.cw_phase1.proofs.Terms.{one-failed-left, one-failed-right, Span, Code, Expectation, Mode, TokKind, Answer}
+use Rattle.cw_phase1.proofs.Terms.{Token}
 use Rattle.cw_phase1.proofs.Terms.{Begin, Finish, Note, Seen, has_sign, is_section_kind, is_section_answer}
 use Rattle.cw_phase1.proofs.Terms.{begins_section_in, tokens_of, is_some, SecName, Part, Standing, entered_name}
-use Rattle.cw_phase1.proofs.Terms.{kept_behind, Placed, Step, defining, name_step, token_step, word_role, head_role}
+use Rattle.cw_phase1.proofs.Terms.{kept_behind, Placement, Step, defining, name_step, token_step, word_role, head_role}
 use Rattle.cw_phase1.proofs.Terms.{behind_begin, placed_by, placed_from, is_section_code, is_tex, first_start}
 use Rattle.cw_rules.proofs.Choices.{or-false}
 use Rattle.cw_lex.specs.Openings.{named, opened_by, tokens_in, opens_part_before, opens_part_in, EndsBefore}
@@ -16,10 +17,10 @@ use Rattle.cw_phase1.specs.declared.roles.Part.TheVariants as parts
 -- ## The role and the part of a token
 
 -- A section code has its role, and nothing else has it.
-word-role : (wanted : Wanted) → is_section_code (word_role wanted) ≡ false
+word-role : (wanted : Expectation) → is_section_code (word_role wanted) ≡ false
 word-role wanted = grind arith
 
-head-word : (wanted : Wanted) (kind : TokKind) → is_section_code (head_role wanted kind) ≡ false
+head-word : (wanted : Expectation) (kind : TokKind) → is_section_code (head_role wanted kind) ≡ false
 head-word wanted kind = grind (arith, word-role)
 
 name-role : (headed : Bool) (s : Standing) → is_section_code (name_step headed s).role ≡ false
@@ -103,20 +104,21 @@ section-part s t answers h = grind (arith, told)
 
 -- ## Lists
 
-pub first-none : (test : Placed → Bool) (size : ℕ) (ps : List Placed) → list_any test ps ≡ false
+pub first-none : (test : Placement → Bool) (size : ℕ) (ps : List Placement) → list_any test ps ≡ false
     → first_start test size ps ≡ size
 first-none test size [] h = refl
 first-none test size (p ∷ ps) h = ap (λ (t : Bool). if t then p.token.span.start else first_start test size ps)
     (one-failed-left _ (list_any test ps) h) ∙ first-none test size ps (one-failed-right (test p) (list_any test ps) h)
 
-pub first-behind : (test : Placed → Bool) (size : ℕ) (front ps : List Placed) → list_any test front ≡ false
+pub first-behind : (test : Placement → Bool) (size : ℕ) (front ps : List Placement) → list_any test front ≡ false
     → first_start test size (front ++ ps) ≡ first_start test size ps
 first-behind test size [] ps h = refl
 first-behind test size (p ∷ front) ps h = ap (λ (t : Bool). if t then p.token.span.start else first_start test size
     (front ++ ps)) (one-failed-left (test p) (list_any test front) h)
     ∙ first-behind test size front ps (one-failed-right (test p) (list_any test front) h)
 
-pub none-stricter : (test other : Placed → Bool) (ps : List Placed) → ((p : Placed) → other p ≡ true → test p ≡ true)
+pub none-stricter : (test other : Placement → Bool) (ps : List Placement) → ((p : Placement) → other p ≡ true → test p
+    ≡ true)
     → list_any test ps ≡ false → list_any other ps ≡ false
 none-stricter test other [] f h = refl
 none-stricter test other (p ∷ ps) f h =
@@ -196,10 +198,10 @@ alone-before text start mode answers t more e h = grind (arith, opens-alone)
 
 -- A part goes on in the parts that are good for it, up to a section code.
 module _ (good : Part → Bool) where
-  abbrev pub ends : Placed → Bool
+  abbrev pub ends : Placement → Bool
   ends p = is_section_code p.role || not (good p.part)
 
-  abbrev pub token_placed : Standing → List SecName → Seen → List Answer → Placed
+  abbrev pub token_placed : Standing → List SecName → Seen → List Answer → Placement
   token_placed s kept t answers = placed_by t (entered_name t kept) (token_step t.kind (has_sign answers) s t.span)
 
   -- a token behind which the part is good
@@ -227,7 +229,7 @@ module _ (good : Part → Bool) where
     pub behind : List Answer
     pub standing : Standing
     pub names : List SecName
-    pub front : List Placed
+    pub front : List Placement
     pub split : answers ≡ before ++ Token token ∷ behind
     pub placed : placed_from s kept answers ≡ front ++ placed_from standing names (Token token ∷ behind)
     pub none : list_any ends front ≡ false
@@ -323,7 +325,8 @@ module _ (good : Part → Bool) where
       (stop s kept answers g) refl (λ more xs k. k)
 
 -- the first token that passes a test, where one that stops does
-pub first-token : (good : Part → Bool) (test : Placed → Bool) (size : ℕ) (s : Standing) (kept : List SecName) (t : Seen)
+pub first-token : (good : Part → Bool) (test : Placement → Bool) (size : ℕ) (s : Standing) (kept : List SecName)
+    (t : Seen)
     (answers : List Answer) → test (token_placed good s kept t answers) ≡ true
     → first_start test size (placed_from s kept (Token t ∷ answers)) ≡ t.span.start
 first-token good test size s kept t answers h = grind (arith)

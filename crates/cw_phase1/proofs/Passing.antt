@@ -1,28 +1,31 @@
 -- The tokens that one answer settles, and those that are still to come.
 use Rattle.cw_phase1.proofs.Terms.{◌≡◌, ℕ, Bool, true, false, List, [], ◌∷◌, ◌++◌, Option, Some, None, refl}
-use Rattle.cw_phase1.proofs.Terms.{append_assoc, if◌then◌else◌, arith, MergedLine, Wanted, TokKind, Seen, Answer, Note}
-use Rattle.cw_phase1.proofs.Terms.{has_sign, Span, NoteKind, SecName, Standing, Told, Void, naming_by, scanned_note}
-use Rattle.cw_phase1.proofs.Terms.{scanned_notes, enters, kept_after, is_unended, note_behind_end, noted_from, Placed}
+use Rattle.cw_phase1.proofs.Terms.{append_assoc, if◌then◌else◌, arith, MergedLine, Expectation, TokKind, Seen, Answer}
+use Rattle.cw_phase1.proofs.Terms.{Note}
+use Rattle.cw_phase1.proofs.Terms.{has_sign, Span, NoteKind, SecName, Standing, TokenLists, Void, naming_by}
+use Rattle.cw_phase1.proofs.Terms.{scanned_note}
+use Rattle.cw_phase1.proofs.Terms.{scanned_notes, enters, kept_after, is_unended, note_behind_end, noted_from}
+use Rattle.cw_phase1.proofs.Terms.{Placement}
 use Rattle.cw_phase1.proofs.Terms.{name_step, token_step, token_step_by, behind_begin, placed_by, placed_from}
 use Rattle.cw_phase1.proofs.Terms.{told_step, told_all, is_name_kind, Waiting, HeldState, settled, remark_put}
 use Rattle.cw_phase1.proofs.Terms.{held_step}
 use Rattle.cw_base.specs.declared.notes.Note.{Note as NoteRecord}
 
 -- The tokens that are settled from here on, where these answers are still to come.
-abbrev pub coming_by : Option Waiting → Standing → List SecName → List Answer → List Placed
+abbrev pub coming_by : Option Waiting → Standing → List SecName → List Answer → List Placement
 coming_by None s kept answers = placed_from s kept answers
 coming_by (Some w) s kept answers = placed_by w.token w.name (name_step (has_sign answers) s) ∷ placed_from
     (name_step (has_sign answers) s).next kept answers
 
-abbrev pub coming : HeldState → List Answer → List Placed
+abbrev pub coming : HeldState → List Answer → List Placement
 coming h answers = coming_by h.pass.waiting h.pass.standing h.kept answers
 
 -- What is told in the end.
-abbrev pub told_at_end : List MergedLine → HeldState → List Answer → Told
+abbrev pub told_at_end : List MergedLine → HeldState → List Answer → TokenLists
 told_at_end lines h answers = told_all lines (coming h answers) h.told
 
 -- Only names look at what stands behind them.
-free-step : (kind : TokKind) (o : Option Wanted) (headed : Bool) (s : Standing) → is_name_kind kind ≡ false
+free-step : (kind : TokKind) (o : Option Expectation) (headed : Bool) (s : Standing) → is_name_kind kind ≡ false
     → token_step_by o kind headed s ≡ token_step_by o kind false s
 free-step kind o headed s h = grind arith
 
@@ -38,7 +41,7 @@ void-by void kind text h = grind arith
 pub enters-nothing : (t : Seen) (kept : List SecName) → is_name_kind t.kind ≡ false → enters t kept ≡ None
 enters-nothing t kept h = grind (arith, void-by)
 
-told-append : (lines : List MergedLine) (ps qs : List Placed) (t : Told) → told_all lines (ps ++ qs) t
+told-append : (lines : List MergedLine) (ps qs : List Placement) (t : TokenLists) → told_all lines (ps ++ qs) t
     ≡ told_all lines qs (told_all lines ps t)
 told-append lines [] qs t = refl
 told-append lines (p ∷ ps) qs t = told-append lines ps qs (told_step lines p t)

@@ -2,8 +2,9 @@
 use Rattle.cw_phase1.proofs.Terms.{◌≡◌, ℕ, zero, suc, ◌+◌, ◌<◌, ◌≤◌, Bool, true, false, List, [], ◌∷◌, ◌++◌, Option}
 use Rattle.cw_phase1.proofs.Terms.{Some, None, All, map, length, refl, sym, ◌∙◌, add-zero, zero-add, arith, nat_lt}
 use Rattle.cw_phase1.proofs.Terms.{true≢false, filter, eqb-true, ltb-false, ltb-true, All-nil, All-cons, MergedLine}
-use Rattle.cw_phase1.proofs.Terms.{Code, Wanted, TokKind, Seen, Answer, Token, Begin, Finish, Note, SecId, SecName}
-use Rattle.cw_phase1.proofs.Terms.{AscendFrom, Reference, once, is_of, referred, NameUse, Role, Standing, Placed, Step}
+use Rattle.cw_phase1.proofs.Terms.{Code, Expectation, TokKind, Seen, Answer, Token, Begin, Finish, Note, SecId, SecName}
+use Rattle.cw_phase1.proofs.Terms.{AscendFrom, Reference, once, is_of, referred, NameUse, Role, Standing, Placement}
+use Rattle.cw_phase1.proofs.Terms.{Step}
 use Rattle.cw_phase1.proofs.Terms.{name_step, code_step, free_step, token_step, word_role, head_role, behind_begin}
 use Rattle.cw_phase1.proofs.Terms.{placed_by, placed_from, is_section_code, sections_of, Ascend, RefersUpTo, use_by}
 use Rattle.cw_phase1.proofs.Terms.{uses_of, reference_by, references_of}
@@ -20,11 +21,11 @@ is_name_role (roles.Name how) = true
 is_name_role role = false
 
 -- Only section names have a name.
-pub record IsFit (p : Placed) : Type 0 where
+pub record IsFit (p : Placement) : Type 0 where
   pub code : is_section_code p.role ≡ true → p.name ≡ None
   pub plain : is_name_role p.role ≡ false → p.name ≡ None
 
-abbrev pub AreFit : List Placed → Type 0
+abbrev pub AreFit : List Placement → Type 0
 AreFit [] = Unit {0}
 AreFit (p ∷ ps) = IsFit p × AreFit ps
 
@@ -56,7 +57,7 @@ use-below (roles.Name how) (Some id) place section n uses references h a k = All
     (record { name = id.index; how = how; section = section }) (omega arith)) (k (λ j d l. a (suc j) d (omega arith)))
 use-below role name place section n uses references h a k = grind arith
 
-pub uses-below : (n : ℕ) (ps : List Placed) → AreFit ps → All (λ (r : Reference). r.name < n) (references_of ps)
+pub uses-below : (n : ℕ) (ps : List Placement) → AreFit ps → All (λ (r : Reference). r.name < n) (references_of ps)
     → All (λ (u : NameUse). u.name < n) (uses_of ps)
 uses-below n [] f a = All-nil (IsUse n)
 uses-below n (p ∷ ps) f a = use-below _ _ _ _ n _ _ f.0.plain a (uses-below n ps f.1)
@@ -68,17 +69,17 @@ count_by true = 1
 count_by false = 0
 
 -- The section of each token is that of the one before, or the next one where it is a section code.
-abbrev pub Numbered : ℕ → List Placed → Type 0
+abbrev pub Numbered : ℕ → List Placement → Type 0
 Numbered m [] = Unit {0}
 Numbered m (p ∷ ps) = (p.section ≡ m + count_by (is_section_code p.role)) × Numbered p.section ps
 
 abbrev IsNumbered : ℕ → Step → Type 0
 IsNumbered m step = step.next.section ≡ m + count_by (is_section_code step.role)
 
-no-code-word : (wanted : Wanted) → is_section_code (word_role wanted) ≡ false
+no-code-word : (wanted : Expectation) → is_section_code (word_role wanted) ≡ false
 no-code-word wanted = grind arith
 
-no-code-head : (wanted : Wanted) (kind : TokKind) → is_section_code (head_role wanted kind) ≡ false
+no-code-head : (wanted : Expectation) (kind : TokKind) → is_section_code (head_role wanted kind) ≡ false
 no-code-head wanted kind = grind (arith, no-code-word)
 
 name-number : (headed : Bool) (s : Standing) → IsNumbered s.section (name_step headed s)
@@ -100,11 +101,11 @@ numbered s kept (Finish t ∷ answers) = numbered s kept answers
 numbered s kept (Note kind place ∷ answers) = numbered s kept answers
 
 -- how many section codes there are
-abbrev pub codes : List Placed → ℕ
+abbrev pub codes : List Placement → ℕ
 codes [] = 0
 codes (p ∷ ps) = count_by (is_section_code p.role) + codes ps
 
-pub section-count : (lines : List MergedLine) (size : ℕ) (ps : List Placed) → length (sections_of lines size ps)
+pub section-count : (lines : List MergedLine) (size : ℕ) (ps : List Placement) → length (sections_of lines size ps)
     ≡ codes ps
 section-count lines size [] = refl
 section-count lines size (p ∷ ps) = grind (arith, section-count lines size ps, zero-add)
@@ -128,7 +129,7 @@ pub rise-reference : (role : Role) (name : Option SecId) (section low high : ℕ
     → Rise low high (sections_in (reference_by role name section ++ references))
 rise-reference role name section low high references l h r = grind (arith, rise-more)
 
-pub rise : (m high : ℕ) (ps : List Placed) → Numbered m ps → m + codes ps ≤ high
+pub rise : (m high : ℕ) (ps : List Placement) → Numbered m ps → m + codes ps ≤ high
     → Rise m high (sections_in (references_of ps))
 rise m high [] n h = tt
 rise m high (p ∷ ps) n h = grind (arith, rise p.section high ps n.1 (omega (arith, n.0, h)), rise-reference)
@@ -172,7 +173,7 @@ refers high references k (n ∷ names) r = All-cons (RefersUpTo high) _ (referre
   cited = ascend k Cited high references r;
 }) (refers high references (k + 1) names r)
 
-pub all-refer : (lines : List MergedLine) (size : ℕ) (names : List SecName) (ps : List Placed)
+pub all-refer : (lines : List MergedLine) (size : ℕ) (names : List SecName) (ps : List Placement)
     → Rise 1 (length (sections_of lines size ps)) (sections_in (references_of ps))
     → All (RefersUpTo (length (sections_of lines size ps))) (referred (references_of ps) 0 names)
 all-refer lines size names ps r = refers (length (sections_of lines size ps)) (references_of ps) 0 names r

@@ -3,18 +3,18 @@ use Rattle.cw_phase1.proofs.Terms.{◌≡◌, ℕ, ◌<◌, ◌≤◌, ◌||◌,
 use Rattle.cw_phase1.proofs.Terms.{Some, None, All, IfSome, suc, zero, refl, ap, subst, ◌∙◌, append_assoc, arith}
 use Rattle.cw_phase1.proofs.Terms.{if◌then◌else◌, eq-eqb, All-nil, option_map, one-left, MergedLine, Answer, Token}
 use Rattle.cw_phase1.proofs.Terms.{Begin, Finish, Note, Covers, SecId, SecName, id, NameUse, name_at, Part, Standing}
-use Rattle.cw_phase1.proofs.Terms.{Section, AreBefore, Placed, placed_from, is_section_code, is_tex, is_program}
+use Rattle.cw_phase1.proofs.Terms.{Section, AreBefore, Placement, placed_from, is_section_code, is_tex, is_program}
 use Rattle.cw_phase1.proofs.Terms.{ends_section, ends_definitions, ends_tex, first_start, c_part_name, section_at}
 use Rattle.cw_phase1.proofs.Terms.{sections_of, LiesIn, IsNamedBy, use_by, use_of, uses_of}
 use Rattle.cw_phase1.proofs.{RoleLaws.AreFit, Underway.before-use, Underway.before-more}
 
 -- The tokens stand one behind another, from one place up to another.
-abbrev pub Follow : ℕ → ℕ → List Placed → Type 0
+abbrev pub Follow : ℕ → ℕ → List Placement → Type 0
 Follow from size [] = from ≤ size
 Follow from size (p ∷ ps) = (from ≤ p.token.span.start) × (p.token.span.start < p.token.span.«end»)
     × Follow p.token.span.«end» size ps
 
-follow-more : (m n size : ℕ) (ps : List Placed) → m ≤ n → Follow n size ps → Follow m size ps
+follow-more : (m n size : ℕ) (ps : List Placement) → m ≤ n → Follow n size ps → Follow m size ps
 follow-more m n size [] h f = omega arith
 follow-more m n size (p ∷ ps) h f = (omega (arith, f.0), f.1, f.2)
 
@@ -28,35 +28,36 @@ follows text from size s kept (Finish t ∷ answers) c =
     grind (arith, follows text t.span.«end» size s kept answers c.1, follow-more)
 follows text from size s kept (Note kind place ∷ answers) c = follows text from size s kept answers c
 
-follow-end : (from size : ℕ) (ps : List Placed) → Follow from size ps → from ≤ size
+follow-end : (from size : ℕ) (ps : List Placement) → Follow from size ps → from ≤ size
 follow-end from size [] f = f
 follow-end from size (p ∷ ps) f = omega (arith, f.0, f.1, follow-end p.token.span.«end» size ps f.2)
 
 -- ## The first token that passes a test
 
-first-from : (test : Placed → Bool) (from size : ℕ) (ps : List Placed) → Follow from size ps
+first-from : (test : Placement → Bool) (from size : ℕ) (ps : List Placement) → Follow from size ps
     → from ≤ first_start test size ps
 first-from test from size [] f = f
 first-from test from size (p ∷ ps) f = grind (arith, first-from test p.token.span.«end» size ps f.2)
 
-first-to : (test : Placed → Bool) (from size : ℕ) (ps : List Placed) → Follow from size ps
+first-to : (test : Placement → Bool) (from size : ℕ) (ps : List Placement) → Follow from size ps
     → first_start test size ps ≤ size
 first-to test from size [] f = omega arith
 first-to test from size (p ∷ ps) f = grind (arith, first-to test p.token.span.«end» size ps f.2, follow-end)
 
-first-earlier : (test other : Placed → Bool) (from size : ℕ) (ps : List Placed) → ((p : Placed) → test p ≡ true → other
+first-earlier : (test other : Placement → Bool) (from size : ℕ) (ps : List Placement) → ((p : Placement) → test p
+    ≡ true → other
     p ≡ true) → Follow from size ps → first_start other size ps ≤ first_start test size ps
 first-earlier test other from size [] h f = omega arith
 first-earlier test other from size (p ∷ ps) h f =
     grind (arith, first-earlier test other p.token.span.«end» size ps h f.2, first-from)
 
-code-ends : (p : Placed) → ends_section p ≡ true → ends_definitions p ≡ true
+code-ends : (p : Placement) → ends_section p ≡ true → ends_definitions p ≡ true
 code-ends p h = one-left (is_section_code p.role) (is_program p.part) h
 
 tex-by : (code : Bool) (part : Part) → (code || is_program part) ≡ true → (code || not (is_tex part)) ≡ true
 tex-by code part h = grind arith
 
-definitions-end-tex : (p : Placed) → ends_definitions p ≡ true → ends_tex p ≡ true
+definitions-end-tex : (p : Placement) → ends_definitions p ≡ true → ends_tex p ≡ true
 definitions-end-tex p h = tex-by (is_section_code p.role) p.part h
 
 -- ## Sections
@@ -65,14 +66,14 @@ all-by : (P : Section → Type 0) (t : Bool) (s : Section) (rest : List Section)
     → All P (if t then s ∷ rest else rest)
 all-by P t s rest h a = grind arith
 
-pub all-lie : (lines : List MergedLine) (from size : ℕ) (ps : List Placed) → Follow from size ps
+pub all-lie : (lines : List MergedLine) (from size : ℕ) (ps : List Placement) → Follow from size ps
     → All (LiesIn size) (sections_of lines size ps)
 all-lie lines from size [] f = All-nil (LiesIn size)
 all-lie lines from size (p ∷ ps) f = all-by (LiesIn size) _ (section_at lines size p.token ps)
     (sections_of lines size ps) (grind (arith, first-from, first-earlier, definitions-end-tex, code-ends, first-to))
     (all-lie lines p.token.span.«end» size ps f.2)
 
-pub limbo-lies : (from size : ℕ) (ps : List Placed) → Follow from size ps → first_start ends_section size ps ≤ size
+pub limbo-lies : (from size : ℕ) (ps : List Placement) → Follow from size ps → first_start ends_section size ps ≤ size
 limbo-lies from size ps f = first-to ends_section from size ps f
 
 -- ## Their names
@@ -89,13 +90,14 @@ here : (name : Option SecId) (place : ℕ) (uses : List NameUse) → name_at pla
 here name place uses h = grind (arith, eq-eqb)
 
 -- no name stands before the first token
-none-before : (place from size : ℕ) (ps : List Placed) → Follow from size ps → place < from → name_at place (uses_of ps)
+none-before : (place from size : ℕ) (ps : List Placement) → Follow from size ps → place < from
+    → name_at place (uses_of ps)
     ≡ None
 none-before place from size [] f h = refl
 none-before place from size (p ∷ ps) f h = (grind arith)
     ∙ none-before place p.token.span.«end» size ps f.2 (omega (arith, f.0, f.1))
 
-name-first : (from size : ℕ) (ps : List Placed) → Follow from size ps → AreFit ps
+name-first : (from size : ℕ) (ps : List Placement) → Follow from size ps → AreFit ps
     → option_map id (name_at (first_start ends_definitions size ps) (uses_of ps)) ≡ c_part_name ps
 name-first from size [] f fit = refl
 name-first from size (p ∷ ps) f fit =
@@ -109,7 +111,8 @@ skip-before from place (u ∷ uses) later h b =
     ap (λ (t : Bool). if t then Some u.name else name_at place (uses ++ later)) (not-same u.place place (let first =
     b zero u (omega arith) in omega arith)) ∙ skip-before from place uses later h (λ k d l. b (suc k) d (omega arith))
 
-pub all-named : (lines : List MergedLine) (uses : List NameUse) (from size : ℕ) (ps : List Placed) → AreBefore from uses
+pub all-named : (lines : List MergedLine) (uses : List NameUse) (from size : ℕ) (ps : List Placement)
+    → AreBefore from uses
     → Follow from size ps → AreFit ps → All (IsNamedBy (uses ++ uses_of ps)) (sections_of lines size ps)
 all-named lines uses from size [] b f fit = All-nil (IsNamedBy (uses ++ []))
 all-named lines uses from size (p ∷ ps) b f fit = all-by (IsNamedBy (uses ++ (use_of p ++ uses_of ps)))

@@ -19,7 +19,7 @@ pub use Rattle.cw_base.specs.{declared.notes.NoteKind.NoteKind, declared.span.Sp
 pub use Rattle.cw_base.specs.declared.category.Cat.TheVariants.{Exp, RawInt}
 pub use Rattle.cw_lex.specs.{Heads.head_behind, Lexing.answers_at, Lexing.beginning, Lexing.tokens_of}
 pub use Rattle.cw_lex.specs.{model.Limbo.HasNoNames}
-pub use Rattle.cw_lex.specs.{Limbo.is_name_kind, declared.heads.Wanted.Wanted}
+pub use Rattle.cw_lex.specs.{Limbo.is_name_kind, declared.heads.Expectation.Wanted}
 pub use Rattle.cw_lex.specs.Nested.{is_section_kind, is_section_answer, begins_section_in}
 pub use Rattle.cw_names.specs.{Words.built_in_words, declared.entry.EntryKind.EntryKind, declared.entry.NameId.NameId}
 pub use Rattle.cw_names.specs.declared.entry.EntryKind.TheVariants.{Ident, Roman}
@@ -30,7 +30,7 @@ pub use Rattle.cw_phase1.specs.{Sound.Ascend}
 pub use Rattle.cw_phase1.specs.{Sound.RefersUpTo, declared.roles.Part.Part, declared.roles.Role.Role}
 pub use Rattle.cw_phase1.specs.{declared.roles.Standing.Standing, declared.sections.Open.Open}
 pub use Rattle.cw_phase1.specs.{declared.sections.Section.Section, declared.sections.Sections.Sections}
-pub use Rattle.cw_phase1.specs.{declared.told.Told.Told}
+pub use Rattle.cw_phase1.specs.{declared.told.TokenLists.Told}
 pub use Rattle.cw_phase1.specs.Changed.{has_changed, with_last_changed, with_last_marked}
 pub use Rattle.cw_phase1.specs.model.Ending.{notes_at_by, with_references, IsScanned, open_count, section_total}
 pub use Rattle.cw_phase1.specs.Entering.{kept_behind, entering, kept_by, kept_after, entered_name, enters, is_unended}
@@ -46,7 +46,7 @@ pub use Rattle.cw_phase1.specs.Notes.{name_notes_from, scanned_note, scanned_not
 pub use Rattle.cw_phase1.specs.model.Outlining.{closing_by, open_with, closing, or_here, name_here, opened, with_token}
 pub use Rattle.cw_phase1.specs.model.Outlining.{closed_at}
 pub use Rattle.cw_phase1.specs.model.Ready.{IsToken, AreBefore, WaitsBehind, CanSettle, WaitingIsKept, held_start}
-pub use Rattle.cw_phase1.specs.Roles.{Placed, word_role, head_role, token_step, behind_begin, placed_from, at_limbo}
+pub use Rattle.cw_phase1.specs.Roles.{Placement, word_role, head_role, token_step, behind_begin, placed_from, at_limbo}
 pub use Rattle.cw_phase1.specs.Roles.{placed, free_step, placed_by, stay, Step, name_step, token_step_by, code_step}
 pub use Rattle.cw_phase1.specs.Roles.{section_step, defining}
 pub use Rattle.cw_phase1.specs.Sections.{is_section_code, sections_of, span, is_tex, is_program, ends_section}

@@ -2,12 +2,13 @@
 use Rattle.cw_phase1.proofs.Terms.{◌≡◌, ℕ, ◌+◌, ◌<◌, ◌≤◌, Bool, true, false, List, [], ◌∷◌, ◌++◌, Option, Some, None}
 use Rattle.cw_phase1.proofs.Terms.{All, IfSome, length, ap, sym, subst, ◌∙◌, arith, length-append, ◌-◌, drop}
 use Rattle.cw_phase1.proofs.Terms.{slice_range, length-take, All-append, All-nil, All-cons, common_steps, MergedLine}
-use Rattle.cw_phase1.proofs.Terms.{text_of, Code, Wanted, TokKind, Seen, Answer, Token, Begin, Finish, Note}
+use Rattle.cw_phase1.proofs.Terms.{text_of, Code, Expectation, TokKind, Seen, Answer, Token, Begin, Finish, Note}
 use Rattle.cw_phase1.proofs.Terms.{is_head_sign, head_behind, EntryKind, NameId, SecId, Reference, NameUse, Role}
-use Rattle.cw_phase1.proofs.Terms.{Standing, Open, Section, Placed, Step, name_step, token_step, token_step_by}
+use Rattle.cw_phase1.proofs.Terms.{Standing, Open, Section, Placement, Step, name_step, token_step, token_step_by}
 use Rattle.cw_phase1.proofs.Terms.{code_step, section_step, word_role, placed_by, is_section_code, use_by, reference_by}
 use Rattle.cw_phase1.proofs.Terms.{closing_by, open_with, KnownNames, known_behind, with_format, IsKnown, told_step}
-use Rattle.cw_phase1.proofs.Terms.{told_all, Told, IsScanned, open_count, section_total, NoteKind, Covers, tokens_of}
+use Rattle.cw_phase1.proofs.Terms.{told_all, TokenLists, IsScanned, open_count, section_total, NoteKind, Covers}
+use Rattle.cw_phase1.proofs.Terms.{tokens_of}
 use Rattle.cw_phase1.proofs.Terms.{Waiting, HeldState, waiting_of, settled_placed, settled_standing, settled}
 use Rattle.cw_phase1.proofs.Terms.{remark_put, token_held_by, ended_held, held_step, IsToken, AreBefore, WaitsBehind}
 use Rattle.cw_phase1.proofs.Terms.{CanSettle, WaitingIsKept, held_start}
@@ -67,7 +68,7 @@ closing-length : (o : Option Open) (lines : List MergedLine) (end : ℕ) (closed
     → length (closing_by o lines end closed) ≡ open_count o + length closed
 closing-length o lines end closed = grind (arith, length-append)
 
-with-count : (o : Option Open) (p : Placed) → open_count (open_with o p) ≡ open_count o
+with-count : (o : Option Open) (p : Placement) → open_count (open_with o p) ≡ open_count o
 with-count o p = grind arith
 
 -- a section code begins the next section, and any other token stays in its section
@@ -79,7 +80,7 @@ record Counts (s : Step) (m : ℕ) : Type 0 where
 counts-stay : (s : Step) (m : ℕ) → s.next.section ≡ m → (is_section_code s.role ≡ true → ⊥) → Counts s m
 counts-stay s m e n = record { more = λ h. absurd (n h); same = omega arith; near = omega arith }
 
-not-code-word : (wanted : Wanted) → is_section_code (word_role wanted) ≡ true → ⊥
+not-code-word : (wanted : Expectation) → is_section_code (word_role wanted) ≡ true → ⊥
 not-code-word wanted h = grind arith
 
 counts-begin : (s : Standing) → Counts (section_step s) s.section
@@ -91,7 +92,7 @@ plain-no-code h = cc
 code-counts : (code : Code) (s : Standing) → Counts (code_step code false s) s.section
 code-counts code s = grind (arith, counts-begin, counts-stay, plain-no-code)
 
-step-counts : (o : Option Wanted) (kind : TokKind) (s : Standing) → Counts (token_step_by o kind false s) s.section
+step-counts : (o : Option Expectation) (kind : TokKind) (s : Standing) → Counts (token_step_by o kind false s) s.section
 step-counts o kind s = grind (arith, plain-no-code, code-counts, counts-stay, not-code-word)
 
 name-counts : (headed : Bool) (s : Standing) → Counts (name_step headed s) s.section
@@ -100,14 +101,15 @@ name-counts headed s = grind (arith, counts-stay, plain-no-code)
 -- ## What is held
 
 -- Where no name waits: all that was told stands before a place.
-record IsQuiet (from count : ℕ) (s : Standing) (t : Told) : Type 0 where
+record IsQuiet (from count : ℕ) (s : Standing) (t : TokenLists) : Type 0 where
   section : s.section ≤ from
   known : IsKnown t.words
   before : AreBefore from t.named.uses
   ids : AreOf count t.named.references
   total : section_total t.sections ≤ s.section
 
-told-quiet : (lines : List MergedLine) (step : Step) (token : Seen) (name : Option SecId) (from count m : ℕ) (t : Told)
+told-quiet : (lines : List MergedLine) (step : Step) (token : Seen) (name : Option SecId) (from count m : ℕ)
+    (t : TokenLists)
     → Counts step m → step.next.section ≤ from → IsKnown t.words → token.span.start < from → AreBefore from t.named.uses
     → IfSome name (λ id. id.index < count) → AreOf count t.named.references → section_total t.sections ≤ m
     → IsQuiet from count step.next (told_step lines (placed_by token name step) t)

@@ -4,7 +4,7 @@ use Rattle.cw_phase1.proofs.Terms.{refl, sym, ap, subst, ◌∙◌, arith, appen
 use Rattle.cw_phase1.proofs.Terms.{take_all, drop_all, length-take, All-nil, one-right, not-both, or-false, one-left}
 use Rattle.cw_phase1.proofs.Terms.{MergedLine, text_of, Mode, Answer, Token, Begin, Finish, Note, Seen, has_sign}
 use Rattle.cw_phase1.proofs.Terms.{answers_at, beginning, tokens_of, is_section_kind, SecName, Part, Standing, Section}
-use Rattle.cw_phase1.proofs.Terms.{answers_of, kept_behind, Placed, at_limbo, token_step, placed, placed_from, span}
+use Rattle.cw_phase1.proofs.Terms.{answers_of, kept_behind, Placement, at_limbo, token_step, placed, placed_from, span}
 use Rattle.cw_phase1.proofs.Terms.{is_section_code, is_tex, is_program, ends_section, ends_definitions, ends_tex}
 use Rattle.cw_phase1.proofs.Terms.{first_start, section_at, sections_of}
 use Rattle.cw_lex.specs.Openings.{opens_part_in, TextsEndAtOpenings, TextsEndAtSections}
@@ -35,26 +35,26 @@ abbrev any_part : Part → Bool
 any_part part = true
 
 -- a section code passes each test
-code-passes : (good : Part → Bool) (p : Placed) → is_section_code p.role ≡ true → ends good p ≡ true
+code-passes : (good : Part → Bool) (p : Placement) → is_section_code p.role ≡ true → ends good p ≡ true
 code-passes good p h = one-left (is_section_code p.role) (not (good p.part)) h
 
 not-not : (b : Bool) → not (not b) ≡ b
 not-not b = grind arith
 
-section-by : (p : Placed) → ends any_part p ≡ ends_section p
+section-by : (p : Placement) → ends any_part p ≡ ends_section p
 section-by p = or-false (is_section_code p.role)
 
 -- the test of an earlier part is the weaker one
-definitions-tex : (p : Placed) → ends_definitions p ≡ true → ends is_tex p ≡ true
+definitions-tex : (p : Placement) → ends_definitions p ≡ true → ends is_tex p ≡ true
 definitions-tex p h = grind arith
 
-section-tex : (p : Placed) → ends_section p ≡ true → ends is_tex p ≡ true
+section-tex : (p : Placement) → ends_section p ≡ true → ends is_tex p ≡ true
 section-tex p h = code-passes is_tex p h
 
-section-definitions : (p : Placed) → ends_section p ≡ true → ends not_program p ≡ true
+section-definitions : (p : Placement) → ends_section p ≡ true → ends not_program p ≡ true
 section-definitions p h = code-passes not_program p h
 
-definitions-not : (p : Placed) → ends_definitions p ≡ true → ends not_program p ≡ true
+definitions-not : (p : Placement) → ends_definitions p ≡ true → ends not_program p ≡ true
 definitions-not p h = (grind (arith, not-not)) ∙ h
 
 module _ (sections : TextsEndAtSections) (openings : TextsEndAtOpenings) (text : List ℕ) where
@@ -63,7 +63,7 @@ module _ (sections : TextsEndAtSections) (openings : TextsEndAtOpenings) (text :
 
   -- ## C parts
 
-  abbrev tokens_at : Mode → ℕ → Standing → List SecName → List Placed
+  abbrev tokens_at : Mode → ℕ → Standing → List SecName → List Placement
   tokens_at mode start s kept = placed_from s kept (answers_at text (beginning mode) start)
 
   -- where a C part ends with a token
@@ -98,7 +98,7 @@ module _ (sections : TextsEndAtSections) (openings : TextsEndAtOpenings) (text :
   -- ## Definitions
 
   -- definitions from a place on, and the C part behind them
-  record Defined (start : ℕ) (ps : List Placed) : Type 0 where
+  record Defined (start : ℕ) (ps : List Placement) : Type 0 where
     definitions : IsUncut text modes.Definition (span start (first_start ends_definitions size ps))
     c_part : IsUncut text modes.CPart (span (first_start ends_definitions size ps) (first_start ends_section size ps))
 
@@ -163,13 +163,13 @@ module _ (sections : TextsEndAtSections) (openings : TextsEndAtOpenings) (text :
   abbrev Alone : ℕ → ℕ → Type 0
   Alone start end = opens_part_in (tokens_of text start end modes.TexText) ≡ false
 
-  record Told (start : ℕ) (ps : List Placed) : Type 0 where
+  record Told (start : ℕ) (ps : List Placement) : Type 0 where
     tex : Alone start (first_start ends_tex size ps)
     definitions : IsUncut text modes.Definition (span (first_start ends_tex size ps)
         (first_start ends_definitions size ps))
     c_part : IsUncut text modes.CPart (span (first_start ends_definitions size ps) (first_start ends_section size ps))
 
-  told-by : (start to middle end : ℕ) (ps : List Placed) → first_start ends_tex size ps ≡ to
+  told-by : (start to middle end : ℕ) (ps : List Placement) → first_start ends_tex size ps ≡ to
       → first_start ends_definitions size ps ≡ middle → first_start ends_section size ps ≡ end → Alone start to
       → IsUncut text modes.Definition (span to middle) → IsUncut text modes.CPart (span middle end) → Told start ps
   told-by start to middle end ps a b c t d p = record { tex = subst (Alone _) (sym a) t; definitions = cc; c_part = cc }

@@ -2,7 +2,8 @@
 use Rattle.cw_phase1.proofs.Terms.{◌≡◌, ℕ, zero, suc, ◌+◌, ◌<◌, ◌≤◌, Bool, true, false, List, [], ◌∷◌, ◌++◌, Some, None}
 use Rattle.cw_phase1.proofs.Terms.{length, map, cond, not, eqb, refl, sym, arith, length-append, append_assoc, add-zero}
 use Rattle.cw_phase1.proofs.Terms.{append-nil, map-append, bytes_decides, MergedLine, Cat, Exp, EntryKind, Ident}
-use Rattle.cw_phase1.proofs.Terms.{built_in_words, Role, Told, Placed, text_behind_code, KnownNames, Mention, word}
+use Rattle.cw_phase1.proofs.Terms.{built_in_words, Role, TokenLists, Placement, text_behind_code, KnownNames, Mention}
+use Rattle.cw_phase1.proofs.Terms.{word}
 use Rattle.cw_phase1.proofs.Terms.{with_format, known_behind, known_after, names_after, mention_by, mentions_from}
 use Rattle.cw_phase1.proofs.Terms.{occurrence, occurrences, uses_of, references_of, known_of, told_step, told_all}
 use Rattle.cw_phase1.proofs.Terms.{told_start, NameId, Option}
@@ -71,17 +72,17 @@ role-keeps kind text n (roles.Name how) word k s = s
 role-keeps kind text n roles.Plain word k s = s
 role-keeps kind text n _ word k s = with-entry kind text n Ident word k.names s
 
-keeps : (kind : EntryKind) (text : List ℕ) (n : ℕ) (ps : List Placed) (k : KnownNames)
+keeps : (kind : EntryKind) (text : List ℕ) (n : ℕ) (ps : List Placement) (k : KnownNames)
     → Stands kind text n k.names → Stands kind text n (known_after ps k).names
 keeps kind text n [] k s = s
 keeps kind text n (p ∷ ps) k s = keeps kind text n ps _ (role-keeps kind text n p.role p.token.text k s)
 
-one : (m : Mention) (entries : List names.Entry) (ps : List Placed) (k : KnownNames)
+one : (m : Mention) (entries : List names.Entry) (ps : List Placement) (k : KnownNames)
     → Stands m.kind m.text (names.place_of m.kind m.text entries) k.names
     → map (occurrence entries) (m ∷ []) ≡ map (occurrence (known_after ps k).names) (m ∷ [])
 one m entries ps k s = grind (arith, keeps)
 
-mentioned : (role : Role) (p : Placed) (waits : Bool) (ps : List Placed) (k : KnownNames)
+mentioned : (role : Role) (p : Placement) (waits : Bool) (ps : List Placement) (k : KnownNames)
     → map (occurrence k.names) (mention_by role p waits)
     ≡ map (occurrence (known_after ps (known_behind role p.token.text k)).names) (mention_by role p waits)
 mentioned roles.MacroName p waits ps k = one (word p true) k.names ps _ (entered Ident p.token.text k.names)
@@ -94,39 +95,41 @@ mentioned _ _ _ _ _ = refl
 
 -- ## What is told in the end
 
-names-told : (lines : List MergedLine) (ps : List Placed) (t : Told)
+names-told : (lines : List MergedLine) (ps : List Placement) (t : TokenLists)
     → (told_all lines ps t).words.names ≡ (known_after ps (known_of t.words)).names
 names-told lines [] t = refl
 names-told lines (p ∷ ps) t = names-told lines ps (told_step lines p t)
 
-pub all-names : (lines : List MergedLine) (ps : List Placed) → (told_all lines ps told_start).words.names
+pub all-names : (lines : List MergedLine) (ps : List Placement) → (told_all lines ps told_start).words.names
     ≡ names_after ps built_in_words
 all-names lines ps = names-told lines ps told_start
 
-xrefs-told : (lines : List MergedLine) (ps : List Placed) (t : Told) → (told_all lines ps t).words.xrefs ≡ t.words.xrefs
+xrefs-told : (lines : List MergedLine) (ps : List Placement) (t : TokenLists) → (told_all lines ps t).words.xrefs
+    ≡ t.words.xrefs
     ++ map (occurrence (known_after ps (known_of t.words)).names) (mentions_from t.words.waits ps)
 xrefs-told lines [] t = sym (append-nil t.words.xrefs)
 xrefs-told lines (p ∷ ps) t =
     grind (arith, xrefs-told lines ps (told_step lines p t), mentioned, append_assoc, map-append)
 
-pub all-occurrences : (lines : List MergedLine) (ps : List Placed)
+pub all-occurrences : (lines : List MergedLine) (ps : List Placement)
     → (told_all lines ps told_start).words.xrefs ≡ occurrences (names_after ps built_in_words) ps
 all-occurrences lines ps = xrefs-told lines ps told_start
 
-uses-told : (lines : List MergedLine) (ps : List Placed) (t : Told) → (told_all lines ps t).named.uses
+uses-told : (lines : List MergedLine) (ps : List Placement) (t : TokenLists) → (told_all lines ps t).named.uses
     ≡ t.named.uses ++ uses_of ps
 uses-told lines [] t = sym (append-nil t.named.uses)
 uses-told lines (p ∷ ps) t = grind (arith, uses-told lines ps (told_step lines p t), append_assoc)
 
-pub all-uses : (lines : List MergedLine) (ps : List Placed) → (told_all lines ps told_start).named.uses ≡ uses_of ps
+pub all-uses : (lines : List MergedLine) (ps : List Placement) → (told_all lines ps told_start).named.uses ≡ uses_of ps
 all-uses lines ps = uses-told lines ps told_start
 
-references-told : (lines : List MergedLine) (ps : List Placed) (t : Told) → (told_all lines ps t).named.references
+references-told : (lines : List MergedLine) (ps : List Placement) (t : TokenLists)
+    → (told_all lines ps t).named.references
     ≡ t.named.references ++ references_of ps
 references-told lines [] t = sym (append-nil t.named.references)
 references-told lines (p ∷ ps) t = grind (arith, references-told lines ps (told_step lines p t), append_assoc)
 
-pub all-references : (lines : List MergedLine) (ps : List Placed) → (told_all lines ps told_start).named.references
+pub all-references : (lines : List MergedLine) (ps : List Placement) → (told_all lines ps told_start).named.references
     ≡ references_of ps
 all-references lines ps = references-told lines ps told_start
 

@@ -3,8 +3,8 @@ use Rattle.std.specs.Prelude.{ℕ, ◌+◌, Bool, true, false, List, [], ◌∷�
 use Rattle.cw_base.specs.declared.span.Span.{Span}
 use Rattle.cw_rules.specs.declared.codes.Code.{Code}
 use Rattle.cw_rules.specs.declared.codes.Code.TheVariants as at
-use Rattle.cw_lex.specs.declared.heads.Wanted.{Wanted}
-use Rattle.cw_lex.specs.declared.heads.Wanted.TheVariants as wants
+use Rattle.cw_lex.specs.declared.heads.Expectation.{Expectation}
+use Rattle.cw_lex.specs.declared.heads.Expectation.TheVariants as wants
 use Rattle.cw_rules.specs.declared.tokens.TokKind.{TokKind}
 use Rattle.cw_rules.specs.declared.tokens.TokKind.TheVariants as kinds
 use Rattle.cw_rules.specs.Answers.{Seen, Answer, Token, Begin, Finish, Note, has_sign}
@@ -22,7 +22,7 @@ use Rattle.cw_secnames.specs.declared.kinds.SecId.{SecId}
 use Rattle.cw_secnames.specs.Kept.{SecName}
 
 -- a token in its place; a section name that isn't ignored has a name that is kept for it
-pub record Placed : Type 0 where
+pub record Placement : Type 0 where
   pub section : ℕ
   pub part : Part
   pub role : Role
@@ -37,7 +37,7 @@ pub record Step : Type 0 where
 abbrev pub stay : Role → Standing → Step
 stay role s = record { role = role; next = s }
 
-abbrev pub go : Part → Wanted → Standing → Step
+abbrev pub go : Part → Expectation → Standing → Step
 go part wanted s = record { role = roles.Plain; next = record s { part = part; wanted = wanted } }
 
 -- ## Codes
@@ -83,14 +83,14 @@ code_step code headed s = stay roles.Plain s
 -- ## Tokens
 
 -- The role of a word in the head of a definition is by what the head wants there.
-abbrev pub word_role : Wanted → Role
+abbrev pub word_role : Expectation → Role
 word_role wants.Macro = roles.MacroName
 word_role wants.Parameters = roles.Parameter
 word_role (wants.First silent) = roles.FirstName silent
 word_role (wants.Second silent) = roles.SecondName silent
 word_role wanted = roles.Word
 
-abbrev pub head_role : Wanted → TokKind → Role
+abbrev pub head_role : Expectation → TokKind → Role
 head_role wanted kinds.Identifier = word_role wanted
 head_role wanted kind = roles.Plain
 
@@ -101,7 +101,7 @@ free_step (kinds.Code code) headed s = code_step code headed s
 free_step kind headed s = stay roles.Plain s
 
 -- a token that belongs to a head, which wants this behind it; a head ends before a token that doesn't belong to it
-abbrev pub token_step_by : Option Wanted → TokKind → Bool → Standing → Step
+abbrev pub token_step_by : Option Expectation → TokKind → Bool → Standing → Step
 token_step_by (Some next) kind headed s = record { role = head_role s.wanted kind; next = record s { wanted = next } }
 token_step_by None kind headed s = free_step kind headed (record s { wanted = wants.Nothing })
 
@@ -112,15 +112,15 @@ token_step kind headed s span = token_step_by (head_behind s.wanted kind span) k
 abbrev pub behind_begin : Standing → Standing
 behind_begin s = record s { wanted = wants.Nothing }
 
-abbrev pub placed_by : Seen → Option SecId → Step → Placed
+abbrev pub placed_by : Seen → Option SecId → Step → Placement
 placed_by token name s =
     record { section = s.next.section; part = s.next.part; role = s.role; token = token; name = name }
 
-abbrev pub placed_before : Seen → Option SecId → Step → (Standing → List Placed) → List Placed
+abbrev pub placed_before : Seen → Option SecId → Step → (Standing → List Placement) → List Placement
 placed_before token name s rest = placed_by token name s ∷ rest s.next
 
 -- The tokens of answers, where the text stands in such a way and these names are kept.
-abbrev pub placed_from : Standing → List SecName → List Answer → List Placed
+abbrev pub placed_from : Standing → List SecName → List Answer → List Placement
 placed_from s kept [] = []
 placed_from s kept (Token token ∷ answers) =
     placed_before token (entered_name token kept) (token_step token.kind (has_sign answers) s token.span)
@@ -133,5 +133,5 @@ abbrev pub at_limbo : Standing
 at_limbo = record { section = 0; part = parts.Limbo; wanted = wants.Nothing }
 
 -- All tokens of a web, in their places.
-abbrev pub placed : List Answer → List Placed
+abbrev pub placed : List Answer → List Placement
 placed answers = placed_from at_limbo [] answers

@@ -17,7 +17,7 @@ use Rattle.cw_phase1.specs.declared.roles.Part.TheVariants as parts
 use Rattle.cw_phase1.specs.declared.sections.Depth.{Depth}
 use Rattle.cw_phase1.specs.declared.sections.Depth.TheVariants.{Minus, Zero, Digits}
 use Rattle.cw_phase1.specs.declared.sections.Section.{Section}
-use Rattle.cw_phase1.specs.Roles.{Placed}
+use Rattle.cw_phase1.specs.Roles.{Placement}
 use Rattle.cw_phase1.specs.Places.{holds_changed}
 
 abbrev pub span : ℕ → ℕ → Span
@@ -43,7 +43,7 @@ depth_of token = depth_at (token.span.start + 2) (drop 2 token.text)
 -- ## Parts
 
 -- where the first token stands that passes a test, or the end of the text
-abbrev pub first_start : (Placed → Bool) → ℕ → List Placed → ℕ
+abbrev pub first_start : (Placement → Bool) → ℕ → List Placement → ℕ
 first_start test size [] = size
 first_start test size (p ∷ ps) = if test p then p.token.span.start else first_start test size ps
 
@@ -61,17 +61,17 @@ is_program part = false
 
 -- A section ends at the next section code. Its C part begins at its first token that belongs to one, and its
 -- definitions at the first that belongs to them or to the C part.
-abbrev pub ends_section : Placed → Bool
+abbrev pub ends_section : Placement → Bool
 ends_section p = is_section_code p.role
 
-abbrev pub ends_definitions : Placed → Bool
+abbrev pub ends_definitions : Placement → Bool
 ends_definitions p = is_section_code p.role || is_program p.part
 
-abbrev pub ends_tex : Placed → Bool
+abbrev pub ends_tex : Placement → Bool
 ends_tex p = is_section_code p.role || not (is_tex p.part)
 
 -- the name that is kept for the token with which the C part of a section begins
-abbrev pub c_part_name : List Placed → Option SecId
+abbrev pub c_part_name : List Placement → Option SecId
 c_part_name [] = None
 c_part_name (p ∷ ps) =
     if is_section_code p.role then None
@@ -90,16 +90,16 @@ section_by lines head tex_end definitions_end end name = record {
 }
 
 -- the section of a section code, with the tokens behind it, in a text of this size
-abbrev pub section_at : List MergedLine → ℕ → Seen → List Placed → Section
+abbrev pub section_at : List MergedLine → ℕ → Seen → List Placement → Section
 section_at lines size head ps =
     section_by lines head (first_start ends_tex size ps) (first_start ends_definitions size ps)
     (first_start ends_section size ps) (c_part_name ps)
 
-abbrev pub sections_of : List MergedLine → ℕ → List Placed → List Section
+abbrev pub sections_of : List MergedLine → ℕ → List Placement → List Section
 sections_of lines size [] = []
 sections_of lines size (p ∷ ps) =
     if is_section_code p.role then section_at lines size p.token ps ∷ sections_of lines size ps
     else sections_of lines size ps
 
-abbrev pub limbo_of : ℕ → List Placed → Span
+abbrev pub limbo_of : ℕ → List Placement → Span
 limbo_of size ps = span 0 (first_start ends_section size ps)

@@ -9,7 +9,7 @@ use Rattle.cw_names.specs.declared.xrefs.Occurrence.{Occurrence}
 use Rattle.cw_names.specs.Names as names
 use Rattle.cw_phase1.specs.declared.roles.Role.{Role}
 use Rattle.cw_phase1.specs.declared.roles.Role.TheVariants as roles
-use Rattle.cw_phase1.specs.Roles.{Placed}
+use Rattle.cw_phase1.specs.Roles.{Placement}
 use Rattle.cw_rules.specs.ControlTexts.{text_behind_code}
 
 -- ## Names
@@ -48,11 +48,11 @@ known_behind (roles.SecondName silent) text k =
 known_behind (roles.Entry kind) text k = record k { names = names.with_entry kind (text_behind_code text) k.names }
 known_behind role text k = k
 
-abbrev pub known_after : List Placed → KnownNames → KnownNames
+abbrev pub known_after : List Placement → KnownNames → KnownNames
 known_after [] k = k
 known_after (p ∷ ps) k = known_after ps (known_behind p.role p.token.text k)
 
-abbrev pub names_after : List Placed → List names.Entry → List names.Entry
+abbrev pub names_after : List Placement → List names.Entry → List names.Entry
 names_after ps entries = (known_after ps (record { first = None; names = entries })).names
 
 -- ## Occurrences
@@ -64,15 +64,15 @@ pub record Mention : Type 0 where
   pub section : ℕ
   pub underlined : Bool
 
-abbrev pub mention : EntryKind → List ℕ → Placed → Bool → Mention
+abbrev pub mention : EntryKind → List ℕ → Placement → Bool → Mention
 mention kind text p underlined = record { kind = kind; text = text; section = p.section; underlined = underlined }
 
-abbrev pub word : Placed → Bool → Mention
+abbrev pub word : Placement → Bool → Mention
 word p underlined = mention Ident p.token.text p underlined
 
 -- The name after `@d` is underlined, and so is the first identifier or entry behind `@!`, which waits for it across
 -- parts and sections. The names of `@s` are no occurrences, but one of them uses up an `@!`.
-abbrev pub mention_by : Role → Placed → Bool → List Mention
+abbrev pub mention_by : Role → Placement → Bool → List Mention
 mention_by roles.MacroName p waits = word p true ∷ []
 mention_by roles.Parameter p waits = word p waits ∷ []
 mention_by roles.Word p waits = word p waits ∷ []
@@ -89,19 +89,19 @@ waits_behind roles.SectionCode waits = waits
 waits_behind roles.Plain waits = waits
 waits_behind role waits = false
 
-abbrev pub mention_here : Bool → Placed → List Mention
+abbrev pub mention_here : Bool → Placement → List Mention
 mention_here waits p = mention_by p.role p waits
 
-abbrev pub mentions_from : Bool → List Placed → List Mention
+abbrev pub mentions_from : Bool → List Placement → List Mention
 mentions_from waits [] = []
 mentions_from waits (p ∷ ps) = mention_here waits p ++ mentions_from (waits_behind p.role waits) ps
 
-abbrev pub all_mentions : List Placed → List Mention
+abbrev pub all_mentions : List Placement → List Mention
 all_mentions ps = mentions_from false ps
 
 -- An occurrence of the name at its place among all names.
 abbrev pub occurrence : List names.Entry → Mention → Occurrence
 occurrence entries m = record { name = name_id m.kind m.text entries; section = m.section; underlined = m.underlined }
 
-abbrev pub occurrences : List names.Entry → List Placed → List Occurrence
+abbrev pub occurrences : List names.Entry → List Placement → List Occurrence
 occurrences entries ps = map (occurrence entries) (all_mentions ps)

@@ -21,12 +21,12 @@ ghost use Rattle.cw_phase1.specs.model.Ready.{CanSettle, CanTell, IsToken, Waiti
 
 use crate::entering::{enter, kept_id};
 use crate::note_list::NoteList;
-use crate::placing::Placed;
+use crate::placing::Placement;
 use crate::texts::name_text;
-use crate::told::Told;
+use crate::told::TokenLists;
 use crate::{Part, Role, Standing};
 use cw_base::{Memory, NoteKind, Web};
-use cw_lex::{Tok, TokKind, Wanted, is_section_name};
+use cw_lex::{Expectation, Tok, TokKind, is_section_name};
 use cw_secnames::{Entered, SecId, SecNames};
 use std::alloc::Global;
 
@@ -45,11 +45,11 @@ pub(crate) struct Remark {
 }
 
 #[derive(Drop)]
-pub(crate) struct Held<'a> {
+pub(crate) struct PassState<'a> {
     pub standing: Standing,
     pub waiting: Option<Waiting<'a>>,
     pub kept: SecNames,
-    pub told: Told,
+    pub told: TokenLists,
     pub remark: Option<Remark>,
     pub notes: NoteList,
     pub buffer: Vec<u8>,
@@ -101,19 +101,19 @@ fn remark_on(entered: Entered, place: usize) -> Option<Remark>
     }
 }
 
-impl<'a> Held<'a> {
-    pub(crate) fn new_in(alloc: Global) -> Result<Held<'a>, Memory>
+impl<'a> PassState<'a> {
+    pub(crate) fn new_in(alloc: Global) -> Result<PassState<'a>, Memory>
         ensures { IfOk result (λ h. held_of h ≡ held_start) }
     {
-        Ok(Held {
+        Ok(PassState {
             standing: Standing {
                 section: 0,
                 part: Part::Limbo,
-                wanted: Wanted::Nothing,
+                wanted: Expectation::Nothing,
             },
             waiting: None,
             kept: SecNames::new_in(alloc),
-            told: Told::new_in(alloc)?,
+            told: TokenLists::new_in(alloc)?,
             remark: None,
             notes: NoteList::new_in(alloc),
             buffer: Vec::new(alloc),
@@ -143,7 +143,7 @@ impl<'a> Held<'a> {
         if let Some(waiting) = self.waiting {
             self.waiting = None;
             let role = self.standing.name(headed);
-            let p = Placed {
+            let p = Placement {
                 section: self.standing.section,
                 part: self.standing.part,
                 role,
@@ -166,7 +166,7 @@ impl<'a> Held<'a> {
     {
         name_text(&mut self.buffer, token.text)?;
         let entered = enter(&mut self.kept, token, &self.buffer)?;
-        self.standing.wanted = Wanted::Nothing;
+        self.standing.wanted = Expectation::Nothing;
         match entered {
             Some(entered) => {
                 self.remark = remark_on(entered, token.span.start);
@@ -195,7 +195,7 @@ impl<'a> Held<'a> {
         ensures one { OnOk result (length self.new.kept ≤ length self.old.kept + 1) }
     {
         let role = self.standing.token(token.kind, token.span);
-        let p = Placed {
+        let p = Placement {
             section: self.standing.section,
             part: self.standing.part,
             role,
@@ -210,17 +210,17 @@ impl<'a> Held<'a> {
     fn is_free(&self) -> bool
         ensures waits { result ≡ true → self.now.waiting ≡ None }
         ensures remark { result ≡ true → self.now.remark ≡ None }
-        ensures wanted { result ≡ true → self.now.standing.wanted ≡ Wanted.Nothing }
+        ensures wanted { result ≡ true → self.now.standing.wanted ≡ Expectation.Nothing }
     {
         self.waiting.is_none()
             && self.remark.is_none()
-            && matches!(self.standing.wanted, Wanted::Nothing)
+            && matches!(self.standing.wanted, Expectation::Nothing)
     }
 
     // An identifier, where nothing waits and no head is open.
     #[inline(always)]
     fn free_word(&mut self, token: Tok<'a>) -> Result<(), Memory>
-        requires wanted { self.old.standing.wanted ≡ Wanted.Nothing }
+        requires wanted { self.old.standing.wanted ≡ Expectation.Nothing }
         requires word { token.kind ≡ TokKind.Identifier }
         requires waits { self.old.waiting ≡ None }
         requires known { IsKnown self.old.told.words }
@@ -229,7 +229,7 @@ impl<'a> Held<'a> {
         ensures waits { OnOk result (self.new.waiting ≡ None) }
         ensures kept { OnOk result (self.new.kept ≡ self.old.kept) }
     {
-        let p = Placed {
+        let p = Placement {
             section: self.standing.section,
             part: self.standing.part,
             role: Role::Word,
@@ -242,7 +242,7 @@ impl<'a> Held<'a> {
     // A token of C text that is no word and no code, where nothing waits and no head is open.
     #[inline(always)]
     fn free_sign(&mut self, token: Tok<'a>)
-        requires wanted { self.old.standing.wanted ≡ Wanted.Nothing }
+        requires wanted { self.old.standing.wanted ≡ Expectation.Nothing }
         requires sign { is_silent token.kind ≡ true }
         requires waits { self.old.waiting ≡ None }
         ensures held { (lines : List MergedLine) →
@@ -250,7 +250,7 @@ impl<'a> Held<'a> {
         ensures waits { self.new.waiting ≡ None }
         ensures kept { self.new.kept ≡ self.old.kept }
     {
-        let p = Placed {
+        let p = Placement {
             section: self.standing.section,
             part: self.standing.part,
             role: Role::Plain,
@@ -311,7 +311,7 @@ impl<'a> Held<'a> {
         ensures { OnOk result (held_of self.new ≡ begun_held (ended_held web.now.lines (held_of self.old))) }
     {
         self.finish(web)?;
-        self.standing.wanted = Wanted::Nothing;
+        self.standing.wanted = Expectation::Nothing;
         Ok(())
     }
 

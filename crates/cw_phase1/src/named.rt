@@ -7,7 +7,7 @@ ghost use Rattle.cw_phase1.specs.model.Telling.{named_told};
 
 use crate::Role;
 use crate::packed::short;
-use crate::placing::Placed;
+use crate::placing::Placement;
 use cw_base::Memory;
 use cw_secnames::{NameUses, RefKind, SecId};
 use std::alloc::Global;
@@ -39,7 +39,7 @@ impl Model for References {
 
 /// The names that section names stand for, and the references to them.
 #[derive(Drop)]
-pub(crate) struct Named {
+pub(crate) struct NameLists {
     pub uses: NameUses,
     pub references: References,
 }
@@ -84,11 +84,11 @@ impl References {
     }
 }
 
-impl Named {
-    pub(crate) fn new_in(alloc: Global) -> Named
+impl NameLists {
+    pub(crate) fn new_in(alloc: Global) -> NameLists
         ensures { result ≡ record { uses = []; references = [] } }
     {
-        Named {
+        NameLists {
             uses: NameUses::new_in(alloc),
             references: References::new_in(alloc),
         }
@@ -96,7 +96,7 @@ impl Named {
 
     /// One token more.
     #[inline(always)]
-    pub(crate) fn tell(&mut self, p: &Placed) -> Result<(), Memory>
+    pub(crate) fn tell(&mut self, p: &Placement) -> Result<(), Memory>
         requires place { p.now.token.span.start < 2 ^ 32 }
         requires order { IfSome p.now.name (λ _. All (λ u. u.place < p.now.token.span.start) self.old.uses) }
         ensures { OnOk result (self.new ≡ named_told (placed_of p.now) self.old) }

@@ -40,7 +40,7 @@ pub(crate) struct Whole {
 
 /// A section in a third of the memory.
 #[derive(Clone, Copy)]
-pub(crate) struct Row {
+pub(crate) struct PackedSection {
     start: u32,
     tex_end: u32,
     definitions_end: u32,
@@ -54,7 +54,7 @@ pub(crate) struct Row {
 /// Sections in a row.
 #[derive(Drop)]
 pub(crate) struct SectionList {
-    rows: Vec<Row>,
+    rows: Vec<PackedSection>,
 }
 
 impl Model for SectionList {
@@ -151,11 +151,11 @@ fn name_of(name: Option<u32>) -> Option<SecId>
     }
 }
 
-impl Row {
-    fn of(section: &Whole) -> Result<Row, Memory>
+impl PackedSection {
+    fn of(section: &Whole) -> Result<PackedSection, Memory>
         ensures { IfOk result (λ row. unpacked row ≡ whole_section section.now) }
     {
-        Ok(Row {
+        Ok(PackedSection {
             start: short(section.start)?,
             tex_end: short(section.tex_end)?,
             definitions_end: short(section.definitions_end)?,
@@ -194,7 +194,7 @@ impl SectionList {
     pub(crate) fn push(&mut self, section: Whole) -> Result<(), Memory>
         ensures { OnOk result (self.new ≡ self.old ++ whole_section section ∷ []) }
     {
-        let row = Row::of(&section)?;
+        let row = PackedSection::of(&section)?;
         self.rows.push(row)?;
         Ok(())
     }

@@ -12,12 +12,12 @@ ghost use Rattle.cw_phase1.specs.Sections.{span};
 ghost use Rattle.cw_phase1.specs.Sound.{IsNamedBy, LiesIn, RefersUpTo};
 
 use crate::book::{Book, Outline};
-use crate::held::Held;
+use crate::held::PassState;
 use crate::missing::Search;
-use crate::named::{Named, References};
+use crate::named::{NameLists, References};
 use crate::note_list::NoteList;
 use crate::sections::or_else;
-use crate::told::Told;
+use crate::told::TokenLists;
 use crate::words::Words;
 use cw_base::{Memory, Note, NoteKind, Place, Span, Web};
 use cw_lex::{Lexed, Lexer, Mode, limbo_law};
@@ -36,22 +36,22 @@ pub fn phase_one(alloc: Global, web: &Web) -> Result<Book, Memory>
     ensures spans { IfOk result (λ b. All (LiesIn (length (text_of web.now.lines))) b.outline.sections) }
     ensures limbo_span { IfOk result (λ b. b.outline.limbo.«end» ≤ length (text_of web.now.lines)) }
 {
-    limbo_law();
+    limbo_law(); // (for the proof)
     let held = scan(alloc, web)?;
     let book = make_book(web, held)?;
     Ok(book)
 }
 
 // Takes all answers of the scanner.
-fn scan<'a>(alloc: Global, web: &'a Web) -> Result<Held<'a>, Memory>
+fn scan<'a>(alloc: Global, web: &'a Web) -> Result<PassState<'a>, Memory>
     ensures { IfOk result (λ h. IsScanned web.now.lines (held_of h)) }
 {
-    let mut held = Held::new_in(alloc)?;
+    let mut held = PassState::new_in(alloc)?;
     hold_answers(web, &mut held).and(Ok(held))
 }
 
 // The same, where nothing is held yet.
-fn hold_answers<'a>(web: &'a Web, held: &mut Held<'a>) -> Result<(), Memory>
+fn hold_answers<'a>(web: &'a Web, held: &mut PassState<'a>) -> Result<(), Memory>
     requires { held_of held.old ≡ held_start }
     ensures { OnOk result (IsScanned web.now.lines (held_of held.new)) }
 {
@@ -123,7 +123,7 @@ fn note_names(names: &SecNames, notes: &mut NoteList) -> Result<(), Memory>
 }
 
 // The book of what is held when all answers came.
-fn make_book(web: &Web, held: Held) -> Result<Book, Memory>
+fn make_book(web: &Web, held: PassState) -> Result<Book, Memory>
     requires ids { AreOfKept held.kept held.told.named.references }
     requires total { section_total held.told.sections ≤ 16777216 }
     requires few { length held.kept ≤ 16777216 }
@@ -155,7 +155,7 @@ fn make_book(web: &Web, held: Held) -> Result<Book, Memory>
             return Err(memory);
         }
     }
-    let Held {
+    let PassState {
         standing: _,
         waiting: _,
         kept,
@@ -164,7 +164,7 @@ fn make_book(web: &Web, held: Held) -> Result<Book, Memory>
         notes,
         buffer: _,
     } = held;
-    let Told {
+    let TokenLists {
         words,
         named,
         sections,
@@ -175,7 +175,7 @@ fn make_book(web: &Web, held: Held) -> Result<Book, Memory>
         waits: _,
         xrefs,
     } = words;
-    let Named {
+    let NameLists {
         uses,
         references: _,
     } = named;
@@ -197,7 +197,7 @@ fn make_book(web: &Web, held: Held) -> Result<Book, Memory>
 }
 
 // Closes the last section, and adds what is known of the kept names when all answers came.
-fn complete(web: &Web, held: &mut Held) -> Result<(), Memory>
+fn complete(web: &Web, held: &mut PassState) -> Result<(), Memory>
     requires ids { AreOfKept held.old.kept held.old.told.named.references }
     requires few { length held.old.kept ≤ 16777216 }
     requires lie { All (LiesIn (length (text_of web.now.lines)))

@@ -5,7 +5,7 @@ use cw_secnames::SecId;
 
 /// A token in its place; a section name that isn't ignored has a name that is kept for it.
 #[derive(Clone, Copy)]
-pub(crate) struct Placed<'a> {
+pub(crate) struct Placement<'a> {
     pub section: u32,
     pub part: Part,
     pub role: Role,

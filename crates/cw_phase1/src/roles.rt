@@ -12,7 +12,7 @@ ghost use Rattle.cw_phase1.specs.Roles.{
 };
 
 use cw_base::Span;
-use cw_lex::{Code, TokKind, Wanted};
+use cw_lex::{Code, Expectation, TokKind};
 use cw_names::EntryKind;
 use cw_secnames::RefKind;
 
@@ -46,7 +46,7 @@ pub enum Role {
 pub struct Standing {
     pub section: u32,
     pub part: Part,
-    pub wanted: Wanted,
+    pub wanted: Expectation,
 }
 
 impl Part {
@@ -71,19 +71,19 @@ impl Part {
 }
 
 // The role of a word in the head of a definition that wants it.
-fn word_role(wanted: Wanted) -> Role
+fn word_role(wanted: Expectation) -> Role
     ensures { result ≡ word_role wanted }
 {
     match wanted {
-        Wanted::Macro => Role::MacroName,
-        Wanted::Parameters => Role::Parameter,
-        Wanted::First(silent) => Role::FirstName(silent),
-        Wanted::Second(silent) => Role::SecondName(silent),
-        Wanted::Nothing | Wanted::Parenthesis(_) => Role::Word,
+        Expectation::Macro => Role::MacroName,
+        Expectation::Parameters => Role::Parameter,
+        Expectation::First(silent) => Role::FirstName(silent),
+        Expectation::Second(silent) => Role::SecondName(silent),
+        Expectation::Nothing | Expectation::Parenthesis(_) => Role::Word,
     }
 }
 
-fn head_role(wanted: Wanted, kind: TokKind) -> Role
+fn head_role(wanted: Expectation, kind: TokKind) -> Role
     ensures { result ≡ head_role wanted kind }
 {
     match kind {
@@ -94,7 +94,7 @@ fn head_role(wanted: Wanted, kind: TokKind) -> Role
 
 impl Standing {
     // A definition begins, with a head that wants this.
-    fn define(&mut self, wanted: Wanted) -> Role
+    fn define(&mut self, wanted: Expectation) -> Role
         ensures role { result ≡ Role.Plain }
         ensures next { self.new ≡ record self.old { part = defining self.old.part; wanted = wanted } }
     {
@@ -128,16 +128,16 @@ impl Standing {
                 *self = Standing {
                     section: self.section + 1,
                     part: Part::Tex,
-                    wanted: Wanted::Nothing,
+                    wanted: Expectation::Nothing,
                 };
                 Role::SectionCode
             }
-            Code::Define => self.define(Wanted::Macro),
-            Code::Format => self.define(Wanted::First(false)),
-            Code::SilentFormat => self.define(Wanted::First(true)),
+            Code::Define => self.define(Expectation::Macro),
+            Code::Format => self.define(Expectation::First(false)),
+            Code::SilentFormat => self.define(Expectation::First(true)),
             Code::Program => {
                 self.part = Part::Program;
-                self.wanted = Wanted::Nothing;
+                self.wanted = Expectation::Nothing;
                 Role::Plain
             }
             Code::SectionName | Code::FileName => self.name(false),
@@ -177,7 +177,7 @@ impl Standing {
                 role
             }
             None => {
-                self.wanted = Wanted::Nothing;
+                self.wanted = Expectation::Nothing;
                 self.free(kind)
             }
         }

@@ -11,7 +11,7 @@ ghost use Rattle.cw_phase1.specs.model.Outlining.{section_told, with_token};
 
 use crate::packed::{SectionList, Whole};
 use crate::places::holds_changed;
-use crate::placing::Placed;
+use crate::placing::Placement;
 use crate::{Part, Role};
 use cw_base::{Memory, Span, Web};
 use cw_lex::{Code, Tok, TokKind};
@@ -134,7 +134,7 @@ pub(crate) fn or_else(first: Option<usize>, place: usize) -> usize
     }
 }
 
-impl<'a> Placed<'a> {
+impl<'a> Placement<'a> {
     fn ends_tex(&self) -> bool
         ensures { result ≡ ends_tex (placed_of self.now) }
     {
@@ -167,7 +167,7 @@ impl Open {
 
     // A token of the section.
     #[inline(always)]
-    fn meet(&mut self, p: &Placed)
+    fn meet(&mut self, p: &Placement)
         ensures { self.new ≡ with_token (placed_of p.now) self.old }
     {
         let start = p.token.span.start;
@@ -220,7 +220,7 @@ impl Sections {
 
     // One token more.
     #[inline(always)]
-    pub(crate) fn tell(&mut self, web: &Web, p: &Placed) -> Result<(), Memory>
+    pub(crate) fn tell(&mut self, web: &Web, p: &Placement) -> Result<(), Memory>
         requires { p.now.token.span.start + length p.now.token.text.now + 2 < 2 ^ 64 }
         ensures { OnOk result (self.new ≡ section_told web.now.lines (placed_of p.now) self.old) }
     {
@@ -233,7 +233,7 @@ impl Sections {
 
     /// A token that begins no section.
     #[inline(always)]
-    pub(crate) fn meet(&mut self, p: &Placed)
+    pub(crate) fn meet(&mut self, p: &Placement)
         requires { is_section_code p.now.role ≡ false }
         ensures { self.new ≡ record self.old { open_one = open_with self.old.open_one (placed_of p.now) } }
     {

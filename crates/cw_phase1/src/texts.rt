@@ -11,13 +11,13 @@ use cw_base::Memory;
 
 // A byte of a text that several bytes stand for.
 #[derive(Clone, Copy)]
-struct Piece {
+struct TextByte {
     byte: u8,
     size: usize,
 }
 
 // The first byte of a control text; None where it ends.
-fn first_piece(bytes: &[u8]) -> Option<Piece>
+fn first_piece(bytes: &[u8]) -> Option<TextByte>
     requires { 0 < length bytes.now }
     ensures value { MatchOption result (text_to_end bytes.now ≡ [])
         (λ p. text_to_end bytes.now ≡ p.byte ∷ text_to_end (drop p.size bytes.now)) }
@@ -25,16 +25,16 @@ fn first_piece(bytes: &[u8]) -> Option<Piece>
 {
     let byte = bytes[0];
     if byte != b'@' || bytes.len() == 1 {
-        return Some(Piece { byte, size: 1 });
+        return Some(TextByte { byte, size: 1 });
     }
     let next = bytes[1];
     if next == b'>' {
         return None;
     }
     if next == b'@' {
-        return Some(Piece { byte, size: 2 });
+        return Some(TextByte { byte, size: 2 });
     }
-    Some(Piece { byte, size: 1 })
+    Some(TextByte { byte, size: 1 })
 }
 
 /// The text of an index entry, in a buffer.

@@ -5,8 +5,8 @@ ghost use Rattle.cw_phase1.specs.model.Placing.{placed_of};
 ghost use Rattle.cw_phase1.specs.model.Telling.{IsKnown, told_step, told_start};
 
 use crate::Role;
-use crate::named::Named;
-use crate::placing::Placed;
+use crate::named::NameLists;
+use crate::placing::Placement;
 use crate::sections::Sections;
 use crate::words::Words;
 use cw_base::{Memory, Web};
@@ -14,26 +14,26 @@ use std::alloc::Global;
 
 /// The words, the section names and the sections of the tokens that came.
 #[derive(Drop)]
-pub(crate) struct Told {
+pub(crate) struct TokenLists {
     pub words: Words,
-    pub named: Named,
+    pub named: NameLists,
     pub sections: Sections,
 }
 
-impl Told {
-    pub(crate) fn new_in(alloc: Global) -> Result<Told, Memory>
+impl TokenLists {
+    pub(crate) fn new_in(alloc: Global) -> Result<TokenLists, Memory>
         ensures { IfOk result (λ t. t ≡ told_start) }
     {
-        Ok(Told {
+        Ok(TokenLists {
             words: Words::new_in(alloc)?,
-            named: Named::new_in(alloc),
+            named: NameLists::new_in(alloc),
             sections: Sections::new_in(alloc),
         })
     }
 
     /// A word in no head.
     #[inline(always)]
-    pub(crate) fn tell_word(&mut self, p: &Placed) -> Result<(), Memory>
+    pub(crate) fn tell_word(&mut self, p: &Placement) -> Result<(), Memory>
         requires known { IsKnown self.old.words }
         requires role { p.now.role ≡ Role.Word }
         requires name { p.now.name ≡ None }
@@ -47,7 +47,7 @@ impl Told {
 
     /// A token that tells nothing of words and names.
     #[inline(always)]
-    pub(crate) fn tell_plain(&mut self, p: &Placed)
+    pub(crate) fn tell_plain(&mut self, p: &Placement)
         requires role { p.now.role ≡ Role.Plain }
         requires name { p.now.name ≡ None }
         ensures told { (lines : List MergedLine) → self.new ≡ told_step lines (placed_of p.now) self.old }
@@ -57,7 +57,12 @@ impl Told {
 
     /// One token more.
     #[inline(always)]
-    pub(crate) fn tell(&mut self, web: &Web, p: &Placed, buffer: &mut Vec<u8>) -> Result<(), Memory>
+    pub(crate) fn tell(
+        &mut self,
+        web: &Web,
+        p: &Placement,
+        buffer: &mut Vec<u8>,
+    ) -> Result<(), Memory>
         requires known { IsKnown self.old.words }
         requires place { p.now.token.span.start < 2 ^ 32 }
         requires text { length p.now.token.text.now < 2 ^ 32 }

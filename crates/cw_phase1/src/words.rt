@@ -8,7 +8,7 @@ ghost use Rattle.cw_phase1.specs.Words.{name_id, with_format, occurrence};
 ghost use Rattle.cw_phase1.specs.model.Telling.{IsKnown, word_occurrence, word_told};
 
 use crate::Role;
-use crate::placing::Placed;
+use crate::placing::Placement;
 use crate::texts::entry_text;
 use cw_base::Memory;
 use cw_names::{EntryKind, NameId, Names, Xrefs};
@@ -75,7 +75,7 @@ impl Words {
 
     // An identifier, which occurs unless it is silent.
     #[inline(always)]
-    fn word(&mut self, p: &Placed, silent: bool) -> Result<NameId, Memory>
+    fn word(&mut self, p: &Placement, silent: bool) -> Result<NameId, Memory>
         ensures id { IfOk result (λ id. id ≡ name_id EntryKind.Ident p.now.token.text.now self.old.names) }
         ensures within { IfOk result (λ id. id.index < length self.new.names) }
         ensures first { OnOk result (self.new.first ≡ self.old.first) }
@@ -107,7 +107,7 @@ impl Words {
 
     /// A word in no head.
     #[inline(always)]
-    pub(crate) fn tell_word(&mut self, p: &Placed) -> Result<(), Memory>
+    pub(crate) fn tell_word(&mut self, p: &Placement) -> Result<(), Memory>
         requires known { IsKnown self.old }
         requires role { p.now.role ≡ Role.Word }
         ensures told { OnOk result (self.new ≡ word_told (placed_of p.now) self.old) }
@@ -119,7 +119,7 @@ impl Words {
 
     /// One token more.
     #[inline(always)]
-    pub(crate) fn tell(&mut self, p: &Placed, buffer: &mut Vec<u8>) -> Result<(), Memory>
+    pub(crate) fn tell(&mut self, p: &Placement, buffer: &mut Vec<u8>) -> Result<(), Memory>
         requires { IsKnown self.old }
         ensures told { OnOk result (self.new ≡ word_told (placed_of p.now) self.old) }
         ensures first { OnOk result (IsKnown self.new) }

@@ -4,8 +4,8 @@ use Rattle.cw_plain.proofs.Terms.{IsErrAnd, append-nil, append_assoc, flat_map-c
 use Rattle.cw_plain.proofs.Terms.{NextText, unfolded, plain_tree, source_by}
 use Rattle.std.proofs.lemmas.List.Elements.{All-tail}
 use Rattle.cw_base.specs.declared.event.Out.TheVariants.{Tex}
-use Rattle.cw_desk.specs.{Journal.byte_events, Told.Told}
-use Rattle.cw_texts.specs.EachText.{EndedText, Source, each_text, text_ended}
+use Rattle.cw_desk.specs.{Journal.byte_events, DeskState.Told}
+use Rattle.cw_texts.specs.EachText.{EndedText, TextSource, each_text, text_ended}
 use Rattle.cw_lines.specs.{Writes.Adds, Writes.HasAdded, laws.WritesLaws.adds-events, laws.WritesLaws.adds-none}
 use Rattle.cw_lines.specs.{declared.put_error.PutError.PutError, declared.put_error.PutError.TheVariants.Memory}
 use Rattle.cw_names.specs.Names.{Entry}
@@ -15,7 +15,7 @@ use Rattle.cw_translator.specs.NameParts.{AreNamesOf}
 use Rattle.cw_plain.specs.File.{lines_by, text_lines, texts_lines}
 
 -- These bytes are written, and behind them comes what is left of all.
-pub record Written (old new : Each) (names names' : List Entry) (before now : Told) : Type 0 where
+pub record Written (old new : Each) (names names' : List Entry) (before now : DeskState) : Type 0 where
   pub done : List ℕ
   pub added : HasAdded (byte_events Tex done) before now
   pub left : done ++ texts_lines new.source new.coming names' ≡ texts_lines old.source old.coming names
@@ -23,7 +23,7 @@ pub record Written (old new : Each) (names names' : List Entry) (before now : To
   pub whole : All (IsWholeRef new.source.text) new.coming
   pub kept : AreNamesOf new.source.sec_names new.source.name_uses
 
-pub written-none : (e : Each) (names : List Entry) (told : Told) → All (IsWholeRef e.source.text) e.coming
+pub written-none : (e : Each) (names : List Entry) (told : DeskState) → All (IsWholeRef e.source.text) e.coming
     → AreNamesOf e.source.sec_names e.source.name_uses → Written e e names names told told
 written-none e names told whole kept = record {
   done = [];
@@ -36,15 +36,16 @@ written-none e names told whole kept = record {
 
 -- ## The next text
 
-abbrev ended_first : Source → TextRef → List Entry → EndedText
+abbrev ended_first : TextSource → TextRef → List Entry → EndedText
 ended_first s text names = record { text = text; ended = text_ended s text names }
 
 -- its lines
-abbrev first_lines : Source → TextRef → List Entry → List ℕ
+abbrev first_lines : TextSource → TextRef → List Entry → List ℕ
 first_lines s text names = text_lines s (ended_first s text names)
 
 -- the lines of the first text, and those of the others
-lines-first : (s : Source) (text : TextRef) (texts : List TextRef) (names : List Entry) → texts_lines s (text ∷ texts)
+lines-first : (s : TextSource) (text : TextRef) (texts : List TextRef) (names : List Entry) → texts_lines s (text
+    ∷ texts)
     names ≡ first_lines s text names ++ texts_lines s texts (text_ended s text names).known.names
 lines-first s text texts names = flat_map-cons (text_lines s) (ended_first s text names)
     (each_text s texts (text_ended s text names).known.names)
@@ -54,7 +55,8 @@ abbrev pub lines_of : Each → NextText → List ℕ
 lines_of e next = lines_by next.text.mode next.text.section (plain_tree
     (source_by e.answers e.source.sec_names e.source.name_uses) (unfolded e.lists next.translated.list.index))
 
-module _ (old e new : Each) (next : NextText) (names names' names'' : List Entry) (before now : Told) (steps steps' : ℕ)
+module _ (old e new : Each) (next : NextText) (names names' names'' : List Entry) (before now : DeskState)
+    (steps steps' : ℕ)
     (w : Written old e names names' before now) (same : new.source ≡ e.source)
     (has : HasTranslated e new next names' names'' steps steps') where
   -- A text that was translated has its lines.
@@ -74,7 +76,8 @@ module _ (old e new : Each) (next : NextText) (names names' names'' : List Entry
   all-left = ap (λ (lines : List ℕ). w.done ++ lines) lines-left ∙ w.left
 
   -- its lines are written
-  pub written-more : {U : Type 0} {later : Told} {value : U} → Adds {T = U} (byte_events Tex (lines_of new next)) now
+  pub written-more : {U : Type 0} {later : DeskState} {value : U} → Adds {T = U} (byte_events Tex
+      (lines_of new next)) now
       later (Ok value) → Written old new names names'' before later
   written-more {later = later} piece = record {
     done = w.done ++ first_lines e.source next.text names';
@@ -85,16 +88,18 @@ module _ (old e new : Each) (next : NextText) (names names' names'' : List Entry
     source = same ∙ w.source;
     whole = All-tail (IsWholeRef new.source.text) next.text new.coming
         (subst (λ (texts : List TextRef). All (IsWholeRef new.source.text) texts) has.coming
-        (subst (λ (s : Source). All (IsWholeRef s.text) e.coming) (sym same) w.whole));
-    kept = subst (λ (s : Source). AreNamesOf s.sec_names s.name_uses) (sym same) w.kept;
+        (subst (λ (s : TextSource). All (IsWholeRef s.text) e.coming) (sym same) w.whole));
+    kept = subst (λ (s : TextSource). AreNamesOf s.sec_names s.name_uses) (sym same) w.kept;
   }
     where
-      first-lines : {V : Type 0} {a b : Told} {result : Result V PutError} → Adds (byte_events Tex (lines_of new next))
+      first-lines : {V : Type 0} {a b : DeskState} {result : Result V PutError} → Adds (byte_events Tex
+          (lines_of new next))
           a b result → Adds (byte_events Tex (first_lines e.source next.text names')) a b result
       first-lines adds = adds-events (ap (byte_events Tex) lines-translated) adds
 
   -- they are refused
-  pub written-refused : {T U : Type 0} {later : Told} {error : PutError} {result : Result U PutError} → Adds {T = T}
+  pub written-refused : {T U : Type 0} {later : DeskState} {error : PutError} {result : Result U PutError}
+      → Adds {T = T}
       (byte_events Tex (lines_of new next)) now later (Err error) → IsErrAnd result (λ found. found ≡ error)
       → Adds (byte_events Tex (texts_lines old.source old.coming names)) before later result
   written-refused piece is = adds-events (ap (byte_events Tex) all-left) (piece-then Tex w.done
@@ -105,7 +110,7 @@ module _ (old e new : Each) (next : NextText) (names names' names'' : List Entry
 -- ## The end
 
 -- no text is left
-pub written-all : {U : Type 0} {old e : Each} {names names' : List Entry} {before now : Told} (value : U)
+pub written-all : {U : Type 0} {old e : Each} {names names' : List Entry} {before now : DeskState} (value : U)
     → Written old e names names' before now → e.coming ≡ []
     → Adds {T = U} (byte_events Tex (texts_lines old.source old.coming names)) before now (Ok value)
 written-all {old = old} {e = e} {names = names} {names' = names'} value w none = adds-events (ap (byte_events Tex) all)
@@ -116,7 +121,7 @@ written-all {old = old} {e = e} {names = names} {names' = names'} value w none =
         ∙ ap (λ (texts : List TextRef). w.done ++ texts_lines e.source texts names') (sym none) ∙ w.left
 
 -- memory was wanting before a text was translated
-pub written-wanting : {U : Type 0} {old e : Each} {names names' : List Entry} {before now : Told}
+pub written-wanting : {U : Type 0} {old e : Each} {names names' : List Entry} {before now : DeskState}
     {result : Result U PutError} → Written old e names names' before now → IsErrAnd result (λ found. found ≡ Memory)
     → Adds (byte_events Tex (texts_lines old.source old.coming names)) before now result
 written-wanting {e = e} {names' = names'} w is = adds-events (ap (byte_events Tex) w.left) (piece-then Tex w.done

@@ -1,6 +1,6 @@
 -- A piece that is laid is what the walk makes.
 use Rattle.cw_plain.proofs.Terms.{◌≡◌, ℕ, List, [], Option, Result, Ok, Err, OnOk, refl, subst, Code, TokKind, Lays}
-use Rattle.cw_plain.proofs.Terms.{Laying, Piece, Placed, Stand, Word, placed, token_placed, MakesPlaced, Walked}
+use Rattle.cw_plain.proofs.Terms.{Laying, Piece, PlacedPiece, Stand, Word, placed, token_placed, MakesPlaced, Walked}
 use Rattle.cw_base.specs.declared.memory.Memory.{Memory}
 use Rattle.cw_rules.specs.declared.codes.Code.TheVariants as codes
 use Rattle.cw_rules.specs.declared.tokens.TokKind.TheVariants as kinds
@@ -18,12 +18,13 @@ lays-makes stand lays = record {
 }
 
 -- What is laid in a walk is what the walk makes, and it stands where that leads.
-pub laid-makes : (w old : Walked) (p : Walked → Placed) (piece : Piece) (stand : Stand) (laying : Laying)
+pub laid-makes : (w old : Walked) (p : Walked → PlacedPiece) (piece : Piece) (stand : Stand) (laying : Laying)
     (out out' : List ℕ) (new : Walked) (result : Result (Unit {0}) Memory) → w ≡ old
     → OnOk result (Lays w.walk.laying piece out laying out') → placed piece stand ≡ p w
     → moved_to w stand laying ≡ new → OnOk result (MakesPlaced old (p old) out new out')
 laid-makes w old p piece stand laying out out' new (Ok done) same lays is there = subst
-    (λ (v : Walked). MakesPlaced v (p v) out new out') same (subst (λ (q : Placed). MakesPlaced w q out new out') is
+    (λ (v : Walked). MakesPlaced v (p v) out new out') same (subst (λ (q : PlacedPiece). MakesPlaced w q out new out')
+    is
     (subst (λ (v : Walked). MakesPlaced w (placed piece stand) out v out') there (lays-makes stand lays)))
 laid-makes w old p piece stand laying out out' new (Err error) same lays is there = tt
 

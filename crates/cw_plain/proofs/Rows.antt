@@ -1,6 +1,6 @@
 -- Worked plain texts: flat lists as the productions leave them, laid out over the tokens of their texts.
 use Rattle.cw_plain.proofs.Terms.{◌≡◌, ℕ, refl, List, [], ◌∷◌, Option, Some, None, codes, length, cond, ◌==◌}
-use Rattle.cw_plain.proofs.Terms.{SourceItem, IdentItem, ReservedItem, SignItem, Open, Close, Source, plain}
+use Rattle.cw_plain.proofs.Terms.{SourceItem, IdentItem, ReservedItem, SignItem, Open, Close, PlainSource, plain}
 use Rattle.cw_rules.specs.declared.tokens.Mode.TheVariants.{CPart}
 use Rattle.cw_trees.specs.declared.Control.TheVariants.{Blank, OptionalBreak, Break, BigBreak, Cancel, Wall, Indent}
 use Rattle.cw_trees.specs.declared.Control.TheVariants.{Outdent, Backup, ToMath, ToText, CommentEnd, NameText, NameEnd}
@@ -12,7 +12,7 @@ no_titles number = None
 abbrev one_title : ℕ → List ℕ → ℕ → Option (List ℕ)
 one_title place title number = cond (number == place) (Some title) None
 
-abbrev over : List ℕ → (ℕ → Option (List ℕ)) → Source
+abbrev over : List ℕ → (ℕ → Option (List ℕ)) → PlainSource
 over text titles = record { answers = tokens_of text 0 (length text) CPart; titles = titles }
 
 two_names : plain (over (codes "@c a b;") no_titles) (IdentItem 0 3 ∷ IdentItem 1 5 ∷ SourceItem 6 ∷ []) ≡ codes "a b;"

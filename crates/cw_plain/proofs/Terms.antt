@@ -13,8 +13,9 @@ pub use Rattle.cw_plain.specs.model.Laying.{with_piece, Lays}
 pub use Rattle.cw_plain.specs.Lines.{Added, Layout, Other, Run, Stretch, at_start, backed, behind_piece, behind_run}
 pub use Rattle.cw_plain.specs.Lines.{break_text, cut_off, ink_bytes, ink_text, laid, laid_from, level_behind, level_in}
 pub use Rattle.cw_plain.specs.Lines.{moved, piece_inks, run_text, stretches, with_move, last_behind, indent}
-pub use Rattle.cw_plain.specs.Pieces.{Closing, Ending, Move, Nothing, Opening, Part, Piece, Word, Placed, Stand, placed}
-pub use Rattle.cw_plain.specs.Pieces.{token_placed, Source, item_placed, passed, pieces, pieces_from, pieces_in}
+pub use Rattle.cw_plain.specs.Pieces.{Closing, Ending, Move, Nothing, Opening, Part, Piece, Word, PlacedPiece, Stand}
+pub use Rattle.cw_plain.specs.Pieces.{placed}
+pub use Rattle.cw_plain.specs.Pieces.{token_placed, PlainSource, item_placed, passed, pieces, pieces_from, pieces_in}
 pub use Rattle.cw_plain.specs.Pieces.{in_name, name_placed, found_placed, number_placed, in_comment}
 pub use Rattle.cw_plain.specs.model.Walking.{MakesPlaced, Walked, Walk, behind_at, items_text, text_at, walk_begun}
 pub use Rattle.cw_plain.specs.model.Walking.{with_placed, source_of}

@@ -24,7 +24,7 @@ pub data Piece : Type 0 where
 
 -- What plain text is made from: the scanner's answers for the text, and the texts of the section names by their
 -- numbers.
-pub record Source : Type 0 where
+pub record PlainSource : Type 0 where
   pub answers : List Answer
   pub titles : ℕ → Option (List ℕ)
 
@@ -38,11 +38,11 @@ abbrev pub outside : Stand
 outside = record { name = 0; comments = [] }
 
 -- An item makes a piece, or none inside a section name, and leads to another place.
-pub record Placed : Type 0 where
+pub record PlacedPiece : Type 0 where
   pub piece : Piece
   pub stand : Stand
 
-abbrev pub placed : Piece → Stand → Placed
+abbrev pub placed : Piece → Stand → PlacedPiece
 placed piece stand = record { piece = piece; stand = stand }
 
 abbrev pub in_comment : Bool → Stand → Stand
@@ -63,11 +63,11 @@ code_text code.Quote text = text
 code_text _ text = []
 
 -- A section name that has a title prints it in angles, and nothing else of its leaf.
-abbrev pub name_placed : ℕ → Option (List ℕ) → Stand → Placed
+abbrev pub name_placed : ℕ → Option (List ℕ) → Stand → PlacedPiece
 name_placed number None stand = placed (Word number []) stand
 name_placed number (Some text) stand = placed (Word number (codes "<" ++ text ++ codes ">")) (in_name stand)
 
-abbrev pub token_placed : ℕ → Option (List ℕ) → TokKind → List ℕ → Stand → Placed
+abbrev pub token_placed : ℕ → Option (List ℕ) → TokKind → List ℕ → Stand → PlacedPiece
 token_placed number title kind.LongComment text stand = placed (Word number (codes "/*")) (in_comment true stand)
 token_placed number title kind.ShortComment text stand = placed (Word number (codes "//")) (in_comment false stand)
 token_placed number title kind.Text text stand = placed (Part number text) stand
@@ -78,11 +78,11 @@ token_placed number title (kind.Code c) text stand = placed (Word number (code_t
 token_placed number title k text stand = placed (Word number text) stand
 
 -- A number without a token prints nothing.
-abbrev pub found_placed : ℕ → Option (List ℕ) → Option Seen → Stand → Placed
+abbrev pub found_placed : ℕ → Option (List ℕ) → Option Seen → Stand → PlacedPiece
 found_placed number title None stand = placed (Word number []) stand
 found_placed number title (Some token) stand = token_placed number title token.kind token.text stand
 
-abbrev pub number_placed : Source → ℕ → Stand → Placed
+abbrev pub number_placed : PlainSource → ℕ → Stand → PlacedPiece
 number_placed s number stand = found_placed number (s.titles number) (numbered number s.answers) stand
 
 -- ## Items
@@ -94,11 +94,11 @@ comment_end _ = []
 abbrev pub run_or_nothing : Bool → Control → Piece
 run_or_nothing is_run control = if is_run then Move control else Nothing
 
-abbrev pub control_placed : Control → Stand → Placed
+abbrev pub control_placed : Control → Stand → PlacedPiece
 control_placed CommentEnd stand = placed (Ending (comment_end stand.comments)) (behind_comment stand)
 control_placed control stand = placed (run_or_nothing (is_run_sign control) control) stand
 
-abbrev pub item_placed : Source → Item → Stand → Placed
+abbrev pub item_placed : PlainSource → Item → Stand → PlacedPiece
 item_placed s (SourceItem number) stand = number_placed s number stand
 item_placed s (IdentItem name number) stand = number_placed s number stand
 item_placed s (ReservedItem name number) stand = number_placed s number stand
@@ -116,17 +116,17 @@ name_behind depth item = depth
 abbrev pub passed : Item → Stand → Stand
 passed item stand = record stand { name = name_behind stand.name item }
 
-abbrev pub before : Placed → (Stand → List Piece) → List Piece
+abbrev pub before : PlacedPiece → (Stand → List Piece) → List Piece
 before p rest = p.piece ∷ rest p.stand
 
 -- The pieces of a flat list from a place on. What stands in a section name makes none.
-abbrev pub pieces_in : Source → ℕ → Item → Stand → (Stand → List Piece) → List Piece
+abbrev pub pieces_in : PlainSource → ℕ → Item → Stand → (Stand → List Piece) → List Piece
 pieces_in s zero item stand rest = before (item_placed s item stand) rest
 pieces_in s (suc depth) item stand rest = rest (passed item stand)
 
-abbrev pub pieces_from : Source → List Item → Stand → List Piece
+abbrev pub pieces_from : PlainSource → List Item → Stand → List Piece
 pieces_from s [] stand = []
 pieces_from s (item ∷ items) stand = pieces_in s stand.name item stand (pieces_from s items)
 
-abbrev pub pieces : Source → List Item → List Piece
+abbrev pub pieces : PlainSource → List Item → List Piece
 pieces s items = pieces_from s items outside

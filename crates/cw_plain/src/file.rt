@@ -56,7 +56,7 @@ impl Tool for Plain {
         desk: &mut D,
         steps: &mut Steps<L>,
     ) -> Result<(), PutError> {
-        whole_texts_law();
+        whole_texts_law(); // (for the proof)
         let flags = Flags::start();
         let context = Context {
             sec_names: &book.sec_names,

@@ -6,7 +6,7 @@ ghost use Rattle.cw_plain.specs.Lines.{backed, break_text, indent, last_behind, 
 ghost use Rattle.cw_plain.specs.Pieces.{Closing, Ending, Opening, Part, Word, run_or_nothing};
 
 use crate::blanks::{has_blank, last_behind};
-use crate::run::{Run, is_run};
+use crate::run::{ControlRun, is_run};
 use cw_base::{Bytes, Memory};
 use cw_trees::Control;
 use std::marker::Model;
@@ -18,7 +18,7 @@ pub(crate) struct Lines {
     level: usize,
     depth: usize,
     last: Option<u8>,
-    run: Run,
+    run: ControlRun,
 }
 
 impl Model for Lines {
@@ -38,7 +38,7 @@ impl Lines {
             level: 0,
             depth: 0,
             last: None,
-            run: Run::new(),
+            run: ControlRun::new(),
         }
     }
 
@@ -105,7 +105,7 @@ impl Lines {
         if strength > 0 {
             self.last = None;
         }
-        self.run = Run::new();
+        self.run = ControlRun::new();
         Ok(())
     }
 

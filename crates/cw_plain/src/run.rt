@@ -10,13 +10,13 @@ use std::marker::Model;
 
 /// How strong the strongest break or blank of a run is, 0 where it has none, and whether it has a Cancel and a Backup.
 #[derive(Drop)]
-pub(crate) struct Run {
+pub(crate) struct ControlRun {
     strength: u8,
     cancelled: bool,
     backed: bool,
 }
 
-impl Model for Run {
+impl Model for ControlRun {
     ghost use Rattle.cw_join.specs.Runs.{RunState};
 
     ghost Value = { RunState };
@@ -24,12 +24,12 @@ impl Model for Run {
     ghost view = { λ r. record { strength = r.strength; cancelled = r.cancelled; backed = r.backed } };
 }
 
-impl Run {
+impl ControlRun {
     /// A run of no controls.
-    pub(crate) fn new() -> Run
+    pub(crate) fn new() -> ControlRun
         ensures { result ≡ no_run }
     {
-        Run {
+        ControlRun {
             strength: 0,
             cancelled: false,
             backed: false,

@@ -2,7 +2,8 @@
 use Rattle.cw_plain_laws.proofs.Terms.{◌≡◌, ℕ, Bool, true, false, List, [], ◌∷◌, Option, Some, codes, cond, inl, inr}
 use Rattle.cw_plain_laws.proofs.Terms.{refl, arith, All-cons, All-nil, All, list_all, both, Own, Added, Layout, Other}
 use Rattle.cw_plain_laws.proofs.Terms.{Run, Stretch, behind_piece, behind_run, blank_before, clash, laid_from, Word}
-use Rattle.cw_plain_laws.proofs.Terms.{Part, Ending, Opening, Closing, Move, Nothing, Source, AddsLittle, MayBeAdded}
+use Rattle.cw_plain_laws.proofs.Terms.{Part, Ending, Opening, Closing, Move, Nothing, PlainSource, AddsLittle}
+use Rattle.cw_plain_laws.proofs.Terms.{MayBeAdded}
 use Rattle.cw_plain_laws.proofs.Terms.{PlainAddsLittle, is_in}
 use Rattle.cw_plain_laws.proofs.{Again.AreWhite, SpacedLaws.white-run}
 use Rattle.cw_plain_laws.proofs.OwnInks.{StretchesOwn, pieces-own, stretched-own}
@@ -23,7 +24,7 @@ white-blank (Some byte) (next ∷ bytes) = by (clash byte next)
     by false = tt
 white-blank _ _ = tt
 
-laid-adds : (s : Source) (l : Layout) (ss : List Stretch) → StretchesOwn s ss → All AddsLittle (laid_from l ss)
+laid-adds : (s : PlainSource) (l : Layout) (ss : List Stretch) → StretchesOwn s ss → All AddsLittle (laid_from l ss)
 laid-adds s l [] own = All-nil AddsLittle
 laid-adds s l (Run run ∷ ss) own = grind (arith, laid-adds s (behind_run l run) ss own, white-added, white-run)
 laid-adds s l (Other (Word number bytes) ∷ ss) own =

@@ -6,10 +6,10 @@ use Rattle.cw_plain_laws.proofs.Terms.{not, Option, Some, slice_index, if◌then
 use Rattle.cw_plain_laws.proofs.Terms.{take-append-drop, answers, joined, still_fresh, tokens_of, AreSimpleTokens}
 use Rattle.cw_plain_laws.proofs.Terms.{BeginsBefore, is_hash, is_program, is_simple, both-left, both-right, and-none}
 use Rattle.cw_plain_laws.proofs.Terms.{if-both, constant-le, run-le, AreNotes, Answer, Token, Begin, Finish, Note, Cut}
-use Rattle.cw_plain_laws.proofs.Terms.{Found, Seen, Where, note_answers, plain, at_start, extent, at_sign}
+use Rattle.cw_plain_laws.proofs.Terms.{ScanStep, Seen, Where, note_answers, plain, at_start, extent, at_sign}
 use Rattle.cw_plain_laws.proofs.Terms.{begins, begins_by, begins_with, hash, is_in, is_letter, is_mark, less, run}
 use Rattle.cw_plain_laws.proofs.Terms.{slash, star, newline, is_prefix_letter, prefix_size, constant, all_signs}
-use Rattle.cw_plain_laws.proofs.Terms.{longest, spelling, code_text_apart, found_apart, Noted, Code, CPart, TokKind}
+use Rattle.cw_plain_laws.proofs.Terms.{longest, spelling, code_text_apart, found_apart, NoteAt, Code, CPart, TokKind}
 use Rattle.cw_plain_laws.proofs.{AgainLaws.at-mark, CutStrings.sign-alone, CutStrings.string-closed, Tests.or-case}
 use Rattle.cw_plain_laws.proofs.Again.{Bare, IsAloneText, IsClosed, IsString, Prefix, in_part, prefix_bytes}
 use Rattle.cw_plain_laws.proofs.CutConstants.{constant-cut, constant-last, run-cut}
@@ -68,17 +68,17 @@ IsOther (answer ∷ answers) = Unit {0}
 abbrev pub IsOutside : Seen → Type 0
 IsOutside t = (t.hash_line ≡ false) × (t.directive ≡ No)
 
-data Tells (first : Bool) (f : Found) : Type 0 where
+data Tells (first : Bool) (f : ScanStep) : Type 0 where
   blank : f ≡ skipped_byte (in_part first) → Tells first f
   token : (t : Seen) (notes : List Answer) → f.answers ≡ Token t ∷ notes → AreNotes notes → f.next ≡ in_part false
       → IsOutside t → (is_simple t.kind ≡ true → notes ≡ [] → IsAloneText t.kind t.text) → Tells first f
   other : IsOther f.answers → Tells first f
 
-notes-are : (notes : List Noted) → AreNotes (note_answers notes)
+notes-are : (notes : List NoteAt) → AreNotes (note_answers notes)
 notes-are [] = tt
 notes-are (n ∷ notes) = notes-are notes
 
-none-noted : (notes : List Noted) → note_answers notes ≡ [] → notes ≡ []
+none-noted : (notes : List NoteAt) → note_answers notes ≡ [] → notes ≡ []
 none-noted [] e = refl
 none-noted (n ∷ notes) e = absurd cc
 
@@ -318,7 +318,7 @@ alone-on (b ∷ bytes) fresh last place zero are = by (found_apart (in_part fals
     on : Where → ℕ → List Answer
     on next more = answers bytes next (still_fresh fresh b) b (place + 1) more
 
-    by : (f : Found) → Tells false f → AreSimpleTokens (joined f on) → ((more : ℕ) → AreSimpleTokens
+    by : (f : ScanStep) → Tells false f → AreSimpleTokens (joined f on) → ((more : ℕ) → AreSimpleTokens
         (on (in_part false) more) → AreAlone (on (in_part false) more)) → AreAlone (joined f on)
     by f (blank e) are later = subst (λ g. AreAlone (joined g on)) (sym e)
         (later 0 (subst (λ g. AreSimpleTokens (joined g on)) e are))
@@ -341,7 +341,7 @@ alone-behind (b ∷ bytes) fresh last place rest begun are =
     on : Where → ℕ → List Answer
     on next more = answers bytes next (still_fresh fresh b) b (place + 1) more
 
-    by : (f : Found) → Tells true f → BeginsBefore rest (joined f on)
+    by : (f : ScanStep) → Tells true f → BeginsBefore rest (joined f on)
         → (BeginsBefore rest (on (in_part true) 0) → AreAlone rest) → AreAlone rest
     by f (blank e) begun later = later (subst (λ g. BeginsBefore rest (joined g on)) e begun)
     by f (token t notes e n next line alone) begun later =

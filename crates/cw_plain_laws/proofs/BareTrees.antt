@@ -2,7 +2,8 @@
 use Rattle.cw_plain_laws.proofs.Terms.{◌≡◌, ℕ, Bool, true, ◌&&◌, List, [], ◌∷◌, ◌++◌, refl, sym, if◌then◌else◌, ap}
 use Rattle.cw_plain_laws.proofs.Terms.{subst, ◌∙◌, arith, All, All-append, All-cons, All-nil, Cat, Flags, headed}
 use Rattle.cw_plain_laws.proofs.Terms.{headed_by, headless, Nest, End, Leaf, Group, first_nest, leaf, nest, nests}
-use Rattle.cw_plain_laws.proofs.Terms.{Entry, NameId, Piece, Source, Stand, control_placed, item_placed, pieces_from}
+use Rattle.cw_plain_laws.proofs.Terms.{Entry, NameId, Piece, PlainSource, Stand, control_placed, item_placed}
+use Rattle.cw_plain_laws.proofs.Terms.{pieces_from}
 use Rattle.cw_plain_laws.proofs.Terms.{pieces_in, AreSimpleTokens, BeginsBefore, is_program, is_simple, Answer, Token}
 use Rattle.cw_plain_laws.proofs.Terms.{Seen, TokKind, LeafForm, word_form, tree_in, Item, SignItem, Open, Close}
 use Rattle.cw_plain_laws.proofs.Terms.{begins_after, flat, is_break, leaf_item, trim_back, trim_front, trimmed_items}
@@ -101,20 +102,21 @@ AreUnbarred (p ∷ ps) = IsUnbarred p × AreUnbarred ps
 control-unbarred : (c : Control) (stand : Stand) → IsFree c → IsUnbarred (control_placed c stand).piece
 control-unbarred c stand free = grind arith
 
-item-unbarred : (s : Source) (item : Item) (stand : Stand) → BareItem item → IsUnbarred (item_placed s item stand).piece
+item-unbarred : (s : PlainSource) (item : Item) (stand : Stand) → BareItem item → IsUnbarred
+    (item_placed s item stand).piece
 item-unbarred s item stand bare = grind (arith, number-unbarred, control-unbarred)
 
-next-unbarred : (s : Source) (depth : ℕ) (item : Item) (stand : Stand) (rest : Stand → List Piece) → BareItem item
+next-unbarred : (s : PlainSource) (depth : ℕ) (item : Item) (stand : Stand) (rest : Stand → List Piece) → BareItem item
     → ((st : Stand) → AreUnbarred (rest st)) → AreUnbarred (pieces_in s depth item stand rest)
 next-unbarred s depth item stand rest bare more = grind (arith, item-unbarred)
 
-pieces-unbarred : (s : Source) (items : List Item) (stand : Stand) → BareItems items
+pieces-unbarred : (s : PlainSource) (items : List Item) (stand : Stand) → BareItems items
     → AreUnbarred (pieces_from s items stand)
 pieces-unbarred s [] stand bare = tt
 pieces-unbarred s (item ∷ items) stand bare =
     next-unbarred s stand.name item stand (pieces_from s items) bare.0 (λ st. pieces-unbarred s items st bare.1)
 
-pub bare-pieces : (s : Source) (t : Tree) (stand : Stand) → IsBare t
+pub bare-pieces : (s : PlainSource) (t : Tree) (stand : Stand) → IsBare t
     → AreUnbarred (pieces_from s (trimmed_items (flat t)) stand)
 bare-pieces s t stand bare = pieces-unbarred s (trimmed_items (flat t)) stand (trimmed-bare (flat t) (flat-bare t bare))
 

@@ -5,7 +5,7 @@ use Rattle.cw_plain_laws.proofs.Terms.{nat_lt, List, [], ◌∷◌, length, take
 use Rattle.cw_plain_laws.proofs.Terms.{Option, Some, None, if◌then◌else◌, eqb-true, both-left, both-right, is_hash}
 use Rattle.cw_plain_laws.proofs.Terms.{if-both, all_notes, and_last, at_start, ended, extent, goes_on, is_single}
 use Rattle.cw_plain_laws.proofs.Terms.{note_here, note_unless, noted, stepped, takes_next, with_note, begins_with}
-use Rattle.cw_plain_laws.proofs.Terms.{longer, longest, spelling, Inside, Noted}
+use Rattle.cw_plain_laws.proofs.Terms.{longer, longest, spelling, Inside, NoteAt}
 use Rattle.cw_base.specs.declared.notes.NoteKind.{NoteKind}
 use Rattle.cw_plain_laws.proofs.{Again.IsAloneText, Again.IsClosed, Again.has_no_note, StringLaws.inside}
 use Rattle.cw_rules.proofs.BodiesAhead.{ended-here, ended-on, noted-on}
@@ -28,7 +28,8 @@ mark-there q b bytes h = eqb-true b q (both-left (b == q) true h)
 no-mark-none : (q k : ℕ) → begins_with (q ∷ []) (drop k []) ≡ true → ⊥
 no-mark-none q k h = let e : true ≡ false = sym h ∙ none-begins q k in cc
 
-no-note : (o : Option NoteKind) (place : ℕ) (more : List Noted) → with_note o place more ≡ [] → (o ≡ None) × (more ≡ [])
+no-note : (o : Option NoteKind) (place : ℕ) (more : List NoteAt) → with_note o place more ≡ [] → (o ≡ None) × (more
+    ≡ [])
 no-note None place more e = (refl, e)
 no-note (Some kind) place more e = absurd cc
 
@@ -98,7 +99,7 @@ taken-closed q braces place last along (b ∷ c ∷ bytes) k size quiet closing 
         (ended-here i b (c ∷ bytes) e) in
         absurd (omega arith)
 
-no-last : (more : List Noted) (o : Option Noted) → and_last more o ≡ [] → (more ≡ []) × (o ≡ None)
+no-last : (more : List NoteAt) (o : Option NoteAt) → and_last more o ≡ [] → (more ≡ []) × (o ≡ None)
 no-last more None e = (e, refl)
 no-last [] (Some n) e = absurd cc
 no-last (m ∷ more) (Some n) e = absurd cc

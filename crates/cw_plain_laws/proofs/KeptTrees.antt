@@ -1,7 +1,7 @@
 -- What holds of the trees of scraps holds of the tree that these are reduced to, where joining and reserving keep it.
 use Rattle.cw_plain_laws.proofs.Terms.{◌≡◌, ℕ, zero, suc, List, [], ◌∷◌, ◌++◌, get_or, map, take, drop, refl, sym}
 use Rattle.cw_plain_laws.proofs.Terms.{subst, arith, All, cases_lt, get_or_past, All-head, All-map, All-tail, Flags}
-use Rattle.cw_plain_laws.proofs.Terms.{MathMode, Maybe, Scrap, no_scrap, Joined, Whole, Mark, after, blank_and_whole}
+use Rattle.cw_plain_laws.proofs.Terms.{MathMode, Maybe, Scrap, no_scrap, JoinPiece, Whole, Mark, after, blank_and_whole}
 use Rattle.cw_plain_laws.proofs.Terms.{dollar_before, scrap_in_text, joined_tree, needs, toggled, whole, Tree, Empty}
 use Rattle.cw_plain_laws.proofs.Terms.{Then, Sub, Sign, reserve_first, Control}
 use Rattle.cw_scraps.proofs.Keeping.{keeps-all}
@@ -15,7 +15,7 @@ use Rattle.cw_trees.specs.declared.Control.TheVariants as control
 abbrev pub OfScrap : (Tree → Type 0) → Scrap → Type 0
 OfScrap T scrap = T scrap.tree
 
-abbrev pub OfPiece : (Tree → Type 0) → Joined → Type 0
+abbrev pub OfPiece : (Tree → Type 0) → JoinPiece → Type 0
 OfPiece T (Whole tree left right) = T tree
 OfPiece T (Mark c) = IsFree c
 
@@ -27,7 +27,7 @@ module _ (T : Tree → Type 0) (empty : T Empty) (subs : (a b : Tree) → T a �
   toggled-kept : (m l : MathMode) (t : Tree) → T t → T (toggled m l t)
   toggled-kept m l t h = grind arith
 
-  joined-kept : (m : MathMode) (js : List Joined) → All (OfPiece T) js → T (joined_tree m js)
+  joined-kept : (m : MathMode) (js : List JoinPiece) → All (OfPiece T) js → T (joined_tree m js)
   joined-kept m [] all = empty
   joined-kept m (Whole tree l r ∷ js) all =
       let rest : T (joined_tree (after m l r) js) = joined-kept (after m l r) js

@@ -2,8 +2,9 @@
 use Rattle.cw_rules.specs.declared.tokens.Directive.{Directive}
 use Rattle.cw_plain_laws.proofs.Terms.{arith, ◌≡◌, ℕ, Bool, true, false, List, [], ◌∷◌, ◌++◌, Option, Some, None, refl}
 use Rattle.cw_plain_laws.proofs.Terms.{sym, ap, ◌∙◌, if◌then◌else◌, All, codes, append_assoc, All-head, All-tail, Cat}
-use Rattle.cw_plain_laws.proofs.Terms.{Exp, Flags, MathMode, Text, Maybe, IsGroupOf, NameId, Entry, Piece, Word, Placed}
-use Rattle.cw_plain_laws.proofs.Terms.{Source, Stand, before, in_name, number_placed, outside, pieces_from, placed}
+use Rattle.cw_plain_laws.proofs.Terms.{Exp, Flags, MathMode, Text, Maybe, IsGroupOf, NameId, Entry, Piece, Word}
+use Rattle.cw_plain_laws.proofs.Terms.{PlacedPiece}
+use Rattle.cw_plain_laws.proofs.Terms.{PlainSource, Stand, before, in_name, number_placed, outside, pieces_from, placed}
 use Rattle.cw_plain_laws.proofs.Terms.{token_placed, Answer, Seen, Code, TokKind, LeafForm, code_form, sign_mode}
 use Rattle.cw_plain_laws.proofs.Terms.{token_form, word_form, tree_in, Item, SignItem, Close, continues_name, flat}
 use Rattle.cw_plain_laws.proofs.Terms.{struck, Ident, Reserved, Sign, Tree, Then}
@@ -13,7 +14,7 @@ use Rattle.cw_reduce.proofs.ShownLaws.{struck-parts}
 use Rattle.cw_tokens.specs.declared.token.Token.{Token}
 use Rattle.cw_translator.specs.Translating.{CommentItem, Piece as TextPiece, InnerText, Known, comment_rest}
 use Rattle.cw_translator.specs.Translating.{comment_tree, plain_text, texts_made}
-use Rattle.cw_trees.specs.Tree.{Source as SourceLeaf}
+use Rattle.cw_trees.specs.Tree.{PlainSource as SourceLeaf}
 use Rattle.cw_rules.specs.declared.codes.Code.TheVariants as code
 use Rattle.cw_rules.specs.declared.tokens.TokKind.TheVariants as kind
 use Rattle.cw_trees.specs.declared.Control.TheVariants as control
@@ -21,11 +22,11 @@ use Rattle.cw_trees.specs.declared.Control.TheVariants as control
 -- ## What a token prints
 
 -- The token of a number prints its bytes, wherever it stands, and leads to where it stands.
-abbrev pub OwnsBy : (Stand → Placed) → ℕ → Type 0
+abbrev pub OwnsBy : (Stand → PlacedPiece) → ℕ → Type 0
 OwnsBy f number = (owners ((f outside).piece ∷ []) ≡ number ∷ [])
     × ((stand : Stand) → f stand ≡ placed (f outside).piece stand)
 
-abbrev pub Owns : Source → ℕ → Type 0
+abbrev pub Owns : PlainSource → ℕ → Type 0
 Owns s number = OwnsBy (number_placed s number) number
 
 -- a token that begins no comment and is no section name
@@ -40,47 +41,50 @@ token-owns : (number : ℕ) (title : Option (List ℕ)) (k : TokKind) (text : Li
     → OwnsBy (token_placed number title k text) number
 token-owns number title k text e = grind arith
 
-pub found-owns : (s : Source) (t : Seen) → IsFound s.answers t → stays t.kind ≡ true → Owns s t.span.start
+pub found-owns : (s : PlainSource) (t : Seen) → IsFound s.answers t → stays t.kind ≡ true → Owns s t.span.start
 found-owns s t found e = grind (arith, token-owns)
 
 owners-first : (p : Piece) (ps : List Piece) → owners (p ∷ ps) ≡ owners (p ∷ []) ++ owners ps
 owners-first p ps = grind arith
 
-owns-first : (s : Source) (number : ℕ) → Owns s number → (stand : Stand) (rest : Stand → List Piece)
+owns-first : (s : PlainSource) (number : ℕ) → Owns s number → (stand : Stand) (rest : Stand → List Piece)
     → owners (before (number_placed s number stand) rest) ≡ number ∷ owners (rest stand)
 owns-first s number owns stand rest = grind (arith, owners, owners-first)
 
-pub source-walks : (s : Source) (number : ℕ) (mode : MathMode) (t : Tree) → Owns s number → Walks s t
+pub source-walks : (s : PlainSource) (number : ℕ) (mode : MathMode) (t : Tree) → Owns s number → Walks s t
     → Walks s (Then (SourceLeaf number mode) t)
 source-walks s number mode t owns walks comments rest = grind (arith, owns-first, among)
 
-ident-walks : (s : Source) (name number : ℕ) (t : Tree) → Owns s number → Walks s t
+ident-walks : (s : PlainSource) (name number : ℕ) (t : Tree) → Owns s number → Walks s t
     → Walks s (Then (Ident name number) t)
 ident-walks s name number t owns walks comments rest = owns-first s number owns (among comments)
     (pieces_from s (flat t ++ rest)) ∙ ap (λ l. number ∷ l) (walks comments rest)
 
-reserved-walks : (s : Source) (name number : ℕ) (c : Cat) (t : Tree) → Owns s number → Walks s t
+reserved-walks : (s : PlainSource) (name number : ℕ) (c : Cat) (t : Tree) → Owns s number → Walks s t
     → Walks s (Then (Reserved name number c) t)
 reserved-walks s name number c t owns walks comments rest = grind (arith, owns-first, among)
 
 -- ## Tokens
 
 -- Tokens of a list that have their bytes, whatever stands behind them.
-abbrev pub TokensWalk : Source → List Token → Type 0
+abbrev pub TokensWalk : PlainSource → List Token → Type 0
 TokensWalk s tokens = (rest : List Token) → Walks s (tree_in [] rest) → Walks s (tree_in [] (tokens ++ rest))
 
-abbrev pub FormWalks : Source → Option LeafForm → Type 0
+abbrev pub FormWalks : PlainSource → Option LeafForm → Type 0
 FormWalks s None = Unit {0}
 FormWalks s (Some form) = TokensWalk s form.tokens
 
-pub word-walks : (s : Source) (c : Cat) (name : NameId) (n : ℕ) → Owns s n → TokensWalk s (word_form c name n).tokens
+pub word-walks : (s : PlainSource) (c : Cat) (name : NameId) (n : ℕ) → Owns s n → TokensWalk s
+    (word_form c name n).tokens
 word-walks s Exp name n owns rest walks = ident-walks s name.index n (tree_in [] rest) owns walks
 word-walks s c name n owns rest walks = reserved-walks s name.index n c (tree_in [] rest) owns walks
 
-code-walks : (s : Source) (c : Code) (n : ℕ) → (stays (kind.Code c) ≡ true → Owns s n) → FormWalks s (code_form c n)
+code-walks : (s : PlainSource) (c : Code) (n : ℕ) → (stays (kind.Code c) ≡ true → Owns s n)
+    → FormWalks s (code_form c n)
 code-walks s c n owns = grind (arith, source-walks, sign-walks)
 
-pub form-walks : (s : Source) (k : TokKind) (text : List ℕ) (hash_line : Bool) (d : Directive) (n : ℕ) (names : List
+pub form-walks : (s : PlainSource) (k : TokKind) (text : List ℕ) (hash_line : Bool) (d : Directive) (n : ℕ)
+    (names : List
     Entry)
     → (stays k ≡ true → Owns s n) → FormWalks s (token_form k text hash_line d n names)
 form-walks s kind.Identifier text hash_line d n names owns = word-walks s _ _ n (owns refl)
@@ -103,7 +107,7 @@ form-walks s _ text hash_line d n names owns = tt
 
 -- ## Comments
 
-abbrev pub ItemWalks : Source → CommentItem → Type 0
+abbrev pub ItemWalks : PlainSource → CommentItem → Type 0
 ItemWalks s (TextPiece number) = Owns s number
 ItemWalks s (InnerText tree) = Walks s tree
 
@@ -113,7 +117,8 @@ goes-on (TextPiece number ∷ items) = refl
 goes-on (InnerText tree ∷ items) = refl
 
 -- the rest of a comment leads out of it
-rest-walks : (s : Source) (items : List CommentItem) → All (ItemWalks s) items → (long : Bool) (comments : List Bool)
+rest-walks : (s : PlainSource) (items : List CommentItem) → All (ItemWalks s) items → (long : Bool)
+    (comments : List Bool)
     (rest : List Item) → owners (pieces_from s (flat (comment_rest items) ++ rest) (among (long ∷ comments)))
     ≡ struck (comment_rest items) ++ owners (pieces_from s rest (among comments))
 rest-walks s [] all long comments rest = refl
@@ -137,7 +142,7 @@ abbrev opening_bytes : TokKind → List ℕ
 opening_bytes kind.LongComment = codes "/*"
 opening_bytes k = codes "//"
 
-abbrev BeginsComment : TokKind → (Stand → Placed) → ℕ → Type 0
+abbrev BeginsComment : TokKind → (Stand → PlacedPiece) → ℕ → Type 0
 BeginsComment k f number = (comments : List Bool) → f (among comments)
     ≡ placed (Word number (opening_bytes k)) (among (is_long k ∷ comments))
 
@@ -145,7 +150,8 @@ token-begins : (number : ℕ) (title : Option (List ℕ)) (k : TokKind) (text : 
     → BeginsComment k (token_placed number title k text) number
 token-begins number title k text is comments = grind arith
 
-pub comment-walks : (s : Source) (t : Seen) (items : List CommentItem) → IsFound s.answers t → IsGroupOf false t.kind
+pub comment-walks : (s : PlainSource) (t : Seen) (items : List CommentItem) → IsFound s.answers t
+    → IsGroupOf false t.kind
     → All (ItemWalks s) items → Walks s (comment_tree t.span.start items)
 comment-walks s t items found is all comments rest = grind (arith, token-begins, owners, rest-walks)
 
@@ -156,7 +162,7 @@ is_name (kind.Code code.SectionName) = true
 is_name (kind.Code code.FileName) = true
 is_name k = false
 
-abbrev TitledBy : (Stand → Placed) → ℕ → List ℕ → Type 0
+abbrev TitledBy : (Stand → PlacedPiece) → ℕ → List ℕ → Type 0
 TitledBy f number title = (comments : List Bool) → f (among comments)
     ≡ placed (Word number (codes "<" ++ title ++ codes ">")) (in_name (among comments))
 
@@ -164,11 +170,11 @@ token-titled : (number : ℕ) (title : List ℕ) (k : TokKind) (text : List ℕ)
     → TitledBy (token_placed number (Some title) k text) number title
 token-titled number title k text is comments = grind arith
 
-name-titled : (s : Source) (t : Seen) (title : List ℕ) → IsFound s.answers t → is_name t.kind ≡ true
+name-titled : (s : PlainSource) (t : Seen) (title : List ℕ) → IsFound s.answers t → is_name t.kind ≡ true
     → s.titles t.span.start ≡ Some title → TitledBy (number_placed s t.span.start) t.span.start title
 name-titled s t title found is e = grind (arith, token-titled)
 
-name-passed : (s : Source) (flags : Flags) (parts : List (List Answer)) (behind : Tree) (known : Known)
+name-passed : (s : PlainSource) (flags : Flags) (parts : List (List Answer)) (behind : Tree) (known : Known)
     (comments : List Bool) (rest : List Item) → pieces_from s (flat (texts_made flags parts (Then (Sign control.NameEnd)
     behind) known).tree ++ rest) (in_name (among comments)) ≡ pieces_from s (flat behind ++ rest) (among comments)
 name-passed s flags [] behind known comments rest = refl
@@ -179,7 +185,8 @@ name-passed s flags (part ∷ parts) behind known comments rest =
     (Close ∷ SignItem control.NameText ∷ flat more.tree) rest) ∙ inner-passed s text.tree 0 comments (Close ∷ SignItem
     control.NameText ∷ (flat more.tree ++ rest)) ∙ name-passed s flags parts behind text.known comments rest
 
-pub name-walks : (s : Source) (flags : Flags) (t : Seen) (title : List ℕ) (parts : List (List Answer)) (behind : Tree)
+pub name-walks : (s : PlainSource) (flags : Flags) (t : Seen) (title : List ℕ) (parts : List (List Answer))
+    (behind : Tree)
     (known : Known) → IsFound s.answers t → is_name t.kind ≡ true → s.titles t.span.start ≡ Some title → Walks s behind
     → Walks s (Then (SourceLeaf t.span.start Maybe)
     (texts_made flags parts (Then (Sign control.NameEnd) behind) known).tree)

@@ -6,9 +6,9 @@ use Rattle.cw_plain_laws.proofs.Terms.{append_assoc, All-append, All-nil, common
 use Rattle.cw_plain_laws.proofs.Terms.{Flags, MathMode, Text, Head, Headless, Macro, Format, Silent, Named, Headed}
 use Rattle.cw_plain_laws.proofs.Terms.{Words, headed, headed_by, headless, head_behind, head_words, named_headed}
 use Rattle.cw_plain_laws.proofs.Terms.{no_word, word_before, Nest, End, Leaf, Group, IsGroupOf, IsWell, NameId, Entry}
-use Rattle.cw_plain_laws.proofs.Terms.{Source, Answer, Seen, is_head_sign, TokKind, if-both, LeafForm, names_with}
+use Rattle.cw_plain_laws.proofs.Terms.{PlainSource, Answer, Seen, is_head_sign, TokKind, if-both, LeafForm, names_with}
 use Rattle.cw_plain_laws.proofs.Terms.{token_form, word_form, tree_in, Scrap, Tree, Empty, Then, Sign}
-use Rattle.cw_lex.specs.declared.heads.Wanted.{Wanted}
+use Rattle.cw_lex.specs.declared.heads.Expectation.{Expectation}
 use Rattle.cw_plain_laws.proofs.{FoundTokens.AllOf, FoundTokens.IsFound, KeptTrees.OfScrap, KeptTrees.end-kept}
 use Rattle.cw_plain_laws.proofs.{Walks.Walks}
 use Rattle.cw_plain_laws.proofs.LeafWalks.{FormWalks, ItemWalks, Owns, TokensWalk, comment-walks, form-walks}
@@ -22,7 +22,7 @@ use Rattle.cw_translator.specs.Translating.{first_word, form_made, form_tokens, 
 use Rattle.cw_translator.specs.Translating.{later_words, leaf_of_name, leaf_scrap, is_macro, made, name_in_text}
 use Rattle.cw_translator.specs.Translating.{names_in_text, one_item, one_scrap, sign_behind, spelled, state_in}
 use Rattle.cw_translator.specs.Translating.{texts_named, token_made, with_names, word_tokens}
-use Rattle.cw_trees.specs.Tree.{Source as SourceLeaf}
+use Rattle.cw_trees.specs.Tree.{PlainSource as SourceLeaf}
 use Rattle.cw_rules.specs.declared.codes.Code.TheVariants as code
 use Rattle.cw_rules.specs.declared.tokens.TokKind.TheVariants as kind
 use Rattle.cw_tokens.specs.declared.token.Token.TheVariants as token
@@ -30,43 +30,45 @@ use Rattle.cw_trees.specs.declared.Control.TheVariants as control
 
 -- ## Scraps and items
 
-pub record MadeWalks (s : Source) (m : Made) : Type 0 where
+pub record MadeWalks (s : PlainSource) (m : Made) : Type 0 where
   pub scraps : All (OfScrap (Walks s)) m.scraps
   pub items : All (ItemWalks s) m.items
 
-made-none : (s : Source) (known : Known) → MadeWalks s (record { scraps = []; items = []; known = known })
+made-none : (s : PlainSource) (known : Known) → MadeWalks s (record { scraps = []; items = []; known = known })
 made-none s known = record { scraps = All-nil (OfScrap (Walks s)); items = All-nil (ItemWalks s) }
 
-made-scrap : (s : Source) (scrap : Scrap) (known : Known) → Walks s scrap.tree → MadeWalks s (one_scrap scrap known)
+made-scrap : (s : PlainSource) (scrap : Scrap) (known : Known) → Walks s scrap.tree → MadeWalks s
+    (one_scrap scrap known)
 made-scrap s scrap known walks = grind arith
 
-made-item : (s : Source) (item : CommentItem) (known : Known) → ItemWalks s item → MadeWalks s (one_item item known)
+made-item : (s : PlainSource) (item : CommentItem) (known : Known) → ItemWalks s item
+    → MadeWalks s (one_item item known)
 made-item s item known walks = grind arith
 
-made-beside : (s : Source) (a b : Made) → MadeWalks s a → MadeWalks s b → MadeWalks s (beside a b)
+made-beside : (s : PlainSource) (a b : Made) → MadeWalks s a → MadeWalks s b → MadeWalks s (beside a b)
 made-beside s a b f g = record {
   scraps = All-append (OfScrap (Walks s)) a.scraps b.scraps f.scraps g.scraps;
   items = All-append (ItemWalks s) a.items b.items f.items g.items;
 }
 
-made-end : (s : Source) (flags : Flags) (m : Made) → MadeWalks s m → Walks s (end_of flags m).tree
+made-end : (s : PlainSource) (flags : Flags) (m : Made) → MadeWalks s m → Walks s (end_of flags m).tree
 made-end s flags m f = end-kept (Walks s) (empty-walks s) (sub-walks s) (sign-walks s) (reserve-walks s) flags
     (state_in m.scraps m.known) f.scraps
 
 -- ## Tokens, comments and inner texts
 
 -- what the section names of a text make
-abbrev NamesWalk : Source → (ℕ → Known → Made) → Type 0
+abbrev NamesWalk : PlainSource → (ℕ → Known → Made) → Type 0
 NamesWalk s name = (t : Seen) (known : Known) → IsFound s.answers t → is_name t.kind ≡ true
     → MadeWalks s (name t.span.start known)
 
-whole-tokens : (s : Source) (tokens : List Token) → TokensWalk s tokens → Walks s (tree_in [] tokens)
+whole-tokens : (s : PlainSource) (tokens : List Token) → TokensWalk s tokens → Walks s (tree_in [] tokens)
 whole-tokens s tokens walks = subst (λ ts. Walks s (tree_in [] ts)) (append-nil tokens) (walks [] (empty-walks s))
 
-form-made : (s : Source) (o : Option LeafForm) (known : Known) → FormWalks s o → MadeWalks s (form_made o known)
+form-made : (s : PlainSource) (o : Option LeafForm) (known : Known) → FormWalks s o → MadeWalks s (form_made o known)
 form-made s o known walks = grind (arith, made-none, made-scrap, whole-tokens)
 
-token-made : (s : Source) (name : ℕ → Known → Made) → NamesWalk s name → (k : TokKind) (t : Seen) (known : Known)
+token-made : (s : PlainSource) (name : ℕ → Known → Made) → NamesWalk s name → (k : TokKind) (t : Seen) (known : Known)
     → t.kind ≡ k → IsFound s.answers t → MadeWalks s (token_made name k t known)
 token-made s name names kind.Text t known e found =
     made-item s (Piece t.span.start) known (found-owns s t found (ap stays e))
@@ -78,11 +80,11 @@ token-made s name names k t known e found = form-made s (token_form k t.text t.h
     (form-walks s k t.text t.hash_line t.directive t.span.start known.names (λ stay. found-owns s t found (ap stays e ∙
     stay)))
 
-group-made : (s : Source) (flags : Flags) (comment : Bool) (k : TokKind) (t : Seen) (m : Made) → t.kind ≡ k
+group-made : (s : PlainSource) (flags : Flags) (comment : Bool) (k : TokKind) (t : Seen) (m : Made) → t.kind ≡ k
     → IsFound s.answers t → IsGroupOf comment k → MadeWalks s m → MadeWalks s (group_made flags k t m)
 group-made s flags comment k t m e found is walks = grind (arith, made-item, made-end, made-scrap, comment-walks)
 
-nest-made : (s : Source) (flags : Flags) (name : ℕ → Known → Made) → NamesWalk s name → (n : Nest) (comment : Bool)
+nest-made : (s : PlainSource) (flags : Flags) (name : ℕ → Known → Made) → NamesWalk s name → (n : Nest) (comment : Bool)
     (known : Known) → IsWell comment n → AllOf (IsFound s.answers) n → MadeWalks s (made flags name n known)
 nest-made s flags name names End comment known well all = made-none s known
 nest-made s flags name names (Leaf t rest) comment known well all =
@@ -98,7 +100,7 @@ nest-made s flags name names (Group t inner rest) comment known well all =
 
 -- ## Section names
 
-named-made : (s : Source) (flags : Flags) (o : Option (List (List Answer))) (title : Option (List ℕ)) (c : Cat)
+named-made : (s : PlainSource) (flags : Flags) (o : Option (List (List Answer))) (title : Option (List ℕ)) (c : Cat)
     (mode : MathMode) (behind : Tree) (t : Seen) (known : Known) → IsFound s.answers t → is_name t.kind ≡ true
     → s.titles t.span.start ≡ title → is_some title ≡ is_some o → Walks s behind
     → MadeWalks s (texts_named flags o c mode behind t.span.start known)
@@ -106,10 +108,10 @@ named-made s flags o title c mode behind t known found is at titled walks =
     grind (arith, made-none, made-scrap, name-walks)
 
 -- each section name that stands for something has a title, and another has none
-abbrev pub AreTitled : Source → NameTexts → Type 0
+abbrev pub AreTitled : PlainSource → NameTexts → Type 0
 AreTitled s named = (number : ℕ) → is_some (s.titles number) ≡ is_some (named number)
 
-names-made : (s : Source) (flags : Flags) (named : NameTexts) → AreTitled s named
+names-made : (s : PlainSource) (flags : Flags) (named : NameTexts) → AreTitled s named
     → NamesWalk s (leaf_of_name flags named)
 names-made s flags named titled t known found is = named-made s flags (named t.span.start)
     (s.titles t.span.start) _ _ Empty t known found is refl (titled t.span.start) (empty-walks s)
@@ -125,13 +127,13 @@ pub record WordsAre (P : Seen → Type 0) (w : Words) : Type 0 where
   pub words : Each P w.words
   pub rest : AllOf P w.rest
 
-head-words-are : (P : Seen → Type 0) (wanted : Wanted) (n : Nest) → AllOf P n → WordsAre P (head_words wanted n)
+head-words-are : (P : Seen → Type 0) (wanted : Expectation) (n : Nest) → AllOf P n → WordsAre P (head_words wanted n)
 head-words-are P wanted End all = record { words = tt; rest = tt }
 head-words-are P wanted (Group t inner rest) all = record { words = tt; rest = all }
 head-words-are P wanted (Leaf t rest) all =
     by (head_behind wanted t.kind t.span) (λ next. head-words-are P next rest all.1)
   where
-    by : (o : Option Wanted) → ((next : Wanted) → WordsAre P (head_words next rest))
+    by : (o : Option Expectation) → ((next : Expectation) → WordsAre P (head_words next rest))
         → WordsAre P (elim o as (λ o. Words) [
           | Some next ↦ word_before t (head_words next rest)
           | None ↦ no_word (Leaf t rest)
@@ -140,83 +142,86 @@ head-words-are P wanted (Leaf t rest) all =
     by (Some next) more = record { words = (all.0, (more next).words); rest = (more next).rest }
 
 -- the tokens of a head
-abbrev NumberOf : Source → (TokKind → Bool) → ℕ → Type 0
+abbrev NumberOf : PlainSource → (TokKind → Bool) → ℕ → Type 0
 NumberOf s test number = (t : Seen) × ((t.span.start ≡ number) × (IsFound s.answers t × (test t.kind ≡ true)))
 
-record WordsFound (s : Source) (words : List Seen) : Type 0 where
+record WordsFound (s : PlainSource) (words : List Seen) : Type 0 where
   fit : list_all word_kind words ≡ true
   each : Each (IsFound s.answers) words
 
-abbrev HeadFound : Source → Head → Type 0
+abbrev HeadFound : PlainSource → Head → Type 0
 HeadFound s Headless = Unit {0}
 HeadFound s (Macro number words) = NumberOf s stays number × WordsFound s words
 HeadFound s (Format number words) = NumberOf s stays number × WordsFound s words
 HeadFound s (Silent words) = Unit {0}
 HeadFound s (Named number sign) = NumberOf s is_name number × NumberOf s stays sign
 
-record HeadedFound (s : Source) (h : Headed) : Type 0 where
+record HeadedFound (s : PlainSource) (h : Headed) : Type 0 where
   head : HeadFound s h.head
   rest : AllOf (IsFound s.answers) h.rest
 
-headless-found : (s : Source) (n : Nest) → AllOf (IsFound s.answers) n → HeadedFound s (headless n)
+headless-found : (s : PlainSource) (n : Nest) → AllOf (IsFound s.answers) n → HeadedFound s (headless n)
 headless-found s n all = record { head = tt; rest = all }
 
 sign-stays : (k : TokKind) → is_head_sign k ≡ true → stays k ≡ true
 sign-stays k e = grind arith
 
-named-found-if : (s : Source) (b : Bool) (t u : Seen) (rest : Nest) → is_name t.kind ≡ true → is_head_sign u.kind ≡ b
+named-found-if : (s : PlainSource) (b : Bool) (t u : Seen) (rest : Nest) → is_name t.kind ≡ true → is_head_sign u.kind
+    ≡ b
     → AllOf (IsFound s.answers) (Leaf t (Leaf u rest)) → HeadedFound s
     (if b then record { head = Named t.span.start u.span.start; rest = rest } else headless (Leaf t (Leaf u rest)))
 named-found-if s b t u rest is sign all = grind (arith, sign-stays, headless-found)
 
-named-found : (s : Source) (t : Seen) (rest : Nest) → is_name t.kind ≡ true → AllOf (IsFound s.answers) (Leaf t rest)
+named-found : (s : PlainSource) (t : Seen) (rest : Nest) → is_name t.kind ≡ true → AllOf (IsFound s.answers)
+    (Leaf t rest)
     → HeadedFound s (named_headed t rest)
 named-found s t rest is all = grind (arith, headless-found, named-found-if)
 
-head-found-by : (s : Source) (k : TokKind) (t : Seen) (rest : Nest) → t.kind ≡ k
+head-found-by : (s : PlainSource) (k : TokKind) (t : Seen) (rest : Nest) → t.kind ≡ k
     → AllOf (IsFound s.answers) (Leaf t rest) → HeadedFound s (headed_by k t rest)
 head-found-by s k t rest e all =
     grind (arith, head-words-are, stays, head-words-fit, named-found, is_name, headless-found)
 
-head-found : (s : Source) (n : Nest) → AllOf (IsFound s.answers) n → HeadedFound s (headed n)
+head-found : (s : PlainSource) (n : Nest) → AllOf (IsFound s.answers) n → HeadedFound s (headed n)
 head-found s n all = grind (arith, headless-found, head-found-by)
 
-number-owns : (s : Source) (number : ℕ) → NumberOf s stays number → Owns s number
+number-owns : (s : PlainSource) (number : ℕ) → NumberOf s stays number → Owns s number
 number-owns s number is = subst (Owns s) is.1.0 (found-owns s is.0 is.1.1.0 is.1.1.1)
 
 -- the words of a head
-tokens-none : (s : Source) → TokensWalk s []
+tokens-none : (s : PlainSource) → TokensWalk s []
 tokens-none s rest walks = walks
 
-tokens-append : (s : Source) (xs ys : List Token) → TokensWalk s xs → TokensWalk s ys → TokensWalk s (xs ++ ys)
+tokens-append : (s : PlainSource) (xs ys : List Token) → TokensWalk s xs → TokensWalk s ys → TokensWalk s (xs ++ ys)
 tokens-append s xs ys f g rest walks = grind (arith, append_assoc)
 
 word-stays : (k : TokKind) → is_word k ≡ true → stays k ≡ true
 word-stays k e = grind arith
 
 -- each of some tokens has its bytes
-abbrev EachWalks : Source → List Token → Type 0
+abbrev EachWalks : PlainSource → List Token → Type 0
 EachWalks s [] = Unit {0}
 EachWalks s (t ∷ ts) = TokensWalk s (t ∷ []) × EachWalks s ts
 
-each-walk : (s : Source) (tokens : List Token) → EachWalks s tokens → TokensWalk s tokens
+each-walk : (s : PlainSource) (tokens : List Token) → EachWalks s tokens → TokensWalk s tokens
 each-walk s [] each = tokens-none s
 each-walk s (t ∷ ts) each = tokens-append s (t ∷ []) ts each.0 (each-walk s ts each.1)
 
-each-append : (s : Source) (xs ys : List Token) → EachWalks s xs → EachWalks s ys → EachWalks s (xs ++ ys)
+each-append : (s : PlainSource) (xs ys : List Token) → EachWalks s xs → EachWalks s ys → EachWalks s (xs ++ ys)
 each-append s [] ys f g = g
 each-append s (x ∷ xs) ys f g = (f.0, each-append s xs ys f.1 g)
 
 -- a name has one token
-name-each : (s : Source) (c : Cat) (name : NameId) (n : ℕ) → Owns s n → EachWalks s (word_form c name n).tokens
+name-each : (s : PlainSource) (c : Cat) (name : NameId) (n : ℕ) → Owns s n → EachWalks s (word_form c name n).tokens
 name-each s Exp name n owns = (word-walks s Exp name n owns, tt)
 name-each s c name n owns = (word-walks s c name n owns, tt)
 
-word-each : (s : Source) (k : TokKind) (text : List ℕ) (hash_line : Bool) (d : Directive) (n : ℕ) (names : List Entry)
+word-each : (s : PlainSource) (k : TokKind) (text : List ℕ) (hash_line : Bool) (d : Directive) (n : ℕ)
+    (names : List Entry)
     → is_word k ≡ true → Owns s n → EachWalks s (form_tokens (token_form k text hash_line d n names))
 word-each s k text hash_line d n names is owns = grind (arith, name-each, form-walks)
 
-spelled-each : (s : Source) (words : List Seen) (names : List Entry) → list_all word_kind words ≡ true
+spelled-each : (s : PlainSource) (words : List Seen) (names : List Entry) → list_all word_kind words ≡ true
     → Each (IsFound s.answers) words → EachWalks s (spelled words names).tokens
 spelled-each s [] names are all = tt
 spelled-each s (t ∷ words) names are all =
@@ -226,24 +231,24 @@ spelled-each s (t ∷ words) names are all =
     (word-each s t.kind t.text t.hash_line t.directive t.span.start names is owns) (spelled-each s words
     (names_with t.kind t.text names) (both-right (word_kind t) (list_all word_kind words) are) all.1)
 
-control-walks : (s : Source) (rest : List Token) → Walks s (tree_in [] rest)
+control-walks : (s : PlainSource) (rest : List Token) → Walks s (tree_in [] rest)
     → Walks s (tree_in [] (token.Control control.Dollar ∷ rest))
 control-walks s rest walks = sign-walks s control.Dollar (tree_in [] rest) tt walks
 
-dollared-walks : (s : Source) (tokens : List Token) → TokensWalk s tokens → TokensWalk s (dollared tokens)
+dollared-walks : (s : PlainSource) (tokens : List Token) → TokensWalk s tokens → TokensWalk s (dollared tokens)
 dollared-walks s [] walks = tokens-none s
 dollared-walks s (t ∷ ts) walks = grind (arith, common_steps, control-walks, tokens-append)
 
 -- the names of a format definition, with the dollars of macros of TeX
-names-walk : (s : Source) (tokens : List Token) → EachWalks s tokens → TokensWalk s (names_in_text tokens)
+names-walk : (s : PlainSource) (tokens : List Token) → EachWalks s tokens → TokensWalk s (names_in_text tokens)
 names-walk s [] each = tokens-none s
 names-walk s (t ∷ ts) each = tokens-append s (name_in_text t) (names_in_text ts) (if-both (TokensWalk s) (is_macro t)
     (dollared (t ∷ [])) (t ∷ []) (λ h. dollared-walks s (t ∷ []) each.0) (λ h. each.0)) (names-walk s ts each.1)
 
-break-walks : (s : Source) → TokensWalk s (token.Control control.OptionalBreak ∷ [])
+break-walks : (s : PlainSource) → TokensWalk s (token.Control control.OptionalBreak ∷ [])
 break-walks s rest walks = sign-walks s control.OptionalBreak (tree_in [] rest) tt walks
 
-dead-made : (s : Source) (number : ℕ) (tokens : List Token) (known : Known) → Owns s number → TokensWalk s tokens
+dead-made : (s : PlainSource) (number : ℕ) (tokens : List Token) (known : Known) → Owns s number → TokensWalk s tokens
     → MadeWalks s (one_scrap (leaf_scrap (dead number tokens)) known)
 dead-made s number tokens known owns walks = made-scrap s (leaf_scrap (dead number tokens)) known
     (sign-walks s control.Backup (Then (SourceLeaf number Text) (tree_in [] tokens)) tt
@@ -256,7 +261,7 @@ each-first P (w ∷ words) all = (all.0, tt)
 each-later : (P : Seen → Type 0) (words : List Seen) → Each P words → Each P (later_words words)
 each-later P words all = grind arith
 
-head-made : (s : Source) (flags : Flags) (named : NameTexts) → AreTitled s named → (h : Head) (known : Known)
+head-made : (s : PlainSource) (flags : Flags) (named : NameTexts) → AreTitled s named → (h : Head) (known : Known)
     → HeadFound s h → MadeWalks s (head_made flags named h known)
 head-made s flags named titled Headless known found = made-none s known
 head-made s flags named titled (Silent words) known found = made-none s _
@@ -286,7 +291,7 @@ head-made s flags named titled (Named number sign) known found =
 
 -- ## The whole text
 
-pub headed-walks : (s : Source) (flags : Flags) (named : NameTexts) (n : Nest) (known : Known)
+pub headed-walks : (s : PlainSource) (flags : Flags) (named : NameTexts) (n : Nest) (known : Known)
     → AreTitled s named → IsWell false (headed n).rest → AllOf (IsFound s.answers) n
     → Walks s (end_of flags (headed_made flags named (headed n) known)).tree
 headed-walks s flags named n known titled well all =

@@ -1,10 +1,10 @@
 -- Worked texts: what plain text has of their tokens, and what a scan of it gives.
 use Rattle.cw_plain_laws.proofs.Terms.{◌≡◌, ◌==◌, ℕ, List, [], ◌∷◌, Option, Some, None, codes, cond, drop, refl, Own}
-use Rattle.cw_plain_laws.proofs.Terms.{Source, plain_inks, own_ink, own_inks, AreSimpleTokens, BeginsBefore}
+use Rattle.cw_plain_laws.proofs.Terms.{PlainSource, plain_inks, own_ink, own_inks, AreSimpleTokens, BeginsBefore}
 use Rattle.cw_plain_laws.proofs.Terms.{all_unplaced, part_tokens, Answer, SourceItem, IdentItem, SignItem, Open, Close}
 use Rattle.cw_plain_laws.proofs.Terms.{Break, Cancel, CommentEnd, NameEnd, NameText}
 
-abbrev over : List ℕ → (ℕ → Option (List ℕ)) → Source
+abbrev over : List ℕ → (ℕ → Option (List ℕ)) → PlainSource
 over text titles = record { answers = part_tokens text; titles = titles }
 
 -- ## Its tokens

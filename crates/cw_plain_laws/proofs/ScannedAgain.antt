@@ -1,7 +1,7 @@
 -- The plain text of a C part of simple tokens is scanned as these tokens.
 use Rattle.cw_plain_laws.proofs.Terms.{◌≡◌, ℕ, true, false, List, [], ◌∷◌, Option, is_some, refl, sym, ap, subst, ◌∙◌}
 use Rattle.cw_plain_laws.proofs.Terms.{c-texts-nested, tokens_of, Other, Run, Stretch, stretches, with_move, Piece}
-use Rattle.cw_plain_laws.proofs.Terms.{Word, Part, Ending, Opening, Closing, Move, Nothing, Source, found_placed}
+use Rattle.cw_plain_laws.proofs.Terms.{Word, Part, Ending, Opening, Closing, Move, Nothing, PlainSource, found_placed}
 use Rattle.cw_plain_laws.proofs.Terms.{number_placed, outside, pieces, token_placed, text_source, text_tree}
 use Rattle.cw_plain_laws.proofs.Terms.{AreSimpleTokens, BeginsBefore, PlainScansAgain, is_program, is_simple}
 use Rattle.cw_plain_laws.proofs.Terms.{all_unplaced, begins_section_in, is_section_kind, or-false, translated-shown}
@@ -44,7 +44,7 @@ simple-placed number title (kind.Code code.Quote) text is = refl
 simple-placed number title (kind.Sign sign) text is = refl
 simple-placed number title _ text is = absurd cc
 
-number-word : (s : Source) (t : Seen) → IsFound s.answers t → is_simple t.kind ≡ true
+number-word : (s : PlainSource) (t : Seen) → IsFound s.answers t → is_simple t.kind ≡ true
     → (number_placed s t.span.start outside).piece ≡ Word t.span.start t.text
 number-word s t found is =
     let n = t.span.start in
@@ -69,7 +69,8 @@ simple-word n k (b ∷ bytes) ss are alone = record { simple = ((k, alone), are)
 first-number : (n m : ℕ) (ns ms : List ℕ) → n ∷ ns ≡ m ∷ ms → (n ≡ m) × (ns ≡ ms)
 first-number n m ns ms e = (cc, cc)
 
-a-word : (s : Source) (n : ℕ) (bytes : List ℕ) (ps : List Piece) (t : Seen) (answers : List Answer) → n ≡ t.span.start
+a-word : (s : PlainSource) (n : ℕ) (bytes : List ℕ) (ps : List Piece) (t : Seen) (answers : List Answer) → n
+    ≡ t.span.start
     → Word n bytes ≡ (number_placed s n outside).piece → is_simple t.kind ≡ true → IsAloneText t.kind t.text
     → IsOutside t → IsFound s.answers t → AreWords ps answers → AreWords (Word n bytes ∷ ps) (Token t ∷ answers)
 a-word s n bytes ps t answers e own is alone line found rest =
@@ -87,7 +88,7 @@ a-word s n bytes ps t answers e own is alone line found rest =
       }) ∷ rest.words i);
     }
 
-words-are : (s : Source) (ps : List Piece) (answers : List Answer) → AreOwn s ps → AreUnbarred ps
+words-are : (s : PlainSource) (ps : List Piece) (answers : List Answer) → AreOwn s ps → AreUnbarred ps
     → owners ps ≡ starts_of answers → AreSimpleTokens answers → AreAlone answers
     → AllTokens (IsFound s.answers) answers → AreWords ps answers
 words-are s [] [] own free numbers are alone found = record { simple = tt; words = refl }

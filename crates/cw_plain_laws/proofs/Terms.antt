@@ -25,9 +25,11 @@ pub use Rattle.cw_plain.specs.Lines.{clash, is_wordy, Stretch, Run, Other, Ink, 
 pub use Rattle.cw_plain.specs.Lines.{blank_before, break_text, indent, ink_bytes, ink_text, is_bracket, is_joining}
 pub use Rattle.cw_plain.specs.Lines.{laid, laid_from, last_behind, signs_touch, words_touch, piece_inks, run_text}
 pub use Rattle.cw_plain.specs.Lines.{stretches, level_behind, backed, cut_off, with_move, behind_piece}
-pub use Rattle.cw_plain.specs.Pieces.{Piece, Word, Part, Ending, Opening, Closing, Move, Nothing, Source, found_placed}
+pub use Rattle.cw_plain.specs.Pieces.{Piece, Word, Part, Ending, Opening, Closing, Move, Nothing, PlainSource}
+pub use Rattle.cw_plain.specs.Pieces.{found_placed}
 pub use Rattle.cw_plain.specs.Pieces.{number_placed, outside, pieces, token_placed, Stand, pieces_from, pieces_in}
-pub use Rattle.cw_plain.specs.Pieces.{control_placed, item_placed, Placed, comment_end, name_behind, passed, before}
+pub use Rattle.cw_plain.specs.Pieces.{control_placed, item_placed, PlacedPiece, comment_end, name_behind, passed}
+pub use Rattle.cw_plain.specs.Pieces.{before}
 pub use Rattle.cw_plain.specs.Pieces.{in_name, placed}
 pub use Rattle.cw_plain.specs.Plain.{plain_inks}
 pub use Rattle.cw_plain_laws.specs.OwnLaws.{text_source, text_tree, AddsLittle, MayBeAdded, PlainAddsLittle, own_ink}
@@ -41,10 +43,11 @@ pub use Rattle.cw_rules.proofs.Sizes.{digits-le, mantissa-le, number-le, constan
 pub use Rattle.cw_rules.proofs.Taking.{AreNotes, AreBare, TakesAll, bare-all-cut, found-takes}
 pub use Rattle.cw_rules.specs.{model.Apart.found_apart, model.Apart.code_text_apart, Prefixes.is_prefix_letter}
 pub use Rattle.cw_rules.specs.{Prefixes.prefix_size, Signs.spelling, Signs.all_signs, Signs.longest, Signs.longer}
-pub use Rattle.cw_rules.specs.{declared.bodies.Inside.Inside, declared.bodies.Noted.Noted, declared.classes.Class.Class}
+pub use Rattle.cw_rules.specs.{declared.bodies.Inside.Inside, declared.bodies.NoteAt.Noted}
+pub use Rattle.cw_rules.specs.{declared.classes.Class.Class}
 pub use Rattle.cw_rules.specs.{declared.codes.Code.Code, declared.tokens.Mode.Mode}
 pub use Rattle.cw_rules.specs.{declared.tokens.Mode.TheVariants.CPart, declared.tokens.TokKind.TokKind}
-pub use Rattle.cw_rules.specs.Answers.{plain, Answer, Token, Where, Begin, Finish, Note, Seen, Cut, Found, token_of}
+pub use Rattle.cw_rules.specs.Answers.{plain, Answer, Token, Where, Begin, Finish, Note, Seen, Cut, ScanStep, token_of}
 pub use Rattle.cw_rules.specs.Answers.{is_head_sign, note_answers}
 pub use Rattle.cw_rules.specs.Bodies.{at_start, ended, goes_on, note_here, noted, stepped, takes_next, with_note}
 pub use Rattle.cw_rules.specs.Bodies.{is_single, stops, extent, all_notes, and_last, note_unless}
@@ -58,7 +61,7 @@ pub use Rattle.cw_translator.specs.NameParts.{name_texts, texts_kept}
 pub use Rattle.cw_trees.specs.Flat.{flat, trimmed_items, Item, SignItem, begins_after, is_break, is_inserted, trim_back}
 pub use Rattle.cw_trees.specs.Flat.{trim_front, without_inserted, Open, Close, leaf_item, struck, IdentItem}
 pub use Rattle.cw_trees.specs.Flat.{ReservedItem, continues_name, SourceItem}
-pub use Rattle.cw_trees.specs.Joining.{Scrap, no_scrap, Joined, Whole, Mark, after, blank_and_whole, dollar_before}
+pub use Rattle.cw_trees.specs.Joining.{Scrap, no_scrap, JoinPiece, Whole, Mark, after, blank_and_whole, dollar_before}
 pub use Rattle.cw_trees.specs.Joining.{scrap_in_text, joined_tree, needs, toggled, whole}
 pub use Rattle.cw_trees.specs.Tree.{Tree, Empty, Then, Sign, Sub, Inner, Search, Stopped, first_ident, reserve_first}
 pub use Rattle.cw_trees.specs.Tree.{reserved_leaf, search_leaf, Ident, Reserved}

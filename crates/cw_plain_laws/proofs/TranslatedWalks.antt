@@ -1,7 +1,8 @@
 -- The plain text of a translation has the bytes of each token that is shown.
 use Rattle.cw_plain_laws.proofs.Terms.{◌≡◌, ℕ, true, false, List, Option, is_some, subst, arith, Flags, c-texts-nested}
 use Rattle.cw_plain_laws.proofs.Terms.{headed, without_head, tokens_of, IsWell, nest, IsNested, begins_section_in}
-use Rattle.cw_plain_laws.proofs.Terms.{is_c_mode, Entry, Source, PlainHasEachToken, own_ink, text_source, text_tree}
+use Rattle.cw_plain_laws.proofs.Terms.{is_c_mode, Entry, PlainSource, PlainHasEachToken, own_ink, text_source}
+use Rattle.cw_plain_laws.proofs.Terms.{text_tree}
 use Rattle.cw_plain_laws.proofs.Terms.{translated-shown, Answer, Mode, texts_kept}
 use Rattle.cw_base.specs.declared.span.Span.{Span}
 use Rattle.cw_lex.proofs.{HeadNests.head-leaves, Nests.nest-well}
@@ -15,7 +16,8 @@ use Rattle.cw_translator.specs.Translating.{NameTexts, begin, translated}
 kept-titled : (kept : List SecName) (o : Option ℕ) → is_some (text_kept kept o) ≡ is_some (texts_kept kept o)
 kept-titled kept o = grind (arith, is_some)
 
-pub translated-walks : (s : Source) (flags : Flags) (named : NameTexts) (answers : List Answer) (names : List Entry)
+pub translated-walks : (s : PlainSource) (flags : Flags) (named : NameTexts) (answers : List Answer)
+    (names : List Entry)
     (marks : List ℕ) → AreTitled s named → IsNested answers → AllTokens (IsFound s.answers) answers
     → Walks s (translated flags named answers names marks).tree
 unfolding translated

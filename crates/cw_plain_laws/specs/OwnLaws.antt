@@ -6,7 +6,7 @@ use Rattle.cw_base.specs.declared.span.Span.{Span}
 use Rattle.cw_lex.specs.Lexing.{tokens_of}
 use Rattle.cw_names.specs.Names.{Entry}
 use Rattle.cw_plain.specs.Lines.{Ink, Own, Added}
-use Rattle.cw_plain.specs.Pieces.{Piece, Word, Part, Source, number_placed, outside}
+use Rattle.cw_plain.specs.Pieces.{Piece, Word, Part, PlainSource, number_placed, outside}
 use Rattle.cw_plain.specs.Plain.{plain_inks}
 use Rattle.cw_plain.specs.Titles.{source_by}
 use Rattle.cw_reduce.specs.WholeTexts.{IsCText, shown_in_text}
@@ -33,7 +33,7 @@ token_bytes (Word number bytes) = bytes
 token_bytes (Part number bytes) = bytes
 token_bytes piece = []
 
-abbrev pub own_ink : Source → ℕ → Ink
+abbrev pub own_ink : PlainSource → ℕ → Ink
 own_ink s number = Own number (token_bytes (number_placed s number outside).piece)
 
 -- What may be added: blanks and line ends, a bar, and the end of a comment.
@@ -45,7 +45,7 @@ AddsLittle (Own number bytes) = Unit {0}
 AddsLittle (Added bytes) = MayBeAdded bytes
 
 -- A C text over these section names and their uses: what it is made plain from, and the tree of its translation.
-abbrev pub text_source : List SecName → List NameUse → List ℕ → Span → Mode → Source
+abbrev pub text_source : List SecName → List NameUse → List ℕ → Span → Mode → PlainSource
 text_source kept uses text span mode = source_by (tokens_of text span.start span.«end» mode) kept uses
 
 abbrev pub text_tree : Flags → List SecName → List NameUse → List ℕ → Span → Mode → List Entry → List ℕ → Tree
@@ -63,4 +63,4 @@ PlainHasEachToken = (flags : Flags) (kept : List SecName) (uses : List NameUse) 
 
 -- All else that stands in plain text is white space, bars and ends of comments.
 abbrev pub PlainAddsLittle : Type 0
-PlainAddsLittle = (s : Source) (items : List Item) → All AddsLittle (plain_inks s items)
+PlainAddsLittle = (s : PlainSource) (items : List Item) → All AddsLittle (plain_inks s items)

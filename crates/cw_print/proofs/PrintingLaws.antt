@@ -6,12 +6,13 @@ use Rattle.cw_print.proofs.Terms.{take-append-drop, take_all, take_more, Item, C
 use Rattle.cw_print.proofs.Terms.{run_sign, FlatItem, item_is, items_are, prints-bytes, prints-none, prints-nothing}
 use Rattle.cw_print.proofs.Terms.{prints-stop, prints-then, added, depth_behind, early, late, Stands, CanCome, alone}
 use Rattle.cw_print.proofs.Terms.{AllMay, MayCome, IsBehind, IsMidway, Midway, PrintsOn, shown, shown_next, titles}
-use Rattle.cw_print.proofs.Terms.{Source, Title, items_shown, outside, own_bytes, placed_shown, stand_after, title_in}
+use Rattle.cw_print.proofs.Terms.{PrintSource, Title, items_shown, outside, own_bytes, placed_shown, stand_after}
+use Rattle.cw_print.proofs.Terms.{title_in}
 use Rattle.cw_print.proofs.Terms.{behind}
 use Rattle.std.specs.Prelude.{Result, IsErrAnd, ⊤, option_map}
 use Rattle.std.proofs.lemmas.List.Sums.{fold_push}
 use Rattle.std.proofs.lemmas.Option.{get_or_from_slice_get, slice_get-get_or, slice_get-map, slice_get_within}
-use Rattle.cw_desk.specs.Told.{Told}
+use Rattle.cw_desk.specs.Told.{DeskState}
 use Rattle.cw_lines.specs.{Sheets.Prints, declared.put_error.PutError.PutError}
 use Rattle.cw_lines.specs.{declared.put_error.PutError.TheVariants.Memory, declared.sheet.Sheet.Sheet}
 use Rattle.cw_join.proofs.EarlyLaws.{added-behind, early-added, printed-is}
@@ -21,29 +22,29 @@ use Rattle.cw_print.proofs.ComingLaws.{can-come, opened-most}
 use Rattle.cw_print.proofs.ShownLaws.{own-alone, placed-run, shown-append, stand-more}
 
 -- the bytes were printed, whatever the call answered
-has-printed : {D T : Type 0} {told : D → Told} {bytes : List ℕ} {old new : Sheet D} {value : T}
+has-printed : {D T : Type 0} {told : D → DeskState} {bytes : List ℕ} {old new : Sheet D} {value : T}
     → Prints {T = T} told bytes old new (Ok value) → Prints {T = ⊤} told bytes old new (Ok (tt {0}))
 has-printed {told = told} {new = new} prints = grind (arith, prints-bytes, append-nil, prints-then, prints-none)
 
 -- Memory is refused, and nothing more is written.
-prints-refused : {D : Type 0} {told : D → Told} (bytes : List ℕ) (sheet : Sheet D)
+prints-refused : {D : Type 0} {told : D → DeskState} (bytes : List ℕ) (sheet : Sheet D)
     → Prints {T = ⊤} told bytes sheet sheet (Err Memory)
 prints-refused bytes sheet = prints-nothing bytes sheet refl
 
 -- ## What is printed
 
 -- one item more
-pub shown-more : (s : Source) (items : List Item) (item : Item) → shown s (items ++ item ∷ []) ≡ shown s items
+pub shown-more : (s : PrintSource) (items : List Item) (item : Item) → shown s (items ++ item ∷ []) ≡ shown s items
     ++ shown_next s items item ∷ []
 shown-more s items item = shown-append s items (item ∷ []) outside
 
-early-more : (inner : Bool) (s : Source) (items : List Item) (item : Item) → early inner (shown s items)
+early-more : (inner : Bool) (s : PrintSource) (items : List Item) (item : Item) → early inner (shown s items)
     ++ added inner (shown s items) (shown_next s items item) ≡ early inner (shown s (items ++ item ∷ []))
 early-more inner s items item = grind (arith, early-added, shown-more)
 
 -- ## One item
 
-module _ (s : Source) (inner : Bool) (items : List Item) (printer : Printer) (b : IsBehind s inner items printer)
+module _ (s : PrintSource) (inner : Bool) (items : List Item) (printer : Printer) (b : IsBehind s inner items printer)
     (item : FlatItem)
     (title : Option Title) (titled : title ≡ title_in (titles printer.book.now) (item_is item)) where
   same-title : title ≡ title_in s.titles (item_is item)
@@ -99,7 +100,7 @@ pub printed-by : (inner : Bool) (ps : List Printable) → early inner ps ++ late
 printed-by inner ps = sym (printed-list inner ps ∙ printed-is inner ps)
 
 -- a failure in the first n items is one in the list
-prints-part : {D T U : Type 0} {told : D → Told} (inner : Bool) (s : Source) (items : List Item) (n : ℕ)
+prints-part : {D T U : Type 0} {told : D → DeskState} (inner : Bool) (s : PrintSource) (items : List Item) (n : ℕ)
     {old new : Sheet D} {error : PutError} {result : Result U PutError}
     → Prints {T = T} told (early inner (shown s (take n items))) old new (Err error)
     → IsErrAnd result (λ found. found ≡ error) → Prints told (printed inner (shown s items)) old new result
@@ -139,7 +140,8 @@ module _ (items : List FlatItem) (i : ℕ) (item : FlatItem) (is : slice_get ite
   dropped = drop_more (items_are items) i (item_is item) inside ∙ ap (λ (x : Item). x ∷ drop (i + 1) (items_are items))
       (get_or_from_slice_get (items_are items) i (item_is item) (item_is item) there)
 
-  module _ (s : Source) (inner : Bool) (printer : Printer) (midway : Midway s inner (items_are items) i printer) where
+  module _ (s : PrintSource) (inner : Bool) (printer : Printer) (midway : Midway s inner
+      (items_are items) i printer) where
     abbrev depth : ℕ
     depth = depth_behind (shown s (take i (items_are items)))
 
@@ -168,7 +170,7 @@ module _ (items : List FlatItem) (i : ℕ) (item : FlatItem) (is : slice_get ite
         }
 
 -- What is put and what waits are what the first i items print early.
-pub record Waiting {D : Type 0} (told : D → Told) (inner : Bool) (s : Source) (items : List Item) (i : ℕ)
+pub record Waiting {D : Type 0} (told : D → DeskState) (inner : Bool) (s : PrintSource) (items : List Item) (i : ℕ)
     (buffer : List ℕ) (old new : Sheet D) : Type 0 where
   pub done : List ℕ
   pub put : Prints {T = ⊤} told done old new (Ok (tt {0}))
@@ -176,7 +178,7 @@ pub record Waiting {D : Type 0} (told : D → Told) (inner : Bool) (s : Source) 
 
 -- the items up to a place were printed, of those from another on
 abbrev pub Printed : (items : List Item) (from i : ℕ) (first printer : Printer) (old new : List ℕ) → Type 0
-Printed items from i first printer old new = (s : Source) (inner : Bool) → Midway s inner items from first
+Printed items from i first printer old new = (s : PrintSource) (inner : Bool) → Midway s inner items from first
     → Midway s inner items i printer × PrintsOn s inner items from i old new
 
 module _ (items : List FlatItem) (i : ℕ) (item : FlatItem) (is : slice_get items i
@@ -189,9 +191,10 @@ module _ (items : List FlatItem) (i : ℕ) (item : FlatItem) (is : slice_get ite
       (printed_so some.s some.inner some.midway).0 small
 
   -- one item more
-  pub printed-more : (next : Printer) (new : List ℕ) → ((s : Source) (inner : Bool) (before : List Item) → IsBehind s
+  pub printed-more : (next : Printer) (new : List ℕ) → ((s : PrintSource) (inner : Bool) (before : List Item)
+      → IsBehind s
       inner before printer → new ≡ buffer ++ added inner (shown s before) (shown_next s before (item_is item)))
-      → ((s : Source) (inner : Bool) (before : List Item) → IsBehind s inner before printer → IsBehind s inner
+      → ((s : PrintSource) (inner : Bool) (before : List Item) → IsBehind s inner before printer → IsBehind s inner
       (before ++ item_is item ∷ []) next) → Printed (items_are items) from (i + 1) first next old new
   printed-more next new bytes behind = λ s inner m.
       let k = printed_so s inner m in
@@ -211,7 +214,7 @@ printed-behind items from k first printer old new so = subst (λ (n : ℕ). Prin
 
 -- all items up to the last place are printed
 module _ (items : List Item) (from i to : ℕ) (first printer : Printer) (old new : List ℕ)
-    (printed_so : Printed items from i first printer old new) (is : i ≡ to) (s : Source) (inner : Bool)
+    (printed_so : Printed items from i first printer old new) (is : i ≡ to) (s : PrintSource) (inner : Bool)
     (m : Midway s inner items from first) where
   pub printed-midway : Midway s inner items to printer
   printed-midway = subst (λ (n : ℕ). Midway s inner items n printer) is (printed_so s inner m).0
@@ -220,27 +223,27 @@ module _ (items : List Item) (from i to : ℕ) (first printer : Printer) (old ne
   printed-bytes = subst (λ (n : ℕ). PrintsOn s inner items from n old new) is (printed_so s inner m).1
 
 -- more waits
-pub waits-on : {D : Type 0} {told : D → Told} (inner : Bool) (s : Source) (items : List Item) (from to : ℕ)
+pub waits-on : {D : Type 0} {told : D → DeskState} (inner : Bool) (s : PrintSource) (items : List Item) (from to : ℕ)
     (buffer more : List ℕ) {old new : Sheet D} → Waiting told inner s items from buffer old new
     → PrintsOn s inner items from to buffer more → Waiting told inner s items to more old new
 waits-on inner s items from to buffer more w prints = record { done = w.done; put = w.put; all = prints w.done w.all }
 
 -- what waits is put
-pub waits-none : {D : Type 0} {told : D → Told} (inner : Bool) (s : Source) (items : List Item) (i : ℕ)
+pub waits-none : {D : Type 0} {told : D → DeskState} (inner : Bool) (s : PrintSource) (items : List Item) (i : ℕ)
     (buffer left : List ℕ) {old mid new : Sheet D} → Waiting told inner s items i buffer old mid
     → Prints {T = ⊤} told buffer mid new (Ok (tt {0})) → left ≡ [] → Waiting told inner s items i left old new
 waits-none inner s items i buffer left w put none =
     grind (arith, has-printed (prints-then w.put put), prints-then w.put put, append-nil (w.done ++ buffer))
 
 -- memory is refused while bytes wait
-pub stops-waiting : {D U : Type 0} {told : D → Told} (inner : Bool) (s : Source) (items : List Item) (i : ℕ)
+pub stops-waiting : {D U : Type 0} {told : D → DeskState} (inner : Bool) (s : PrintSource) (items : List Item) (i : ℕ)
     (buffer : List ℕ) {old new : Sheet D} {result : Result U PutError} → Waiting told inner s items i buffer old new
     → IsErrAnd result (λ found. found ≡ Memory) → Prints told (printed inner (shown s items)) old new result
 stops-waiting inner s items i buffer {new = new} w is =
     prints-part inner s items i (prints-bytes w.all (prints-then w.put (prints-refused buffer new))) is
 
 -- what waits is put, and fails
-pub fails-waiting : {D T U : Type 0} {told : D → Told} (inner : Bool) (s : Source) (items : List Item) (i : ℕ)
+pub fails-waiting : {D T U : Type 0} {told : D → DeskState} (inner : Bool) (s : PrintSource) (items : List Item) (i : ℕ)
     (buffer : List ℕ) {old mid new : Sheet D} {error : PutError} {result : Result U PutError}
     → Waiting told inner s items i buffer old mid → Prints {T = T} told buffer mid new (Err error)
     → IsErrAnd result (λ found. found ≡ error) → Prints told (printed inner (shown s items)) old new result
@@ -249,7 +252,8 @@ fails-waiting inner s items i buffer w failed is =
 
 -- ## The beginning and the end
 
-pub midway-begun : (s : Source) (inner : Bool) (items : List Item) (printer : Printer) → IsBehind s inner [] printer
+pub midway-begun : (s : PrintSource) (inner : Bool) (items : List Item) (printer : Printer)
+    → IsBehind s inner [] printer
     → AllMay (MayCome (length s.names)) 0 items → Midway s inner items 0 printer
 midway-begun s inner items printer behind come = record { behind = behind; come = come; shallow = omega arith }
 
@@ -258,12 +262,12 @@ module _ (items : List FlatItem) (n : ℕ) (all : length items ≤ n) where
   short = let same = length-map items item_is in omega arith
 
   -- no inner text is open at the end
-  pub midway-ended : (s : Source) (inner : Bool) (printer : Printer) → Midway s inner (items_are items) n printer
+  pub midway-ended : (s : PrintSource) (inner : Bool) (printer : Printer) → Midway s inner (items_are items) n printer
       → printer.joiner.depth ≡ 0
   midway-ended s inner printer midway = grind (arith, drop_all, short)
 
   -- what waits, and what is left
-  pub prints-all : {D U : Type 0} {told : D → Told} (inner : Bool) (s : Source) (buffer rest : List ℕ)
+  pub prints-all : {D U : Type 0} {told : D → DeskState} (inner : Bool) (s : PrintSource) (buffer rest : List ℕ)
       {old mid new : Sheet D} {result : Result U PutError} → Waiting told inner s (items_are items) n buffer old mid
       → rest ≡ buffer ++ late inner (shown s (take n (items_are items))) → Prints told rest mid new result
       → Prints told (printed inner (shown s (items_are items))) old new result

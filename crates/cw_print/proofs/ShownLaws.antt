@@ -1,16 +1,16 @@
 -- What is shown of a list with more behind it, and what the joiner prints of an item that is shown.
 use Rattle.cw_print.proofs.Terms.{◌≡◌, Bool, true, List, [], ◌∷◌, ◌++◌, Option, Some, None, refl, if◌then◌else◌, arith}
 use Rattle.cw_print.proofs.Terms.{Control, Item, is_run_sign, run_sign, FlatItem, item_is, control_bytes, item_bytes}
-use Rattle.cw_print.proofs.Terms.{Fixed, Source, Stand, Title, control_shown, item_shown, items_shown, own_bytes}
+use Rattle.cw_print.proofs.Terms.{Fixed, PrintSource, Stand, Title, control_shown, item_shown, items_shown, own_bytes}
 use Rattle.cw_print.proofs.Terms.{own_sign, placed_shown, stand_after}
 use Rattle.cw_names.specs.Names.{Entry}
 
-pub shown-append : (s : Source) (items more : List Item) (stand : Stand)
+pub shown-append : (s : PrintSource) (items more : List Item) (stand : Stand)
     → items_shown s (items ++ more) stand ≡ items_shown s items stand ++ items_shown s more (stand_after s items stand)
 shown-append s [] more stand = refl
 shown-append s (first ∷ items) more stand = grind (arith, shown-append s items more (item_shown s first stand).stand)
 
-pub stand-more : (s : Source) (items : List Item) (item : Item) (stand : Stand)
+pub stand-more : (s : PrintSource) (items : List Item) (item : Item) (stand : Stand)
     → stand_after s (items ++ item ∷ []) stand ≡ (item_shown s item (stand_after s items stand)).stand
 stand-more s [] item stand = refl
 stand-more s (first ∷ items) item stand = stand-more s items item (item_shown s first stand).stand

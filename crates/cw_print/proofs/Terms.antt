@@ -24,8 +24,10 @@ pub use Rattle.cw_print.specs.model.Dividing.{has_room, rest_bytes, portion_behi
 pub use Rattle.cw_print.specs.model.Printing.{IsOnlyName, shown, IsBehind, IsMidway, Midway, PrintsOn, shown_next}
 pub use Rattle.cw_print.specs.model.Printing.{source_of}
 pub use Rattle.cw_print.specs.Texts.{string_bytes, divided, divided_units, division, units, include_bytes}
-pub use Rattle.cw_print.specs.Walk.{Source, Title, items_shown, outside, own_bytes, placed_shown, stand_after, title_in}
-pub use Rattle.cw_print.specs.Walk.{Fixed, Stand, control_shown, item_shown, own_sign, later_number, PrintsSign, Shown}
+pub use Rattle.cw_print.specs.Walk.{PrintSource, Title, items_shown, outside, own_bytes, placed_shown, stand_after}
+pub use Rattle.cw_print.specs.Walk.{title_in}
+pub use Rattle.cw_print.specs.Walk.{Fixed, Stand, control_shown, item_shown, own_sign, later_number, PrintsSign}
+pub use Rattle.cw_print.specs.Walk.{ItemPrint}
 pub use Rattle.cw_print.specs.Walk.{bracket, wrapped}
 pub use Rattle.cw_rules.specs.ControlTexts.{text_to_end}
 pub use Rattle.cw_tokens.specs.{FlatItems.items_are, FlatItems.item_is, declared.flat.FlatItem.FlatItem}

@@ -14,7 +14,7 @@ use Rattle.cw_secnames.specs.Uses.{name_at}
 use Rattle.cw_secnames.specs.declared.kinds.SecId.{SecId}
 use Rattle.cw_secnames.specs.declared.kinds.SecKind.{SecKind}
 use Rattle.cw_secnames.specs.declared.kinds.SecKind.TheVariants.{Named, File}
-use Rattle.cw_print.specs.Walk.{Numbered, Source, Title}
+use Rattle.cw_print.specs.Walk.{Numbered, PrintSource, Title}
 
 -- the section of a number; they are counted from 1
 abbrev pub section_of : List Section → ℕ → Option Section
@@ -78,7 +78,7 @@ abbrev pub lists_all : Flags → ℕ → Bool
 lists_all flags section = flags.ranged && section == 0
 
 -- what a C text with these answers of the scanner is printed from
-abbrev pub source_by : List Answer → Book → ℕ → Flags → Source
+abbrev pub source_by : List Answer → Book → ℕ → Flags → PrintSource
 source_by answers book section flags = record {
   fixed = record {
     answers = answers;
@@ -90,5 +90,5 @@ source_by answers book section flags = record {
   names = book.names;
 }
 
-abbrev pub source_at : List ℕ → Span → Mode → Book → ℕ → Flags → Source
+abbrev pub source_at : List ℕ → Span → Mode → Book → ℕ → Flags → PrintSource
 source_at text span mode book section flags = source_by (tokens_of text span.start span.«end» mode) book section flags

@@ -98,11 +98,11 @@ abbrev pub outside : Stand
 outside = record { name = None; braces = [] }
 
 -- what an item prints, and where the printing stands behind it
-pub record Shown : Type 0 where
+pub record ItemPrint : Type 0 where
   pub bytes : List ℕ
   pub stand : Stand
 
-abbrev pub shown_as : List ℕ → Stand → Shown
+abbrev pub shown_as : List ℕ → Stand → ItemPrint
 shown_as bytes stand = record { bytes = bytes; stand = stand }
 
 abbrev pub with_braces : List ℕ → Stand → Stand
@@ -120,25 +120,25 @@ abbrev pub behind_next : List NamePiece → InName
 behind_next [] = record { answers = []; pieces = [] }
 behind_next (p ∷ pieces) = record { answers = p.answers; pieces = pieces }
 
-abbrev pub piece_shown : List ℕ → List NamePiece → Stand → Shown
+abbrev pub piece_shown : List ℕ → List NamePiece → Stand → ItemPrint
 piece_shown before pieces stand = shown_as (before ++ next_bytes pieces) (with_name (Some (behind_next pieces)) stand)
 
-abbrev pub name_begins : Bool → Title → Stand → Shown
+abbrev pub name_begins : Bool → Title → Stand → ItemPrint
 name_begins lists title stand = piece_shown (front lists title) (name_pieces title) stand
 
-abbrev pub name_goes_on : Option InName → Stand → Shown
+abbrev pub name_goes_on : Option InName → Stand → ItemPrint
 name_goes_on None stand = shown_as [] stand
 name_goes_on (Some name) stand = piece_shown [] name.pieces stand
 
 -- ## Comments and tokens
 
-abbrev pub in_stand : Stand → TokenShown → Shown
+abbrev pub in_stand : Stand → TokenShown → ItemPrint
 in_stand stand shown = shown_as shown.bytes (with_braces shown.braces stand)
 
-abbrev pub found_shown : Bool → Option Seen → Stand → Shown
+abbrev pub found_shown : Bool → Option Seen → Stand → ItemPrint
 found_shown first token stand = in_stand stand (number_shown first token stand.braces)
 
-abbrev pub comment_ends : Stand → Shown
+abbrev pub comment_ends : Stand → ItemPrint
 comment_ends stand = shown_as (closing_braces (innermost stand.braces)) (with_braces (others stand.braces) stand)
 
 -- ## Items
@@ -152,7 +152,7 @@ pub record Fixed : Type 0 where
   pub lists : Bool
 
 -- A section name prints its title, where it has one.
-abbrev pub named_shown : Bool → Option Title → Stand → Shown
+abbrev pub named_shown : Bool → Option Title → Stand → ItemPrint
 named_shown lists None stand = shown_as [] stand
 named_shown lists (Some title) stand = name_begins lists title stand
 
@@ -160,7 +160,7 @@ abbrev pub is_name_token : Option Seen → Bool
 is_name_token None = false
 is_name_token (Some token) = is_name_kind token.kind
 
-abbrev pub seen_shown : Bool → Bool → Option Title → Option Seen → Stand → Shown
+abbrev pub seen_shown : Bool → Bool → Option Title → Option Seen → Stand → ItemPrint
 seen_shown first lists title token stand =
     if is_name_token token then named_shown lists title stand
     else found_shown first token stand
@@ -171,26 +171,26 @@ PrintsSign sign token =
     (first lists : Bool) (title : Option Title) (stand : Stand) → seen_shown first lists title token stand
     ≡ shown_as (sign_macro sign) stand
 
-abbrev pub outer_shown : Fixed → Option Title → ℕ → Stand → Shown
+abbrev pub outer_shown : Fixed → Option Title → ℕ → Stand → ItemPrint
 outer_shown f title number stand = seen_shown f.first f.lists title (numbered number f.answers) stand
 
 -- A number stands for a token of the text, perhaps a section name; or, in a section name, for a token of its inner
 -- text.
-abbrev pub source_shown : Fixed → Option Title → Option InName → ℕ → Stand → Shown
+abbrev pub source_shown : Fixed → Option Title → Option InName → ℕ → Stand → ItemPrint
 source_shown f title None number stand = outer_shown f title number stand
 source_shown f title (Some name) number stand = found_shown f.first (numbered number name.answers) stand
 
 abbrev pub bracket : Bool → List ℕ → List ℕ
 bracket wraps bytes = list_if wraps bytes
 
-abbrev pub control_shown : Control → Stand → Shown
+abbrev pub control_shown : Control → Stand → ItemPrint
 control_shown CommentEnd stand = comment_ends stand
 control_shown NameText stand = name_goes_on stand.name stand
 control_shown NameEnd stand = shown_as (codes "\\X") (with_name None stand)
 control_shown control stand = shown_as [] stand
 
 -- What an item prints by where it stands, where this is the title of its number.
-abbrev pub placed_shown : Fixed → Option Title → Item → Stand → Shown
+abbrev pub placed_shown : Fixed → Option Title → Item → Stand → ItemPrint
 placed_shown f title (SourceItem number) stand = source_shown f title stand.name number stand
 placed_shown f title (SignItem control) stand = control_shown control stand
 placed_shown f title Open stand = shown_as (bracket f.wraps (codes "\\PB{")) stand
@@ -209,7 +209,7 @@ own_bytes names (SignItem control) = own_sign control
 own_bytes names item = []
 
 -- What a flat list is printed from: what is fixed, the titles of section names by their numbers, and the names.
-pub record Source : Type 0 where
+pub record PrintSource : Type 0 where
   pub fixed : Fixed
   pub titles : ℕ → Option Title
   pub names : List Entry
@@ -218,33 +218,33 @@ abbrev pub title_in : (ℕ → Option Title) → Item → Option Title
 title_in titles (SourceItem number) = titles number
 title_in titles item = None
 
-abbrev pub behind_own : List ℕ → Shown → Shown
+abbrev pub behind_own : List ℕ → ItemPrint → ItemPrint
 behind_own bytes shown = shown_as (bytes ++ shown.bytes) shown.stand
 
-abbrev pub item_shown : Source → Item → Stand → Shown
+abbrev pub item_shown : PrintSource → Item → Stand → ItemPrint
 item_shown s item stand = behind_own (own_bytes s.names item) (placed_shown s.fixed (title_in s.titles item) item stand)
 
-abbrev pub shown_before : Item → Shown → (Stand → List Printable) → List Printable
+abbrev pub shown_before : Item → ItemPrint → (Stand → List Printable) → List Printable
 shown_before item shown rest = record { item = item; bytes = shown.bytes } ∷ rest shown.stand
 
-abbrev pub items_shown : Source → List Item → Stand → List Printable
+abbrev pub items_shown : PrintSource → List Item → Stand → List Printable
 items_shown s [] stand = []
 items_shown s (item ∷ items) stand = shown_before item (item_shown s item stand) (items_shown s items)
 
 -- where the printing stands behind a list
-abbrev pub stand_after : Source → List Item → Stand → Stand
+abbrev pub stand_after : PrintSource → List Item → Stand → Stand
 stand_after s [] stand = stand
 stand_after s (item ∷ items) stand = stand_after s items (item_shown s item stand).stand
 
 -- ## The whole list
 
 -- a flat list, as the C text of a part or a definition, or as inner C text
-abbrev pub flat_bytes : Bool → Source → List Item → List ℕ
+abbrev pub flat_bytes : Bool → PrintSource → List Item → List ℕ
 flat_bytes inner s items = printed inner (items_shown s (trimmed_items items) outside)
 
 -- Inner C text is wrapped, also where it is the text itself.
 abbrev pub wrapped : Bool → List ℕ → List ℕ
 wrapped wraps bytes = bracket wraps (codes "\\PB{") ++ (bytes ++ bracket wraps (codes "}"))
 
-abbrev pub tree_bytes : Bool → Source → Tree → List ℕ
+abbrev pub tree_bytes : Bool → PrintSource → Tree → List ℕ
 tree_bytes inner s tree = wrapped (inner && s.fixed.wraps) (flat_bytes inner s (flat tree))

@@ -4,7 +4,7 @@ ghost use Rattle.cw_lex.specs.Nested.{begins_section_in};
 ghost use Rattle.cw_trees.specs.Flat.{Item, Open as open_item, Close as close_item};
 ghost use Rattle.cw_trees.specs.Printing.{ident_bytes, printed};
 ghost use Rattle.cw_tokens.specs.FlatItems.{item_is, items_are};
-ghost use Rattle.cw_tokens.specs.declared.flat.FlatItem.TheVariants.{Source as FlatSource, Ident as FlatIdent};
+ghost use Rattle.cw_tokens.specs.declared.flat.FlatItem.TheVariants.{PrintSource as FlatSource, Ident as FlatIdent};
 ghost use Rattle.cw_tokens.specs.declared.flat.FlatItem.TheVariants.{Reserved as FlatReserved};
 ghost use Rattle.cw_tokens.specs.declared.flat.FlatItem.TheVariants.{Control as FlatControl, Open, Close};
 ghost use Rattle.cw_tokens.specs.Shapes.{unfolded};
@@ -17,7 +17,7 @@ ghost use Rattle.cw_print.specs.model.Coming.{AllMay, MayCome};
 ghost use Rattle.cw_print.specs.model.Printing.{IsBehind, IsMidway, IsOnlyName, Midway, PrintsOn, shown};
 ghost use Rattle.cw_print.specs.model.Printing.{shown_next, source_of};
 ghost use Rattle.cw_print.specs.Sources.{lists_all, source_by};
-ghost use Rattle.cw_print.specs.Walk.{Source, bracket, tree_bytes, wrapped};
+ghost use Rattle.cw_print.specs.Walk.{PrintSource, bracket, tree_bytes, wrapped};
 
 use crate::book_titles::is_first;
 use crate::walk::{Manner, TextWalk, is_placed};
@@ -93,9 +93,9 @@ impl<'s, 'a> Printer<'s, 'a> {
         requires order { from ≤ to }
         requires within { to ≤ length items.now }
         requires midway { IsMidway (items_are items.now) from self.old }
-        ensures bytes { (s : Source) (inner : Bool) → Midway s inner (items_are items.now) from self.old
+        ensures bytes { (s : PrintSource) (inner : Bool) → Midway s inner (items_are items.now) from self.old
             → OnOk result (PrintsOn s inner (items_are items.now) from to buffer.old buffer.new) }
-        ensures midway { (s : Source) (inner : Bool) → Midway s inner (items_are items.now) from self.old
+        ensures midway { (s : PrintSource) (inner : Bool) → Midway s inner (items_are items.now) from self.old
             → OnOk result (Midway s inner (items_are items.now) to self.new) }
     {
         for item in &items[from..to] {
@@ -122,7 +122,7 @@ impl<'s, 'a> Printer<'s, 'a> {
         requires can { CanPrint D.told sheet.old }
         requires empty { buffer.old ≡ [] }
         requires midway { IsMidway (items_are items.now) 0 self.old }
-        ensures { (s : Source) (inner : Bool) → Midway s inner (items_are items.now) 0 self.old
+        ensures { (s : PrintSource) (inner : Bool) → Midway s inner (items_are items.now) 0 self.old
             → Prints D.told (printed inner (shown s (items_are items.now))) sheet.old sheet.new result }
     {
         let mut at = 0;
@@ -142,10 +142,10 @@ impl<'s, 'a> Printer<'s, 'a> {
     #[inline(always)]
     fn source(&mut self, number: u32, buffer: &mut Bytes) -> Result<(), Memory>
         requires come { CanCome (length self.old.book.now.names) self.old.joiner.depth (FlatSource number) }
-        ensures bytes { (s : Source) (inner : Bool) (items : List Item) → IsBehind s inner items self.old
+        ensures bytes { (s : PrintSource) (inner : Bool) (items : List Item) → IsBehind s inner items self.old
             → OnOk result (buffer.new ≡ buffer.old
             ++ added inner (shown s items) (shown_next s items (item_is (FlatSource number)))) }
-        ensures behind { (s : Source) (inner : Bool) (items : List Item) → IsBehind s inner items self.old
+        ensures behind { (s : PrintSource) (inner : Bool) (items : List Item) → IsBehind s inner items self.old
             → OnOk result (IsBehind s inner (items ++ item_is (FlatSource number) ∷ []) self.new) }
     {
         self.joiner
@@ -157,10 +157,10 @@ impl<'s, 'a> Printer<'s, 'a> {
     #[inline(always)]
     fn control(&mut self, control: Control, buffer: &mut Bytes) -> Result<(), Memory>
         requires come { CanCome (length self.old.book.now.names) self.old.joiner.depth (FlatControl control) }
-        ensures bytes { (s : Source) (inner : Bool) (items : List Item) → IsBehind s inner items self.old
+        ensures bytes { (s : PrintSource) (inner : Bool) (items : List Item) → IsBehind s inner items self.old
             → OnOk result (buffer.new ≡ buffer.old
             ++ added inner (shown s items) (shown_next s items (item_is (FlatControl control)))) }
-        ensures behind { (s : Source) (inner : Bool) (items : List Item) → IsBehind s inner items self.old
+        ensures behind { (s : PrintSource) (inner : Bool) (items : List Item) → IsBehind s inner items self.old
             → OnOk result (IsBehind s inner (items ++ item_is (FlatControl control) ∷ []) self.new) }
     {
         self.joiner
@@ -175,10 +175,10 @@ impl<'s, 'a> Printer<'s, 'a> {
     #[inline(never)]
     fn ident(&mut self, name: NameId, number: u32, buffer: &mut Bytes) -> Result<(), Memory>
         requires come { CanCome (length self.old.book.now.names) self.old.joiner.depth (FlatIdent name number) }
-        ensures bytes { (s : Source) (inner : Bool) (items : List Item) → IsBehind s inner items self.old
+        ensures bytes { (s : PrintSource) (inner : Bool) (items : List Item) → IsBehind s inner items self.old
             → OnOk result (buffer.new ≡ buffer.old
             ++ added inner (shown s items) (shown_next s items (item_is (FlatIdent name number)))) }
-        ensures behind { (s : Source) (inner : Bool) (items : List Item) → IsBehind s inner items self.old
+        ensures behind { (s : PrintSource) (inner : Bool) (items : List Item) → IsBehind s inner items self.old
             → OnOk result (IsBehind s inner (items ++ item_is (FlatIdent name number) ∷ []) self.new) }
     {
         self.joiner
@@ -190,10 +190,10 @@ impl<'s, 'a> Printer<'s, 'a> {
     #[inline(never)]
     fn reserved(&mut self, name: NameId, number: u32, buffer: &mut Bytes) -> Result<(), Memory>
         requires come { CanCome (length self.old.book.now.names) self.old.joiner.depth (FlatReserved name number) }
-        ensures bytes { (s : Source) (inner : Bool) (items : List Item) → IsBehind s inner items self.old
+        ensures bytes { (s : PrintSource) (inner : Bool) (items : List Item) → IsBehind s inner items self.old
             → OnOk result (buffer.new ≡ buffer.old
             ++ added inner (shown s items) (shown_next s items (item_is (FlatReserved name number)))) }
-        ensures behind { (s : Source) (inner : Bool) (items : List Item) → IsBehind s inner items self.old
+        ensures behind { (s : PrintSource) (inner : Bool) (items : List Item) → IsBehind s inner items self.old
             → OnOk result (IsBehind s inner (items ++ item_is (FlatReserved name number) ∷ []) self.new) }
     {
         self.joiner
@@ -205,9 +205,9 @@ impl<'s, 'a> Printer<'s, 'a> {
     #[inline(never)]
     fn open(&mut self, buffer: &mut Bytes) -> Result<(), Memory>
         requires come { CanCome (length self.old.book.now.names) self.old.joiner.depth Open }
-        ensures bytes { (s : Source) (inner : Bool) (items : List Item) → IsBehind s inner items self.old
+        ensures bytes { (s : PrintSource) (inner : Bool) (items : List Item) → IsBehind s inner items self.old
             → OnOk result (buffer.new ≡ buffer.old ++ added inner (shown s items) (shown_next s items open_item)) }
-        ensures behind { (s : Source) (inner : Bool) (items : List Item) → IsBehind s inner items self.old
+        ensures behind { (s : PrintSource) (inner : Bool) (items : List Item) → IsBehind s inner items self.old
             → OnOk result (IsBehind s inner (items ++ open_item ∷ []) self.new) }
     {
         self.joiner
@@ -219,9 +219,9 @@ impl<'s, 'a> Printer<'s, 'a> {
     #[inline(never)]
     fn close(&mut self, buffer: &mut Bytes) -> Result<(), Memory>
         requires come { CanCome (length self.old.book.now.names) self.old.joiner.depth Close }
-        ensures bytes { (s : Source) (inner : Bool) (items : List Item) → IsBehind s inner items self.old
+        ensures bytes { (s : PrintSource) (inner : Bool) (items : List Item) → IsBehind s inner items self.old
             → OnOk result (buffer.new ≡ buffer.old ++ added inner (shown s items) (shown_next s items close_item)) }
-        ensures behind { (s : Source) (inner : Bool) (items : List Item) → IsBehind s inner items self.old
+        ensures behind { (s : PrintSource) (inner : Bool) (items : List Item) → IsBehind s inner items self.old
             → OnOk result (IsBehind s inner (items ++ close_item ∷ []) self.new) }
     {
         self.joiner

@@ -43,7 +43,7 @@ impl Seek {
         ensures from { result.from ≡ 0 }
         ensures seeking { IsSeeking answers.now result }
     {
-        let _all = answers.len();
+        let _all = answers.len(); // (for the proof)
         Seek {
             place: 0,
             end,

@@ -23,7 +23,7 @@ use Rattle.cw_reduce.proofs.Joined.{AllNested}
 use Rattle.cw_reduce.specs.Heading.{NamesOfText, behind, behind_head, head_begun, in_head, to_translation}
 use Rattle.cw_translator.proofs.Terms.{◌≡◌, ℕ, true, ◌+◌, ◌≤◌, None, List, [], ◌∷◌, refl, sym, ap, ◌∙◌, Option, arith}
 use Rattle.cw_translator.proofs.Terms.{Flags, Memory, Entry, State, Token as StoredToken, unfolded, StoredLists, whole}
-use Rattle.cw_translator.proofs.Terms.{Told, grown_by, entry_of, IsSoundLine, scraps_of, MarkList, limit_in}
+use Rattle.cw_translator.proofs.Terms.{WatchState, grown_by, entry_of, IsSoundLine, scraps_of, MarkList, limit_in}
 use Rattle.cw_translator.proofs.Terms.{progress_of, Progress, all_ended, NamesOnTheWay, at_end, ◌++◌, Answer, Note}
 use Rattle.cw_translator.proofs.Terms.{TokKind, MakesLeaf, answers_in, after_answers, here, later, EndsIn}
 use Rattle.cw_translator.proofs.Terms.{progress_over, to_end, with_names, Known}
@@ -65,7 +65,7 @@ module _ (flags : Flags) (store : StoredLists) (names : List Entry) (marks : Mar
   unfolding count
   alone-log = nil_from_length (log productions flags state) (sym ends.number)
 
-  pub alone-recorded : {T : Type 0} (result : Result T Memory) {before begun ended : Option Told}
+  pub alone-recorded : {T : Type 0} (result : Result T Memory) {before begun ended : Option WatchState}
       → begun ≡ begun_over (scraps_of store.lists (entry_of leaf ∷ [])) before → ended ≡ ended_now begun
       → HasRecorded flags (all_ended flags here_now).known.ended before ended result
   alone-recorded result {begun = begun} b e = grind (arith, recorded-one, grown_by, alone-log, grown-none)
@@ -122,7 +122,7 @@ module _ (flags : Flags) (named : NameTexts) (nested : AllNested named) (lists :
     first-way new h = behind_head lists read.None all names rest-is (made flags named (begin names marks)) (behind
         (rw answers-are (later (Token (seen token)) (with_texts named rest) first_progress new (rw is at h))))
 
-    pub first-ends : {L R : Type 0} {told : R → Option Told} {t : Translator} {work new : Work L R}
+    pub first-ends : {L R : Type 0} {told : R → Option WatchState} {t : Translator} {work new : Work L R}
         {result : Result Translated Memory} → EndsIn told (to_end flags (with_texts named rest) q) t work new result
         → EndsIn told (to_translation flags named all names marks) t work new result
     first-ends r = ends-as first-text first-way r
@@ -159,14 +159,14 @@ pub ahead-is : (b : Beginning) (next : Lexed) (rest : List Answer) → b.name �
     → answers_ahead b ++ rest ≡ answers_in next ++ rest
 ahead-is b next rest named is = rw (named, is)
 
-pub leaf-as : {L R : Type 0} {told : R → Option Told} (flags : Flags) (named : NameTexts) (leaf : Leaf)
+pub leaf-as : {L R : Type 0} {told : R → Option WatchState} (flags : Flags) (named : NameTexts) (leaf : Leaf)
     {xs ys : List Answer} {t : Translator} {work new : Work L R} {result : Result Translated Memory} → t ≡ of_leaf leaf
     → xs ≡ ys → EndsIn told (to_end flags (with_texts named xs) (progress_over work t)) t work new result → EndsIn told
     (to_end flags (with_texts named ys) (progress_over work (of_leaf leaf))) (of_leaf leaf) work new result
 leaf-as flags named leaf e same r = rw (e, same) at r
 
 -- A text from its first answer on.
-pub text-as : {L R : Type 0} {told : R → Option Told} (flags : Flags) (named : NameTexts) (old new : List Answer)
+pub text-as : {L R : Type 0} {told : R → Option WatchState} (flags : Flags) (named : NameTexts) (old new : List Answer)
     (names : List Entry) (marks : List ℕ) {t : Translator} {work work' : Work L R} {result : Result Translated Memory}
     → nest new ≡ nest old → EndsIn told (to_translation flags named new names marks) t work work' result
     → EndsIn told (to_translation flags named old names marks) t work work' result

@@ -1,7 +1,8 @@
 -- The words of a head are read from answers one after another.
 use Rattle.cw_reduce.proofs.Terms.{◌≡◌, ℕ, ◌<◌, ◌≤◌, ◌^◌, length, arith, Bool, true, Option, Some, None, List, [], ◌∷◌}
 use Rattle.cw_reduce.proofs.Terms.{◌++◌, option_map, refl, sym, ap, ◌∙◌, subst, list_all, append-nil, both, both-left}
-use Rattle.cw_reduce.proofs.Terms.{both-right, Span, Answer, Token, Begin, Note, Seen, seen, Gives, Wanted, Lexed, Tok}
+use Rattle.cw_reduce.proofs.Terms.{both-right, Span, Answer, Token, Begin, Note, Seen, seen, Gives, Expectation, Lexed}
+use Rattle.cw_reduce.proofs.Terms.{Tok}
 use Rattle.cw_reduce.proofs.Terms.{TokKind, Nest, End, Leaf, Group, group, nests, first_nest, nest, IsNested}
 use Rattle.cw_reduce.proofs.Terms.{nested-behind, nest-token, Entry, StoredToken, LeafForm, token_form, names_with}
 use Rattle.cw_reduce.proofs.Terms.{is_word, NamesWithin, without_notes, answer_words, StartsBelow, answers_in}
@@ -14,8 +15,8 @@ use Rattle.cw_lex.specs.Heads.{Words, no_word, word_before, head_behind, head_wo
 
 -- What is the same without the notes at the beginning.
 pub record Bare (answers bare : List Answer) : Type 0 where
-  pub words : (wanted : Wanted) → answer_words wanted answers ≡ answer_words wanted bare
-  pub left : (wanted : Wanted) → without_words wanted answers ≡ without_words wanted bare
+  pub words : (wanted : Expectation) → answer_words wanted answers ≡ answer_words wanted bare
+  pub left : (wanted : Expectation) → without_words wanted answers ≡ without_words wanted bare
   pub starts : (limit : ℕ) → StartsBelow limit answers → StartsBelow limit bare
   pub same : nest bare ≡ nest answers
   pub nested : IsNested answers → IsNested bare
@@ -36,7 +37,8 @@ only-token t rest new answer g n = grind arith
 
 -- ## Words
 
-pub takes-word : (wanted : Wanted) (k : TokKind) (span : Span) (next : Wanted) → head_behind wanted k span ≡ Some next
+pub takes-word : (wanted : Expectation) (k : TokKind) (span : Span) (next : Expectation) → head_behind wanted k span
+    ≡ Some next
     → is_word k ≡ true
 takes-word wanted k span next h = grind arith
 
@@ -58,8 +60,8 @@ form-is : (o : Option LeafForm) (token : StoredToken) → option_map (λ form. f
 form-is o token h = grind arith
 
 -- how far the words have been read
-pub record ReadsWords (wanted₀ : Wanted) (all : List Answer) (names₀ : List Entry) (tokens₀ : List StoredToken)
-    (wanted : Wanted) (rest : List Answer) (names : List Entry) (tokens : List StoredToken) : Type 0 where
+pub record ReadsWords (wanted₀ : Expectation) (all : List Answer) (names₀ : List Entry) (tokens₀ : List StoredToken)
+    (wanted : Expectation) (rest : List Answer) (names : List Entry) (tokens : List StoredToken) : Type 0 where
   pub first : List Seen
   pub words : first ++ answer_words wanted rest ≡ answer_words wanted₀ all
   pub names_are : names ≡ (spelled first names₀).names
@@ -68,11 +70,12 @@ pub record ReadsWords (wanted₀ : Wanted) (all : List Answer) (names₀ : List 
   pub starts : StartsBelow (2 ^ 32) rest
 
 -- the head ends before these answers
-pub record EndsBefore (wanted : Wanted) (rest ahead : List Answer) : Type 0 where
+pub record EndsBefore (wanted : Expectation) (rest ahead : List Answer) : Type 0 where
   pub none : answer_words wanted rest ≡ []
   pub is : ahead ≡ without_words wanted rest
 
-pub ends-other : (wanted : Wanted) (rest new : List Answer) (answer : Lexed) → Gives (without_notes rest) answer new
+pub ends-other : (wanted : Expectation) (rest new : List Answer) (answer : Lexed) → Gives
+    (without_notes rest) answer new
     → ((t : Tok) → answer ≡ lexed.Token t → ⊥) → EndsBefore wanted rest (answers_in answer ++ new)
 ends-other wanted [] new answer g n = record { none = refl; is = sym (gives-is [] new answer g) }
 ends-other wanted (Note note place ∷ rest) new answer g n = let e = ends-other wanted rest new answer g n in
@@ -80,11 +83,13 @@ ends-other wanted (Note note place ∷ rest) new answer g n = let e = ends-other
 ends-other wanted (Token t ∷ rest) new answer g n = absurd (only-token t rest new answer g n)
 ends-other _ _ new answer g _ = record { none = refl; is = sym (gives-is _ new answer g) }
 
-pub ends-token : (wanted : Wanted) (rest new : List Answer) (t : Tok) → Gives (without_notes rest) (lexed.Token t) new
+pub ends-token : (wanted : Expectation) (rest new : List Answer) (t : Tok) → Gives (without_notes rest)
+    (lexed.Token t) new
     → head_behind wanted t.kind t.span ≡ None → EndsBefore wanted rest (answers_in (lexed.Token t) ++ new)
 ends-token wanted rest new t g e = grind (arith, bare rest)
 
-module _ {wanted₀ : Wanted} {all : List Answer} {names₀ : List Entry} {tokens₀ : List StoredToken} {wanted : Wanted}
+module _ {wanted₀ : Expectation} {all : List Answer} {names₀ : List Entry} {tokens₀ : List StoredToken} {wanted :
+    Expectation}
     {rest : List Answer} {names : List Entry} {tokens : List StoredToken}
     (r : ReadsWords wanted₀ all names₀ tokens₀ wanted rest names tokens) where
   module _ {ahead : List Answer} (e : EndsBefore wanted rest ahead) where
@@ -107,7 +112,7 @@ module _ {wanted₀ : Wanted} {all : List Answer} {names₀ : List Entry} {token
       ((bare rest).starts (2 ^ 32) r.starts)
 
   -- one word more
-  module _ (t : Tok) (new : List Answer) (g : Gives (without_notes rest) (lexed.Token t) new) (next : Wanted)
+  module _ (t : Tok) (new : List Answer) (g : Gives (without_notes rest) (lexed.Token t) new) (next : Expectation)
       (e : head_behind wanted t.kind t.span ≡ Some next) (names' : List Entry) (named : names'
       ≡ names_with t.kind t.text.now names) where
     behind : spelled (r.first ++ seen t ∷ []) names₀ ≡ record {
@@ -148,17 +153,20 @@ module _ {wanted₀ : Wanted} {all : List Answer} {names₀ : List Entry} {token
 
 -- ## Words of answers and of their nest
 
-group-words : (wanted : Wanted) (t : Seen) (ns : List Nest) → (head_words wanted (first_nest (group t ns))).words ≡ []
+group-words : (wanted : Expectation) (t : Seen) (ns : List Nest) → (head_words wanted (first_nest (group t ns))).words
+    ≡ []
 group-words wanted t ns = grind arith
 
-pub words-same : (wanted : Wanted) (answers : List Answer) → IsNested answers → (head_words wanted (nest answers)).words
+pub words-same : (wanted : Expectation) (answers : List Answer) → IsNested answers
+    → (head_words wanted (nest answers)).words
     ≡ answer_words wanted answers
 words-same wanted (Begin t ∷ answers) h = group-words wanted t (nests answers)
 words-same wanted (Note note place ∷ answers) h = words-same wanted answers h
 words-same wanted (Token t ∷ answers) h = ap (λ n. (head_words wanted n).words) (nest-token t answers h)
     ∙ by (head_behind wanted t.kind t.span) (λ next. words-same next answers (nested-behind t answers h))
   where
-    by : (o : Option Wanted) → ((next : Wanted) → (head_words next (nest answers)).words ≡ answer_words next answers)
+    by : (o : Option Expectation) → ((next : Expectation) → (head_words next (nest answers)).words
+        ≡ answer_words next answers)
         → (elim o as (λ o. Words) [
           | Some next ↦ word_before t (head_words next (nest answers))
           | None ↦ no_word (Leaf t (nest answers))
@@ -172,16 +180,17 @@ abbrev pub word_kind : Seen → Bool
 word_kind word = is_word word.kind
 
 -- what holds of no word, and with one more word where it holds behind it, holds of the words of a head
-pub head-words-by : (P : Wanted → Nest → Words → Type 0) → ((wanted : Wanted) (n : Nest) → P wanted n (no_word n))
-    → ((wanted next : Wanted) (t : Seen) (rest : Nest) → head_behind wanted t.kind t.span ≡ Some next
+pub head-words-by : (P : Expectation → Nest → Words → Type 0) → ((wanted : Expectation) (n : Nest)
+    → P wanted n (no_word n))
+    → ((wanted next : Expectation) (t : Seen) (rest : Nest) → head_behind wanted t.kind t.span ≡ Some next
     → P next rest (head_words next rest) → P wanted (Leaf t rest) (word_before t (head_words next rest)))
-    → (wanted : Wanted) (n : Nest) → P wanted n (head_words wanted n)
+    → (wanted : Expectation) (n : Nest) → P wanted n (head_words wanted n)
 head-words-by P none more wanted End = none wanted End
 head-words-by P none more wanted (Group t inner rest) = none wanted (Group t inner rest)
 head-words-by P none more wanted (Leaf t rest) = by (head_behind wanted t.kind t.span) refl
     (λ next. head-words-by P none more next rest)
   where
-    by : (o : Option Wanted) → head_behind wanted t.kind t.span ≡ o → ((next : Wanted) → P next rest
+    by : (o : Option Expectation) → head_behind wanted t.kind t.span ≡ o → ((next : Expectation) → P next rest
         (head_words next rest)) → P wanted (Leaf t rest) (elim o as (λ o. Words) [
           | Some next ↦ word_before t (head_words next rest)
           | None ↦ no_word (Leaf t rest)
@@ -189,7 +198,7 @@ head-words-by P none more wanted (Leaf t rest) = by (head_behind wanted t.kind t
     by None e later = none wanted (Leaf t rest)
     by (Some next) e later = more wanted next t rest e (later next)
 
-pub head-words-fit : (wanted : Wanted) (n : Nest) → list_all word_kind (head_words wanted n).words ≡ true
+pub head-words-fit : (wanted : Expectation) (n : Nest) → list_all word_kind (head_words wanted n).words ≡ true
 head-words-fit = head-words-by (λ wanted n ws. list_all word_kind ws.words ≡ true) (λ wanted n. refl)
     (λ wanted next t rest e h. both (word_kind t) (list_all word_kind (head_words next rest).words)
     (takes-word wanted t.kind t.span next e) h)
@@ -201,6 +210,6 @@ first-all p words h = grind (arith, both, both-left, list_all)
 pub later-all : (p : Seen → Bool) (words : List Seen) → list_all p words ≡ true → list_all p (later_words words) ≡ true
 later-all p words h = grind (arith, both-right, list_all)
 
-pub words-fit : (wanted : Wanted) (answers : List Answer) → IsNested answers
+pub words-fit : (wanted : Expectation) (answers : List Answer) → IsNested answers
     → list_all word_kind (answer_words wanted answers) ≡ true
 words-fit wanted answers h = rw (← words-same wanted answers h) (head-words-fit wanted (nest answers))

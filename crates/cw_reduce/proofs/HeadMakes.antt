@@ -2,7 +2,7 @@
 -- are names. Behind that, what stands behind heads, as they are read.
 use Rattle.cw_rules.specs.declared.tokens.Directive.{Directive}
 use Rattle.cw_reduce.proofs.Terms.{list_all, ltb-true, both-left, both-right, Cat, NameId, is_entry}
-use Rattle.cw_reduce.proofs.Terms.{with_entry, Ident as ident_kind, word_form, is_word, names-grow, Wanted, nest}
+use Rattle.cw_reduce.proofs.Terms.{with_entry, Ident as ident_kind, word_form, is_word, names-grow, Expectation, nest}
 use Rattle.cw_reduce.proofs.Terms.{IsNested, ListId, HeadRead, empty-line, keeps-itself, err-if, err-ok, on-err, Token}
 use Rattle.cw_reduce.proofs.Terms.{seen, Gives, is_head_sign, Lexed, Tok, is_name_kind, Nest, Leaf, End, Group, group}
 use Rattle.cw_reduce.proofs.Terms.{nests, first_nest, nested-behind, nest-token, words-leave, Beginning, StartsBelow}
@@ -14,7 +14,7 @@ use Rattle.cw_rewrite.proofs.GatherSteps.{ref-place}
 use Rattle.cw_reduce.proofs.HeadAnswers.{word_kind, words-fit, words-same, bare, only-token}
 use Rattle.cw_base.specs.declared.category.Cat.TheVariants as cat
 use Rattle.cw_rules.specs.declared.codes.Code.TheVariants as code
-use Rattle.cw_lex.specs.declared.heads.Wanted.TheVariants as wants
+use Rattle.cw_lex.specs.declared.heads.Expectation.TheVariants as wants
 use Rattle.cw_reduce.specs.declared.heads.HeadRead.TheVariants as read
 use Rattle.cw_reduce.proofs.HeadsShown.{HeadFits, Spells, dead-agrees, fits-by, format-spells, macro-spells}
 use Rattle.cw_reduce.proofs.HeadsShown.{sign_headed}
@@ -301,7 +301,8 @@ definition-defines k t answers old new names names' head d h are tied was idle h
 
 -- ## Words that were read into a vector
 
-pub words-plain : (wanted : Wanted) (answers : List Answer) (names : List Entry) (items slice before : List StoredToken)
+pub words-plain : (wanted : Expectation) (answers : List Answer) (names : List Entry)
+    (items slice before : List StoredToken)
     → IsNested answers → items ≡ before ++ (spelled (answer_words wanted answers) names).tokens → before ≡ []
     → slice ≡ items → refs_in slice ≡ []
 words-plain wanted answers names items slice before h e none is = grind (arith, plain-refs, spelled-named, words-fit)

@@ -6,7 +6,8 @@ use Rattle.std.proofs.lemmas.Grind.{common_steps}
 use Rattle.cw_rules.specs.declared.tokens.Directive.{Directive}
 use Rattle.cw_reduce.proofs.Terms.{◌≡◌, ℕ, Bool, true, false, Option, Some, List, [], ◌∷◌, ◌++◌, refl, ap, ◌∙◌}
 use Rattle.cw_reduce.proofs.Terms.{list_all, append-nil, Cat, Flags, MathMode, Text, Math, Span, Answer, Seen}
-use Rattle.cw_reduce.proofs.Terms.{is_head_sign, Wanted, TokKind, Head, Headless, Macro, Format, Silent, Named, Headed}
+use Rattle.cw_reduce.proofs.Terms.{is_head_sign, Expectation, TokKind, Head, Headless, Macro, Format, Silent, Named}
+use Rattle.cw_reduce.proofs.Terms.{Headed}
 use Rattle.cw_reduce.proofs.Terms.{headed, headed_by, headless, named_headed, head_behind, head_words, Nest, Leaf, nest}
 use Rattle.cw_reduce.proofs.Terms.{NameId, Entry, reads, StoredToken as Token, tree_in, sign_mode, token_form}
 use Rattle.cw_reduce.proofs.Terms.{word_form, names_with, is_word, InnersRead, ReadsInText, Known, leaf_scrap}
@@ -14,7 +15,7 @@ use Rattle.cw_reduce.proofs.Terms.{sign_behind, names_in_text, names-append, str
 use Rattle.cw_reduce.proofs.Terms.{IsWell, ◌≤◌, arith, State, productions-sound, ticks_in, limit_in, is_some, Dead}
 use Rattle.cw_reduce.proofs.Terms.{IsNested, list_if, nest-well, shown_in, shown_head, shown, ticks-most, limit-one}
 use Rattle.cw_reduce.proofs.Terms.{limits-more, ticks-more, ticks-one}
-use Rattle.cw_lex.specs.declared.heads.Wanted.TheVariants as wants
+use Rattle.cw_lex.specs.declared.heads.Expectation.TheVariants as wants
 use Rattle.cw_rules.specs.declared.signs.Sign.{Sign}
 use Rattle.cw_rules.specs.declared.tokens.TokKind.TheVariants as kind
 use Rattle.cw_trees.specs.declared.Control.TheVariants as control
@@ -126,20 +127,20 @@ reads-dead {tokens = tokens} number known s f = reads-scrap (leaf_scrap (dead nu
     (dead-agrees number s) (rw (append-nil tokens) at (s.inners [] tt)) refl f
 
 -- the words of heads
-abbrev is_names : Wanted → Bool
+abbrev is_names : Expectation → Bool
 is_names (wants.First silent) = true
 is_names (wants.Second silent) = true
 is_names wants.Nothing = true
 is_names wanted = false
 
-some-wanted : (a b : Wanted) → ◌≡◌ {A = Option Wanted} (Some a) (Some b) → a ≡ b
+some-wanted : (a b : Expectation) → ◌≡◌ {A = Option Expectation} (Some a) (Some b) → a ≡ b
 some-wanted a b e = cc
 
-takes-text : (wanted : Wanted) (k : TokKind) (span : Span) (next : Wanted) → is_names wanted ≡ true
+takes-text : (wanted : Expectation) (k : TokKind) (span : Span) (next : Expectation) → is_names wanted ≡ true
     → head_behind wanted k span ≡ Some next → (is_name k ≡ true) × (is_names next ≡ true)
 takes-text wanted k span next n h = grind (arith, some-wanted)
 
-words-text : (wanted : Wanted) (n : Nest) → is_names wanted ≡ true
+words-text : (wanted : Expectation) (n : Nest) → is_names wanted ≡ true
     → list_all name_kind (head_words wanted n).words ≡ true
 words-text = head-words-by (λ wanted n ws. is_names wanted ≡ true → list_all name_kind ws.words ≡ true)
     (λ wanted n w. refl) (λ wanted next t rest e more w.
@@ -160,7 +161,7 @@ pub record IsFit (n : Nest) (h : Headed) : Type 0 where
   pub head : HeadFits h.head
   pub rest : IsWell false n → IsWell false h.rest
 
-words-rest : (wanted : Wanted) (n : Nest) → IsWell false n → IsWell false (head_words wanted n).rest
+words-rest : (wanted : Expectation) (n : Nest) → IsWell false n → IsWell false (head_words wanted n).rest
 words-rest = head-words-by (λ wanted n ws. IsWell false n → IsWell false ws.rest) (λ wanted n w. w)
     (λ wanted next t rest e more w. more w.1)
 

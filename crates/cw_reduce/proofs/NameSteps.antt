@@ -23,14 +23,16 @@ use Rattle.cw_translator.proofs.Terms.{◌≡◌, ℕ, ◌+◌, ◌<◌, ◌≤�
 use Rattle.cw_translator.proofs.Terms.{map, option_map, refl, ap, ◌∙◌, add-zero, arith, All, slice_get, append-nil}
 use Rattle.cw_translator.proofs.Terms.{All-head, All-tail, Flags, Memory, Answer, Seen, Begin, Finish, TokKind, Entry}
 use Rattle.cw_translator.proofs.Terms.{all_roots, answers_in, frames_of, IsTranslating, Progress, after_answers}
-use Rattle.cw_translator.proofs.Terms.{NamesAmong, later, Told, Advances, over, progress_over, append_assoc, ◌⊎◌, inl}
+use Rattle.cw_translator.proofs.Terms.{NamesAmong, later, WatchState, Advances, over, progress_over, append_assoc, ◌⊎◌}
+use Rattle.cw_translator.proofs.Terms.{inl}
 use Rattle.cw_translator.proofs.Terms.{inr, IfSome, Token as StoredToken, StoredLists, Text, IsSoundLine, scraps_of}
 use Rattle.cw_translator.proofs.Terms.{marked_names, CText, all_ended, here, Known, sign_behind, with_names, EndsIn}
 use Rattle.cw_secnames.specs.declared.kinds.SecId.{SecId}
 use Rattle.cw_translator.specs.NameParts.{AreNamesOf, name_texts, parts_by_kind, texts_kept, texts_of_name}
 
 -- An inner text has begun.
-pub text-begun : {L R : Type 0} {told : R → Option Told} (flags : Flags) (text : List Answer) {t t1 : Translator} {work
+pub text-begun : {L R : Type 0} {told : R → Option WatchState} (flags : Flags) (text : List Answer) {t t1 : Translator}
+    {work
     : Work L R} → IsTranslating work.store.now work.names.now t → t1 ≡ record t { nesting = OpenCText [] ∷ t.nesting }
     → Advancing told flags (text_answers text) (text ++ Finish text_token ∷ []) (progress_over work t) t work t1 work
 text-begun flags text is e = advancing-next (Begin text_token ∷ []) (text ++ Finish text_token ∷ []) (advancing-begun
@@ -48,7 +50,7 @@ pub part-next : (text : List ℕ) (from : ℕ) (span : Span) → IsNextPart text
 part-next text from span h = ap (all_part_answers text) h.parts
 
 -- What holds inner texts has begun.
-pub held-begun : {L R : Type 0} {told : R → Option Told} (flags : Flags) (held_by : Holder) {t t1 : Translator}
+pub held-begun : {L R : Type 0} {told : R → Option WatchState} (flags : Flags) (held_by : Holder) {t t1 : Translator}
     {work : Work L R} → IsTranslating work.store.now work.names.now t
     → t1 ≡ record t { nesting = Comment held_by [] ∷ t.nesting } → (all : List Answer)
     → Advancing told flags all all (with_held held_by (progress_over work t)) t work t1 work
@@ -119,7 +121,7 @@ pub texts-unpaired : (kept : List SecName) (uses : List NameUse) (number : ℕ) 
 texts-unpaired kept uses number found = ap (texts_kept kept) (none-at (name_at number uses) found)
 
 -- Without a pair it is passed over.
-pub unpaired-advances : {L R T : Type 0} {told : R → Option Told} (flags : Flags) (kept : List SecName)
+pub unpaired-advances : {L R T : Type 0} {told : R → Option WatchState} (flags : Flags) (kept : List SecName)
     (uses : List NameUse) (token : Seen) {t : Translator} {work : Work L R} {value : T} → is_name_kind token.kind ≡ true
     → option_map id_of (name_at token.span.start uses) ≡ None → IsTranslating work.store.now work.names.now t
     → Advances told (over flags (token_answers (name_texts kept uses) token.kind token) (progress_over work t)) t work t
@@ -148,7 +150,8 @@ module _ {kept : List SecName} {uses : List NameUse} {id : SecId} (names : AreNa
         → NamesAmong flags (token_answers (name_texts kept uses) token.kind token) p entries
     paired-fails flags p entries h = grind (arith, answers-are, later, name-begins)
 
-    pub paired-advances : {L R T : Type 0} {told : R → Option Told} (flags : Flags) (p : Progress) {t t' : Translator}
+    pub paired-advances : {L R T : Type 0} {told : R → Option WatchState} (flags : Flags)
+        (p : Progress) {t t' : Translator}
         {old new : Work L R} {result : Result T Memory} → Advances told
         (over flags held_texts (with_held (holder.Name token.span.start) p)) t old t' new result
         → Advances told (over flags (token_answers (name_texts kept uses) token.kind token) p) t old t' new result
@@ -212,7 +215,7 @@ starts-ahead limit a b c h =
     (first.0, first.1, both.1)
 
 -- the first of them have been read
-pub ahead-advancing : {L R T : Type 0} {told : R → Option Told} (flags : Flags) (named : NameTexts) (a b c : List
+pub ahead-advancing : {L R T : Type 0} {told : R → Option WatchState} (flags : Flags) (named : NameTexts) (a b c : List
     Answer) {t t' : Translator} {old new : Work L R} {value : T} → IsTranslating old.store.now old.names.now t
     → Advances told (over flags (with_texts named a) (progress_over old t)) t old t' new (Ok value) → Advancing told
     flags (with_texts named ((a ++ b) ++ c)) (with_texts named (b ++ c)) (progress_over old t) t old t' new
@@ -225,7 +228,8 @@ headed-among flags named head rest p new (inl h) = in_name h
 headed-among flags named head rest p new (inr h) = behind (rw (append-nil (with_texts named rest)) at (h []))
 
 -- A head that has a scrap of its own, or none, makes nothing more.
-pub headless-advances : {L R T : Type 0} {told : R → Option Told} (flags : Flags) (named : NameTexts) (head : HeadRead)
+pub headless-advances : {L R T : Type 0} {told : R → Option WatchState} (flags : Flags) (named : NameTexts)
+    (head : HeadRead)
     {t : Translator} {work : Work L R} {value : T} → ((list : ListId) × (head ≡ read.Dead list)) ⊎ (head ≡ read.None)
     → IsTranslating work.store.now work.names.now t
     → Advances told (over_head flags named head (progress_over work t)) t work t work (Ok value)
@@ -238,7 +242,7 @@ pub head-translating : (store : StoredLists) (names : List Entry) (t : Translato
 head-translating store names t line e s = grind (arith, scraps_of)
 
 -- What it comes to is the text with its head.
-pub headed-as : {L R : Type 0} {told : R → Option Told} (flags : Flags) (named : NameTexts) → AllNested named
+pub headed-as : {L R : Type 0} {told : R → Option WatchState} (flags : Flags) (named : NameTexts) → AllNested named
     → (head : HeadRead)
     (rest : List Answer) → IsNested rest → {t : Translator} {work new : Work L R} {result : Result Translated Memory}
     → t ≡ of_head head → EndsIn told (record {

@@ -25,7 +25,8 @@ use Rattle.cw_translator.proofs.Terms.{InnerText, comment_rest, comment_tree, Kn
 use Rattle.cw_translator.proofs.Terms.{suc, get_or, map, take, drop, All, All-head, All-tail, inl, inr, length, Text}
 use Rattle.cw_translator.proofs.Terms.{Inner, scrap_agrees, State, arith, All-append, reads, names_with}
 use Rattle.cw_translator.proofs.Terms.{comment_scrap, with_names}
-use Rattle.cw_trees.specs.Joining.{dollar_before, scrap_in_text, blank_and_whole, no_scrap, Joined, Whole, Mark, needs}
+use Rattle.cw_trees.specs.Joining.{dollar_before, scrap_in_text, blank_and_whole, no_scrap, JoinPiece, Whole, Mark}
+use Rattle.cw_trees.specs.Joining.{needs}
 use Rattle.cw_trees.specs.Joining.{after, toggled, joined_tree, Agrees}
 use Rattle.cw_table.proofs.ScrapFacts.{all-append}
 use Rattle.cw_reduce.specs.Visible.{is_shown, is_shown_code, is_comment, shown_token, shown_in}
@@ -116,11 +117,11 @@ reserve-inners (Inner tree rest) h = (h.0, h.1, reserve-inners rest h.2)
 toggled-inners : (m l : MathMode) (tree : Tree) → InnersRead tree → InnersRead (toggled m l tree)
 toggled-inners m l tree h = grind arith
 
-abbrev piece_inners : Joined → Type 0
+abbrev piece_inners : JoinPiece → Type 0
 piece_inners (Whole tree left right) = InnersRead tree
 piece_inners (Mark control) = Unit {0}
 
-joined-inners : (m : MathMode) (js : List Joined) → All piece_inners js → InnersRead (joined_tree m js)
+joined-inners : (m : MathMode) (js : List JoinPiece) → All piece_inners js → InnersRead (joined_tree m js)
 joined-inners m [] all = tt
 joined-inners m (Whole tree l r ∷ js) all = toggled-inners m l (Sub tree (joined_tree (after m l r) js)) (
   All-head piece_inners (Whole tree l r) js all,

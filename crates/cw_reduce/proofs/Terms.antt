@@ -30,7 +30,7 @@ pub use Rattle.cw_lex.specs.Limbo.{is_name_kind}
 pub use Rattle.cw_lex.specs.Nest.{nest, Nest, End, Leaf, Group, group, nests, first_nest, IsWell, leaf}
 pub use Rattle.cw_lex.specs.Nested.{IsNested, Level, InCode, InComment, after_token, after_begin, after_finish}
 pub use Rattle.cw_lex.specs.Nested.{levels_after, all_levels_after, until_section, begins_section_in}
-pub use Rattle.cw_lex.specs.declared.heads.Wanted.{Wanted}
+pub use Rattle.cw_lex.specs.declared.heads.Expectation.{Expectation}
 pub use Rattle.cw_names.specs.Names.{is_entry, with_entry}
 pub use Rattle.cw_names.specs.Words.{built_in_words}
 pub use Rattle.cw_names.specs.declared.NameId.{NameId}

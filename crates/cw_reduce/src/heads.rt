@@ -25,7 +25,7 @@ ghost use Rattle.cw_translator.specs.Translating.{dollared, is_macro, name_in_te
 
 use cw_answers::Reader;
 use cw_base::{Cat, MathMode, Memory};
-use cw_lex::{Code, Lexed, Tok, TokKind, Wanted, is_section_name};
+use cw_lex::{Code, Expectation, Lexed, Tok, TokKind, is_section_name};
 use cw_names::Names;
 use cw_scraps::word_token;
 use cw_tokens::{ListId, Token, TokenStore};
@@ -92,14 +92,14 @@ fn is_definition(kind: TokKind) -> bool
 }
 
 /// What the head of a definition wants behind its code.
-fn wanted_by(kind: TokKind) -> Wanted
+fn wanted_by(kind: TokKind) -> Expectation
     ensures { result ≡ wanted_by kind }
 {
     match kind {
-        TokKind::Code(Code::Define) => Wanted::Macro,
-        TokKind::Code(Code::Format) => Wanted::First(false),
-        TokKind::Code(Code::SilentFormat) => Wanted::First(true),
-        _ => Wanted::Nothing,
+        TokKind::Code(Code::Define) => Expectation::Macro,
+        TokKind::Code(Code::Format) => Expectation::First(false),
+        TokKind::Code(Code::SilentFormat) => Expectation::First(true),
+        _ => Expectation::Nothing,
     }
 }
 
@@ -191,7 +191,7 @@ fn definition_head<'a>(
         store.new names.new reader.new.coming result }
     ensures all { Stays reader.old.all reader.new.all }
 {
-    store.tied_law();
+    store.tied_law(); // (for the proof)
     let wanted = wanted_by(code.kind);
     let mut words = Vec::new(alloc);
     let next = read_words(wanted, reader, &mut words, names)?;
@@ -205,7 +205,7 @@ fn definition_head<'a>(
 
 /// Reads the words of a head that wants this, up to the first answer behind them.
 fn read_words<'a>(
-    wanted: Wanted,
+    wanted: Expectation,
     reader: &mut Reader<'a>,
     words: &mut Vec<Token>,
     names: &mut Names,
@@ -235,7 +235,7 @@ fn read_words<'a>(
 
 /// Makes the head of a definition with these words.
 fn words_head(
-    wanted: Wanted,
+    wanted: Expectation,
     number: u32,
     words: &[Token],
     store: &mut TokenStore,
@@ -248,8 +248,8 @@ fn words_head(
     ensures no_lists { OnErr result (store.new.lists ≡ store.old.lists) }
 {
     match wanted {
-        Wanted::Macro => Ok(HeadRead::Dead(macro_list(number, words, store)?)),
-        Wanted::First(false) => Ok(HeadRead::Dead(format_list(number, words, store)?)),
+        Expectation::Macro => Ok(HeadRead::Dead(macro_list(number, words, store)?)),
+        Expectation::First(false) => Ok(HeadRead::Dead(format_list(number, words, store)?)),
         _ => Ok(HeadRead::None),
     }
 }

@@ -12,7 +12,7 @@ use Rattle.cw_table.specs.Rewriting.{State, rewrite}
 use Rattle.cw_table.specs.Rows.{row_numbered, row_of}
 use Rattle.cw_table.proofs.Normals.{log-turn-of, steps-none, steps-turn}
 use Rattle.std.proofs.lemmas.List.{append_assoc}
-use Rattle.cw_rewrite.specs.Telling.{EndsWithin, StopsAt, Told, grown_by}
+use Rattle.cw_rewrite.specs.Telling.{EndsWithin, StopsAt, WatchState, grown_by}
 
 -- the row of a number has it
 numbered-own : (rows : List Row) (n : ℕ) (row : Row) → row_numbered rows n ≡ Some row → row.number.number ≡ n
@@ -81,17 +81,17 @@ whole-log : (f : Flags) (start : State) → take (count productions f start) (lo
 unfolding count
 whole-log f start = take-length (log productions f start)
 
-pub told-whole : (f : Flags) (start : State) (done : ℕ) (old : Option Told)
-    {now : Option Told} → now ≡ grown_by (take done (log productions f start)) old
+pub told-whole : (f : Flags) (start : State) (done : ℕ) (old : Option WatchState)
+    {now : Option WatchState} → now ≡ grown_by (take done (log productions f start)) old
     → done ≡ count productions f start → now ≡ grown_by (log productions f start) old
 told-whole f start done old told all = grind (arith, whole-log)
 
 -- what is told of some, and then of one more
-told-more : (xs ys : List Production) (o : Option Told) → grown_by ys (grown_by xs o) ≡ grown_by (xs ++ ys) o
+told-more : (xs ys : List Production) (o : Option WatchState) → grown_by ys (grown_by xs o) ≡ grown_by (xs ++ ys) o
 told-more xs ys o = grind (arith, append_assoc)
 
-pub told-next : (xs : List Production) (done : ℕ) (p : Production) (old : Option Told)
-    {now new : Option Told} → take (done + 1) xs ≡ take done xs ++ p ∷ []
+pub told-next : (xs : List Production) (done : ℕ) (p : Production) (old : Option WatchState)
+    {now new : Option WatchState} → take (done + 1) xs ≡ take done xs ++ p ∷ []
     → now ≡ grown_by (take done xs) old → new ≡ grown_by (p ∷ []) now → new ≡ grown_by (take (done + 1) xs) old
 told-next xs done p old more before one = grind (arith, told-more)
 
@@ -100,15 +100,16 @@ pub on-err : {T E : Type 0} (r : Result T E) (P : Type 0) → P → OnErr r P
 on-err r P holds = grind arith
 
 -- The state before a production that isn't done: it is refused, or memory is wanting before it was told or behind that.
-module _ (f : Flags) (start was now : State) (before told : Option Told) (done : ℕ)
+module _ (f : Flags) (start was now : State) (before told : Option WatchState) (done : ℕ)
     (inside : done < count productions f start) (reached : was ≡ steps productions f done start)
     (same : now ≡ was) where
   pub stops-before : (refuses : Production → Bool) (next : Production)
-      → slice_get (log productions f start) done ≡ Some next → refuses next ≡ true → {old : Option Told} → told ≡ old
+      → slice_get (log productions f start) done ≡ Some next → refuses next ≡ true → {old : Option WatchState} → told
+      ≡ old
       → old ≡ grown_by (take done (log productions f start)) before → StopsAt f start now before told refuses
   stops-before refuses next there refused kept heard = grind arith
 
-  pub ends-before : {T E : Type 0} (r : Result T E) {old : Option Told} → told ≡ old
+  pub ends-before : {T E : Type 0} (r : Result T E) {old : Option WatchState} → told ≡ old
       → old ≡ grown_by (take done (log productions f start)) before → OnErr r (EndsWithin f start now before told)
   ends-before r kept heard = grind (arith, on-err)
 

@@ -9,18 +9,18 @@ use Rattle.cw_table.specs.Rewriting.{State}
 
 -- What a watch has been told: the productions of the text that is reduced, the leaf lines of its scraps before that,
 -- and the texts that have ended.
-pub record Told : Type 0 where
+pub record WatchState : Type 0 where
   pub items : List Production
   pub begun : List LeafLine
   pub ended : List TextLog
 
 -- more productions, where any are told
-abbrev pub grown_by : List Production → Option Told → Option Told
+abbrev pub grown_by : List Production → Option WatchState → Option WatchState
 grown_by more None = None
 grown_by more (Some told) = Some (record told { items = told.items ++ more })
 
 -- The walk stopped before a production that was refused, and what was told is the log up to there.
-pub record StopsAt (flags : Flags) (start now : State) (before told : Option Told)
+pub record StopsAt (flags : Flags) (start now : State) (before told : Option WatchState)
     (refuses : Production → Bool) : Type 0 where
   pub done : ℕ
   pub inside : done < count productions flags start
@@ -32,7 +32,7 @@ pub record StopsAt (flags : Flags) (start now : State) (before told : Option Tol
 
 -- The walk ended for want of memory: a first part of the log was told, and all of it was done, or all but its last
 -- production.
-pub record EndsWithin (flags : Flags) (start now : State) (before told : Option Told) : Type 0 where
+pub record EndsWithin (flags : Flags) (start now : State) (before told : Option WatchState) : Type 0 where
   pub done : ℕ
   pub is : now ≡ steps productions flags done start
   pub number : ℕ

@@ -84,7 +84,7 @@ pub fn reduce_watched<L: Ledger, W: Watch>(
     ensures bound { steps.new ≤ steps.old + (132 * length line.old + length line.old * reservings productions flags.now
         (state_of store.old.lists line.old marks.old names.old)) }
 {
-    let _length = line.len();
+    let _length = line.len(); // (for the proof)
     let mut place = 0;
     let mut productions = 0;
     while let Some(found) = next_row(line, place, steps) {
@@ -105,7 +105,7 @@ pub fn reduce_watched<L: Ledger, W: Watch>(
 
 // A row, and the place at which it fits.
 #[derive(Clone, Copy)]
-struct Found {
+struct RowMatch {
     row: RowNo,
     place: usize,
 }
@@ -114,19 +114,19 @@ struct Found {
 // steps. Behind a production the place mostly lies before the gap: then its first two categories are read where they
 // lie, and the line is opened only if they may fit.
 #[inline(always)]
-fn next_row<L: Ledger>(line: &mut ScrapLine, from: usize, steps: &mut Steps<L>) -> Option<Found>
+fn next_row<L: Ledger>(line: &mut ScrapLine, from: usize, steps: &mut Steps<L>) -> Option<RowMatch>
     ensures next { MatchOption result (HasNoMore line.old from steps.old steps.new)
         (λ found. IsNext line.old from steps.old found.place found.row.number steps.new) }
     ensures same { line.new ≡ line.old }
 {
-    let _length = line.len();
+    let _length = line.len(); // (for the proof)
     match line.pair_at(from, steps) {
         Some((first, second)) => {
             if may_fit(first, second) {
                 line.open(from);
             }
             match row_behind(line, from, (first, second), steps) {
-                Some(row) => Some(Found { row, place: from }),
+                Some(row) => Some(RowMatch { row, place: from }),
                 None => walk_on(line, from + 1, steps),
             }
         }
@@ -136,7 +136,7 @@ fn next_row<L: Ledger>(line: &mut ScrapLine, from: usize, steps: &mut Steps<L>) 
 
 // The same, where the line is opened at each place.
 #[inline(always)]
-fn walk_on<L: Ledger>(line: &mut ScrapLine, from: usize, steps: &mut Steps<L>) -> Option<Found>
+fn walk_on<L: Ledger>(line: &mut ScrapLine, from: usize, steps: &mut Steps<L>) -> Option<RowMatch>
     ensures next { MatchOption result (HasNoMore line.old from steps.old steps.new)
         (λ found. IsNext line.old from steps.old found.place found.row.number steps.new) }
     ensures same { line.new ≡ line.old }
@@ -144,7 +144,7 @@ fn walk_on<L: Ledger>(line: &mut ScrapLine, from: usize, steps: &mut Steps<L>) -
     let mut place = from;
     while place < line.len() {
         if let Some(row) = row_at(line, place, steps) {
-            return Some(Found { row, place });
+            return Some(RowMatch { row, place });
         }
         place += 1;
     }

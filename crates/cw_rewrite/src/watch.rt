@@ -1,7 +1,7 @@
 //! Who receives each production before it is done.
 ghost use Rattle.std.specs.Prelude.{◌≡◌, Bool, true, false, List, [], ◌∷◌, Option, None, IfOk, OnErr};
 ghost use Rattle.cw_table.specs.Normal.{Production};
-ghost use Rattle.cw_rewrite.specs.Telling.{Told, grown_by};
+ghost use Rattle.cw_rewrite.specs.Telling.{WatchState, grown_by};
 
 use cw_base::Memory;
 use cw_table::RowNo;
@@ -9,7 +9,7 @@ use cw_table::RowNo;
 /// Who receives each production before it is done, and may stop the reducer there. Contracts see which productions it
 /// has heard of, where it tells them, and which it refuses.
 pub trait Watch: Drop {
-    ghost told: { Self → Option Told };
+    ghost told: { Self → Option WatchState };
 
     ghost refuses: { Self → Production → Bool };
 

@@ -14,7 +14,7 @@ use Rattle.cw_rules.specs.{Signs.all_signs, Signs.longest, Codes.code_at, Codes.
 use Rattle.cw_rules.specs.Bytes.{quote, apostrophe, star, slash, less, greater, at_sign, run, is_letter, is_mark}
 use Rattle.cw_rules.proofs.StringPrefixes.{prefix-below, prefix-mark}
 use Rattle.cw_rules.specs.Bodies.{at_start, stops, extent, ended, noted, one_note, note_unless}
-use Rattle.cw_rules.specs.Answers.{Answer, Where, Cut, Found, before, plain, dropped}
+use Rattle.cw_rules.specs.Answers.{Answer, Where, Cut, ScanStep, before, plain, dropped}
 use Rattle.cw_rules.specs.Tokens.{sign_or_other, word, directive_at, string, string_of, closes_on_line, include_name}
 use Rattle.cw_rules.specs.Tokens.{section_name, is_name, is_quote, control_or_plain, code_token, dropped_code}
 use Rattle.cw_rules.specs.Tokens.{is_signed, is_head, in_hash_line, passed, moved, one, comment_begin, comment_closed}
@@ -42,7 +42,7 @@ pub record CutLocal (left : ℕ) (c d : Cut) : Type 0 where
   pub same : c.size ≤ left → c ≡ d
 
 -- and two findings
-pub record Local (left : ℕ) (f g : Found) : Type 0 where
+pub record Local (left : ℕ) (f g : ScanStep) : Type 0 where
   pub same : f.more ≤ left → f ≡ g
 
 pub if-cut : (left : ℕ) (t : Bool) (a b c d : Cut) → (t ≡ true → CutLocal left a b) → (t ≡ false → CutLocal left c d)
@@ -50,15 +50,16 @@ pub if-cut : (left : ℕ) (t : Bool) (a b c d : Cut) → (t ≡ true → CutLoca
 if-cut left true a b c d f g = f refl
 if-cut left false a b c d f g = g refl
 
-pub if-local : (left : ℕ) (t u : Bool) (a b c d : Found) → t ≡ u → (u ≡ true → Local left a b)
+pub if-local : (left : ℕ) (t u : Bool) (a b c d : ScanStep) → t ≡ u → (u ≡ true → Local left a b)
     → (u ≡ false → Local left c d) → Local left (if t then a else c) (if u then b else d)
 if-local left t true a b c d e f g = subst (λ t. Local left (if t then a else c) b) (sym e) (f refl)
 if-local left t false a b c d e f g = subst (λ t. Local left (if t then a else c) d) (sym e) (g refl)
 
-pub same-local : (left : ℕ) (f g : Found) → f ≡ g → Local left f g
+pub same-local : (left : ℕ) (f g : ScanStep) → f ≡ g → Local left f g
 same-local left f g e = record { same = λ h. e }
 
-pub before-local : (left : ℕ) (xs : List Answer) (f g : Found) → Local left f g → Local left (before xs f) (before xs g)
+pub before-local : (left : ℕ) (xs : List Answer) (f g : ScanStep) → Local left f g → Local left (before xs f)
+    (before xs g)
 before-local left xs f g l = record { same = λ h. ap (before xs) (l.same h) }
 
 -- a quote is not the stop
@@ -101,7 +102,7 @@ include-over Bar more = omega arith
 
 -- ## What the stop is taken along by
 
-pub twice : (f g : Found) → 1 ≤ f.more → Local 0 f g
+pub twice : (f g : ScanStep) → 1 ≤ f.more → Local 0 f g
 twice f g h = record { same = λ k. absurd (omega arith) }
 
 effect-at : (part : Part) (comments : List Opened) → effect_in part comments at.At ≡ effects.Drops notes.UnknownCode
@@ -115,13 +116,13 @@ effect-bar parts.Begin [] = refl
 effect-bar part comments = refl
 
 -- an `@` and the stop are a code
-at-end : (s : Stop) (more : List ℕ) (w : Where) (place byte : ℕ) (g : Found)
+at-end : (s : Stop) (more : List ℕ) (w : Where) (place byte : ℕ) (g : ScanStep)
     → Local 0 (in_code (start.Code (code_at (byte_of s ∷ more))) w place (byte ∷ byte_of s ∷ more)) g
 at-end At more w place byte g = grind (arith, nat_tests, effect-at, twice)
 at-end Bar more w place byte g = grind (arith, nat_tests, effect-bar, twice)
 
 -- a bar before a bar is one sign with it
-apart-or : (s : Stop) (more : List ℕ) (ends : Bool) (w : Where) (place byte : ℕ) (g : Found)
+apart-or : (s : Stop) (more : List ℕ) (ends : Bool) (w : Where) (place byte : ℕ) (g : ScanStep)
     → IsApart s byte [] ⊎ Local 0 (in_code (start_of ends byte (byte_of s ∷ more)) w place (byte ∷ byte_of s ∷ more)) g
 apart-or At more ends w place byte g = inl tt
 apart-or Bar more ends w place byte g = by (byte == 124) refl
@@ -335,7 +336,7 @@ module _ (s : Stop) (more : List ℕ) (free : IsFree s more) where
           λ j. record { kind = kinds.IncludeName; directive = directives.No; size = 1 + (r.0 j + 1); notes = b.notes j }
       same least (inr r) = absurd (omega (arith, r.1, least))
 
-  include-or : (hash_line behind : Bool) (next : Where) (place byte : ℕ) (bs : List ℕ) (f g : Found)
+  include-or : (hash_line behind : Bool) (next : Where) (place byte : ℕ) (bs : List ℕ) (f g : ScanStep)
       → Local (length bs) f g → Local (length bs)
       (if byte == less && (behind && closes_on_line (bs ++ byte_of s ∷ more)) then one hash_line next place (byte
       ∷ (bs ++ byte_of s ∷ more)) (include_name place (byte ∷ (bs ++ byte_of s ∷ more))) else f) (if byte == less &&

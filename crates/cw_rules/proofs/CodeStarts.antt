@@ -5,7 +5,7 @@ use Rattle.std.proofs.{lemmas.Bool.eqb-true, lemmas.Bool.Decides.nat_tests}
 use Rattle.cw_rules.specs.declared.{bodies.Noted.Noted, codes.Code.Code, codes.Effect.Effect, parts.Part.Part}
 use Rattle.cw_rules.specs.declared.{parts.Opened.Opened, signs.Sign.Sign, tokens.TokKind.TokKind}
 use Rattle.cw_rules.specs.Answers.{dropped, has_sign, is_head_sign, Answer, Token, Begin, Finish, Note, Where, Cut}
-use Rattle.cw_rules.specs.Answers.{Found, before, note_answers, plain}
+use Rattle.cw_rules.specs.Answers.{ScanStep, before, note_answers, plain}
 use Rattle.cw_base.specs.Bytes.{newline, backslash}
 use Rattle.cw_rules.specs.{Bytes.at_sign, Bytes.run, Codes.code_at, Tokens.dropped_code, model.Apart.in_text_apart}
 use Rattle.cw_rules.specs.{Signs.spelling, Bodies.one_note, Bodies.note_unless}
@@ -70,13 +70,13 @@ abbrev pub is_head_where : Where → Bool
 is_head_where w = is_head_part w.part w.comments
 
 -- The sign of a named C part doesn't come first, unless what follows begins with it.
-abbrev pub Signless : Found → Type 0
+abbrev pub Signless : ScanStep → Type 0
 Signless f = (rest : List Answer) → (is_head_where f.next ≡ false → has_sign rest ≡ false)
     → has_sign (f.answers ++ rest) ≡ false
 
 -- What begins at a byte: a code with which a part begins stands there, limbo isn't gone back to, and no sign of a named
 -- C part comes first where none is wanted.
-pub record Tells (w : Where) (byte : ℕ) (bytes : List ℕ) (f : Found) : Type 0 where
+pub record Tells (w : Where) (byte : ℕ) (bytes : List ℕ) (f : ScanStep) : Type 0 where
   pub code : is_opener (code_in f.answers) ≡ true → (byte ≡ 64) × (code_at bytes ≡ code_in f.answers)
   pub limbo : is_limbo w.part ≡ false → is_limbo f.next.part ≡ false
   pub sign : is_head_where w ≡ false → Signless f
@@ -104,18 +104,18 @@ same-tells : (w : Where) (byte : ℕ) (bytes : List ℕ) → Tells w byte bytes 
 same-tells w byte bytes = skip-tells w w byte bytes (λ h. h) (λ h. h)
 
 -- notes before what begins there
-note-tells : (w v : Where) (byte : ℕ) (bytes : List ℕ) (n : Noted) (f : Found)
+note-tells : (w v : Where) (byte : ℕ) (bytes : List ℕ) (n : NoteAt) (f : ScanStep)
     → (is_limbo w.part ≡ false → is_limbo v.part ≡ false) → (is_head_where w ≡ false → is_head_where v ≡ false)
     → Tells v byte bytes f → Tells w byte bytes (before (Note n.kind n.place ∷ []) f)
 note-tells w v byte bytes n f limbo head t = grind (arith, nat_tests)
 
 -- an end before what begins there
-end-tells : (w v : Where) (byte : ℕ) (bytes : List ℕ) (xs : List Answer) (f : Found)
+end-tells : (w v : Where) (byte : ℕ) (bytes : List ℕ) (xs : List Answer) (f : ScanStep)
     → ((ys : List Answer) → code_in (xs ++ ys) ≡ code_in ys) → ((ys : List Answer) → has_sign (xs ++ ys) ≡ false)
     → (is_limbo w.part ≡ false → is_limbo v.part ≡ false) → Tells v byte bytes f → Tells w byte bytes (before xs f)
 end-tells w v byte bytes xs f code sign limbo t = grind (arith, nat_tests, append_assoc)
 
-notes-code : (ns : List Noted) (ys : List Answer) → code_in (note_answers ns ++ ys) ≡ code_in ys
+notes-code : (ns : List NoteAt) (ys : List Answer) → code_in (note_answers ns ++ ys) ≡ code_in ys
 notes-code [] ys = refl
 notes-code (n ∷ ns) ys = notes-code ns ys
 
@@ -177,7 +177,7 @@ begun-limbo : (place : ℕ) (effect : Effect) (part : Part) → BeginsPart place
 begun-limbo place _ _ Macro = refl
 begun-limbo place _ _ _ = refl
 
-code-tells : (w : Where) (fresh : Bool) (last place byte : ℕ) (bytes : List ℕ) (f : Found)
+code-tells : (w : Where) (fresh : Bool) (last place byte : ℕ) (bytes : List ℕ) (f : ScanStep)
     → CodeRule w fresh last place byte bytes f → Tells w byte bytes f
 code-tells w fresh last place byte bytes _ (LineEnd h) = line-tells w.part w.comments last place byte bytes
 code-tells w fresh last place byte bytes _ (Space line h) = same-tells w byte bytes
@@ -198,11 +198,11 @@ code-tells w fresh last place byte bytes _ (Comment long h) =
 code-tells w fresh last place byte bytes _ (InnerEnd h ends) =
     record { code = λ h. absurd cc; limbo = inner-limbo w.part w.comments; sign = λ h rest k. refl }
 
-notes-none : (ns : List Noted) → code_in (note_answers ns) ≡ at.Unknown
+notes-none : (ns : List NoteAt) → code_in (note_answers ns) ≡ at.Unknown
 notes-none [] = refl
 notes-none (n ∷ ns) = notes-none ns
 
-comment-tells : (part : Part) (c : Opened) (cs : List Opened) (last place byte : ℕ) (bytes : List ℕ) (f : Found)
+comment-tells : (part : Part) (c : Opened) (cs : List Opened) (last place byte : ℕ) (bytes : List ℕ) (f : ScanStep)
     → CommentRule part c cs last place byte bytes f → Tells (record { part = part; comments = c ∷ cs }) byte bytes f
 comment-tells part c cs last place byte bytes _ (Closed long h) = record {
   code = λ h. absurd (let k : true ≡ false = sym h
@@ -219,7 +219,7 @@ comment-tells part c cs last place byte bytes _ _ =
 
 -- ## Limbo, TeX text and heads
 
-limbo-tells : (place byte : ℕ) (bytes : List ℕ) (f : Found) → LimboRule place byte bytes f
+limbo-tells : (place byte : ℕ) (bytes : List ℕ) (f : ScanStep) → LimboRule place byte bytes f
     → Tells (within parts.Limbo) byte bytes f
 limbo-tells place byte bytes _ (LimboCode at e) = stands-tells (within parts.Limbo) byte bytes false
     (within parts.Limbo) place (byte ∷ bytes) (code_at bytes) (code_token (code_at bytes) place (byte ∷ bytes))
@@ -243,7 +243,7 @@ sign-stays : (code byte : ℕ) (bytes : List ℕ) (sign : Sign) (next : Part) �
 sign-stays code byte bytes _ _ (CommaStands h) = refl
 sign-stays code byte bytes _ _ _ = refl
 
-part-tells : (fresh : Bool) (last place byte : ℕ) (bytes : List ℕ) (part : Part) (f : Found)
+part-tells : (fresh : Bool) (last place byte : ℕ) (bytes : List ℕ) (part : Part) (f : ScanStep)
     → PartRule fresh last place byte bytes part f → Tells (within part) byte bytes f
 part-tells fresh last place byte bytes _ _ (OfCode part f is r) =
     code-tells (within part) fresh last place byte bytes f r

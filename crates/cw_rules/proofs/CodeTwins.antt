@@ -4,7 +4,7 @@ use Rattle.std.proofs.Common.{arith, ◌≡◌, ℕ, Bool, true, false, List, []
 use Rattle.std.specs.Prelude.{if◌then◌else◌}
 use Rattle.std.proofs.lemmas.Bool.Decides.{nat_tests}
 use Rattle.cw_rules.specs.declared.{bodies.Noted.Noted, codes.Code.Code, parts.Part.Part, parts.Opened.Opened}
-use Rattle.cw_rules.specs.Answers.{Answer, Token, Note, Seen, Where, Cut, Found, before}
+use Rattle.cw_rules.specs.Answers.{Answer, Token, Note, Seen, Where, Cut, ScanStep, before}
 use Rattle.cw_rules.specs.Codes.{code_at, is_section, effect_in_tex, effect_in_c, effect_in_definition, effect_at_begin}
 use Rattle.cw_rules.specs.Tokens.{one, moved, passed, in_hash_line, effect_in, is_head, is_name, is_space, code_by}
 use Rattle.cw_rules.specs.Tokens.{code_token, tex_by, section}
@@ -31,7 +31,7 @@ abbrev tex : Where
 tex = record { part = parts.Tex; comments = [] }
 
 -- two findings are the same but for notes before the first, and a token comes first in the second
-pub record Twin (f g : Found) : Type 0 where
+pub record Twin (f g : ScanStep) : Type 0 where
   pub notes : List Answer
   pub only : AreNotes notes
   pub same : f ≡ before notes g
@@ -39,7 +39,7 @@ pub record Twin (f g : Found) : Type 0 where
   pub behind : List Answer
   pub first : g.answers ≡ Token token ∷ behind
 
-note-twin : (n : Noted) (f g : Found) → Twin f g → Twin (before (Note n.kind n.place ∷ []) f) g
+note-twin : (n : NoteAt) (f g : ScanStep) → Twin f g → Twin (before (Note n.kind n.place ∷ []) f) g
 note-twin n f g t = record {
   notes = Note n.kind n.place ∷ t.notes;
   only = t.only;
@@ -59,18 +59,18 @@ pub at-code : (w : Where) (fresh : Bool) (last place : ℕ) (bytes : List ℕ) �
 at-code w fresh last place bytes = grind (arith, nat_tests, no-space)
 
 -- what begins at a code that is no section code
-abbrev at_definition : Code → ℕ → List ℕ → Found
+abbrev at_definition : Code → ℕ → List ℕ → ScanStep
 at_definition c place bytes = code_by (effect_in_definition c) c definition place bytes
 
-abbrev at_program : Code → ℕ → List ℕ → Found
+abbrev at_program : Code → ℕ → List ℕ → ScanStep
 at_program c place bytes = code_by (effect_at_begin c) c program place bytes
 
 -- The codes that begin a part there: those of definitions, those of C parts, and a name behind which the sign is
 -- wanted.
-abbrev Defines : Found → Type 0
+abbrev Defines : ScanStep → Type 0
 Defines f = is_definition_code (code_in f.answers) ≡ true
 
-abbrev Programs : Found → Type 0
+abbrev Programs : ScanStep → Type 0
 Programs f = is_program_code (code_in f.answers) ≡ true
 
 -- ## Definitions
@@ -90,7 +90,7 @@ wrong : {A : Type 0} (b : Bool) → b ≡ true → b ≡ false → A
 wrong true h k = absurd cc
 wrong false h k = absurd cc
 
-definition-twin : (c : Code) (place : ℕ) (bytes : List ℕ) (f : Found) → f ≡ at_definition c place bytes
+definition-twin : (c : Code) (place : ℕ) (bytes : List ℕ) (f : ScanStep) → f ≡ at_definition c place bytes
     → is_definition_code c ≡ true → Twin f (at_definition c place bytes)
 definition-twin at.Define place bytes f e h = record {
   notes = [];
@@ -135,7 +135,7 @@ no-program : (c : Code) (w : Where) (place : ℕ) (bytes : List ℕ)
 no-program at.Program w place bytes = refl
 no-program _ w place bytes = refl
 
-program-twin : (c : Code) (place : ℕ) (bytes : List ℕ) (f : Found) → f ≡ at_program c place bytes → is_program_code c
+program-twin : (c : Code) (place : ℕ) (bytes : List ℕ) (f : ScanStep) → f ≡ at_program c place bytes → is_program_code c
     ≡ true → Twin f (at_program c place bytes)
 program-twin at.Program place bytes f e h = record {
   notes = [];
@@ -186,7 +186,7 @@ not-head : (part : Part) (cs : List Opened) → is_head_where (record { part = p
 not-head part cs h = grind (arith, nat_tests)
 
 -- what a name makes in C text
-abbrev name_found : Code → Where → ℕ → List ℕ → Found
+abbrev name_found : Code → Where → ℕ → List ℕ → ScanStep
 name_found c w place bytes = code_by (effect_in w.part w.comments c) c w place bytes
 
 code-name : (c : Code) (part : Part) (cs : List Opened) (place : ℕ) (bytes : List ℕ) → is_name c ≡ true
@@ -224,7 +224,7 @@ pub data Opens : Type 0 where
   Program : Opens
   Named : Opens
 
-abbrev pub OpensBy : Opens → Found → Type 0
+abbrev pub OpensBy : Opens → ScanStep → Type 0
 OpensBy Definitions f = is_definition_code (code_in f.answers) ≡ true
 OpensBy Program f = is_program_code (code_in f.answers) ≡ true
 OpensBy Named f = (is_name (code_in f.answers) ≡ true) × (is_head_where f.next ≡ true)
@@ -241,12 +241,12 @@ beginning_of Program = program
 beginning_of Named = program
 
 -- what begins there where the part begins
-abbrev opened : Opens → Code → ℕ → List ℕ → Found
+abbrev opened : Opens → Code → ℕ → List ℕ → ScanStep
 opened Definitions c place bytes = at_definition c place bytes
 opened Program c place bytes = at_program c place bytes
 opened Named c place bytes = at_program c place bytes
 
-record Twins (o : Opens) (g f : Found) : Type 0 where
+record Twins (o : Opens) (g f : ScanStep) : Type 0 where
   twin : OpensBy o f → Twin f g
 
 code-twins : (o : Opens) (part : Part) (cs : List Opened) (c : Code) (place : ℕ) (bytes : List ℕ)
@@ -264,14 +264,15 @@ tex-twins : (o : Opens) (c : Code) (place : ℕ) (bytes : List ℕ) → OpensAt 
     → Twins o (opened o c place bytes) (tex_by (effect_in_tex c) c tex place bytes)
 tex-twins x1 c place bytes d = grind (arith, nat_tests, tex-definition, tex-program, tex-name)
 
-note-twins : (o : Opens) (n : Noted) (g f : Found) → Twins o g f → Twins o g (before (Note n.kind n.place ∷ []) f)
+note-twins : (o : Opens) (n : NoteAt) (g f : ScanStep) → Twins o g f → Twins o g (before (Note n.kind n.place ∷ []) f)
 note-twins x1 n g f t = grind (arith, nat_tests, note-twin)
 
 -- what is no code opens nothing
-none-twins : (o : Opens) (g f : Found) → code_in f.answers ≡ at.Unknown → Twins o g f
+none-twins : (o : Opens) (g f : ScanStep) → code_in f.answers ≡ at.Unknown → Twins o g f
 none-twins x1 g f e = grind (arith, nat_tests, wrong, is_definition_code)
 
-comment-twins : (o : Opens) (g : Found) (part : Part) (c : Opened) (cs : List Opened) (last place : ℕ) (bytes : List ℕ)
+comment-twins : (o : Opens) (g : ScanStep) (part : Part) (c : Opened) (cs : List Opened) (last place : ℕ)
+    (bytes : List ℕ)
     → Twins o g (comment_text_apart part c cs last place 64 bytes)
 comment-twins o g part c cs last place bytes = grind (arith, nat_tests, if-both, wrong, and-none, none-twins)
 

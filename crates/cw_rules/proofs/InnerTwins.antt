@@ -7,7 +7,7 @@ use Rattle.cw_rules.specs.declared.{codes.Code.Code, codes.Effect.Effect, parts.
 use Rattle.cw_base.specs.{Bytes.newline, Text.bar}
 use Rattle.cw_rules.specs.Bytes.{hash, star, slash, less, at_sign, is_in, is_letter, begins, is_mark}
 use Rattle.cw_rules.specs.{Constants.constant, Prefixes.prefix_size, Signs.all_signs, Signs.longest}
-use Rattle.cw_rules.specs.Answers.{Answer, Where, Found, before}
+use Rattle.cw_rules.specs.Answers.{Answer, Where, ScanStep, before}
 use Rattle.cw_rules.specs.Tokens.{sign_or_other, line_end, inner_cut, comment_end, is_deep, code_by, in_code, start_of}
 use Rattle.cw_rules.specs.Tokens.{skipped_byte, is_tex_inner}
 use Rattle.cw_rules.specs.model.Apart.{comment_text_apart, code_text_apart, in_text_apart, found_apart}
@@ -25,18 +25,18 @@ abbrev pub alone : List Opened → Where
 alone cs = record { part = parts.Inner; comments = cs }
 
 -- what begins there, as it stands in TeX text
-abbrev pub in_tex : Found → Found
+abbrev pub in_tex : ScanStep → ScanStep
 in_tex g = record { answers = g.answers; more = g.more; next = tex_inner g.next.comments }
 
 -- two findings that are the same where the first leaves the scan in inner C text of TeX text
-pub record Twin (f g : Found) : Type 0 where
+pub record Twin (f g : ScanStep) : Type 0 where
   pub same : is_tex_inner f.next.part ≡ true → (f ≡ in_tex g) × (g.next.part ≡ parts.Inner)
 
-if-twin : (t : Bool) (a b c d : Found) → (t ≡ true → Twin a b) → (t ≡ false → Twin c d)
+if-twin : (t : Bool) (a b c d : ScanStep) → (t ≡ true → Twin a b) → (t ≡ false → Twin c d)
     → Twin (if t then a else c) (if t then b else d)
 if-twin x1 a b c d f g = grind (arith, nat_tests)
 
-before-twin : (xs : List Answer) (f g : Found) → Twin f g → Twin (before xs f) (before xs g)
+before-twin : (xs : List Answer) (f g : ScanStep) → Twin f g → Twin (before xs f) (before xs g)
 before-twin xs f g t = record { same = λ h. (ap (before xs) (t.same h).0, (t.same h).1) }
 
 line_end-twin : (cs : List Opened) (last place : ℕ)
@@ -110,7 +110,7 @@ in_text-twin (c ∷ cs) fresh last place byte bs =
 
 -- What begins at a place of inner C text of TeX text, and ends before a bar, is what begins there in the text up to the
 -- bar.
-pub found-twin : (more : List ℕ) (cs : List Opened) (fresh : Bool) (last place byte : ℕ) (bs : List ℕ) (f : Found)
+pub found-twin : (more : List ℕ) (cs : List Opened) (fresh : Bool) (last place byte : ℕ) (bs : List ℕ) (f : ScanStep)
     → found_apart (tex_inner cs) fresh last place byte (bs ++ 124 ∷ more) ≡ f → f.more ≤ length bs
     → is_tex_inner f.next.part ≡ true → (f ≡ in_tex (found_apart (alone cs) fresh last place byte bs))
     × ((found_apart (alone cs) fresh last place byte bs).next.part ≡ parts.Inner)

@@ -7,7 +7,7 @@ use Rattle.cw_base.proofs.TestLaws.{both-left, both-right, not-true}
 use Rattle.cw_base.specs.{declared.notes.NoteKind.NoteKind, Bytes.newline, Text.bar}
 use Rattle.cw_rules.specs.declared.{codes.Code.Code, codes.Effect.Effect, parts.Part.Part, parts.Opened.Opened}
 use Rattle.cw_rules.specs.declared.{parts.Start.Start, signs.Sign.Sign}
-use Rattle.cw_rules.specs.Answers.{Note, Where, Cut, Found, before, plain, dropped}
+use Rattle.cw_rules.specs.Answers.{Note, Where, Cut, ScanStep, before, plain, dropped}
 use Rattle.cw_rules.specs.model.Apart.{code_text_apart, comment_text_apart, behind_head_apart, part_text_apart}
 use Rattle.cw_rules.specs.Bytes.{slash, star, at_sign, hash, less, comma, equals, left_paren, right_paren, run, begins}
 use Rattle.cw_rules.specs.Bytes.{begins_by, is_in, is_letter, is_mark}
@@ -77,7 +77,7 @@ pub data BeginsPart (place : ℕ) : Effect → Part → Type 0 where
   Format : BeginsPart place effects.Formats (parts.FormatName place false false)
   CPart : BeginsPart place effects.BeginsC (parts.Plain false behinds.Other)
 
-pub data CodeRule (w : Where) (fresh : Bool) (last place byte : ℕ) (bytes : List ℕ) : Found → Type 0 where
+pub data CodeRule (w : Where) (fresh : Bool) (last place byte : ℕ) (bytes : List ℕ) : ScanStep → Type 0 where
   LineEnd : (byte == newline) ≡ true → CodeRule w fresh last place byte bytes (line_end w.part w.comments last place)
   Space : (byte == newline) ≡ false → is_space w.part byte bytes ≡ true
       → CodeRule w fresh last place byte bytes (skipped_byte w)
@@ -104,7 +104,7 @@ pub data CodeRule (w : Where) (fresh : Bool) (last place byte : ℕ) (bytes : Li
       → CodeRule w fresh last place byte bytes (inner_end w place (byte ∷ bytes))
 
 module _ (w : Where) (fresh : Bool) (last place byte : ℕ) (bytes : List ℕ) where
-  abbrev Ruled : Found → Type 0
+  abbrev Ruled : ScanStep → Type 0
   Ruled f = CodeRule w fresh last place byte bytes f
 
   code-by-rule : (effect : Effect) → (byte == at_sign) ≡ true → effect_in w.part w.comments (code_at bytes) ≡ effect
@@ -163,7 +163,7 @@ module _ (w : Where) (fresh : Bool) (last place byte : ℕ) (bytes : List ℕ) w
 -- ## The text of a comment
 
 pub data CommentRule (part : Part) (c : Opened) (comments : List Opened) (last place byte : ℕ) (bytes : List ℕ)
-    : Found → Type 0 where
+    : ScanStep → Type 0 where
   Closed : c.long ≡ true → (byte == star && begins slash bytes) ≡ true
       → CommentRule part c comments last place byte bytes (comment_closed part c comments place (byte ∷ bytes))
   EndedLine : c.long ≡ false → (byte == newline) ≡ true
@@ -188,7 +188,7 @@ comment-rule part c comments last place byte bytes =
 
 -- ## Limbo, TeX text and heads
 
-pub data LimboRule (place byte : ℕ) (bytes : List ℕ) : Found → Type 0 where
+pub data LimboRule (place byte : ℕ) (bytes : List ℕ) : ScanStep → Type 0 where
   LimboCode : (byte == at_sign) ≡ true → effect_in_limbo (code_at bytes) ≡ effects.Stands
       → LimboRule place byte bytes (one false (within parts.Limbo) place (byte ∷ bytes)
       (code_token (code_at bytes) place (byte ∷ bytes)))
@@ -257,10 +257,11 @@ pub data IsHeadSign (code : ℕ) (byte : ℕ) (bytes : List ℕ) : Sign → Part
       → IsHeadSign code byte bytes signs.Ellipsis (parts.Parameters code)
 
 -- What begins outside comments in a part.
-pub data PartRule (fresh : Bool) (last place byte : ℕ) (bytes : List ℕ) : Part → Found → Type 0 where
-  OfCode : (part : Part) (f : Found) → is_code_part part ≡ true → CodeRule (within part) fresh last place byte bytes f
+pub data PartRule (fresh : Bool) (last place byte : ℕ) (bytes : List ℕ) : Part → ScanStep → Type 0 where
+  OfCode : (part : Part) (f : ScanStep) → is_code_part part ≡ true → CodeRule (within part) fresh last place byte bytes
+      f
       → PartRule fresh last place byte bytes part f
-  OfLimbo : (f : Found) → LimboRule place byte bytes f → PartRule fresh last place byte bytes parts.Limbo f
+  OfLimbo : (f : ScanStep) → LimboRule place byte bytes f → PartRule fresh last place byte bytes parts.Limbo f
   TexCode : (byte == at_sign) ≡ true → effect_in_tex (code_at bytes) ≡ effects.Stands
       → PartRule fresh last place byte bytes parts.Tex (one false (within parts.Tex) place (byte ∷ bytes)
       (code_token (code_at bytes) place (byte ∷ bytes)))
@@ -296,15 +297,15 @@ pub data PartRule (fresh : Bool) (last place byte : ℕ) (bytes : List ℕ) : Pa
   ParameterSign : (code : ℕ) (sign : Sign) (next : Part) → IsHeadSign code byte bytes sign next
       → PartRule fresh last place byte bytes (parts.Parameters code) (one false (within next) place (byte ∷ bytes)
       (plain (kinds.Sign sign) (length (spelling sign))))
-  Improper : (part : Part) (kind : NoteKind) (code : ℕ) (f : Found) → IsImproper part kind code
+  Improper : (part : Part) (kind : NoteKind) (code : ℕ) (f : ScanStep) → IsImproper part kind code
       → CodeRule (within parts.Definition) fresh last place byte bytes f
       → PartRule fresh last place byte bytes part (before (Note kind code ∷ []) f)
-  ImproperInLimbo : (code : ℕ) (second : Bool) (f : Found) → LimboRule place byte bytes f
+  ImproperInLimbo : (code : ℕ) (second : Bool) (f : ScanStep) → LimboRule place byte bytes f
       → PartRule fresh last place byte bytes (parts.FormatName code second true)
       (before (Note notes.ImproperFormat code ∷ []) f)
 
 module _ (fresh : Bool) (last place byte : ℕ) (bytes : List ℕ) where
-  abbrev In : Part → Found → Type 0
+  abbrev In : Part → ScanStep → Type 0
   In part f = PartRule fresh last place byte bytes part f
 
   tex-by-rule : (effect : Effect) → (byte == at_sign) ≡ true → effect_in_tex (code_at bytes) ≡ effect

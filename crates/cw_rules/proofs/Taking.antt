@@ -10,7 +10,7 @@ use Rattle.cw_rules.specs.declared.{parts.Opened.Opened, signs.Sign.Sign}
 use Rattle.cw_rules.specs.Bytes.{star, slash, at_sign, run, is_in, is_letter, is_digit, begins, equals}
 use Rattle.cw_rules.specs.{Constants.constant, Answers.note_answers, Answers.dropped, Order.begins_space}
 use Rattle.cw_rules.specs.{model.Apart.found_apart, model.Apart.in_text_apart, Signs.spelling}
-use Rattle.cw_rules.specs.Answers.{plain, Answer, Token, Begin, Finish, Note, Seen, Where, Cut, Found, before}
+use Rattle.cw_rules.specs.Answers.{plain, Answer, Token, Begin, Finish, Note, Seen, Where, Cut, ScanStep, before}
 use Rattle.cw_rules.specs.Codes.{code_at, begins_section, has_control_text}
 use Rattle.cw_rules.specs.Bodies.{stops, goes_on, extent, ended, noted}
 use Rattle.cw_rules.specs.Tokens.{in_hash_line, is_space, is_deep, passed, one, skipped_byte, comment_end, inner_cut}
@@ -62,18 +62,18 @@ TakesAll place bytes more (Begin t ∷ answers) = IsWhole place bytes more t × 
 TakesAll place bytes more (Finish t ∷ answers) = IsWhole place bytes more t × AreNotes answers
 TakesAll place bytes more (Note kind about ∷ answers) = ⊥
 
-pub record Takes (place : ℕ) (bytes : List ℕ) (f : Found) : Type 0 where
+pub record Takes (place : ℕ) (bytes : List ℕ) (f : ScanStep) : Type 0 where
   pub first : List Answer
   pub rest : List Answer
   pub split : f.answers ≡ first ++ rest
   pub bare : AreBare place first
   pub whole : TakesAll place bytes f.more rest
 
-notes-notes : (notes : List Noted) → AreNotes (note_answers notes)
+notes-notes : (notes : List NoteAt) → AreNotes (note_answers notes)
 notes-notes [] = tt
 notes-notes (n ∷ notes) = notes-notes notes
 
-bare-notes : (place : ℕ) (notes : List Noted) → AreBare place (note_answers notes)
+bare-notes : (place : ℕ) (notes : List NoteAt) → AreBare place (note_answers notes)
 bare-notes place [] = tt
 bare-notes place (n ∷ notes) = bare-notes place notes
 
@@ -96,7 +96,7 @@ skipped-takes : (place : ℕ) (bytes : List ℕ) (w : Where) → begins_space by
     → Takes place bytes (skipped_byte w)
 skipped-takes place bytes w h = record { first = []; rest = []; split = refl; bare = tt; whole = (refl, h) }
 
-before-takes : (place : ℕ) (bytes : List ℕ) (xs : List Answer) (f : Found) → AreBare place xs → Takes place bytes f
+before-takes : (place : ℕ) (bytes : List ℕ) (xs : List Answer) (f : ScanStep) → AreBare place xs → Takes place bytes f
     → Takes place bytes (before xs f)
 before-takes place bytes xs f h g = grind (arith, nat_tests, append_assoc, bare-append)
 
@@ -206,7 +206,7 @@ passed-some w fresh place byte bytes _ (Dropping note at e) =
 passed-some w fresh place byte bytes _ (OfSign sign e b) = record { is = spelling-some sign }
 passed-some w fresh place byte bytes _ _ = record { is = omega arith }
 
-code-takes : (w : Where) (fresh : Bool) (last place byte : ℕ) (bytes : List ℕ) (f : Found)
+code-takes : (w : Where) (fresh : Bool) (last place byte : ℕ) (bytes : List ℕ) (f : ScanStep)
     → CodeRule w fresh last place byte bytes f → Takes place (byte ∷ bytes) f
 code-takes w fresh last place byte bytes _ (LineEnd h) = at-byte (λ b. Takes place (b ∷ bytes)
     (line_end w.part w.comments last place)) byte newline h (line_end-takes w.part w.comments last place bytes)
@@ -255,7 +255,7 @@ closed-takes : (part : Part) (c : Opened) (comments : List Opened) (place : ℕ)
 closed-takes part c comments place bytes = grind (arith, nat_tests, two, notes-notes)
 
 comment-text-takes : (part : Part) (c : Opened) (comments : List Opened) (last place byte : ℕ) (bytes : List ℕ)
-    → (byte == at_sign && begins_section bytes) ≡ false → (f : Found)
+    → (byte == at_sign && begins_section bytes) ≡ false → (f : ScanStep)
     → CommentRule part c comments last place byte bytes f → Takes place (byte ∷ bytes) f
 comment-text-takes part c comments last place byte bytes section _ (Closed long h) =
     closed-takes part c comments place (byte ∷ bytes)
@@ -275,7 +275,7 @@ code-as : (hash_line : Bool) (next : Where) (code : Code) (place : ℕ) (bytes :
 code-as hash_line next code place bytes =
     one-takes hash_line next place bytes (code_token code place bytes) (code-some code place bytes).is
 
-limbo-takes : (place byte : ℕ) (bytes : List ℕ) (f : Found) → LimboRule place byte bytes f
+limbo-takes : (place byte : ℕ) (bytes : List ℕ) (f : ScanStep) → LimboRule place byte bytes f
     → Takes place (byte ∷ bytes) f
 limbo-takes place byte bytes _ (LimboCode at e) = code-as false _ (code_at bytes) place (byte ∷ bytes)
 limbo-takes place byte bytes _ (LimboFormat at e) =
@@ -285,7 +285,7 @@ limbo-takes place byte bytes _ (LimboDropped note at e) = one-takes false _ plac
 limbo-takes place byte bytes _ (LimboText h) = one-takes false _ place (byte ∷ bytes)
     (plain kinds.Text (run classes.LimboText (byte ∷ bytes))) (run-some classes.LimboText byte bytes (ap not h))
 
-part-takes : (fresh : Bool) (last place byte : ℕ) (bytes : List ℕ) (part : Part) (f : Found)
+part-takes : (fresh : Bool) (last place byte : ℕ) (bytes : List ℕ) (part : Part) (f : ScanStep)
     → PartRule fresh last place byte bytes part f → Takes place (byte ∷ bytes) f
 part-takes fresh last place byte bytes _ _ (OfCode part f is r) =
     code-takes (within part) fresh last place byte bytes f r

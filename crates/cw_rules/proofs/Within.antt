@@ -13,7 +13,7 @@ use Rattle.cw_rules.specs.Signs.{all_signs, longest, spelling}
 use Rattle.cw_rules.proofs.{StringPrefixes.prefix-below, Sizes.section_code-le}
 use Rattle.cw_rules.specs.Codes.{code_at, begins_section, effect_in_limbo, effect_in_tex}
 use Rattle.cw_rules.specs.Bodies.{extent, noted, one_note, note_unless}
-use Rattle.cw_rules.specs.Answers.{Answer, Note, Where, Cut, Found, before, note_answers}
+use Rattle.cw_rules.specs.Answers.{Answer, Note, Where, Cut, ScanStep, before, note_answers}
 use Rattle.cw_rules.specs.Tokens.{in_hash_line, behind_include, takes_hash_line, is_space, is_deep, ends_at_bar}
 use Rattle.cw_rules.specs.Tokens.{closes_on_line, moved, one, skipped_byte, comment_end, inner_cut, part_cut, all_cut}
 use Rattle.cw_rules.specs.Tokens.{section, passed, line_end, sign_or_other, start_of, effect_in, code_by, in_code}
@@ -33,11 +33,11 @@ use Rattle.cw_rules.specs.declared.tokens.Directive.TheVariants as directives
 use Rattle.cw_rules.specs.declared.tokens.TokKind.TheVariants as kinds
 
 -- What is found at a place fits in so many bytes.
-pub record Fits (place left : ℕ) (f : Found) : Type 0 where
+pub record Fits (place left : ℕ) (f : ScanStep) : Type 0 where
   pub within : AreWithin place (place + left) f.answers
   pub more : f.more < left
 
-notes-within : (low high : ℕ) (notes : List Noted) → AreWithin low high (note_answers notes)
+notes-within : (low high : ℕ) (notes : List NoteAt) → AreWithin low high (note_answers notes)
 notes-within low high [] = tt
 notes-within low high (n ∷ notes) = notes-within low high notes
 
@@ -53,7 +53,7 @@ wider low high first last [] l h g = tt
 wider low high first last (Note kind place ∷ xs) l h g = wider low high first last xs l h g
 wider low high first last (_ ∷ xs) l h g = grind (arith, nat_tests, wider low high first last xs l h g.1)
 
-either : (place left : ℕ) (t : Bool) (f g : Found) → (t ≡ true → Fits place left f) → (t ≡ false → Fits place left g)
+either : (place left : ℕ) (t : Bool) (f g : ScanStep) → (t ≡ true → Fits place left f) → (t ≡ false → Fits place left g)
     → Fits place left (if t then f else g)
 either place left t f g h i = grind arith
 
@@ -62,7 +62,7 @@ one-fits : (hash_line : Bool) (next : Where) (place : ℕ) (bytes : List ℕ) (c
 one-fits hash_line next place bytes cut left h some =
     grind (arith, nat_tests, common_steps, notes-within place (place + left) cut.notes, notes-within)
 
-before-fits : (place left : ℕ) (xs : List Answer) (f : Found) → AreWithin place (place + left) xs → Fits place left f
+before-fits : (place left : ℕ) (xs : List Answer) (f : ScanStep) → AreWithin place (place + left) xs → Fits place left f
     → Fits place left (before xs f)
 before-fits place left xs f h g = grind (arith, nat_tests, append-within)
 

@@ -2,7 +2,7 @@
 use Rattle.std.specs.Prelude.{◌≡◌, ℕ, ◌+◌, Bool, true, false, List, [], ◌∷◌, ◌++◌, take}
 use Rattle.cw_base.specs.declared.notes.NoteKind.{NoteKind}
 use Rattle.cw_base.specs.declared.span.Span.{Span}
-use Rattle.cw_rules.specs.declared.bodies.Noted.{Noted}
+use Rattle.cw_rules.specs.declared.bodies.NoteAt.{NoteAt}
 use Rattle.cw_rules.specs.declared.parts.Part.{Part}
 use Rattle.cw_rules.specs.declared.parts.Opened.{Opened}
 use Rattle.cw_rules.specs.declared.tokens.Directive.{Directive}
@@ -62,19 +62,19 @@ pub record Cut : Type 0 where
   pub kind : TokKind
   pub directive : Directive
   pub size : ℕ
-  pub notes : List Noted
+  pub notes : List NoteAt
 
 -- What begins at a place: its answers, how many bytes belong to it behind its first, and where the text goes on.
-pub record Found : Type 0 where
+pub record ScanStep : Type 0 where
   pub answers : List Answer
   pub more : ℕ
   pub next : Where
 
 -- answers that take no byte, before what begins there
-abbrev pub before : List Answer → Found → Found
+abbrev pub before : List Answer → ScanStep → ScanStep
 before answers f = record { answers = answers ++ f.answers; more = f.more; next = f.next }
 
-abbrev pub note_answers : List Noted → List Answer
+abbrev pub note_answers : List NoteAt → List Answer
 note_answers [] = []
 note_answers (n ∷ notes) = Note n.kind n.place ∷ note_answers notes
 

@@ -8,7 +8,7 @@ use Rattle.cw_base.specs.declared.notes.NoteKind.TheVariants.{ExtraBrace, TooDee
 use Rattle.cw_rules.specs.declared.bodies.Body.{Body}
 use Rattle.cw_rules.specs.declared.bodies.Body.TheVariants.{Quoted, IncludeName, ControlText, SectionName, Piece}
 use Rattle.cw_rules.specs.declared.bodies.Inside.{Inside}
-use Rattle.cw_rules.specs.declared.bodies.Noted.{Noted}
+use Rattle.cw_rules.specs.declared.bodies.NoteAt.{NoteAt}
 use Rattle.cw_rules.specs.declared.bodies.Extent.{Extent}
 use Rattle.cw_base.specs.Bytes.{newline, backslash}
 use Rattle.cw_rules.specs.Bytes.{star, slash, greater, at_sign, left_brace, right_brace}
@@ -94,12 +94,12 @@ ended i (byte ∷ bytes) = if goes_on i (byte ∷ bytes) then ended (stepped i b
 abbrev pub note_here : Inside → ℕ → List ℕ → Option NoteKind
 note_here i byte bytes = if i.along then None else note_on i.body i.braces byte bytes
 
-abbrev pub with_note : Option NoteKind → ℕ → List Noted → List Noted
+abbrev pub with_note : Option NoteKind → ℕ → List NoteAt → List NoteAt
 with_note None place notes = notes
 with_note (Some kind) place notes = record { kind = kind; place = place } ∷ notes
 
 -- its notes, up to where it stops
-abbrev pub noted : Inside → List ℕ → List Noted
+abbrev pub noted : Inside → List ℕ → List NoteAt
 noted i [] = []
 noted i (byte ∷ bytes) =
     if goes_on i (byte ∷ bytes) then with_note (note_here i byte bytes) i.place (noted (stepped i byte bytes) bytes)
@@ -135,17 +135,17 @@ abbrev pub extent : Inside → List ℕ → Extent
 extent i bytes = extent_of i bytes ((ended i bytes).place - i.place)
 
 -- a note where something doesn't hold
-abbrev pub note_unless : Bool → NoteKind → ℕ → Option Noted
+abbrev pub note_unless : Bool → NoteKind → ℕ → Option NoteAt
 note_unless holds note place = if holds then None else Some (record { kind = note; place = place })
 
-abbrev pub one_note : Option Noted → List Noted
+abbrev pub one_note : Option NoteAt → List NoteAt
 one_note None = []
 one_note (Some n) = n ∷ []
 
-abbrev pub and_last : List Noted → Option Noted → List Noted
+abbrev pub and_last : List NoteAt → Option NoteAt → List NoteAt
 and_last notes None = notes
 and_last notes (Some n) = notes ++ n ∷ []
 
 -- its notes, with one more where it isn't closed
-abbrev pub all_notes : NoteKind → Inside → List ℕ → List Noted
+abbrev pub all_notes : NoteKind → Inside → List ℕ → List NoteAt
 all_notes lost i bytes = and_last (noted i bytes) (note_unless (extent i bytes).closed lost (extent i bytes).stop)

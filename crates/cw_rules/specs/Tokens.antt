@@ -40,7 +40,7 @@ use Rattle.cw_rules.specs.Codes.{code_at, begins_section, has_control_text, effe
 use Rattle.cw_rules.specs.Codes.{effect_in_definition, effect_at_begin}
 use Rattle.cw_rules.specs.Bodies.{at_start, extent, noted, ended, one_note, note_unless, all_notes}
 use Rattle.cw_rules.specs.Names.{is_void}
-use Rattle.cw_rules.specs.Answers.{Answer, Token, Begin, Finish, Note, Where, Spot, Cut, Found, before}
+use Rattle.cw_rules.specs.Answers.{Answer, Token, Begin, Finish, Note, Where, Spot, Cut, ScanStep, before}
 use Rattle.cw_rules.specs.Answers.{note_answers}
 use Rattle.cw_rules.specs.Answers.{token_of, cut_token, plain, dropped}
 
@@ -223,7 +223,7 @@ abbrev pub with_inner : Opened → Bool → Opened
 with_inner c inner = record c { inner = inner }
 
 -- a token, and where the text goes on
-abbrev pub one : Bool → Where → ℕ → List ℕ → Cut → Found
+abbrev pub one : Bool → Where → ℕ → List ℕ → Cut → ScanStep
 one hash_line next place bytes cut = record {
   answers = Token (cut_token hash_line cut place bytes) ∷ note_answers cut.notes;
   more = cut.size - 1;
@@ -231,7 +231,7 @@ one hash_line next place bytes cut = record {
 }
 
 -- a byte that gives no answer
-abbrev pub skipped_byte : Where → Found
+abbrev pub skipped_byte : Where → ScanStep
 skipped_byte w = record { answers = []; more = 0; next = w }
 
 -- ## Ends
@@ -276,7 +276,7 @@ all_cut part (c ∷ comments) place about =
     inner_or_none c.inner (in_hash_line part) place about ++
     (comment_cut (in_hash_line part) c place about ++ all_cut part comments place about)
 
-abbrev pub section : Where → ℕ → List ℕ → Found
+abbrev pub section : Where → ℕ → List ℕ → ScanStep
 section w place bytes =
     before (all_cut w.part w.comments place place)
     (one false (record { part = parts.Tex; comments = [] }) place (at_sign ∷ bytes) (section_code (at_sign ∷ bytes)))
@@ -284,14 +284,14 @@ section w place bytes =
 -- A line's end in C text ends the short comments around it, up to the innermost long one. Where no comment is left it
 -- ends a `#` line, unless a backslash stands before it. Else it is white space. A comment is one token of the text
 -- around it, so behind one that ends here the word `include` in it lets nothing follow.
-abbrev pub part_line_end : Part → ℕ → ℕ → Found
+abbrev pub part_line_end : Part → ℕ → ℕ → ScanStep
 part_line_end part last place =
     if in_hash_line part && not (last == backslash)
     then one true (record { part = parts.Plain false Other; comments = [] }) place (newline ∷ [])
     (plain kinds.HashLineEnd 1)
     else skipped_byte (record { part = part; comments = [] })
 
-abbrev pub line_end : Part → List Opened → ℕ → ℕ → Found
+abbrev pub line_end : Part → List Opened → ℕ → ℕ → ScanStep
 line_end part [] last place = part_line_end part last place
 line_end part (c ∷ comments) last place =
     if c.long then skipped_byte (record { part = part; comments = c ∷ comments })
@@ -355,7 +355,7 @@ abbrev pub word : Directive → List ℕ → Cut
 word directive bytes = record (identifier bytes) { directive = directive }
 
 -- A comment begins.
-abbrev pub comment_begin : Bool → Where → ℕ → List ℕ → Found
+abbrev pub comment_begin : Bool → Where → ℕ → List ℕ → ScanStep
 comment_begin long w place bytes = record {
   answers = Begin (token_of (in_hash_line w.part) (comment_kind long) place 2 bytes) ∷ [];
   more = 1;
@@ -367,7 +367,7 @@ comment_begin long w place bytes = record {
 }
 
 -- Inner C text begins in TeX text or in a comment, and ends.
-abbrev pub inner_begin : Bool → Where → ℕ → List ℕ → Found
+abbrev pub inner_begin : Bool → Where → ℕ → List ℕ → ScanStep
 inner_begin hash_line next place bytes = record {
   answers = Begin (token_of hash_line kinds.InnerText place 1 bytes) ∷ [];
   more = 0;
@@ -378,7 +378,7 @@ abbrev pub behind_inner : Part → List Opened → Where
 behind_inner part [] = record { part = parts.Tex; comments = [] }
 behind_inner part (c ∷ comments) = record { part = passed part; comments = with_inner c false ∷ comments }
 
-abbrev pub inner_end : Where → ℕ → List ℕ → Found
+abbrev pub inner_end : Where → ℕ → List ℕ → ScanStep
 inner_end w place bytes = record {
   answers = Finish (token_of (in_hash_line w.part) kinds.InnerText place 1 bytes) ∷ [];
   more = 0;
@@ -396,7 +396,7 @@ may_head parts.Definition [] = true
 may_head parts.Begin [] = true
 may_head part comments = false
 
-abbrev pub code_by : Effect → Code → Where → ℕ → List ℕ → Found
+abbrev pub code_by : Effect → Code → Where → ℕ → List ℕ → ScanStep
 code_by effects.Stands code w place bytes =
     one (in_hash_line w.part)
     (if is_name code && (may_head w.part w.comments && is_head place bytes) then moved w parts.Head else moved w
@@ -412,7 +412,7 @@ code_by effects.BeginsC code w place bytes = one false (moved w (parts.Plain fal
     (plain (kinds.Code code) 2)
 
 -- The token that begins at a byte of C text.
-abbrev pub in_code : Start → Where → ℕ → List ℕ → Found
+abbrev pub in_code : Start → Where → ℕ → List ℕ → ScanStep
 in_code start.Identifier w place bytes = one (in_hash_line w.part) (moved w (behind_word w.part bytes)) place bytes
     (word (directive_at w.part bytes) bytes)
 in_code start.Constant w place bytes = one (in_hash_line w.part) (moved w (passed w.part)) place bytes
@@ -439,7 +439,7 @@ abbrev pub is_space : Part → ℕ → List ℕ → Bool
 is_space part byte bytes = is_in classes.Blank byte
     || (in_hash_line part && (byte == backslash && begins newline bytes))
 
-abbrev pub code_text : Spot → ℕ → List ℕ → Found
+abbrev pub code_text : Spot → ℕ → List ℕ → ScanStep
 code_text here byte bytes =
     let w = here.stands in
     if byte == newline then line_end w.part w.comments here.last here.place
@@ -463,14 +463,14 @@ piece_start part comments c place = record {
   along = false;
 }
 
-abbrev pub piece : Part → List Opened → Opened → ℕ → List ℕ → Found
+abbrev pub piece : Part → List Opened → Opened → ℕ → List ℕ → ScanStep
 piece part comments c place bytes =
     let i = piece_start part comments c place in
     one (in_hash_line part)
     (record { part = part; comments = record c { braces = (ended i bytes).braces } ∷ comments })
     place bytes (record { kind = kinds.Text; directive = No; size = (extent i bytes).size; notes = noted i bytes })
 
-abbrev pub comment_closed : Part → Opened → List Opened → ℕ → List ℕ → Found
+abbrev pub comment_closed : Part → Opened → List Opened → ℕ → List ℕ → ScanStep
 comment_closed part c comments place bytes = record {
   answers = comment_end (in_hash_line part) c place 2 bytes;
   more = 1;
@@ -478,7 +478,7 @@ comment_closed part c comments place bytes = record {
 }
 
 -- The innermost comment that is open, and those around it.
-abbrev pub comment_text : Opened → List Opened → Spot → ℕ → List ℕ → Found
+abbrev pub comment_text : Opened → List Opened → Spot → ℕ → List ℕ → ScanStep
 comment_text c comments here byte bytes =
     let part = here.stands.part in
     if c.long && (byte == star && begins slash bytes) then comment_closed part c comments here.place (byte ∷ bytes)
@@ -491,7 +491,7 @@ comment_text c comments here byte bytes =
 
 -- ## Limbo, TeX text, and the heads of definitions and C parts
 
-abbrev pub limbo_by : Effect → Code → Where → ℕ → List ℕ → Found
+abbrev pub limbo_by : Effect → Code → Where → ℕ → List ℕ → ScanStep
 limbo_by effects.Stands code w place bytes = one false w place bytes (code_token code place bytes)
 limbo_by effects.Formats code w place bytes = one false (moved w (parts.FormatName place false true)) place bytes
     (plain (kinds.Code code) 2)
@@ -499,12 +499,12 @@ limbo_by (effects.Drops note) code w place bytes =
     one false w place bytes (dropped note place (plain (kinds.Code code) (alone_size bytes)))
 limbo_by effect code w place bytes = skipped_byte w
 
-abbrev pub limbo_text : Where → ℕ → ℕ → List ℕ → Found
+abbrev pub limbo_text : Where → ℕ → ℕ → List ℕ → ScanStep
 limbo_text w place byte bytes =
     if byte == at_sign then limbo_by (effect_in_limbo (code_at bytes)) (code_at bytes) w place (byte ∷ bytes)
     else one false w place (byte ∷ bytes) (plain kinds.Text (run classes.LimboText (byte ∷ bytes)))
 
-abbrev pub tex_by : Effect → Code → Where → ℕ → List ℕ → Found
+abbrev pub tex_by : Effect → Code → Where → ℕ → List ℕ → ScanStep
 tex_by effects.Stands code w place bytes =
     one false (if is_name code && is_head place bytes then moved w parts.Head else w) place bytes
     (code_token code place bytes)
@@ -516,14 +516,14 @@ tex_by effects.Formats code w place bytes = one false (moved w (parts.FormatName
 tex_by effects.BeginsC code w place bytes = one false (moved w (parts.Plain false Other)) place bytes
     (plain (kinds.Code code) 2)
 
-abbrev pub tex_text : Where → ℕ → ℕ → List ℕ → Found
+abbrev pub tex_text : Where → ℕ → ℕ → List ℕ → ScanStep
 tex_text w place byte bytes =
     if byte == at_sign then tex_by (effect_in_tex (code_at bytes)) (code_at bytes) w place (byte ∷ bytes)
     else if byte == bar then inner_begin false (moved w parts.TexInner) place (byte ∷ bytes)
     else one false w place (byte ∷ bytes) (plain kinds.Text (run classes.TexText (byte ∷ bytes)))
 
 -- The head of a C part: its name has been read, and blanks and its sign follow.
-abbrev pub head_text : Where → ℕ → ℕ → List ℕ → Found
+abbrev pub head_text : Where → ℕ → ℕ → List ℕ → ScanStep
 head_text w place byte bytes =
     if is_in classes.Blank byte then skipped_byte w
     else one false (moved w (parts.Plain false Other)) place (byte ∷ bytes)
@@ -538,7 +538,7 @@ abbrev pub name_follows : List ℕ → Bool
 name_follows bytes = begins_by is_letter (behind_white bytes)
 
 -- The name of a macro, directly behind which a `(` opens its parameters.
-abbrev pub macro_name : ℕ → Where → ℕ → ℕ → List ℕ → Found
+abbrev pub macro_name : ℕ → Where → ℕ → ℕ → List ℕ → ScanStep
 macro_name code w place byte bytes =
     if is_in classes.White byte then skipped_byte w
     else one false
@@ -554,7 +554,7 @@ is_parameter bytes =
 abbrev pub parameter_follows : List ℕ → Bool
 parameter_follows bytes = is_parameter (behind_white bytes)
 
-abbrev pub parameter : Where → ℕ → ℕ → List ℕ → Found
+abbrev pub parameter : Where → ℕ → ℕ → List ℕ → ScanStep
 parameter w place byte bytes =
     if is_in classes.White byte then skipped_byte w
     else if is_letter byte then one false w place (byte ∷ bytes) (identifier (byte ∷ bytes))
@@ -567,18 +567,18 @@ parameter w place byte bytes =
 abbrev pub behind_format : Bool → Where → Where
 behind_format limbo w = moved w (if limbo then parts.Limbo else parts.Definition)
 
-abbrev pub format_name : ℕ → Bool → Bool → Where → ℕ → ℕ → List ℕ → Found
+abbrev pub format_name : ℕ → Bool → Bool → Where → ℕ → ℕ → List ℕ → ScanStep
 format_name code second limbo w place byte bytes =
     if is_in classes.White byte then skipped_byte w
     else one false (if second then behind_format limbo w else moved w (parts.FormatName code true limbo)) place
     (byte ∷ bytes) (identifier (byte ∷ bytes))
 
 -- An improper head ends before this place, in limbo or in a section.
-abbrev pub behind_head : Bool → Spot → ℕ → List ℕ → Found
+abbrev pub behind_head : Bool → Spot → ℕ → List ℕ → ScanStep
 behind_head true here byte bytes = limbo_text (moved here.stands parts.Limbo) here.place byte bytes
 behind_head false here byte bytes = code_text (record here { stands = moved here.stands parts.Definition }) byte bytes
 
-abbrev pub part_text : Part → Spot → ℕ → List ℕ → Found
+abbrev pub part_text : Part → Spot → ℕ → List ℕ → ScanStep
 part_text parts.Limbo here byte bytes = limbo_text here.stands here.place byte bytes
 part_text parts.Tex here byte bytes = tex_text here.stands here.place byte bytes
 part_text parts.Head here byte bytes = head_text here.stands here.place byte bytes
@@ -599,13 +599,13 @@ part_text part here byte bytes = code_text here byte bytes
 -- ## Any text
 
 -- These comments are open, the innermost first.
-abbrev pub in_text : List Opened → Spot → ℕ → List ℕ → Found
+abbrev pub in_text : List Opened → Spot → ℕ → List ℕ → ScanStep
 in_text [] here byte bytes = part_text here.stands.part here byte bytes
 in_text (c ∷ comments) here byte bytes =
     if c.inner then code_text here byte bytes else comment_text c comments here byte bytes
 
 -- What begins at a place. A section code ends all that is open.
-abbrev pub found : Spot → ℕ → List ℕ → Found
+abbrev pub found : Spot → ℕ → List ℕ → ScanStep
 found here byte bytes =
     if byte == at_sign && begins_section bytes then section here.stands here.place bytes
     else in_text here.stands.comments here byte bytes

@@ -43,7 +43,7 @@ pub struct Inside {
 
 /// A note and the place of the byte that it is about.
 #[derive(Clone, Copy)]
-pub struct Noted {
+pub struct NoteAt {
     /// What is told.
     pub kind: NoteKind,
     /// The place of the byte.
@@ -317,7 +317,7 @@ pub fn walk(inside: Inside, text: &[u8]) -> Walked
 }
 
 /// The next note inside, and the place behind it, from which the later ones are found.
-pub(crate) fn next_noted(inside: &mut Inside, text: &[u8]) -> Option<Noted>
+pub(crate) fn next_noted(inside: &mut Inside, text: &[u8]) -> Option<NoteAt>
     requires within { inside.old.place ≤ length text.now }
     requires braces { inside.old.braces ≤ inside.old.place }
     ensures value { MatchOption result (noted inside.old (drop inside.old.place text.now) ≡
@@ -336,7 +336,7 @@ pub(crate) fn next_noted(inside: &mut Inside, text: &[u8]) -> Option<Noted>
         match here {
             Some(kind) => {
                 *inside = i;
-                return Some(Noted { kind, place });
+                return Some(NoteAt { kind, place });
             }
             None => {}
         }

@@ -10,7 +10,7 @@ ghost use Rattle.cw_rules.specs.Tokens.{head_sign_size, section_code, depth_size
 ghost use Rattle.cw_rules.specs.Answers.{dropped, plain};
 ghost use Rattle.cw_rules.specs.model.Cuttings.{bytes_at, cut_of, IsCut};
 
-use crate::bodies::{Body, Inside, Noted, extent_to, walk};
+use crate::bodies::{Body, Inside, NoteAt, extent_to, walk};
 use crate::classes::{Class, begins, from, run};
 use crate::names::is_void;
 use crate::pending::Pending;
@@ -42,13 +42,13 @@ fn at_start(body: Body, place: usize) -> Inside
 }
 
 /// A note where something doesn't hold.
-pub fn note_unless(holds: bool, kind: NoteKind, place: usize) -> Option<Noted>
+pub fn note_unless(holds: bool, kind: NoteKind, place: usize) -> Option<NoteAt>
     ensures { result ≡ note_unless holds kind place }
 {
     if holds {
         None
     } else {
-        Some(Noted { kind, place })
+        Some(NoteAt { kind, place })
     }
 }
 
@@ -224,7 +224,7 @@ pub fn dropped(cut: Cutting, note: NoteKind, at: usize) -> Cutting
         kind: TokKind::Dropped,
         size: cut.size,
         pending: Pending {
-            first: Some(Noted {
+            first: Some(NoteAt {
                 kind: note,
                 place: at,
             }),

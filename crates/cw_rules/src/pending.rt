@@ -2,20 +2,20 @@
 ghost use Rattle.std.specs.Prelude.{◌≡◌, ◌∷◌, [], true, length, MatchOption};
 ghost use Rattle.cw_rules.specs.Pending.{pending_notes, IsInside, no_notes};
 
-use crate::bodies::{Inside, Noted, next_noted};
+use crate::bodies::{Inside, NoteAt, next_noted};
 
 /// The notes of the last token that are still to be answered, in this order. Those of a body are found from
 /// a place inside it.
 #[derive(Clone, Copy)]
 pub struct Pending {
     /// The first note.
-    pub first: Option<Noted>,
+    pub first: Option<NoteAt>,
     /// The second note.
-    pub second: Option<Noted>,
+    pub second: Option<NoteAt>,
     /// The place inside a body from which its notes are found.
     pub body: Option<Inside>,
     /// The note behind those of the body.
-    pub last: Option<Noted>,
+    pub last: Option<NoteAt>,
 }
 
 impl Pending {
@@ -41,7 +41,7 @@ impl Pending {
     }
 
     /// The next note, which is taken out.
-    pub fn next(&mut self, text: &[u8]) -> Option<Noted>
+    pub fn next(&mut self, text: &[u8]) -> Option<NoteAt>
         requires { IsInside (length text.now) self.old.body }
         ensures value { MatchOption result (pending_notes text.now self.old ≡
             []) (λ n. pending_notes text.now self.old ≡ n ∷ pending_notes text.now self.new) }
@@ -60,7 +60,7 @@ impl Pending {
     }
 
     // The same where the first two are answered.
-    fn next_of_body(&mut self, text: &[u8]) -> Option<Noted>
+    fn next_of_body(&mut self, text: &[u8]) -> Option<NoteAt>
         requires inside { IsInside (length text.now) self.old.body }
         requires first { self.old.first ≡ None }
         requires second { self.old.second ≡ None }

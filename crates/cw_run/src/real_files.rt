@@ -24,6 +24,6 @@ pub fn run_files<P: Program>(
     ensures some { OverSome (P.run program.now (words_of line.now)) result.1.heard result.1.journal result.0 }
     ensures fault { result.0 ≡ Exit.Fault → Rose 0 result.1.faults }
 {
-    agreement_law();
+    agreement_law(); // (for the proof)
     run_program(alloc, program, line, FileDesk::new_in(rt, alloc))
 }

@@ -54,7 +54,7 @@ pub trait Tool {
 
 // What the file of a tool is made from, and its name.
 #[derive(Drop)]
-struct Source<'a, T> {
+struct ToolSource<'a, T> {
     alloc: Global,
     tool: &'a T,
     web: &'a Web,
@@ -63,7 +63,7 @@ struct Source<'a, T> {
 
 // Makes the file, and writes it.
 fn write_file<T: Tool, D: Desk, L: Ledger>(
-    source: &Source<T>,
+    source: &ToolSource<T>,
     book: &mut Book,
     desk: &mut D,
     steps: &mut Steps<L>,
@@ -81,7 +81,7 @@ fn write_file<T: Tool, D: Desk, L: Ledger>(
 
 // Reads the book of a web, and writes the file.
 fn write_web<T: Tool, D: Desk, L: Ledger>(
-    source: &Source<T>,
+    source: &ToolSource<T>,
     desk: &mut D,
     steps: &mut Steps<L>,
 ) -> Result<Exit, PutError>
@@ -93,7 +93,7 @@ fn write_web<T: Tool, D: Desk, L: Ledger>(
 
 // Writes the file of a web, if it would overwrite no input.
 fn write_sparing<T: Tool, D: Desk, L: Ledger>(
-    source: &Source<T>,
+    source: &ToolSource<T>,
     desk: &mut D,
     steps: &mut Steps<L>,
 ) -> Result<Exit, PutError>
@@ -129,7 +129,7 @@ pub fn run_tool<T: Tool, D: Desk, L: Ledger>(
     match load(alloc, desk, asked.web, Some(asked.change)) {
         Ok(web) => {
             let out = asked.out;
-            let source = Source {
+            let source = ToolSource {
                 alloc,
                 tool,
                 web: &web,

@@ -1,6 +1,7 @@
 -- The tokens of a new list have the joined tree.
 use Rattle.cw_scraps.proofs.Terms.{◌≡◌, ℕ, suc, ◌+◌, ◌≤◌, List, [], ◌∷◌, ◌++◌, length, map, refl, sym, ◌∙◌, arith}
-use Rattle.cw_scraps.proofs.Terms.{MathMode, Math, Sign, Tree, Then, Sub, Joined, Whole, Mark, needs, after, first_mode}
+use Rattle.cw_scraps.proofs.Terms.{MathMode, Math, Sign, Tree, Then, Sub, JoinPiece, Whole, Mark, needs, after}
+use Rattle.cw_scraps.proofs.Terms.{first_mode}
 use Rattle.cw_scraps.proofs.Terms.{toggled, joined_tree, joined_left, joined_right, Piece, scraps_in, numbers_from}
 use Rattle.cw_scraps.proofs.Terms.{math_piece, joined_of, Token, shape, item_of, tree_in, trees_from, LineEntry, Insert}
 use Rattle.cw_scraps.proofs.Terms.{scraps_of, insert_in, inserting, IsPieceWithin, toggle, tokens_of, left_of}
@@ -9,19 +10,19 @@ use Rattle.cw_scraps.proofs.Buildings.{Kind, scrap, sign, kind, Goes, goes}
 use Rattle.cw_scraps.proofs.Reservings.{seen-get}
 
 -- the item, and the modes, of a piece that is joined
-abbrev pub joined_item : Joined → Tree → Tree
+abbrev pub joined_item : JoinPiece → Tree → Tree
 joined_item (Whole tree left right) rest = Sub tree rest
 joined_item (Mark control) rest = Then (Sign control) rest
 
-abbrev pub left_mode : Joined → MathMode
+abbrev pub left_mode : JoinPiece → MathMode
 left_mode (Whole tree left right) = left
 left_mode (Mark control) = needs control
 
-abbrev pub right_mode : Joined → MathMode
+abbrev pub right_mode : JoinPiece → MathMode
 right_mode (Whole tree left right) = right
 right_mode (Mark control) = needs control
 
-pub record Matches (trees : List Tree) (i : Insert) (j : Joined) : Type 0 where
+pub record Matches (trees : List Tree) (i : Insert) (j : JoinPiece) : Type 0 where
   pub item : (rest : Tree) → item_of trees (shape i.token) rest ≡ joined_item j rest
   pub left : i.left ≡ left_mode j
   pub right : i.right ≡ right_mode j
@@ -31,14 +32,14 @@ toggle-tree : (trees : List Tree) (mode left : MathMode) (ts : List Token) → t
 toggle-tree trees mode left ts = grind arith
 
 -- one piece more in front
-cons-tree : (mode : MathMode) (j : Joined) (js : List Joined) → toggled mode (left_mode j)
+cons-tree : (mode : MathMode) (j : JoinPiece) (js : List JoinPiece) → toggled mode (left_mode j)
     (joined_item j (joined_tree (after mode (left_mode j) (right_mode j)) js)) ≡ joined_tree mode (j ∷ js)
 cons-tree mode j js = grind arith
 
-cons-left : (j : Joined) (js : List Joined) → first_mode (left_mode j) (joined_left js) ≡ joined_left (j ∷ js)
+cons-left : (j : JoinPiece) (js : List JoinPiece) → first_mode (left_mode j) (joined_left js) ≡ joined_left (j ∷ js)
 cons-left j js = grind arith
 
-cons-right : (mode : MathMode) (j : Joined) (js : List Joined)
+cons-right : (mode : MathMode) (j : JoinPiece) (js : List JoinPiece)
     → joined_right (after mode (left_mode j) (right_mode j)) js ≡ joined_right mode (j ∷ js)
 cons-right mode j js = grind arith
 

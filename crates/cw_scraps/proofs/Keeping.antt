@@ -4,7 +4,7 @@ use Rattle.cw_scraps.proofs.Terms.{get_or, Option, Some, None, ◌⊎◌, inl, i
 use Rattle.cw_scraps.proofs.Terms.{get_or_past, All-append, All-take, All-drop, All-set, All-map, All-cons, All-head}
 use Rattle.cw_scraps.proofs.Terms.{All-tail, cases_lt, Cat, RawInt, Flags, MathMode, Text, Math, Maybe, Leaf, Tree}
 use Rattle.cw_scraps.proofs.Terms.{Empty, Then, Sub, Inner, bare_name, Search, Found, Nothing, or_else, search_leaf}
-use Rattle.cw_scraps.proofs.Terms.{first_ident, reserve_first, Scrap, no_scrap, scrap_agrees, Joined, Whole, Mark}
+use Rattle.cw_scraps.proofs.Terms.{first_ident, reserve_first, Scrap, no_scrap, scrap_agrees, JoinPiece, Whole, Mark}
 use Rattle.cw_scraps.proofs.Terms.{needs, after, toggled, joined_tree, join, Agrees, Action, Piece, Row, result_at}
 use Rattle.cw_scraps.proofs.Terms.{is_exp}
 use Rattle.cw_scraps.proofs.Terms.{cats_of, row_pieces, math_piece, joined_of, alone, with_cat, new_from, new_scrap}
@@ -122,11 +122,11 @@ reserve-named n (Inner tree rest) h = (h.0, reserve-named n rest h.1)
 toggled-named : (n : ℕ) (m l : MathMode) (tree : Tree) → IsNamedBelow n tree → IsNamedBelow n (toggled m l tree)
 toggled-named n m l tree h = grind arith
 
-abbrev piece_named : ℕ → Joined → Type 0
+abbrev piece_named : ℕ → JoinPiece → Type 0
 piece_named n (Whole tree left right) = IsNamedBelow n tree
 piece_named n (Mark control) = Unit {0}
 
-joined-named : (n : ℕ) (m : MathMode) (js : List Joined) → All (piece_named n) js → IsNamedBelow n (joined_tree m js)
+joined-named : (n : ℕ) (m : MathMode) (js : List JoinPiece) → All (piece_named n) js → IsNamedBelow n (joined_tree m js)
 joined-named n m [] all = tt
 joined-named n m (Whole tree l r ∷ js) all = toggled-named n m l (Sub tree (joined_tree (after m l r) js)) (
   All-head (piece_named n) (Whole tree l r) js all,

@@ -1,7 +1,8 @@
 -- What is joined of pieces that agree with their modes agrees with its own.
 use Rattle.cw_scraps.proofs.Terms.{◌≡◌, List, [], ◌∷◌, Option, Some, refl, sym, ap, ◌∙◌, subst, arith, All, All-head}
 use Rattle.cw_scraps.proofs.Terms.{All-tail, MathMode, Text, Math, Maybe, Control, Leaf, Sign, Tree, Empty, Then, Sub}
-use Rattle.cw_scraps.proofs.Terms.{Inner, Search, search_leaf, first_ident, reserved_leaf, reserve_first, Joined, Whole}
+use Rattle.cw_scraps.proofs.Terms.{Inner, Search, search_leaf, first_ident, reserved_leaf, reserve_first, JoinPiece}
+use Rattle.cw_scraps.proofs.Terms.{Whole}
 use Rattle.cw_scraps.proofs.Terms.{Mark, needs, after, first_mode, toggled, joined_tree, joined_left, joined_right}
 use Rattle.cw_scraps.proofs.Terms.{stays, reads_sign, reads_leaf, leads_on, reads, Agrees, IsSteady, piece_agrees}
 use Rattle.cw_scraps.proofs.Terms.{JoinsAgree}
@@ -57,11 +58,11 @@ steady-reads : (c : Control) (l : MathMode) → IsSteady c → needs c ≡ l →
 steady-reads c l h e t = grind arith
 
 -- from a told mode the joined tree leads to its right mode, which is told
-pub record FromTold (m : MathMode) (js : List Joined) : Type 0 where
+pub record FromTold (m : MathMode) (js : List JoinPiece) : Type 0 where
   pub told_right : IsTold (joined_right m js)
   pub reading : reads (joined_tree m js) m ≡ Some (joined_right m js)
 
-from-told : (m : MathMode) (js : List Joined) → IsTold m → All piece_agrees js → FromTold m js
+from-told : (m : MathMode) (js : List JoinPiece) → IsTold m → All piece_agrees js → FromTold m js
 from-told m [] t all = record { told_right = t; reading = refl }
 from-told m (Whole tree l r ∷ js) t all = go (told l)
     (λ n u. from-told n js u (All-tail piece_agrees (Whole tree l r) js all))

@@ -53,7 +53,7 @@ pub use Rattle.cw_tokens.specs.{Counting.token_count, Reserving.Reserves, declar
 pub use Rattle.cw_tokens.specs.References.{IsUnreferred, IsTied, token_ref, refers, Reach, here, next}
 pub use Rattle.cw_tokens.specs.Shapes.{shape, ref_of, unfolded, tree_in, item_of, trees_from}
 pub use Rattle.cw_tokens.specs.Stored.{StoredLists, MayBePushed, all_lists, with_built}
-pub use Rattle.cw_trees.specs.Joining.{after, first_mode, Scrap, no_scrap, scrap_agrees, Joined, Whole, Mark, needs}
+pub use Rattle.cw_trees.specs.Joining.{after, first_mode, Scrap, no_scrap, scrap_agrees, JoinPiece, Whole, Mark, needs}
 pub use Rattle.cw_trees.specs.Joining.{toggled, joined_tree, join, Agrees, stays, reads_sign, joined_left, joined_right}
 pub use Rattle.cw_trees.specs.Joining.{reads_leaf, leads_on, reads}
 pub use Rattle.cw_trees.specs.Tree.{Leaf, Tree, Empty, Then, Sub, Inner, bare_name, Search, Found, Nothing, or_else}

@@ -69,7 +69,7 @@ impl ScrapLine {
             (work store.old self.old marks.old names.old steps.old)
             (work store.new self.new marks.new names.new steps.new) }
     {
-        let _same = table.row(row);
+        let _same = table.row(row); // (for the proof)
         self.apply_row(
             &Production { row, place, flags },
             names,
@@ -216,7 +216,7 @@ impl ScrapLine {
         let marked = named_ident(self, place, production.underline, names, store);
         let reserved = reserve_words(self, place, reserve, production.bold, names, store);
         produce(self, place, row, production.flags, store);
-        let _length = self.len();
+        let _length = self.len(); // (for the proof)
         let right = place + row.offset() as usize + 1;
         let turning = Turning {
             named: reserve,

@@ -51,7 +51,7 @@ pub fn scrap_of(token: &Tok, names: &mut Names, store: &mut TokenStore) -> Resul
     ensures no_lists { OnErr result (store.new.lists ≡ store.old.lists) }
     ensures room { OnErr result (store.old.spare ≤ store.new.spare) }
 {
-    store.tied_law();
+    store.tied_law(); // (for the proof)
     let number = token.span.start as u32;
     match token.kind {
         TokKind::Identifier => {

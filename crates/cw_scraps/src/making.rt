@@ -39,7 +39,7 @@ pub fn make(
     requires roots { AreRoots store.old.lists (roots_of (drop place line.now)) }
     ensures { IsMade flags.now row.now (drop place line.now) store.old store.new result }
 {
-    let _length = line.len();
+    let _length = line.len(); // (for the proof)
     let cat = result_cat(row.outcome(), line, place);
     let other = takes_others(row, flags, line, place);
     match alone(row, other) {

@@ -50,7 +50,7 @@ pub fn scrap_insert(line: &ScrapLine, place: usize, k: u8) -> Insert
     requires { place + k < length line.now }
     ensures { result ≡ inserted_by (drop place line.now) (Scrap k Maybe) }
 {
-    let _length = line.len();
+    let _length = line.len(); // (for the proof)
     let entry = line.behind(place, k);
     Insert {
         token: Token::List(entry.list),
@@ -65,7 +65,7 @@ pub fn scrap_insert_in(mode: MathMode, line: &ScrapLine, place: usize, k: u8) ->
     requires { place + k < length line.now }
     ensures { result ≡ inserted_by (drop place line.now) (Scrap k mode) }
 {
-    let _length = line.len();
+    let _length = line.len(); // (for the proof)
     let entry = line.behind(place, k);
     in_mode(mode, Token::List(entry.list), entry.left, entry.right)
 }
@@ -95,7 +95,7 @@ pub fn takes_other(flags: &Flags, choice: Choice, line: &ScrapLine, place: usize
     requires { place < length line.now }
     ensures { result ≡ takes_other flags.now choice (entry_cats (drop place line.now)) }
 {
-    let _length = line.len();
+    let _length = line.len(); // (for the proof)
     if let Choice::Always = choice {
         return false;
     }
@@ -119,7 +119,7 @@ pub fn result_cat(outcome: RowResult, line: &ScrapLine, place: usize) -> Cat
     requires { (k : ℕ) → outcome ≡ SameAs k → place + k < length line.now }
     ensures { result ≡ result_at outcome (entry_cats (drop place line.now)) }
 {
-    let _length = line.len();
+    let _length = line.len(); // (for the proof)
     match outcome {
         RowResult::Is(cat) => cat,
         RowResult::SameAs(k) => line.behind(place, k).cat,

@@ -33,13 +33,13 @@ pub fn produce(
     ensures idle { store.new.building ≡ None }
     ensures spare { store.old.spare ≤ store.new.spare + PRODUCTION_TOKENS }
 {
-    store.tied_law();
-    let _length = line.len();
+    store.tied_law(); // (for the proof)
+    let _length = line.len(); // (for the proof)
     let entry = make(line, place, row, flags, store);
     line.replace(
         place + row.offset() as usize,
         row.replaced() as usize,
         entry,
     );
-    store.tied_law();
+    store.tied_law(); // (for the proof)
 }

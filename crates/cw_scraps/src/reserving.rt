@@ -26,7 +26,7 @@ pub fn named_ident(
     requires roots { AreRoots store.now.lists (roots_of line.now) }
     ensures { result ≡ found_name (search_in named (drop place (scraps_of store.now.lists line.now))) }
 {
-    let _length = line.len();
+    let _length = line.len(); // (for the proof)
     match named {
         Some(k) => store.first_ident(line.entry(place + k as usize).list, names),
         None => None,
@@ -52,8 +52,8 @@ fn reserve_named(
     ensures idle { store.new.building ≡ None }
     ensures spare { store.new.spare ≡ store.old.spare }
 {
-    let _length = line.len();
-    store.tied_law();
+    let _length = line.len(); // (for the proof)
+    store.tied_law(); // (for the proof)
     match named {
         Some(k) => store.reserve_ident(line.entry(place + k as usize).list, names),
         None => None,
@@ -77,8 +77,8 @@ fn bold_named(
     ensures idle { store.new.building ≡ None }
     ensures spare { store.new.spare ≡ store.old.spare }
 {
-    let _length = line.len();
-    store.tied_law();
+    let _length = line.len(); // (for the proof)
+    store.tied_law(); // (for the proof)
     match named {
         Some(k) => {
             let list = line.entry(place + k as usize).list;
@@ -178,7 +178,7 @@ pub fn reserve_right<L: Ledger>(
     ensures spare { store.new.spare ≡ store.old.spare }
     ensures steps { steps.new ≡ steps.old + (length line.old - start) }
 {
-    store.tied_law();
+    store.tied_law(); // (for the proof)
     for i in start..line.len() {
         steps.tick();
         let entry = reserve_bare(line.entry(i), name, names, store);

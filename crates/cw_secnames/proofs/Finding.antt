@@ -9,11 +9,11 @@ use Rattle.std.specs.{List.position, List.position_or_len, Option.option_map, Gl
 use Rattle.cw_secnames.specs.Kept.{SecName, with_text, positions_from, grown, earliest}
 use Rattle.std.specs.Prelude.{slice_set}
 
-pub length-named : (xs : List Kept) → length (map name_of xs) ≡ length xs
+pub length-named : (xs : List KeptName) → length (map name_of xs) ≡ length xs
 length-named [] = refl
 length-named (x ∷ xs) = ap suc (length-named xs)
 
-pub with_text-map : (xs : List Kept) (i : ℕ) (d old : Kept) (t : Vec ℕ) (text : List ℕ) (complete : Bool)
+pub with_text-map : (xs : List KeptName) (i : ℕ) (d old : KeptName) (t : Vec ℕ) (text : List ℕ) (complete : Bool)
     → old ≡ get_or xs i d → t.items ≡ text → map name_of (slice_set xs i (record old { text = t; complete = complete }))
     ≡ with_text i text complete (map name_of xs)
 with_text-map [] i d old t text complete same h = refl
@@ -35,32 +35,32 @@ length-with_reference i how section [] = refl
 length-with_reference zero how section (n ∷ names) = refl
 length-with_reference (suc i) how section (n ∷ names) = ap suc (length-with_reference i how section names)
 
-pub same-map : (xs : List Kept) (i : ℕ) (d new : Kept) → name_of new ≡ name_of (get_or xs i d)
+pub same-map : (xs : List KeptName) (i : ℕ) (d new : KeptName) → name_of new ≡ name_of (get_or xs i d)
     → map name_of (slice_set xs i new) ≡ map name_of xs
 same-map [] i d new h = refl
 same-map (x ∷ xs) zero d new h = ap (λ n. n ∷ map name_of xs) h
 same-map (x ∷ xs) (suc i) d new h = ap (λ rest. name_of x ∷ rest) (same-map xs i d new h)
 
-pub reference-map : (xs : List Kept) (i : ℕ) (d new : Kept) (how : RefKind) (section : ℕ)
+pub reference-map : (xs : List KeptName) (i : ℕ) (d new : KeptName) (how : RefKind) (section : ℕ)
     → name_of new ≡ with_section how section (name_of (get_or xs i d))
     → map name_of (slice_set xs i new) ≡ with_reference i how section (map name_of xs)
 reference-map [] i d new how section h = refl
 reference-map (x ∷ xs) zero d new how section h = ap (λ n. n ∷ map name_of xs) h
 reference-map (x ∷ xs) (suc i) d new how section h = grind (arith, reference-map xs i d new how section h)
 
-shorter-by : (b : Bool) (x : Kept) (prefix : List ℕ) (rest : List SecName) → b ≡ false → x.complete ≡ b
+shorter-by : (b : Bool) (x : KeptName) (prefix : List ℕ) (rest : List SecName) → b ≡ false → x.complete ≡ b
     → length x.text.items < length prefix
     → (record (name_of x) { text = prefix; complete = false } ∷ rest) ≡ grown prefix zero (name_of x ∷ rest)
 shorter-by b x prefix rest f e h = grind arith
 
-pub grown-shorter : (prefix : List ℕ) (xs : List Kept) (i : ℕ) (d : Kept)
+pub grown-shorter : (prefix : List ℕ) (xs : List KeptName) (i : ℕ) (d : KeptName)
     → (get_or xs i d).complete ≡ false → length (get_or xs i d).text.items < length prefix
     → with_text i prefix false (map name_of xs) ≡ grown prefix i (map name_of xs)
 grown-shorter prefix [] i d h k = refl
 grown-shorter prefix (x ∷ xs) zero d h k = shorter-by x.complete x prefix (map name_of xs) h refl k
 grown-shorter prefix (x ∷ xs) (suc i) d h k = ap (λ rest. name_of x ∷ rest) (grown-shorter prefix xs i d h k)
 
-pub grown-complete : (prefix : List ℕ) (xs : List Kept) (i : ℕ) (d : Kept) → (get_or xs i d).complete ≡ true
+pub grown-complete : (prefix : List ℕ) (xs : List KeptName) (i : ℕ) (d : KeptName) → (get_or xs i d).complete ≡ true
     → map name_of xs ≡ grown prefix i (map name_of xs)
 grown-complete prefix [] i d h = refl
 grown-complete prefix (x ∷ xs) zero d h = rw h refl
@@ -72,7 +72,7 @@ not-below a b h = grind arith
 still : (complete : Bool) → (not complete && false) ≡ false
 still complete = grind arith
 
-pub grown-longer : (prefix : List ℕ) (xs : List Kept) (i : ℕ) (d : Kept)
+pub grown-longer : (prefix : List ℕ) (xs : List KeptName) (i : ℕ) (d : KeptName)
     → length prefix ≤ length (get_or xs i d).text.items → map name_of xs ≡ grown prefix i (map name_of xs)
 grown-longer prefix [] i d h = refl
 grown-longer prefix (x ∷ xs) zero d h = rw (not-below _ _ h, still x.complete, grown) refl

@@ -1,7 +1,7 @@
 -- All names are marked while the marks are there. Where they were given back, each position is near.
 use Rattle.std.proofs.Common.{◌≡◌, ℕ, ◌+◌, ◌<◌, true, List, [], ◌∷◌, ◌++◌, length, map, slice_set, arith}
 use Rattle.cw_secnames.specs.declared.{kinds.RefKind.RefKind, kinds.SecKind.SecKind, sec_names.Kept.Kept}
-use Rattle.cw_secnames.specs.{declared.name_marks.NameMarks.NameMarks, model.Inside.name_of, Kept.SecName}
+use Rattle.cw_secnames.specs.{declared.name_marks.NameMarks.NameMarks, model.Inside.name_of, KeptName.SecName}
 use Rattle.cw_secnames.specs.{model.NameMarks.AreMarkedNames, model.NameMarks.KeepsNames, References.with_reference}
 use Rattle.cw_secnames.specs.Marks.{is_one_of}
 use Rattle.cw_secnames.specs.model.Marks.{HoldNear, IsMarked}
@@ -11,11 +11,13 @@ pub named-more : (m more : NameMarks) (k : ℕ) (names : List SecName) → Keeps
     → AreMarkedNames more k names
 named-more m more k names keeps h = λ live. marked-more m.marks more.marks k names (keeps live).1 (h (keeps live).0)
 
-pub named-behind : (m : NameMarks) (k : ℕ) (xs : List Kept) (x : Kept) → AreMarkedNames m k (map name_of xs) → (m.live
+pub named-behind : (m : NameMarks) (k : ℕ) (xs : List KeptName) (x : KeptName) → AreMarkedNames m k (map name_of xs)
+    → (m.live
     ≡ true → IsMarked m.marks x.kind x.text.items (k + length xs)) → AreMarkedNames m k (map name_of (xs ++ x ∷ []))
 named-behind m k xs x h here = λ live. marked-behind m.marks k xs x (h live) (here live)
 
-pub named-set : (m : NameMarks) (k : ℕ) (xs : List Kept) (i : ℕ) (new : Kept) → AreMarkedNames m k (map name_of xs)
+pub named-set : (m : NameMarks) (k : ℕ) (xs : List KeptName) (i : ℕ) (new : KeptName) → AreMarkedNames m k
+    (map name_of xs)
     → (m.live ≡ true → IsMarked m.marks new.kind new.text.items (k + i))
     → AreMarkedNames m k (map name_of (slice_set xs i new))
 named-set m k xs i new h here = λ live. marked-set m.marks k xs i new (h live) (here live)

@@ -210,14 +210,15 @@ least-within test names from near r h = grind (arith, sound-within, sound)
 
 -- ## Names in memory
 
-pub marked-behind : (marks : Marks) (k : ℕ) (xs : List Kept) (x : Kept) → AreMarked marks k (map name_of xs)
+pub marked-behind : (marks : Marks) (k : ℕ) (xs : List KeptName) (x : KeptName) → AreMarked marks k (map name_of xs)
     → IsMarked marks x.kind x.text.items (k + length xs) → AreMarked marks k (map name_of (xs ++ x ∷ []))
 marked-behind marks k [] x h m = (subst (IsMarked marks x.kind x.text.items) (add-zero k) m, tt)
 marked-behind marks k (y ∷ xs) x h m =
     let one : k + suc (length xs) ≡ (k + 1) + length xs = omega arith in
     (h.0, marked-behind marks (k + 1) xs x h.1 (subst (IsMarked marks x.kind x.text.items) one m))
 
-pub marked-set : (marks : Marks) (k : ℕ) (xs : List Kept) (i : ℕ) (new : Kept) → AreMarked marks k (map name_of xs)
+pub marked-set : (marks : Marks) (k : ℕ) (xs : List KeptName) (i : ℕ) (new : KeptName) → AreMarked marks k
+    (map name_of xs)
     → IsMarked marks new.kind new.text.items (k + i) → AreMarked marks k (map name_of (slice_set xs i new))
 marked-set marks k [] i new h m = tt
 marked-set marks k (x ∷ xs) zero new h m = (subst (IsMarked marks new.kind new.text.items) (add-zero k) m, h.1)
@@ -229,18 +230,19 @@ pub marked-as : (marks : Marks) (kind other : SecKind) (text items : List ℕ) (
     → k ≡ j → IsMarked marks kind text k → IsMarked marks other items (0 + j)
 marked-as marks kind other text items k j e f g m = grind (arith, zero-add)
 
-pub same-kind : (xs : List Kept) (i : ℕ) (a b : Kept) → i < length xs → (get_or xs i a).kind ≡ (get_or xs i b).kind
+pub same-kind : (xs : List KeptName) (i : ℕ) (a b : KeptName) → i < length xs → (get_or xs i a).kind
+    ≡ (get_or xs i b).kind
 same-kind [] i a b h = absurd (omega arith)
 same-kind (x ∷ xs) zero a b h = refl
 same-kind (x ∷ xs) (suc i) a b h = same-kind xs i a b (omega arith)
 
-named-at : (xs : List Kept) (k : ℕ) (d : Kept) (e : SecName) → k < length xs → get_or (map name_of xs) k e
+named-at : (xs : List KeptName) (k : ℕ) (d : KeptName) (e : SecName) → k < length xs → get_or (map name_of xs) k e
     ≡ name_of (get_or xs k d)
 named-at [] k d e h = absurd (omega arith)
 named-at (x ∷ xs) zero d e h = refl
 named-at (x ∷ xs) (suc k) d e h = named-at xs k d e (omega arith)
 
-pub passes-there : (test : SecName → Bool) (xs : List Kept) (names : List SecName) (k : ℕ) (x : Kept)
+pub passes-there : (test : SecName → Bool) (xs : List KeptName) (names : List SecName) (k : ℕ) (x : KeptName)
     → map name_of xs ≡ names → k < length xs → x ≡ get_or xs k x → test (name_of x) ≡ passes_at test names k
 passes-there test xs names k x view h is = grind (arith, lt-ltb, length-named, named-at)
 

@@ -6,7 +6,7 @@ use Rattle.std.specs.{List.Sorted.IsBinarySearchResult, Ordering.nat_cmp}
 use Rattle.std.proofs.{lemmas.List.Sorted.searched, lemmas.Bool.eq-eqb, lemmas.Bool.eqb-true}
 use Rattle.cw_base.proofs.TestLaws.{or-false}
 use Rattle.cw_secnames.specs.declared.{kinds.RefKind.RefKind, sec_names.Kept.Kept}
-use Rattle.cw_secnames.specs.{model.Inside.listed, model.Inside.lists_of, model.Inside.name_of, Kept.SecName}
+use Rattle.cw_secnames.specs.{model.Inside.listed, model.Inside.lists_of, model.Inside.name_of, KeptName.SecName}
 use Rattle.cw_secnames.specs.{Marks.is_one_of}
 use Rattle.cw_secnames.specs.References.{Ascend, AscendFrom, ReferAscending, RefersAscending, with_number}
 use Rattle.cw_secnames.specs.References.{with_reference, with_section}
@@ -112,23 +112,25 @@ ascending-with_reference i how section [] up = tt
 ascending-with_reference zero how section (n ∷ names) up = (section-ascends how section n up.0, up.1)
 ascending-with_reference (suc i) how section (n ∷ names) up = (up.0, ascending-with_reference i how section names up.1)
 
-pub ascending-behind : (xs : List Kept) (x : Kept) → ReferAscending (map name_of xs) → RefersAscending (name_of x)
+pub ascending-behind : (xs : List KeptName) (x : KeptName) → ReferAscending (map name_of xs)
+    → RefersAscending (name_of x)
     → ReferAscending (map name_of (xs ++ x ∷ []))
 ascending-behind [] x up one = (one, tt)
 ascending-behind (first ∷ xs) x up one = (up.0, ascending-behind xs x up.1 one)
 
-pub ascending-set : (xs : List Kept) (i : ℕ) (new : Kept) → ReferAscending (map name_of xs)
+pub ascending-set : (xs : List KeptName) (i : ℕ) (new : KeptName) → ReferAscending (map name_of xs)
     → RefersAscending (name_of new) → ReferAscending (map name_of (slice_set xs i new))
 ascending-set [] i new up one = tt
 ascending-set (x ∷ xs) zero new up one = (one, up.1)
 ascending-set (x ∷ xs) (suc i) new up one = (up.0, ascending-set xs i new up.1 one)
 
-pub ascending-at : (xs : List Kept) (i : ℕ) (d : Kept) → ReferAscending (map name_of xs) → i < length xs
+pub ascending-at : (xs : List KeptName) (i : ℕ) (d : KeptName) → ReferAscending (map name_of xs) → i < length xs
     → RefersAscending (name_of (get_or xs i d))
 ascending-at [] i d up low = absurd (omega arith)
 ascending-at (x ∷ xs) zero d up low = up.0
 ascending-at (x ∷ xs) (suc i) d up low = ascending-at xs i d up.1 (omega arith)
 
 -- in one way
-pub ascending-in : (how : RefKind) (x : Kept) → RefersAscending (name_of x) → Ascend (listed how (lists_of x.referrers))
+pub ascending-in : (how : RefKind) (x : KeptName) → RefersAscending (name_of x) → Ascend (listed how
+    (lists_of x.referrers))
 ascending-in how x up = grind arith

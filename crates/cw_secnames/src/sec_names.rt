@@ -39,7 +39,7 @@ const MANY: usize = 10000;
 
 /// A name with its references.
 #[derive(Drop)]
-pub(crate) struct Kept {
+pub(crate) struct KeptName {
     kind: SecKind,
     complete: bool,
     text: Vec<u8>,
@@ -52,7 +52,7 @@ pub(crate) struct Kept {
 /// for that is given back.
 #[derive(Drop)]
 pub struct SecNames {
-    names: Vec<Kept>,
+    names: Vec<KeptName>,
     marks: NameMarks,
     alloc: Global,
 }
@@ -110,7 +110,7 @@ fn begins_properly(first: &[u8], text: &[u8]) -> bool
     first.len() < text.len() && begins(first, text)
 }
 
-impl Kept {
+impl KeptName {
     fn passes(&self, asked: Asked, text: &[u8]) -> bool
         ensures { result ≡ passes asked text.now (name_of self.now) }
     {
@@ -223,7 +223,7 @@ impl SecNames {
             least = chosen(lesser, *index, least);
         }
         // By its type the list holds fewer than 2^64 names.
-        let _ = &self.names;
+        let _ = &self.names; // (for the proof)
         least
     }
 
@@ -285,7 +285,7 @@ impl SecNames {
         let index = self.names.len();
         self.marks.enter(kind, text, index)?;
         let text = Vec::from_slice(self.alloc, text)?;
-        self.names.push(Kept {
+        self.names.push(KeptName {
             kind,
             text,
             complete,

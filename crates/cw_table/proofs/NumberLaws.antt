@@ -2,7 +2,7 @@
 use Rattle.cw_table.proofs.Terms.{◌≡◌, ℕ, zero, suc, ◌+◌, true, List, [], ◌∷◌, ◌++◌, map, get_or, take, drop}
 use Rattle.cw_table.proofs.Terms.{set, refl, sym, ◌∙◌, ap, drop-drop, arith, append_assoc, take-append-drop, list_all}
 use Rattle.cw_table.proofs.Terms.{nat_tests, Cat, Flags, MathMode, Leaf, Tree, Empty, Then, Sub, Inner, Search}
-use Rattle.cw_table.proofs.Terms.{reserved_leaf, reserve_first, Scrap, no_scrap, Joined, Whole, Mark, needs, after}
+use Rattle.cw_table.proofs.Terms.{reserved_leaf, reserve_first, Scrap, no_scrap, JoinPiece, Whole, Mark, needs, after}
 use Rattle.cw_table.proofs.Terms.{toggled, joined_tree, Piece, Row, result_at, scraps_in, numbers_from, row_is_sound}
 use Rattle.cw_table.proofs.Terms.{IsSound, cats_of, row_pieces, math_piece, joined_of, new_from, new_scrap, search_in}
 use Rattle.cw_table.proofs.Terms.{Action, reserved_in, bolded, worded_at, named_scrap, named_right, rewrite_from, State}
@@ -64,12 +64,12 @@ numbers-right x1 xs = grind (arith, nat_tests, numbers-map)
 struck-toggled : (m l : MathMode) (tree : Tree) → struck (toggled m l tree) ≡ struck tree
 struck-toggled x1 x2 tree = grind (arith, nat_tests)
 
-piece_numbers : List Joined → List ℕ
+piece_numbers : List JoinPiece → List ℕ
 piece_numbers [] = []
 piece_numbers (Whole tree l r ∷ js) = struck tree ++ piece_numbers js
 piece_numbers (Mark control ∷ js) = piece_numbers js
 
-struck-joined : (m : MathMode) (js : List Joined) → struck (joined_tree m js) ≡ piece_numbers js
+struck-joined : (m : MathMode) (js : List JoinPiece) → struck (joined_tree m js) ≡ piece_numbers js
 unfolding piece_numbers
 struck-joined m [] = refl
 struck-joined m (Whole tree l r ∷ js) = grind (arith, nat_tests, struck-joined (after m l r) js, struck-toggled)
@@ -80,7 +80,7 @@ numbers_at : List Scrap → List ℕ → List ℕ
 numbers_at xs [] = []
 numbers_at xs (k ∷ ks) = struck (get_or xs k no_scrap).tree ++ numbers_at xs ks
 
-math-numbers : (tree : Tree) (l r : MathMode) (js : List Joined) → piece_numbers (math_piece tree l r ∷ js)
+math-numbers : (tree : Tree) (l r : MathMode) (js : List JoinPiece) → piece_numbers (math_piece tree l r ∷ js)
     ≡ struck tree ++ piece_numbers js
 unfolding piece_numbers
 math-numbers tree l r js = grind (arith, nat_tests)

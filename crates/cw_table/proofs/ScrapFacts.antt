@@ -3,7 +3,7 @@ use Rattle.cw_table.proofs.Terms.{◌≡◌, ℕ, zero, suc, ◌+◌, ◌*◌, �
 use Rattle.cw_table.proofs.Terms.{◌++◌, map, length, get_or, take, drop, set, refl, sym, ◌∙◌, ap, arith, add_assoc}
 use Rattle.cw_table.proofs.Terms.{zero-add, take-append-drop, list_all, nat_tests, both, both-left, both-right, Cat}
 use Rattle.cw_table.proofs.Terms.{End, rank, MathMode, Source, Ident, Reserved, Sign, Tree, Empty, Then, Sub, Inner}
-use Rattle.cw_table.proofs.Terms.{bare_name, Search, reserve_first, Scrap, no_scrap, Joined, Whole, Mark, toggled}
+use Rattle.cw_table.proofs.Terms.{bare_name, Search, reserve_first, Scrap, no_scrap, JoinPiece, Whole, Mark, toggled}
 use Rattle.cw_table.proofs.Terms.{joined_tree, needs, Action, is_exp, cats_of, reserved_in, bolded, worded_at}
 use Rattle.cw_table.proofs.Terms.{is_bare_name, named_scrap, named_right, rank_with, weight_of, weight, fine_with}
 use Rattle.cw_table.proofs.Terms.{is_fine}
@@ -74,7 +74,7 @@ reserve-bare (Inner tree rest) = refl
 toggled-bare : (m n : MathMode) (t : Tree) → bare_name t ≡ None → bare_name (toggled m n t) ≡ None
 toggled-bare x1 x2 t h = grind (arith, nat_tests)
 
-pub joined-bare : (m : MathMode) (js : List Joined) → bare_name (joined_tree m js) ≡ None
+pub joined-bare : (m : MathMode) (js : List JoinPiece) → bare_name (joined_tree m js) ≡ None
 joined-bare m [] = refl
 joined-bare m (Whole t l r ∷ js) = toggled-bare m l _ refl
 joined-bare m (Mark c ∷ js) = toggled-bare m (needs c) _ refl

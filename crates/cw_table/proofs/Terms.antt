@@ -52,7 +52,7 @@ pub use Rattle.cw_table.specs.declared.productions.TheConstants.{TESTS, USUAL, O
 pub use Rattle.cw_table.specs.declared.productions.TheConstants.{USUAL_INSERTIONS, OTHER_INSERTIONS}
 pub use Rattle.cw_table.specs.declared.types.Action.{Action}
 pub use Rattle.cw_table.specs.declared.types.RowResult.TheVariants.{Is, SameAs}
-pub use Rattle.cw_trees.specs.Joining.{Scrap, whole, no_scrap, join, Joined, Whole, Mark, needs, after, toggled}
+pub use Rattle.cw_trees.specs.Joining.{Scrap, whole, no_scrap, join, JoinPiece, Whole, Mark, needs, after, toggled}
 pub use Rattle.cw_trees.specs.Joining.{joined_tree}
 pub use Rattle.cw_trees.specs.Tree.{Source, Ident, Reserved, Empty, Then, bare_name, Leaf, Tree, Sub, Inner, Search}
 pub use Rattle.cw_trees.specs.Tree.{reserved_leaf, reserve_first, Sign}

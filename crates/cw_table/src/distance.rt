@@ -14,7 +14,7 @@ impl<const N: usize> Table<N> {
         ensures least { IfSome (row_numbered self.now row.number) (λ r. result ≡ least self.now r) }
         ensures safe { IfSome (row_numbered self.now row.number) (λ r. safe self.now r result ≡ true) }
     {
-        let _productions = &self.rows;
+        let _productions = &self.rows; // (for the proof)
         let row = self.row(row);
         if self.endangered(row, 3) {
             3

@@ -176,7 +176,7 @@ impl<const N: usize> Table<N> {
         ensures from_one { IfSome result (λ row. 1 ≤ row.number) }
         ensures to_last { IfSome result (λ row. row.number ≤ N) }
     {
-        let _productions = &self.rows;
+        let _productions = &self.rows; // (for the proof)
         first_production(window)
     }
 }

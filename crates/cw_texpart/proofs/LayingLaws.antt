@@ -3,7 +3,8 @@ use Rattle.cw_texpart.proofs.Terms.{◌≡◌, ℕ, suc, ◌+◌, ◌-◌, ◌<�
 use Rattle.cw_texpart.proofs.Terms.{ap, ◌∙◌, List, [], ◌∷◌, ◌++◌, append_assoc, length, take, drop, get_or, arith}
 use Rattle.cw_texpart.proofs.Terms.{ne_eqb, length-drop, take-take, subst, Result, Ok, Err, IsErrAnd, min, nat_lt}
 use Rattle.cw_texpart.proofs.Terms.{slice_range, append-nil, drop-drop, drop-take, drop_more, length-take}
-use Rattle.cw_texpart.proofs.Terms.{take-append-drop, All-head, All-tail, Told, HasNoLineEnd, Line, LineState, fill_by}
+use Rattle.cw_texpart.proofs.Terms.{take-append-drop, All-head, All-tail, DeskState, HasNoLineEnd, Line, LineState}
+use Rattle.cw_texpart.proofs.Terms.{fill_by}
 use Rattle.cw_texpart.proofs.Terms.{fill_byte, HasPut, Puts, puts-bytes, puts-none, puts-stop, puts-then, PutError}
 use Rattle.cw_texpart.proofs.Terms.{Seen, is_text_kind, TokKind, Ink, Print, LineEnd, bytes_of, copied, end_if, ink_by}
 use Rattle.cw_texpart.proofs.Terms.{kind_inks, laid, prints, token_inks, token_inks_by, held, held_behind, holds_bytes}
@@ -61,45 +62,45 @@ holds-fill line [] = refl
 holds-fill line (byte ∷ bytes) = holds-fill (fill_byte line byte).line bytes ∙ ap
     (λ (holds : Bool). held_behind holds bytes) (holds-by (byte == 10) (nat_lt (length line.pending) 80) line byte refl)
 
-pub holds-put : {T : Type 0} {bytes : List ℕ} {old new : LineState} {before now : Told} {value : T}
+pub holds-put : {T : Type 0} {bytes : List ℕ} {old new : LineState} {before now : DeskState} {value : T}
     → Puts {T = T} bytes old new before now (Ok value) → holds_bytes new ≡ held_behind (holds_bytes old) bytes
 holds-put {bytes = bytes} {old = old} put = ap (λ (l : Line). not (length l.pending == 0)) put.line
     ∙ holds-fill old.line bytes
 
-pub holds-inked : {T : Type 0} (xs : List Ink) {old new : LineState} {before now : Told} {value : T} → Puts {T = T}
+pub holds-inked : {T : Type 0} (xs : List Ink) {old new : LineState} {before now : DeskState} {value : T} → Puts {T = T}
     (inked (holds_bytes old) xs) old new before now (Ok value) → holds_bytes new ≡ held (holds_bytes old) xs
 holds-inked xs {old = old} put = holds-put put ∙ held-inked (holds_bytes old) xs
 
 -- ## Inks after inks
 
-pub inks-then : {T U : Type 0} (xs ys : List Ink) {first second third : LineState} {a b c : Told} {value : T}
+pub inks-then : {T U : Type 0} (xs ys : List Ink) {first second third : LineState} {a b c : DeskState} {value : T}
     {result : Result U PutError} → Puts {T = T} (inked (holds_bytes first) xs) first second a b (Ok value)
     → Puts (inked (holds_bytes second) ys) second third b c result
     → Puts (inked (holds_bytes first) (xs ++ ys)) first third a c result
 inks-then xs ys {first = first} begun ended = puts-bytes (ap (λ (holds : Bool). inked (holds_bytes first) xs ++ inked
     holds ys) (holds-inked xs begun) ∙ sym (inked-append (holds_bytes first) xs ys)) (puts-then begun ended)
 
-pub as-put : {T : Type 0} {bytes : List ℕ} {old new : LineState} {before now : Told} {value : T}
+pub as-put : {T : Type 0} {bytes : List ℕ} {old new : LineState} {before now : DeskState} {value : T}
     → Puts {T = T} bytes old new before now (Ok value) → HasPut bytes old new before now
 as-put {bytes = bytes} {new = new} {now = now} puts =
     puts-bytes (append-nil bytes) (puts-then puts (puts-none new now (tt {0})))
 
 -- Inks were printed, and with those that are still to be printed they are all.
-pub record Inking (rest all : List Ink) (old new : LineState) (before now : Told) : Type 0 where
+pub record Inking (rest all : List Ink) (old new : LineState) (before now : DeskState) : Type 0 where
   pub done : List Ink
   pub put : HasPut (inked (holds_bytes old) done) old new before now
   pub goes : done ++ rest ≡ all
 
-pub inking-begun : (all : List Ink) (out : LineState) (told : Told) → Inking all all out out told told
+pub inking-begun : (all : List Ink) (out : LineState) (told : DeskState) → Inking all all out out told told
 inking-begun all out told = record { done = []; put = puts-none out told (tt {0}); goes = refl }
 
 -- the same inks, still to be printed
-pub inking-as : {rest rest' all : List Ink} {old new : LineState} {before now : Told} → rest ≡ rest'
+pub inking-as : {rest rest' all : List Ink} {old new : LineState} {before now : DeskState} → rest ≡ rest'
     → Inking rest all old new before now → Inking rest' all old new before now
 inking-as is i = rw (← is) i
 
 pub inking-next : {T : Type 0} (xs : List Ink) {rest all : List Ink} {old mid new : LineState}
-    {before between now : Told} {value : T} → Inking (xs ++ rest) all old mid before between
+    {before between now : DeskState} {value : T} → Inking (xs ++ rest) all old mid before between
     → Puts {T = T} (inked (holds_bytes mid) xs) mid new between now (Ok value) → Inking rest all old new before now
 inking-next xs {rest = rest} i put = record {
   done = i.done ++ xs;
@@ -109,7 +110,8 @@ inking-next xs {rest = rest} i put = record {
 
 -- A failure in some of them.
 pub inking-stopped : {T U : Type 0} (xs rest : List Ink) {all : List Ink} {old mid new : LineState}
-    {before between now : Told} {error : PutError} {result : Result U PutError} → Inking (xs ++ rest) all old mid before
+    {before between now : DeskState} {error : PutError} {result : Result U PutError} → Inking (xs
+    ++ rest) all old mid before
     between → Puts {T = T} (inked (holds_bytes mid) xs) mid new between now (Err error)
     → IsErrAnd result (λ found. found ≡ error) → Puts (inked (holds_bytes old) all) old new before now result
 inking-stopped xs rest {old = old} i put is =
@@ -118,7 +120,8 @@ inking-stopped xs rest {old = old} i put is =
     (puts-stop (inked (held holds (i.done ++ xs)) rest) (inks-then i.done xs i.put put) is)
 
 pub lays-stopped : {T U : Type 0} (xs rest : List Ink) {all : List Ink} {old mid new : LineState}
-    {before between now : Told} {error : PutError} {result : Result U PutError} → Inking (xs ++ rest) all old mid before
+    {before between now : DeskState} {error : PutError} {result : Result U PutError} → Inking (xs
+    ++ rest) all old mid before
     between → Puts {T = T} (inked (holds_bytes mid) xs) mid new between now (Err error)
     → IsErrAnd result (λ found. found ≡ error) → Puts (laid (holds_bytes old) all) old new before now result
 lays-stopped xs rest {old = old} i put is =
@@ -127,11 +130,11 @@ lays-stopped xs rest {old = old} i put is =
     (puts-stop (laid (held holds (i.done ++ xs)) rest) (inks-then i.done xs i.put put) is)
 
 -- All are printed, and at their end the line is ended where it holds bytes.
-pub inking-ended : {all : List Ink} {old new : LineState} {before now : Told}
+pub inking-ended : {all : List Ink} {old new : LineState} {before now : DeskState}
     → Inking [] all old new before now → HasPut (inked (holds_bytes old) all) old new before now
 inking-ended {old = old} i = puts-bytes (ap (inked (holds_bytes old)) (sym (append-nil i.done) ∙ i.goes)) i.put
 
-pub lays-ended : {U : Type 0} {all : List Ink} {old mid new : LineState} {before between now : Told}
+pub lays-ended : {U : Type 0} {all : List Ink} {old mid new : LineState} {before between now : DeskState}
     {result : Result U PutError} → Inking [] all old mid before between → Puts (end_if (holds_bytes mid)) mid new
     between now result → Puts (laid (holds_bytes old) all) old new before now result
 lays-ended {all = all} {old = old} i put =
@@ -200,13 +203,13 @@ inked-prints holds [] = refl
 inked-prints holds (byte ∷ bytes) = ap (λ (rest : List ℕ). byte ∷ rest) (inked-prints (not (byte == 10)) bytes)
 
 -- bytes that are printed as they stand
-pub line-put : {T : Type 0} {bytes : List ℕ} {old new : LineState} {before now : Told} {result : Result T PutError}
+pub line-put : {T : Type 0} {bytes : List ℕ} {old new : LineState} {before now : DeskState} {result : Result T PutError}
     → Puts bytes old new before now result → Puts (inked (holds_bytes old) (prints bytes)) old new before now result
 line-put {bytes = bytes} {old = old} put = puts-bytes (sym (inked-prints (holds_bytes old) bytes)) put
 
 -- Bytes without a line's end are copied, and then the line's end behind them.
 pub inking-line : {T : Type 0} (text : List ℕ) (at stop end : ℕ) {all : List Ink} {old mid new : LineState}
-    {before between now : Told} {value : T} → at ≤ stop → stop ≤ end → stop ≤ length text
+    {before between now : DeskState} {value : T} → at ≤ stop → stop ≤ end → stop ≤ length text
     → HasNoLineEnd (slice_range text at stop) → Inking (copied text at (slice_range text at end)) all old mid before
     between → Puts {T = T} (slice_range text at stop) mid new between now (Ok value)
     → Inking (copied text stop (slice_range text stop end)) all old new before now

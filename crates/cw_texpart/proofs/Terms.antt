@@ -12,7 +12,7 @@ pub use Rattle.std.specs.List.{take-map, list_any}
 pub use Rattle.std.specs.Prelude.{Option, Some, Result, Ok, Err, IsErrAnd, min, nat_lt, slice_range, is_some, slice_get}
 pub use Rattle.std.specs.Prelude.{IfOk, decimal}
 pub use Rattle.cw_base.specs.{declared.flags.Flags.Flags, declared.span.Span.Span}
-pub use Rattle.cw_desk.specs.Told.{Told}
+pub use Rattle.cw_desk.specs.Told.{DeskState}
 pub use Rattle.cw_lex.specs.Lexing.{answers, answers_at, beginning, fresh_at, last_at, tokens_of}
 pub use Rattle.cw_lex.specs.Nest.{is_text_kind}
 pub use Rattle.cw_lines.specs.{Sheets.IsSameSheet, Writes.HasPut, Writes.Puts, declared.put_error.PutError.PutError}

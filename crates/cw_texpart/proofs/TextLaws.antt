@@ -1,7 +1,7 @@
 -- A C text is translated, its marks are noted, and then it is printed.
 use Rattle.cw_texpart.proofs.Terms.{◌≡◌, ℕ, ◌+◌, ◌≤◌, ◌≢◌, refl, sym, ap, ◌∙◌, ne_eqb, List, [], ◌∷◌, ◌++◌}
 use Rattle.cw_texpart.proofs.Terms.{append_assoc, length, map, take, inl, inr, None, Option, Err, IsErrAnd, Ok, Result}
-use Rattle.cw_texpart.proofs.Terms.{Some, slice_get, take-map, append-nil, map-append, take_all, take_more, Told}
+use Rattle.cw_texpart.proofs.Terms.{Some, slice_get, take-map, append-nil, map-append, take_all, take_more, DeskState}
 use Rattle.cw_texpart.proofs.Terms.{LineState, Puts, puts-bytes, puts-failing, puts-none, puts-then, puts-nothing}
 use Rattle.cw_texpart.proofs.Terms.{NameId, Occurrence, Book, PutError, Memory as out_of_memory, translated, Answer}
 use Rattle.cw_texpart.proofs.Terms.{Counts, Done, Setting, NotesFirst, Weaves, mark, marked, underlined}
@@ -52,7 +52,7 @@ none-noted noted first = record { count = 0; are = sym (append-nil first) }
 -- ## A text that is translated and then printed
 
 pub translated-woven : {T : Type 0} {s : Setting} {d : Done ℕ} {old now : Book} {before after : ℕ}
-    {text : TranslatedState} {counts : Counts} {line line' : LineState} {told told' : Told} {value : T} → counts
+    {text : TranslatedState} {counts : Counts} {line line' : LineState} {told told' : DeskState} {value : T} → counts
     ≡ text.counts → Translates s d old now before after (Ok text) → Puts {T = T} d.out line line' told told' (Ok value)
     → Weaves s d (record { book = old; line = line; told = told; steps = before })
     (record { book = now; line = line'; told = told'; steps = after }) (Ok counts)
@@ -69,7 +69,7 @@ translated-woven {counts = counts} {line' = line'} {told' = told'} same t put = 
 
 -- the translation is refused, and nothing is printed
 pub untranslated-woven : {s : Setting} {d : Done ℕ} {old now : Book} {before after : ℕ} {line : LineState}
-    {told : Told} {refused : Result TranslatedState Memory} {result : Result Counts PutError}
+    {told : DeskState} {refused : Result TranslatedState Memory} {result : Result Counts PutError}
     → Translates s d old now before after refused → IsErrAnd result (λ found. found ≡ out_of_memory)
     → Weaves s d (record { book = old; line = line; told = told; steps = before })
     (record { book = now; line = line; told = told; steps = after }) result
@@ -78,7 +78,7 @@ untranslated-woven {d = d} {line = line} {told = told} t is =
 
 -- the printing is refused
 pub unprinted-woven : {T : Type 0} {s : Setting} {d : Done ℕ} {old now : Book} {before after : ℕ}
-    {translated : Result TranslatedState Memory} {line line' : LineState} {told told' : Told} {error : PutError}
+    {translated : Result TranslatedState Memory} {line line' : LineState} {told told' : DeskState} {error : PutError}
     {result : Result Counts PutError} → Translates s d old now before after translated
     → Puts {T = T} d.out line line' told told' (Err error) → IsErrAnd result (λ found. found ≡ error)
     → Weaves s d (record { book = old; line = line; told = told; steps = before })

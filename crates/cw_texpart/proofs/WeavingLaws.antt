@@ -1,7 +1,8 @@
 -- Pieces of a book are woven one after another.
 use Rattle.cw_texpart.proofs.Terms.{◌≡◌, ℕ, ◌+◌, ◌≤◌, ◌==◌, Bool, true, false, refl, sym, ap, ◌∙◌, subst, List, [], ◌∷◌}
 use Rattle.cw_texpart.proofs.Terms.{◌++◌, append_assoc, length, arith, Result, Ok, Err, IfOk, IsErrAnd, Option, Some}
-use Rattle.cw_texpart.proofs.Terms.{None, append-nil, map-append, Flags, Span, Told, Inner, LineState, HasPut, Puts}
+use Rattle.cw_texpart.proofs.Terms.{None, append-nil, map-append, Flags, Span, DeskState, Inner, LineState, HasPut}
+use Rattle.cw_texpart.proofs.Terms.{Puts}
 use Rattle.cw_texpart.proofs.Terms.{is_err, puts-bytes, puts-failing, puts-none, puts-stop, puts-then, puts-nothing}
 use Rattle.cw_texpart.proofs.Terms.{PutError, Memory, Entry, Occurrence, Section, Counts, Done, done_behind}
 use Rattle.cw_texpart.proofs.Terms.{joined_done, as_it_is, reprinted, section_number, head, head_by, printed_depth, Ink}
@@ -31,7 +32,7 @@ weaves-as is woven = rw (← is) woven
 
 -- a piece behind bytes that were put
 pub weaves-behind : {T : Type 0} {s : Setting} {front : List ℕ} {d : Done ℕ} {old new : Press} {line : LineState}
-    {told : Told} {value : T} {result : Result Counts PutError} → Puts {T = T} front old.line line old.told told
+    {told : DeskState} {value : T} {result : Result Counts PutError} → Puts {T = T} front old.line line old.told told
     (Ok value) → Weaves s d (record { book = old.book; line = line; told = told; steps = old.steps }) new result
     → Weaves s (done_behind front d) old new result
 weaves-behind put woven = grind (arith, puts-then put woven.puts)
@@ -212,7 +213,7 @@ inking-all : {s : Setting} {all : Done Ink} {old now : Press} {scraps prods : �
 inking-all w = record
     { done = w.done.out; put = w.put; goes = append-nil w.done.out ∙ ap (λ (a : Done Ink). a.out) (all-done w) }
 
-pub weaving-ended : {T : Type 0} {s : Setting} {all : Done Ink} {old now : Press} {line : LineState} {told : Told}
+pub weaving-ended : {T : Type 0} {s : Setting} {all : Done Ink} {old now : Press} {line : LineState} {told : DeskState}
     {counts : Counts} {value : T} → Weaving s [] all old now counts.scraps counts.productions → Puts {T = T} (end_if
     (holds_bytes now.line)) now.line line now.told told (Ok value) → Weaves s (reprinted (laid (holds_bytes old.line))
     all) old (record { book = now.book; line = line; told = told; steps = now.steps }) (Ok counts)
@@ -230,7 +231,8 @@ weaving-ended {s = s} {all = all} {old = old} {now = now} {line = line} {told = 
     }
 
 pub weaving-end-refused : {T : Type 0} {s : Setting} {all : Done Ink} {old now : Press} {scraps prods : ℕ}
-    {line : LineState} {told : Told} {error : PutError} {result : Result Counts PutError} → Weaving s [] all old now
+    {line : LineState} {told : DeskState} {error : PutError} {result : Result Counts PutError}
+    → Weaving s [] all old now
     scraps prods → Puts {T = T} (end_if (holds_bytes now.line)) now.line line now.told told (Err error)
     → IsErrAnd result (λ found. found ≡ error) → Weaves s (reprinted (laid (holds_bytes old.line)) all) old
     (record { book = now.book; line = line; told = told; steps = now.steps }) result
@@ -245,14 +247,14 @@ pub weaving-counts : {s : Setting} {rest : List TexPiece} {all : Done Ink} {old 
 weaving-counts a b w = rw (a, b) w
 
 -- bytes that were put, of no C text
-pub weaves-put : {s : Setting} (bytes : List ℕ) {old : Press} {line : LineState} {told : Told}
+pub weaves-put : {s : Setting} (bytes : List ℕ) {old : Press} {line : LineState} {told : DeskState}
     (result : Result Counts PutError) → Puts bytes old.line line old.told told result
     → IfOk result (λ counts. counts.scraps ≡ 0) → IfOk result (λ counts. counts.productions ≡ 0) → Weaves s
     (as_it_is bytes old.book.names) old (record { book = old.book; line = line; told = told; steps = old.steps }) result
 weaves-put {s = s} bytes {old = old} result puts scraps prods = grind (arith, append-nil, underlined-none)
 
 -- what is copied
-pub weaves-plain : {s : Setting} (xs : List Ink) {old : Press} {line : LineState} {told : Told}
+pub weaves-plain : {s : Setting} (xs : List Ink) {old : Press} {line : LineState} {told : DeskState}
     (result : Result Counts PutError) → Puts (inked (holds_bytes old.line) xs) old.line line old.told told result
     → IfOk result (λ counts. counts.scraps ≡ 0) → IfOk result (λ counts. counts.productions ≡ 0)
     → Weaves s (reprinted (inked (holds_bytes old.line)) (as_it_is xs old.book.names)) old
@@ -283,7 +285,8 @@ head-by-holds starred holds depth number = grind (arith, held_behind-append)
 
 -- A head is refused, whatever would have stood behind it.
 pub head-refused : {T : Type 0} {s : Setting} (section : Section) (goes : Bool) (front : List ℕ) {old : Press}
-    {line : LineState} {told : Told} {error : PutError} {result : Result Counts PutError} → Puts {T = T} front old.line
+    {line : LineState} {told : DeskState} {error : PutError} {result : Result Counts PutError}
+    → Puts {T = T} front old.line
     line old.told told (Err error) → IsErrAnd result (λ found. found ≡ error) → Weaves s (head_and_tex goes front s
     section old.book.names) old (record { book = old.book; line = line; told = told; steps = old.steps }) result
 head-refused section true front puts is = weaves-refused _ (puts-stop _ puts is) refl (omega arith) is

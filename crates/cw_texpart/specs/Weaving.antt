@@ -1,7 +1,7 @@
 -- What a call that prints pieces of a book has done.
 use Rattle.std.specs.Prelude.{◌≡◌, ℕ, ◌+◌, ◌≤◌, ◌==◌, true, List, [], ◌++◌, Result, IfOk, OnOk, map, take}
 use Rattle.std.specs.Prelude.{if◌then◌else◌}
-use Rattle.cw_desk.specs.Told.{Told}
+use Rattle.cw_desk.specs.Told.{DeskState}
 use Rattle.cw_lines.specs.Line.{LineState}
 use Rattle.cw_lines.specs.Writes.{Puts}
 use Rattle.cw_lines.specs.declared.put_error.PutError.{PutError}
@@ -18,11 +18,11 @@ use Rattle.cw_texpart.specs.declared.counts.Counts.{Counts}
 pub record Press : Type 1 where
   pub book : Book
   pub line : LineState
-  pub told : Told
+  pub told : DeskState
   pub steps : ℕ
 
 -- the book, a sheet with what its desk tells, and the number of steps
-abbrev pub press : {D : Type 0} → (D → Told) → Book → Sheet D → ℕ → Press
+abbrev pub press : {D : Type 0} → (D → DeskState) → Book → Sheet D → ℕ → Press
 press told book sheet steps =
     record { book = book; line = sheet.line.now; told = told sheet.desk.now; steps = steps }
 

@@ -54,7 +54,7 @@ pub struct TranslatedText<'a> {
 
 /// A C text that is translated into a store: the list of its tree there, and what was counted.
 #[derive(Clone, Copy)]
-pub(crate) struct Translated {
+pub(crate) struct StoredText {
     pub list: ListId,
     pub counts: Counts,
 }
@@ -217,7 +217,7 @@ pub(crate) fn translate_into<'a, L: Ledger>(
     c: CText<'a>,
     book: &mut Book,
     steps: &mut Steps<L>,
-) -> Result<Translated, Memory>
+) -> Result<StoredText, Memory>
     requires order { c.span.start ≤ c.span.end }
     requires within { c.span.end ≤ length c.text.now }
     requires short { length c.text.now ≤ 2 ^ 24 }
@@ -258,7 +258,7 @@ pub(crate) fn translate_into<'a, L: Ledger>(
     let done = translate_read(&mut rooms.reader, &context, &mut work)?;
     rooms.answers = rooms.reader.take_answers(alloc)?;
     note_marks(&marks, c.section, &mut book.xrefs)?;
-    Ok(Translated {
+    Ok(StoredText {
         list: done.list,
         counts: Counts {
             scraps: done.scraps,

@@ -7,12 +7,12 @@ use Rattle.cw_rules.specs.declared.codes.Code.TheVariants as at
 use Rattle.cw_rules.specs.declared.tokens.Mode.TheVariants as modes
 use Rattle.cw_rules.specs.declared.tokens.TokKind.{TokKind}
 use Rattle.cw_rules.specs.declared.tokens.TokKind.TheVariants as kinds
-use Rattle.cw_texts.specs.declared.definitions.Begun.{Begun}
+use Rattle.cw_texts.specs.declared.definitions.OpenDefinition.{OpenDefinition}
 use Rattle.cw_texts.specs.declared.definitions.Definition.{Definition}
 use Rattle.cw_texts.specs.Scans.{scanned}
 
 -- A definition begins at `@d` or `@f`, or at `@s`, which prints nothing.
-abbrev pub begun_by : TokKind → ℕ → Option Begun
+abbrev pub begun_by : TokKind → ℕ → Option OpenDefinition
 begun_by (kinds.Code at.Define) start = Some (record { start = start; silent = false })
 begun_by (kinds.Code at.Format) start = Some (record { start = start; silent = false })
 begun_by (kinds.Code at.SilentFormat) start = Some (record { start = start; silent = true })
@@ -23,10 +23,10 @@ abbrev pub next_begin : ℕ → List Definition → ℕ
 next_begin end [] = end
 next_begin end (d ∷ ds) = d.span.start
 
-abbrev pub ended_at : ℕ → Begun → Definition
+abbrev pub ended_at : ℕ → OpenDefinition → Definition
 ended_at end b = record { span = record { start = b.start; «end» = end }; silent = b.silent }
 
-abbrev pub with_begun : Option Begun → ℕ → List Definition → List Definition
+abbrev pub with_begun : Option OpenDefinition → ℕ → List Definition → List Definition
 with_begun None end ds = ds
 with_begun (Some b) end ds = ended_at (next_begin end ds) b ∷ ds
 
@@ -40,7 +40,7 @@ definitions_of end (Finish token ∷ answers) = definitions_of end answers
 definitions_of end (Note note place ∷ answers) = definitions_of end answers
 
 -- the same behind one that may have begun before them
-abbrev pub definitions_behind : Option Begun → ℕ → List Answer → List Definition
+abbrev pub definitions_behind : Option OpenDefinition → ℕ → List Answer → List Definition
 definitions_behind begun end answers = with_begun begun end (definitions_of end answers)
 
 abbrev pub definitions_in : List ℕ → Span → List Definition

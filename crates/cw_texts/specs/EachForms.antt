@@ -9,19 +9,19 @@ use Rattle.cw_texts.specs.Scans.{scanned}
 use Rattle.cw_tokens.specs.declared.token.Token.{Token}
 use Rattle.cw_translator.specs.declared.work.Context.{Context}
 use Rattle.cw_texts.specs.declared.each.NextText.{NextText}
-use Rattle.cw_texts.specs.EachText.{Source, text_ended}
+use Rattle.cw_texts.specs.EachText.{TextSource, text_ended}
 
 -- What contracts see of texts in translation: what stays, the texts that are still to come, and of the last one the
 -- answers of its scan, the lists of the store that has its tree, and its marks.
 pub record Each : Type 0 where
-  pub source : Source
+  pub source : TextSource
   pub coming : List TextRef
   pub answers : List Answer
   pub lists : List (List Token)
   pub marks : MarkList
 
 -- what stays while texts of this text are translated
-abbrev pub source_in : List ℕ → Context → Source
+abbrev pub source_in : List ℕ → Context → TextSource
 source_in text context = record {
   text = text;
   flags = context.flags.now;

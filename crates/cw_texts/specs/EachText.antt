@@ -13,14 +13,14 @@ use Rattle.cw_translator.specs.Translating.{Ended, translated}
 
 -- What stays while texts are translated: the web's text, the flags, the section names that are kept, and where they
 -- stand.
-pub record Source : Type 0 where
+pub record TextSource : Type 0 where
   pub text : List ℕ
   pub flags : Flags
   pub sec_names : List SecName
   pub name_uses : List NameUse
 
 -- the translation of a text that begins with these names and with no marks
-abbrev pub text_ended : Source → TextRef → List Entry → Ended
+abbrev pub text_ended : TextSource → TextRef → List Entry → Ended
 text_ended s text names =
     translated s.flags (name_texts s.sec_names s.name_uses) (scanned text.mode s.text text.span) names []
 
@@ -33,12 +33,12 @@ abbrev pub with_ended : TextRef → Ended → (List Entry → List EndedText) �
 with_ended text ended later = record { text = text; ended = ended } ∷ later ended.known.names
 
 -- Each text begins with the names that the one before it leaves.
-abbrev pub each_text : Source → List TextRef → List Entry → List EndedText
+abbrev pub each_text : TextSource → List TextRef → List Entry → List EndedText
 each_text s [] names = []
 each_text s (text ∷ texts) names = with_ended text (text_ended s text names) (each_text s texts)
 
 -- what stays while the texts of a book are translated, with the flags of the start
-abbrev pub book_source : List ℕ → Book → Source
+abbrev pub book_source : List ℕ → Book → TextSource
 book_source text b = record {
   text = text;
   flags = start_flags;

@@ -19,7 +19,7 @@ pub struct Definition {
 
 /// A definition whose end has not come.
 #[derive(Clone, Copy)]
-pub struct Begun {
+pub struct OpenDefinition {
     pub start: usize,
     pub silent: bool,
 }
@@ -28,7 +28,7 @@ pub struct Begun {
 #[derive(Drop)]
 pub struct Definitions<'a> {
     lexer: Lexer<'a>,
-    begun: Option<Begun>,
+    begun: Option<OpenDefinition>,
     end: usize,
 }
 
@@ -79,7 +79,11 @@ impl<'a> Definitions<'a> {
 }
 
 // The next definition, by the answers of the scanner behind one that may have begun.
-fn next_definition(lexer: &mut Lexer, begun: &mut Option<Begun>, end: usize) -> Option<Definition>
+fn next_definition(
+    lexer: &mut Lexer,
+    begun: &mut Option<OpenDefinition>,
+    end: usize,
+) -> Option<Definition>
     ensures { GivesDefinition (definitions_behind begun.old end lexer.old) result
         (definitions_behind begun.new end lexer.new) }
 {
@@ -101,15 +105,15 @@ fn next_definition(lexer: &mut Lexer, begun: &mut Option<Begun>, end: usize) -> 
 }
 
 /// The definition that a token at a place begins.
-pub(crate) fn begun_by(kind: TokKind, start: usize) -> Option<Begun>
+pub(crate) fn begun_by(kind: TokKind, start: usize) -> Option<OpenDefinition>
     ensures { result ≡ begun_by kind start }
 {
     match kind {
-        TokKind::Code(Code::Define | Code::Format) => Some(Begun {
+        TokKind::Code(Code::Define | Code::Format) => Some(OpenDefinition {
             start,
             silent: false,
         }),
-        TokKind::Code(Code::SilentFormat) => Some(Begun {
+        TokKind::Code(Code::SilentFormat) => Some(OpenDefinition {
             start,
             silent: true,
         }),
@@ -118,7 +122,7 @@ pub(crate) fn begun_by(kind: TokKind, start: usize) -> Option<Begun>
 }
 
 // A definition begins. It ends the one that had begun.
-fn begin(begun: &mut Option<Begun>, next: Begun) -> Option<Definition>
+fn begin(begun: &mut Option<OpenDefinition>, next: OpenDefinition) -> Option<Definition>
     ensures ended { result ≡ option_map (ended_at next.start) begun.old }
     ensures begun { begun.new ≡ Some next }
 {
@@ -128,7 +132,7 @@ fn begin(begun: &mut Option<Begun>, next: Begun) -> Option<Definition>
 }
 
 // The definition that had begun ends at a place.
-fn finish(begun: &mut Option<Begun>, end: usize) -> Option<Definition>
+fn finish(begun: &mut Option<OpenDefinition>, end: usize) -> Option<Definition>
     ensures ended { result ≡ option_map (ended_at end) begun.old }
     ensures begun { begun.new ≡ None }
 {

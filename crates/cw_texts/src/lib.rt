@@ -13,7 +13,7 @@ mod scans;
 mod text_list;
 
 pub use book_texts::BookTexts;
-pub use definitions::{Begun, Definition, Definitions};
+pub use definitions::{Definition, Definitions, OpenDefinition};
 pub use each::{EachText, NextText};
 pub use pieces::{Piece, Pieces};
 pub use printed::is_printed;

@@ -6,7 +6,7 @@ use Rattle.cw_tokens.proofs.Terms.{Token, FlatItem, Link, Leaf as leaf_part, Sha
 use Rattle.cw_tokens.proofs.Terms.{item_of, tree_in, trees_from, unfolded, token_ref, refers, IsTied, Reach, here, next}
 use Rattle.cw_tokens.proofs.Terms.{no_link, IsLinked, item_is, items_are, IsPart, closing, closing_at, flat_from}
 use Rattle.cw_tokens.proofs.Terms.{to_come, Flattens}
-use Rattle.cw_tokens.specs.declared.walk.Part.TheVariants.{Below as below_part, InnerBelow as inner_part}
+use Rattle.cw_tokens.specs.declared.walk.FlatPart.TheVariants.{Below as below_part, InnerBelow as inner_part}
 use Rattle.cw_tokens.proofs.{Linking.refers-within, Unfolding.unfold-is, Unfolding.reach-le, Searching.drop-at}
 
 -- how far the walk has come, and the list at hand is read

@@ -15,7 +15,7 @@ pub use Rattle.std.specs.List.{slice_get}
 pub use Rattle.cw_base.specs.declared.category.Cat.TheVariants.{RawInt}
 pub use Rattle.cw_tokens.specs.{Reserving.Reserves, Reserving.ReservesToken, declared.flat.FlatItem.FlatItem}
 pub use Rattle.cw_tokens.specs.{declared.flat.FlatItem.TheVariants.Source, declared.store.Link.Link}
-pub use Rattle.cw_tokens.specs.{declared.token.Token.Token, declared.walk.Part.TheVariants.Leaf}
+pub use Rattle.cw_tokens.specs.{declared.token.Token.Token, declared.walk.FlatPart.TheVariants.Leaf}
 pub use Rattle.cw_tokens.specs.{declared.walk.Spot.Spot}
 pub use Rattle.cw_tokens.specs.model.Ahead.{GoesAbove, IsLoneWord, MayStandFor, ReferWithin, RefersWithin, closing_of}
 pub use Rattle.cw_tokens.specs.model.Ahead.{flat_above, size_of, Lays, TrimsAhead}

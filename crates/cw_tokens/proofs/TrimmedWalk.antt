@@ -8,7 +8,7 @@ use Rattle.cw_tokens.proofs.Terms.{tree_in, trees_from, unfolded, token_ref, IsT
 use Rattle.cw_tokens.proofs.Terms.{ReferWithin, RefersWithin, closing_of, flat_above, size_of, Lays, TrimsAhead}
 use Rattle.cw_tokens.proofs.Terms.{item_is, IsPart, Trims, StandsFor, size}
 use Rattle.cw_tokens.specs.declared.flat.Above.{Above}
-use Rattle.cw_tokens.specs.declared.walk.Part.TheVariants.{Below as below_part, InnerBelow as inner_part}
+use Rattle.cw_tokens.specs.declared.walk.FlatPart.TheVariants.{Below as below_part, InnerBelow as inner_part}
 use Rattle.cw_tokens.proofs.{Flattening.below-ref, Flattening.inner-ref, Unfolding.unfold-is}
 
 -- the first of some tokens, and those behind it

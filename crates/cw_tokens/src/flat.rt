@@ -15,7 +15,7 @@ use crate::store::Link;
 use crate::token::Token;
 use crate::trim::trim_items;
 use crate::trimmer::Trimmer;
-use crate::walk::{Part, link_at, list_at, part_of, token_before};
+use crate::walk::{FlatPart, link_at, list_at, part_of, token_before};
 use cw_base::Memory;
 use cw_names::NameId;
 use cw_trees::Control;
@@ -122,16 +122,16 @@ pub fn flatten(
     loop {
         if place < items.len() {
             match part_of(items[place]) {
-                Part::Leaf(item) => {
+                FlatPart::Leaf(item) => {
                     out.push(item)?;
                     place += 1;
                 }
-                Part::Below(below) => {
+                FlatPart::Below(below) => {
                     list = below;
                     place = 0;
                     items = list_at(tokens, ends, list);
                 }
-                Part::InnerBelow(below) => {
+                FlatPart::InnerBelow(below) => {
                     out.push(FlatItem::Open)?;
                     list = below;
                     place = 0;

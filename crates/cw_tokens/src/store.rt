@@ -88,7 +88,7 @@ impl TokenStore {
     pub fn tied_law(&self)
         ensures { IsTied (all_lists self.now) }
     {
-        let _building = self.building;
+        let _building = self.building; // (for the proof)
     }
 
     /// Makes capacity for `n` calls of `begin` and `push`.

@@ -147,22 +147,22 @@ pub fn find(tokens: &[Token], ends: &[usize], links: &[Link], root: usize) -> Op
 }
 
 /// What a token is in a flat list: an item of its own, or a list below it.
-pub enum Part {
+pub enum FlatPart {
     Leaf(FlatItem),
     Below(usize),
     InnerBelow(usize),
 }
 
-pub fn part_of(token: Token) -> Part
+pub fn part_of(token: Token) -> FlatPart
     ensures { IsPart (shape token) result }
 {
     match token {
-        Token::Source(number, _) => Part::Leaf(FlatItem::Source(number)),
-        Token::Ident(name, number) => Part::Leaf(FlatItem::Ident(name, number)),
-        Token::Reserved(name, number, _) => Part::Leaf(FlatItem::Reserved(name, number)),
-        Token::Control(control) => Part::Leaf(FlatItem::Control(control)),
-        Token::Inner(below) => Part::InnerBelow(below.index),
-        Token::List(below) => Part::Below(below.index),
+        Token::Source(number, _) => FlatPart::Leaf(FlatItem::Source(number)),
+        Token::Ident(name, number) => FlatPart::Leaf(FlatItem::Ident(name, number)),
+        Token::Reserved(name, number, _) => FlatPart::Leaf(FlatItem::Reserved(name, number)),
+        Token::Control(control) => FlatPart::Leaf(FlatItem::Control(control)),
+        Token::Inner(below) => FlatPart::InnerBelow(below.index),
+        Token::List(below) => FlatPart::Below(below.index),
     }
 }
 

@@ -1,7 +1,8 @@
 -- What each answer of the scanner does, as one relation: a token, a beginning and a note.
 use Rattle.cw_translator.proofs.Terms.{◌≡◌, ℕ, List, [], ◌∷◌, length, ◌⊎◌, inl, inr, refl, sym, ap, subst, Option, None}
 use Rattle.cw_translator.proofs.Terms.{arith, append-nil, Result, Ok, OnOk, All, on_ok_weaker, Flags, Memory, Begin}
-use Rattle.cw_translator.proofs.Terms.{Note, Seen, TokKind, State, Token as StoredToken, Entry, Told, Keeps, names_with}
+use Rattle.cw_translator.proofs.Terms.{Note, Seen, TokKind, State, Token as StoredToken, Entry, WatchState, Keeps}
+use Rattle.cw_translator.proofs.Terms.{names_with}
 use Rattle.cw_translator.proofs.Terms.{MarkList, Open, Translator, Work, IsSoundFrame, IsTranslating, all_roots}
 use Rattle.cw_translator.proofs.Terms.{answers_in, begun_by, frames_of, progress_of, Progress, Frame}
 use Rattle.cw_translator.proofs.Terms.{Comment as CommentFrame, frames_begun, after_answers, after_token, with_names}
@@ -33,7 +34,7 @@ token-names flags token p new h = grind (arith, here, later, after_token, known-
 all-ok : {T E : Type 0} (r : Result T E) (A B C : Type 0) → OnOk r A → OnOk r B → OnOk r C → OnOk r (A × B × C)
 all-ok r A B C a b c = grind arith
 
-pub token-advances : {L R T : Type 0} {told : R → Option Told} (flags : Flags) (token : Seen) {t t' : Translator}
+pub token-advances : {L R T : Type 0} {told : R → Option WatchState} (flags : Flags) (token : Seen) {t t' : Translator}
     {old new : Work L R} {result : Result T Memory} → OnOk result (IsTranslating new.store.now new.names.now t')
     → OnOk result ((marks : MarkList) (ended : List State) → progress_of new.store.now.lists new.names.now marks t'
     ended ≡ after_token token.kind token (progress_of old.store.now.lists old.names.now marks t ended)) → Same t t'
@@ -72,7 +73,7 @@ module _ (count : ℕ) (lists : List (List StoredToken)) where
       (frames_begun k number (frames_of lists all))
   begun k number all = grind (arith, append-nil, all_roots, frames_of, held-begun)
 
-pub begin-advances : {L R T : Type 0} {told : R → Option Told} (flags : Flags) (token : Seen) {t t' : Translator}
+pub begin-advances : {L R T : Type 0} {told : R → Option WatchState} (flags : Flags) (token : Seen) {t t' : Translator}
     {work : Work L R} {result : Result T Memory} → IsTranslating work.store.now work.names.now t
     → OnOk result (t' ≡ record t { nesting = begun_by token.kind token.span.start t.nesting })
     → Advances told (over flags (Begin token ∷ []) (progress_over work t)) t work t' work result
@@ -91,7 +92,7 @@ begin-advances flags token {t = t} {work = work} {result = result} is begins =
 
 -- ## A note, and the end of all answers
 
-pub passed-advances : {L R T : Type 0} {told : R → Option Told} (flags : Flags) (answer : Lexed) {t : Translator}
+pub passed-advances : {L R T : Type 0} {told : R → Option WatchState} (flags : Flags) (answer : Lexed) {t : Translator}
     {work : Work L R} {value : T} → ((note : NoteKind) × (place : ℕ) × (answer ≡ lexed.Note note place)) ⊎
     (answer ≡ lexed.End) → IsTranslating work.store.now work.names.now t
     → Advances told (over flags (answers_in answer) (progress_over work t)) t work t work (Ok value)

@@ -3,7 +3,7 @@ use Rattle.cw_translator.proofs.Terms.{◌≡◌, ℕ, ◌+◌, ◌*◌, ◌≤�
 use Rattle.cw_translator.proofs.Terms.{ap, subst, Option, Result, Ok, IsErrAnd, OnOk, arith, All, append-nil}
 use Rattle.cw_translator.proofs.Terms.{on_ok_weaker, length-map, All-head, All-tail, All-cons, Flags, Memory, Answer}
 use Rattle.cw_translator.proofs.Terms.{Finish, Seen, Entry, is_fine, productions, State, reservings}
-use Rattle.cw_translator.proofs.Terms.{Token as StoredToken, unfolded, StoredLists, IsTied, scrap_agrees, Told}
+use Rattle.cw_translator.proofs.Terms.{Token as StoredToken, unfolded, StoredLists, IsTied, scrap_agrees, WatchState}
 use Rattle.cw_translator.proofs.Terms.{LineEntry, state_of, Keeps, entry_of, seen, scraps_of, roots_of, AreRoots}
 use Rattle.cw_translator.proofs.Terms.{IsOutside, IsNamedBelow, IsSoundLine, CommentPart, Open, Translated, Translator}
 use Rattle.cw_translator.proofs.Terms.{Holder, held_leaf, held_scrap, held_tree, Gathers, part_seen, inner_lists}
@@ -86,7 +86,8 @@ abbrev pub state_over : {L R : Type 0} → Work L R → List LineEntry → State
 state_over work line = state_of work.store.now.lists line work.marks.now work.names.now
 
 -- what that leaves, whatever it answers
-pub record Reduced {L R : Type 0} (told : R → Option Told) (flags : Flags) (line : List LineEntry) (old new : Work L R)
+pub record Reduced {L R : Type 0} (told : R → Option WatchState) (flags : Flags) (line : List LineEntry)
+    (old new : Work L R)
     (result : Result Translated Memory) : Type 0 where
   pub retypes : Retypes flags (state_over old line) old.names.now new.names.now
   pub bound : new.steps.now ≤ old.steps.now + (132 * length line + length line * reservings productions flags
@@ -99,7 +100,7 @@ abbrev DoneIn : {L R : Type 0} → Flags → Work L R → Work L R → List Line
 DoneIn flags old new line done = LineDone flags old.store.now new.store.now old.names.now new.names.now old.marks.now
     new.marks.now line done old.steps.now new.steps.now
 
-line-bound : {L R : Type 0} {told : R → Option Told} {flags : Flags} {line : List LineEntry} {old new : Work L R}
+line-bound : {L R : Type 0} {told : R → Option WatchState} {flags : Flags} {line : List LineEntry} {old new : Work L R}
     {result : Result Translated Memory} → Reduced told flags line old new result
     → new.steps.now ≤ old.steps.now + limit_in flags (state_over old line ∷ [])
 line-bound {flags = flags} {line = line} {old = old} r =
@@ -117,7 +118,7 @@ module _ {L R : Type 0} {flags : Flags} {line : List LineEntry} {outer : List Op
   text-names r = λ rest. at_finish token rest (progress_over old t) (scraps_of old.store.now.lists line)
       (frames_of old.store.now.lists outer) new.names.now (ap (frames_of old.store.now.lists) open_is) r
 
-  pub text-refused : {T : Type 0} {told : R → Option Told} {t' : Translator} {first : Result Translated Memory}
+  pub text-refused : {T : Type 0} {told : R → Option WatchState} {t' : Translator} {first : Result Translated Memory}
       {result : Result T Memory} {error : Memory} → Reduced told flags line old new first → IsErrAnd result (λ found.
       found ≡ error) → Advances told (over flags (Finish token ∷ []) (progress_over old t)) t old t' new result
   text-refused r is = rw (finished-as flags token old t open_is) (advances-refused is (text-names r.retypes)
@@ -129,7 +130,7 @@ module _ {L R : Type 0} {flags : Flags} {line : List LineEntry} {outer : List Op
       (state_over old line ∷ []) ≡ finished flags token old (with_inner (CText line) outer t)
   text-is t' done d e = cc (e, d.tree, d.names_are, d.marks_are)
 
-  pub text-advances : {T : Type 0} {told : R → Option Told} {t' : Translator} {result : Result T Memory}
+  pub text-advances : {T : Type 0} {told : R → Option WatchState} {t' : Translator} {result : Result T Memory}
       (done : Translated) → Reduced told flags line old new (Ok done) → DoneIn flags old new line done
       → IsTranslating old.store.now old.names.now t → IsTied old.store.now.lists → t'.scraps ≡ t.scraps + done.scraps
       → t'.productions ≡ t.productions + done.productions → OnOk result (t'.nesting ≡ with_part (part.InnerText
@@ -248,7 +249,8 @@ left-is : {L R : Type 0} (old : Work L R) (t : Translator) (line : List LineEntr
     → state_over old line ≡ state_in (last_scraps (frames_of old.store.now.lists t.nesting)) (progress_over old t).known
 left-is old t line line_is = grind (arith, state_in, progress_over, scraps_of, last-scraps-are)
 
-pub line-refused : {L R : Type 0} {told : R → Option Told} {flags : Flags} {t : Translator} {line : List LineEntry}
+pub line-refused : {L R : Type 0} {told : R → Option WatchState} {flags : Flags} {t : Translator} {line : List
+    LineEntry}
     {old new : Work L R} {first result : Result Translated Memory} {error : Memory} → line ≡ last_line t.nesting
     → Reduced told flags line old new first → IsErrAnd result (λ found. found ≡ error)
     → EndsIn told (to_end flags [] (progress_over old t)) t old new result
@@ -257,7 +259,7 @@ line-refused {told = told} {flags} {t} {line} {old} {new} {result = result} line
     t) new.names.now (subst (λ s. Retypes flags s old.names.now new.names.now) (left-is old t line line_is) r.retypes))
     (recorded-error flags (state_over old line ∷ []) is r.recorded) (line-bound r) r.same r.idle)
 
-pub line-ends : {L R : Type 0} {told : R → Option Told} {flags : Flags} {t : Translator} {line : List LineEntry}
+pub line-ends : {L R : Type 0} {told : R → Option WatchState} {flags : Flags} {t : Translator} {line : List LineEntry}
     {old new : Work L R} → line ≡ last_line t.nesting → (done : Translated) (scraps applied : ℕ) → Reduced told flags
     line old new (Ok done) → DoneIn flags old new line done → IsTranslating old.store.now old.names.now t
     → scraps ≡ t.scraps + done.scraps → applied ≡ t.productions + done.productions → EndsIn told (to_end flags []

@@ -2,7 +2,7 @@
 use Rattle.cw_translator.proofs.Terms.{◌≡◌, ◌+◌, ◌≤◌, List, [], ◌∷◌, ◌++◌, ◌⊎◌, inr, refl, sym, ap, ◌∙◌, subst, None}
 use Rattle.cw_translator.proofs.Terms.{Option, arith, Result, Ok, Err, IsErrAnd, OnOk, append-nil, IfOk-weaker}
 use Rattle.cw_translator.proofs.Terms.{on_err_weaker, on_ok_weaker, Flags, Memory, Answer, Seen, Finish, TokKind, Entry}
-use Rattle.cw_translator.proofs.Terms.{State, Told, Keeps, keeps-trans, Translated, Translator, Work, limit_in}
+use Rattle.cw_translator.proofs.Terms.{State, WatchState, Keeps, keeps-trans, Translated, Translator, Work, limit_in}
 use Rattle.cw_translator.proofs.Terms.{all_roots, progress_of, IsTranslating, HasRecorded, NamesOnTheWay, NamesAmong}
 use Rattle.cw_translator.proofs.Terms.{here, at_finish, at_end, later, Frame, Progress, after_token, after_finish}
 use Rattle.cw_translator.proofs.Terms.{after_answer, after_answers, all_ended, last_scraps, Ended, Known, state_in}
@@ -62,7 +62,8 @@ limit-more : (flags : Flags) (answers : List Answer) (p : Progress)
 limit-more flags answers p = rw (ended-more, limits-more flags) (omega arith)
 
 -- a call that was refused, before those answers
-recorded-further : {T U : Type 0} (flags : Flags) (answers : List Answer) (p : Progress) {before told : Option Told}
+recorded-further : {T U : Type 0} (flags : Flags) (answers : List Answer) (p : Progress) {before told : Option
+    WatchState}
     {first : Result T Memory} {result : Result U Memory} {error : Memory} → IsErrAnd result (λ found. found ≡ error)
     → HasRecorded flags p.known.ended before told first
     → HasRecorded flags (after_answers flags answers p).known.ended before told result
@@ -122,7 +123,7 @@ pub record Quiet {L R : Type 0} (t : Translator) (old : Work L R) (t' : Translat
 pub unchanged : {L R : Type 0} {work : Work L R} → IsSameWork work work
 unchanged = record { names = refl; store = refl; marks = refl; steps = refl }
 
-module _ {L R : Type 0} {told : R → Option Told} {t : Translator} {old : Work L R} where
+module _ {L R : Type 0} {told : R → Option WatchState} {t : Translator} {old : Work L R} where
   pub advances-quiet : {T : Type 0} {c : Route} {t' : Translator} {new : Work L R} {result : Result T Memory}
       → OnOk result (Quiet t old t' new c.ends) → OnErr result (c.leaves new.names.now) → new.steps.now ≡ old.steps.now
       → new.recorder ≡ old.recorder → IsSameWork old new → new.store.now.building ≡ None
@@ -238,18 +239,19 @@ module _ {L R : Type 0} {told : R → Option Told} {t : Translator} {old : Work 
   valued other r = advances-named refl (λ P h. h) tt r
 
 -- Answers are read, from where the first of these calls stood; with those that are left they are all.
-pub record Advancing {L R : Type 0} (told : R → Option Told) (flags : Flags) (all rest : List Answer) (p : Progress)
+pub record Advancing {L R : Type 0} (told : R → Option WatchState) (flags : Flags) (all rest : List Answer)
+    (p : Progress)
     (t : Translator) (old : Work L R) (t' : Translator) (now : Work L R) : Type 0 where
   pub done : List Answer
   pub reads : Advances {T = Unit {0}} told (over flags done p) t old t' now (Ok tt)
   pub goes : done ++ rest ≡ all
 
-pub advancing-begun : {L R : Type 0} {told : R → Option Told} (flags : Flags) (all : List Answer) {t : Translator}
+pub advancing-begun : {L R : Type 0} {told : R → Option WatchState} (flags : Flags) (all : List Answer) {t : Translator}
     {work : Work L R} → IsTranslating work.store.now work.names.now t
     → Advancing told flags all all (progress_over work t) t work t work
 advancing-begun flags all is = record { done = []; reads = advances-none flags is; goes = refl }
 
-module _ {L R : Type 0} {told : R → Option Told} {flags : Flags} {all rest : List Answer} {p : Progress}
+module _ {L R : Type 0} {told : R → Option WatchState} {flags : Flags} {all rest : List Answer} {p : Progress}
     {t t1 : Translator} {old mid : Work L R} where
   pub advancing-next : {T : Type 0} {t2 : Translator} {new : Work L R} (xs next : List Answer) {value : T}
       → Advancing told flags all rest p t old t1 mid → rest ≡ xs ++ next → Advances told
@@ -279,7 +281,7 @@ module _ {L R : Type 0} {told : R → Option Told} {flags : Flags} {all rest : L
 
 -- ## A call that ends a text
 
-module _ {L R : Type 0} {told : R → Option Told} {t0 : Translator} {old : Work L R} where
+module _ {L R : Type 0} {told : R → Option WatchState} {t0 : Translator} {old : Work L R} where
   -- answers are read, and then a text ends
   pub ends-then : {T : Type 0} {c : Route} (ys : List Answer) {t : Translator} {mid new : Work L R} {value : T}
       {result : Result Translated Memory} → Advances told c t0 old t mid (Ok value) → EndsIn told (to_end c.flags ys

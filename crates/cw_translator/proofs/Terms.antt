@@ -8,7 +8,7 @@ pub use Rattle.cw_rewrite.proofs.GatherLaws.{gathers-roots, gathers-keeps, whole
 pub use Rattle.cw_rewrite.proofs.GatherSteps.{Builds, builds-pushed, builds-may, builds-lists, builds-gathers}
 pub use Rattle.cw_rewrite.proofs.GatherSteps.{builds-more, builds-start}
 pub use Rattle.cw_rewrite.specs.Gathering.{refs_in, Gathers}
-pub use Rattle.cw_rewrite.specs.Telling.{Told, grown_by}
+pub use Rattle.cw_rewrite.specs.Telling.{WatchState, grown_by}
 pub use Rattle.cw_rules.specs.Answers.{Begin, Finish, Note, Seen, Answer}
 pub use Rattle.cw_rules.specs.declared.tokens.TokKind.{TokKind}
 pub use Rattle.cw_scraps.proofs.Applied.{keeps-trans}

@@ -8,24 +8,24 @@ use Rattle.cw_leaves.specs.Spelling.{item_of, line_of}
 use Rattle.cw_table.specs.Normal.{log}
 use Rattle.cw_table.specs.Productions.{productions}
 use Rattle.cw_table.specs.Rewriting.{State}
-use Rattle.cw_rewrite.specs.Telling.{Told}
+use Rattle.cw_rewrite.specs.Telling.{WatchState}
 
 -- a text begins with these scraps
-abbrev pub begun_over : List Scrap → Option Told → Option Told
+abbrev pub begun_over : List Scrap → Option WatchState → Option WatchState
 begun_over scraps None = None
 begun_over scraps (Some told) = Some (record told { items = []; begun = map line_of scraps })
 
 -- the text that was told of
-abbrev pub told_text : Told → TextLog
+abbrev pub told_text : WatchState → TextLog
 told_text told = record { leaves = told.begun; items = map item_of told.items }
 
 -- it ends, and nothing is told of the next one
-abbrev pub ended_now : Option Told → Option Told
+abbrev pub ended_now : Option WatchState → Option WatchState
 ended_now None = None
 ended_now (Some told) = Some (record { items = []; begun = []; ended = told.ended ++ told_text told ∷ [] })
 
 -- the texts that have ended, and more of them
-abbrev pub texts_told : Option Told → Option (List TextLog)
+abbrev pub texts_told : Option WatchState → Option (List TextLog)
 texts_told None = None
 texts_told (Some told) = Some told.ended
 
@@ -41,7 +41,7 @@ logged flags state = record {
 }
 
 -- A first part of the texts that ended was told, and all of them where the call was not refused.
-pub record HasRecorded {T : Type 0} (flags : Flags) (states : List State) (before told : Option Told)
+pub record HasRecorded {T : Type 0} (flags : Flags) (states : List State) (before told : Option WatchState)
     (result : Result T Memory) : Type 0 where
   pub number : ℕ
   pub within : number ≤ length states

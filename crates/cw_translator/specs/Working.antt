@@ -5,7 +5,7 @@ use Rattle.cw_base.specs.declared.flags.Flags.{Flags}
 use Rattle.cw_base.specs.declared.memory.Memory.{Memory}
 use Rattle.cw_rules.specs.Answers.{Answer}
 use Rattle.cw_names.specs.Names.{Entry}
-use Rattle.cw_rewrite.specs.Telling.{Told}
+use Rattle.cw_rewrite.specs.Telling.{WatchState}
 use Rattle.cw_tokens.specs.Shapes.{unfolded}
 use Rattle.cw_scraps.specs.Changing.{Keeps}
 use Rattle.cw_scraps.specs.Lines.{AreRoots, IsNamedBelow}
@@ -67,7 +67,7 @@ prolonged c answers = record {
 -- A call has gone this route: what is open is sound, and has come to where the route ends; the lists that the store
 -- held stay. Where it was refused, the names are some that the route leaves. Whatever it answers, the steps are within
 -- the limit.
-pub record Advances {L R T : Type 0} (told : R → Option Told) (c : Route) (t : Translator) (old : Work L R)
+pub record Advances {L R T : Type 0} (told : R → Option WatchState) (c : Route) (t : Translator) (old : Work L R)
     (t' : Translator) (new : Work L R) (result : Result T Memory) : Type 0 where
   pub translating : OnOk result (IsTranslating new.store.now new.names.now t')
   pub come : OnOk result (HasComeOver c.flags t old t' new c.ends)
@@ -99,7 +99,7 @@ to_end flags answers p = record {
 
 -- A call has ended a text of which this was open: its tree, names, marks and counts are those of the outcome. Its list
 -- is one to which no list refers, the names in it are names, and the lists that the store held stay.
-pub record EndsIn {L R : Type 0} (told : R → Option Told) (o : Target) (t : Translator) (old new : Work L R)
+pub record EndsIn {L R : Type 0} (told : R → Option WatchState) (o : Target) (t : Translator) (old new : Work L R)
     (result : Result Translated Memory) : Type 0 where
   pub text : IfOk result (λ done. HasEndedOver o.flags t old new done o.text)
   pub few : IfOk result (λ done. done.productions ≤ 8 * done.scraps)

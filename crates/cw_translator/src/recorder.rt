@@ -1,7 +1,7 @@
 //! Who receives the texts of a translation, and their productions.
 ghost use Rattle.std.specs.Prelude.{◌≡◌, Bool, false, [], ◌∷◌, Option, None, OnOk, OnErr, refl};
 ghost use Rattle.cw_table.specs.Normal.{Production};
-ghost use Rattle.cw_rewrite.specs.Telling.{Told};
+ghost use Rattle.cw_rewrite.specs.Telling.{WatchState};
 ghost use Rattle.cw_scraps.specs.Leaves.{entry_of};
 ghost use Rattle.cw_scraps.specs.Lines.{AreRoots, roots_of, scraps_of};
 ghost use Rattle.cw_translator.specs.Recording.{begun_over, texts_told, ended_now};

@@ -183,7 +183,7 @@ impl Translator {
         ensures names { (names.new ≡ names.old) ⊎ (names.new ≡ names_with token.now.kind token.now.text.now names.old) }
         ensures idle { store.new.building ≡ None }
     {
-        store.tied_law();
+        store.tied_law(); // (for the proof)
         let leaf = scrap_of(token, names, store)?;
         self.nesting.add_scrap(leaf)
     }

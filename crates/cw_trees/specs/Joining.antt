@@ -49,9 +49,9 @@ needs NameText = Maybe
 needs NameEnd = Maybe
 
 -- a piece of a translation that is to be joined: the tree of a scrap with its modes, or a control
-pub data Joined : Type 0 where
-  Whole : (tree : Tree) → (left : MathMode) → (right : MathMode) → Joined
-  Mark : (control : Control) → Joined
+pub data JoinPiece : Type 0 where
+  Whole : (tree : Tree) → (left : MathMode) → (right : MathMode) → JoinPiece
+  Mark : (control : Control) → JoinPiece
 
 -- the toggle, if one is needed, between the mode so far and the left mode of the piece with which a tree begins
 abbrev pub toggled : MathMode → MathMode → Tree → Tree
@@ -72,7 +72,7 @@ first_mode Text later = Text
 first_mode Math later = Math
 
 -- the tree of the pieces, from a mode so far
-abbrev pub joined_tree : MathMode → List Joined → Tree
+abbrev pub joined_tree : MathMode → List JoinPiece → Tree
 joined_tree mode [] = Empty
 joined_tree mode (Whole tree left right ∷ pieces) =
     toggled mode left (Sub tree (joined_tree (after mode left right) pieces))
@@ -80,19 +80,19 @@ joined_tree mode (Mark control ∷ pieces) = toggled mode (needs control)
     (Then (Sign control) (joined_tree (after mode (needs control) (needs control)) pieces))
 
 -- the left mode of the pieces: the first that is not Maybe
-abbrev pub joined_left : List Joined → MathMode
+abbrev pub joined_left : List JoinPiece → MathMode
 joined_left [] = Maybe
 joined_left (Whole tree left right ∷ pieces) = first_mode left (joined_left pieces)
 joined_left (Mark control ∷ pieces) = first_mode (needs control) (joined_left pieces)
 
 -- the right mode of the pieces: the mode so far at their end
-abbrev pub joined_right : MathMode → List Joined → MathMode
+abbrev pub joined_right : MathMode → List JoinPiece → MathMode
 joined_right mode [] = mode
 joined_right mode (Whole tree left right ∷ pieces) = joined_right (after mode left right) pieces
 joined_right mode (Mark control ∷ pieces) = joined_right (after mode (needs control) (needs control)) pieces
 
 -- the scrap of a category that pieces are joined to
-abbrev pub join : Cat → List Joined → Scrap
+abbrev pub join : Cat → List JoinPiece → Scrap
 join cat pieces = record {
   cat = cat;
   tree = joined_tree Maybe pieces;

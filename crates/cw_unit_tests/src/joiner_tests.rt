@@ -104,9 +104,11 @@ fn push_text(
 const IDENTIFIERS: [&[u8]; 3] = [b"_next_of$", b"x", b"EOF"];
 
 const FIRST: NameId = NameId { index: WORD_COUNT };
+
 const SECOND: NameId = NameId {
     index: WORD_COUNT + 1,
 };
+
 const THIRD: NameId = NameId {
     index: WORD_COUNT + 2,
 };

@@ -5,8 +5,8 @@ use cw_base::{Bytes, Event, Exit, Flags, Memory, Note, NoteKind, Out, Place, Web
 use cw_desk::MemDesk;
 use cw_lines::PutError;
 use cw_run::{
-    Judgement, Message, Noted, Totals, begin_file, close, end_file, print_broken, print_notes, say,
-    say_if, say_statistics, stop, stop_without_change, stop_without_web,
+    Judgement, Message, NoteSource, Totals, begin_file, close, end_file, print_broken, print_notes,
+    say, say_if, say_statistics, stop, stop_without_change, stop_without_web,
 };
 use cw_secnames::{SecKind, SecNames};
 use cw_test_desks::{desk_with, written};
@@ -47,7 +47,7 @@ fn stop_thrice(alloc: Global, desk: &mut MemDesk) -> Result<[Exit; 3], PutError>
     Ok([too_long, no_web, no_change])
 }
 
-fn say_notes(noted: Noted, desk: &mut MemDesk) -> Result<(), PutError> {
+fn say_notes(noted: NoteSource, desk: &mut MemDesk) -> Result<(), PutError> {
     let notes = [
         note(NoteKind::LinesDiffer, 3, 7),
         note(NoteKind::NeverUsed, 0, 0),
@@ -69,7 +69,7 @@ fn names_with(alloc: Global, name: &[u8]) -> Result<SecNames, Memory>
 fn say_notes_of_web(alloc: Global, desk: &mut MemDesk) -> Result<(), Fail> {
     let web = web_of(alloc, b"foo.w")?;
     let names = names_with(alloc, b"Read it")?;
-    let noted = Noted {
+    let noted = NoteSource {
         alloc,
         web: &web,
         names: &names,

@@ -17,11 +17,11 @@ ghost use Rattle.cw_weave.specs.Woven.{weave_unless, weave_web, woven};
 ghost use Rattle.cw_weave.specs.model.Written.{AreWritten, events_of};
 
 use crate::ending::end_run;
-use crate::files::Written;
+use crate::files::WrittenFiles;
 use crate::index_files::write_index_files;
 use crate::reading::book_of;
 use crate::sample::weave_sample;
-use crate::source::Source;
+use crate::source::WeaveSource;
 use crate::tex_file::{totals_of, write_tex};
 use cw_base::{Exit, Ledger, Steps, Words};
 use cw_desk::Desk;
@@ -31,18 +31,18 @@ use cw_input::{
 use cw_lines::PutError;
 use cw_phase1::Book;
 use cw_run::{
-    Judgement, Message, Noted, print_notes, say_if, status_of, stop, stop_at_unknown,
+    Judgement, Message, NoteSource, print_notes, say_if, status_of, stop, stop_at_unknown,
     stop_before_overwriting, stop_without_change, stop_without_web, tell,
 };
 use std::alloc::Global;
 
 // Prints the notes of reading, and those of the first phase.
-fn print_all_notes<D: Desk>(source: Source, book: &Book, desk: &mut D) -> Result<(), PutError>
+fn print_all_notes<D: Desk>(source: WeaveSource, book: &Book, desk: &mut D) -> Result<(), PutError>
     ensures { Adds (note_events source.entry.web.now.files book.now.sec_names
         (source.entry.web.now.notes ++ book.now.outline.notes))
         (D.told desk.old) (D.told desk.new) result }
 {
-    let noted = Noted {
+    let noted = NoteSource {
         alloc: source.alloc,
         web: source.web,
         names: &book.sec_names,
@@ -53,11 +53,11 @@ fn print_all_notes<D: Desk>(source: Source, book: &Book, desk: &mut D) -> Result
 
 // Writes the TeX file, and with flag x the index and the list of section names.
 fn write_files<D: Desk, L: Ledger>(
-    source: Source,
+    source: WeaveSource,
     book: &mut Book,
     desk: &mut D,
     steps: &mut Steps<L>,
-) -> Result<Written, PutError>
+) -> Result<WrittenFiles, PutError>
     requires printable { IsPrintable (text_in source) (lasting book.old) }
     ensures emits { EmitsBy (events_of source.entry book.old) (D.told desk.old) (D.told desk.new) result }
     ensures written { IfOk result (λ w. AreWritten source.entry book.old w) }
@@ -66,7 +66,7 @@ fn write_files<D: Desk, L: Ledger>(
     let tex = write_tex(source, book, desk, steps)?;
     let totals = totals_of(book.section_count(), tex.counts, tex.lines.lines());
     let index = write_index_files(source, book, desk, steps)?;
-    Ok(Written {
+    Ok(WrittenFiles {
         tex: tex.lines,
         totals,
         index,
@@ -75,7 +75,7 @@ fn write_files<D: Desk, L: Ledger>(
 
 // Prints the notes of a web, writes its files, and ends the run.
 fn weave_book<D: Desk, L: Ledger>(
-    source: Source,
+    source: WeaveSource,
     book: &mut Book,
     desk: &mut D,
     steps: &mut Steps<L>,
@@ -93,7 +93,7 @@ fn weave_book<D: Desk, L: Ledger>(
 
 // Weaves a web that was read.
 fn weave_web<D: Desk, L: Ledger>(
-    source: Source,
+    source: WeaveSource,
     desk: &mut D,
     steps: &mut Steps<L>,
 ) -> Result<Exit, PutError>
@@ -111,7 +111,7 @@ fn weave_web<D: Desk, L: Ledger>(
 
 // Weaves a web that was read, if no output would overwrite an input or an output before it.
 fn weave_whole<D: Desk, L: Ledger>(
-    source: Source,
+    source: WeaveSource,
     desk: &mut D,
     steps: &mut Steps<L>,
 ) -> Result<Exit, PutError>
@@ -167,7 +167,7 @@ fn weave_line<D: Desk, L: Ledger>(
 {
     match load(alloc, desk, line.web.as_slice(), change_word(line)) {
         Ok(web) => weave_whole(
-            Source {
+            WeaveSource {
                 alloc,
                 web: &web,
                 line,

@@ -2,8 +2,8 @@
 use Rattle.std.specs.Prelude.{◌≡◌, ℕ, ◌≤◌, List, ◌++◌, map, length, slice_range}
 use Rattle.cw_rules.specs.Answers.{Answer, Token, Begin, Finish, Note, Seen}
 use Rattle.cw_answers.specs.declared.kept.Stretch.{Stretch}
-use Rattle.cw_answers.specs.declared.kept.Kept.{Kept}
-use Rattle.cw_answers.specs.declared.kept.Kept.TheVariants as kept
+use Rattle.cw_answers.specs.declared.kept.KeptAnswer.{KeptAnswer}
+use Rattle.cw_answers.specs.declared.kept.KeptAnswer.TheVariants as kept
 
 abbrev pub seen_at : List ℕ → Stretch → Seen
 seen_at text s = record {
@@ -15,13 +15,13 @@ seen_at text s = record {
 }
 
 -- the answer that a kept one stands for
-abbrev pub answer_at : List ℕ → Kept → Answer
+abbrev pub answer_at : List ℕ → KeptAnswer → Answer
 answer_at text (kept.Token s) = Token (seen_at text s)
 answer_at text (kept.Begin s) = Begin (seen_at text s)
 answer_at text (kept.Finish s) = Finish (seen_at text s)
 answer_at text (kept.Note note) = Note note.kind note.place
 
-abbrev pub answers_at : List ℕ → List Kept → List Answer
+abbrev pub answers_at : List ℕ → List KeptAnswer → List Answer
 answers_at text answers = map (answer_at text) answers
 
 -- the first of these answers are those, and more may come
@@ -32,7 +32,7 @@ BeginWith answers first = (rest : List Answer) × (answers ≡ first ++ rest)
 abbrev pub LiesIn : ℕ → Stretch → Type 0
 LiesIn length s = (s.start ≤ s.end) × (s.end ≤ length)
 
-abbrev pub IsWithin : ℕ → Kept → Type 0
+abbrev pub IsWithin : ℕ → KeptAnswer → Type 0
 IsWithin length (kept.Token s) = LiesIn length s
 IsWithin length (kept.Begin s) = LiesIn length s
 IsWithin length (kept.Finish s) = LiesIn length s

@@ -4,7 +4,7 @@ use Rattle.std.specs.Prelude.{if◌then◌else◌}
 use Rattle.std.specs.List.{All}
 use Rattle.cw_base.specs.declared.notes.NoteKind.{NoteKind}
 use Rattle.cw_rules.specs.Answers.{Answer, Token, Begin, Finish, Note}
-use Rattle.cw_answers.specs.declared.kept.Kept.{Kept}
+use Rattle.cw_answers.specs.declared.kept.KeptAnswer.{KeptAnswer}
 use Rattle.cw_answers.specs.declared.reader.Room.{Room}
 use Rattle.cw_answers.specs.model.Kept.{IsWithin, StandsIn, answers_at}
 
@@ -20,7 +20,7 @@ Stand text (Finish t) = StandsIn text t
 Stand text (Note kind place) = Unit {0}
 
 -- An answer is kept behind those before it, or not each answer is kept from now on.
-abbrev pub Goes : Room → Kept → Room → Type 0
+abbrev pub Goes : Room → KeptAnswer → Room → Type 0
 Goes old one new = new.whole ≡ true → (old.whole ≡ true) × (new.items.items ≡ old.items.items ++ one ∷ [])
 
 abbrev pub GoesByNote : Room → NoteKind → ℕ → Room → Type 0

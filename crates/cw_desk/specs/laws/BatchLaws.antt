@@ -6,10 +6,10 @@ use Rattle.cw_base.specs.declared.event.Out.{Out}
 use Rattle.cw_desk.specs.Batch.{HandsOn, PutsFirst}
 use Rattle.cw_desk.specs.Journal.{byte_events, grown}
 use Rattle.cw_desk.specs.laws.JournalLaws.{grown-rest, longer-part, part-bytes}
-use Rattle.cw_desk.specs.Told.{Told}
+use Rattle.cw_desk.specs.Told.{DeskState}
 use Rattle.cw_desk.specs.declared.flushed.Flushed.{Flushed}
 
-pub hands-rest : {out : Out} {bytes left : List ℕ} {count : ℕ} {answer : Flushed} {old new : Told}
+pub hands-rest : {out : Out} {bytes left : List ℕ} {count : ℕ} {answer : Flushed} {old new : DeskState}
     → PutsFirst out bytes count answer old new → left ≡ drop count bytes → HandsOn out answer bytes left old new
 hands-rest {out = out} {bytes = bytes} {count = count} {old = old} {new = new} puts is_left = record {
   part = part-bytes old.journal out bytes count puts.journal;

@@ -4,7 +4,7 @@ use Rattle.std.specs.Prelude.{◌≡◌, slice_index_or}
 use Rattle.std.specs.FinMap.{from_entries}
 use Rattle.std.specs.List.{list_any}
 use Rattle.cw_desk.specs.Meaning.{Files}
-use Rattle.cw_desk.specs.Told.{Told}
+use Rattle.cw_desk.specs.Told.{DeskState}
 use Rattle.cw_desk.specs.Mem.{MemState}
 
 -- the files as a map: a name has the bytes that it was given last
@@ -12,7 +12,7 @@ abbrev pub files_of : MemState → Files
 files_of d = from_entries d.files
 
 -- what it tells: its own files alone agree with it
-abbrev pub tell : MemState → Told
+abbrev pub tell : MemState → DeskState
 tell d = record {
   opened = length d.rests;
   outputs = d.outputs;

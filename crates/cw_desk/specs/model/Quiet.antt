@@ -2,7 +2,7 @@
 use Rattle.std.specs.Prelude.{[]}
 use Rattle.cw_desk.specs.Mem.{MemState}
 use Rattle.cw_desk.specs.model.Mem.{tell as tell_mem}
-use Rattle.cw_desk.specs.Told.{Told}
+use Rattle.cw_desk.specs.Told.{DeskState}
 use Rattle.cw_desk.specs.Quiet.{QuietState}
 
 -- the desk in memory that it is
@@ -21,5 +21,5 @@ as_mem d = record {
 }
 
 -- what it tells: its own files alone agree with it, and there is no fault
-abbrev pub tell : QuietState → Told
+abbrev pub tell : QuietState → DeskState
 tell d = tell_mem (as_mem d)

@@ -6,7 +6,7 @@ use Rattle.cw_base.specs.declared.event.Out.{Out}
 use Rattle.cw_desk.specs.Calls.{after_event, after_opening, after_reading, after_writing}
 use Rattle.cw_desk.specs.Make.{outputs_after}
 use Rattle.cw_desk.specs.Meaning.{no_outputs, with_draft, with_output, without_draft}
-use Rattle.cw_desk.specs.Trail.{Noted}
+use Rattle.cw_desk.specs.Trail.{TrailState}
 use Rattle.cw_desk.specs.model.Trail.{nothing}
 use Rattle.cw_desk.specs.declared.outputs.Outputs.{Outputs}
 use Rattle.cw_desk.specs.declared.desk.Opened.{Opened}
@@ -18,7 +18,7 @@ use Rattle.cw_desk.specs.declared.desk.Taken.{Taken}
 pub record SystemState : Type 0 where
   pub opened : ℕ  -- how many files were opened
   pub outputs : Outputs  -- which outputs are made, and which have a draft
-  pub noted : Noted  -- what the system answered, and what it took and did
+  pub noted : TrailState  -- what the system answered, and what it took and did
 
 -- nothing was asked
 abbrev pub untouched : SystemState

@@ -8,9 +8,9 @@ use Rattle.cw_base.specs.declared.event.Event.TheVariants.{Made, Byte, Drafted, 
 use Rattle.cw_base.specs.declared.event.Out.{Out}
 use Rattle.cw_base.specs.declared.event.Out.TheVariants.{Term, Tex, Idx, Scn}
 use Rattle.cw_desk.specs.Answer.{Answer, coded_answer}
-use Rattle.cw_desk.specs.Trail.{Noted}
+use Rattle.cw_desk.specs.Trail.{TrailState}
 
-abbrev pub nothing : Noted
+abbrev pub nothing : TrailState
 nothing = record { heard = []; journal = [] }
 
 -- ## Codes, so that a ghost field can hold it
@@ -74,7 +74,7 @@ coded_event = code_by Cases
     (coded⊎ (coded⊎ coded_named coded_named) (coded⊎ (coded× coded_out coded_ℕ) (coded⊎ coded_out coded_out)))
     cases from_cases from-cases
 
-abbrev pub coded_noted : Coded Noted
+abbrev pub coded_noted : Coded TrailState
 coded_noted = code_by (List Answer × List Event) (coded× (coded_list coded_answer) (coded_list coded_event))
-    (λ (n : Noted). (n.heard, n.journal)) (λ (p : List Answer × List Event). record { heard = p.0; journal = p.1 })
-    (λ (n : Noted). refl)
+    (λ (n : TrailState). (n.heard, n.journal)) (λ (p : List Answer × List Event). record { heard = p.0; journal = p.1 })
+    (λ (n : TrailState). refl)

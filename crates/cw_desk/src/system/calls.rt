@@ -31,7 +31,7 @@ pub(super) enum Look {
 }
 
 /// What is found by a name: its file, at its own place or in a folder in which files are looked for.
-pub(super) enum Found {
+pub(super) enum FoundPlace {
     Here(FoundFile),
     Elsewhere(FoundFile),
     Missing,
@@ -107,32 +107,32 @@ impl Calls {
     }
 
     /// Opens the file of a name: at its own place, or else in the first folder that has it.
-    pub(super) fn open(&mut self, number: usize, name: &[u8]) -> Found
+    pub(super) fn open(&mut self, number: usize, name: &[u8]) -> FoundPlace
         ensures { self.new.trail.noted ≡ after_found number name.now result self.old.trail.noted }
     {
         match self.look(number, name, name) {
-            Look::File(file) => Found::Here(file),
-            Look::Failed => Found::Failed,
+            Look::File(file) => FoundPlace::Here(file),
+            Look::Failed => FoundPlace::Failed,
             Look::Nothing => self.open_elsewhere(number, name),
         }
     }
 
     // Opens the file of a name that has none at its own place.
-    fn open_elsewhere(&mut self, number: usize, name: &[u8]) -> Found
+    fn open_elsewhere(&mut self, number: usize, name: &[u8]) -> FoundPlace
         ensures { self.new.trail.noted ≡ after_found number name.now result self.old.trail.noted }
     {
         let Ok(places) = self.folders.places_of(&self.rt, self.alloc, name) else {
-            return Found::Memory;
+            return FoundPlace::Memory;
         };
         for place in places.iter() {
             match self.look(number, name, place.as_slice()) {
                 Look::Nothing => {}
-                Look::File(file) => return Found::Elsewhere(file),
-                Look::Failed => return Found::Failed,
+                Look::File(file) => return FoundPlace::Elsewhere(file),
+                Look::Failed => return FoundPlace::Failed,
             }
         }
         self.trail.note(Note::Missing(name));
-        Found::Missing
+        FoundPlace::Missing
     }
 
     /// Reads the next bytes of the file of a name into the front of the buffer.

@@ -8,9 +8,9 @@ use Rattle.cw_input.specs.Merged as outcome
 use Rattle.cw_input.specs.model.State.{Moves, IsMet, IsPhase, ahead}
 use Rattle.cw_input.specs.declared.error.LoadError.{LoadError}
 use Rattle.cw_input.specs.declared.error.LoadError.TheVariants.{NoWeb, NoChange, TooLong, Fault, Memory}
-use Rattle.cw_input.specs.declared.found.Found.{Found}
+use Rattle.cw_input.specs.declared.found.InputFile.{InputFile}
 use Rattle.cw_input.specs.declared.merger.Merger.{Merger}
-use Rattle.cw_input.specs.declared.merger.Source.{Source}
+use Rattle.cw_input.specs.declared.merger.SourceFile.{SourceFile}
 use Rattle.cw_input.specs.declared.phase.Cursor.{Cursor}
 use Rattle.cw_input.specs.declared.phase.Phase.{Phase}
 use Rattle.cw_input.specs.Answers.{Loads}
@@ -30,7 +30,7 @@ Gives given new (Err error) = Fails given error
 
 -- the same, or it is what the lines of an included file make of the state afterwards
 abbrev pub Leads : Option MergeState → (List FileLine → MergeState → Option MergeState) → MergeState
-    → Result (Option Source) LoadError → Type 0
+    → Result (Option SourceFile) LoadError → Type 0
 Leads given next new (Ok None) = given ≡ Some new
 Leads given next new (Ok (Some source)) = given ≡ next (file_lines source.file source.bytes) new
 Leads given next new (Err error) = Fails given error
@@ -49,7 +49,7 @@ Waits change rest new (Ok (Some phase)) = IsPhase rest.line phase
 Waits change rest new (Err error) = ⊤
 
 -- the room that is left, beside that for the lines of an included file
-abbrev pub Leaves : ℕ → ℕ → ℕ → ℕ → ℕ → Merger → Merger → Result (Option Source) LoadError → Type 0
+abbrev pub Leaves : ℕ → ℕ → ℕ → ℕ → ℕ → Merger → Merger → Result (Option SourceFile) LoadError → Type 0
 Leaves text files text_left files_left left old new (Ok None) = Moves text files text_left files_left old new
 Leaves text files text_left files_left left old new (Ok (Some source)) =
     Moves text files (text_left + 2 * length source.bytes) (files_left + length source.bytes) old new
@@ -66,11 +66,11 @@ Reads bytes room (Err Fault) = ⊤
 Reads bytes room (Err Memory) = ⊤
 
 -- a file was looked for and, where it is there, read
-abbrev pub Finds : Option Found → ℕ → Result (Option Found) LoadError → Type 0
+abbrev pub Finds : Option InputFile → ℕ → Result (Option InputFile) LoadError → Type 0
 Finds given room (Ok answer) = given ≡ answer
 Finds given room (Err NoWeb) = ⊥
 Finds given room (Err NoChange) = ⊥
-Finds given room (Err TooLong) = (file : Found) × (given ≡ Some file) × (room < length file.bytes)
+Finds given room (Err TooLong) = (file : InputFile) × (given ≡ Some file) × (room < length file.bytes)
 Finds given room (Err Fault) = ⊤
 Finds given room (Err Memory) = ⊤
 
@@ -80,11 +80,11 @@ LoadsInto given web (Ok u) = given ≡ outcome.Whole web
 LoadsInto given web (Err error) = Loads given (Err error)
 
 -- the file of the web was looked for under both its names
-abbrev pub FindsWeb : Option Found → Result Found LoadError → Type 0
+abbrev pub FindsWeb : Option InputFile → Result InputFile LoadError → Type 0
 FindsWeb given (Ok file) = given ≡ Some file
 FindsWeb given (Err NoWeb) = given ≡ None
 FindsWeb given (Err NoChange) = ⊥
-FindsWeb given (Err TooLong) = (file : Found) × (given ≡ Some file) × (INPUT_LIMIT < length file.bytes)
+FindsWeb given (Err TooLong) = (file : InputFile) × (given ≡ Some file) × (INPUT_LIMIT < length file.bytes)
 FindsWeb given (Err Fault) = ⊤
 FindsWeb given (Err Memory) = ⊤
 

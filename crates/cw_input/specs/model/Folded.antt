@@ -6,7 +6,7 @@ use Rattle.cw_input.specs.model.Fold.{Over, MergeState, read, advance, web_lines
 use Rattle.cw_input.specs.Lines.{file_lines}
 use Rattle.cw_input.specs.Merged.{Merged, NoWeb, NoChange, TooLong, Whole, change_word, found_file, web_file}
 use Rattle.cw_input.specs.Names.{change_name}
-use Rattle.cw_input.specs.declared.found.Found.{Found}
+use Rattle.cw_input.specs.declared.found.InputFile.{InputFile}
 use Rattle.cw_input.specs.declared.phase.Phase.TheVariants.{Outside}
 
 abbrev pub start_state : MergeState
@@ -21,7 +21,7 @@ abbrev pub taken : NamedFiles → List ℕ → Option MergeState → Merged
 taken named web m = whole (option_and_then (drained named) (option_and_then (web_lines named 10 (file_lines 0 web)) m))
 
 -- The change file is file 1. It is handled up to its first match line before a line of the web is taken.
-abbrev pub merge_change : NamedFiles → List ℕ → Option Found → MergeState → Merged
+abbrev pub merge_change : NamedFiles → List ℕ → Option InputFile → MergeState → Merged
 merge_change named web None m = NoChange
 merge_change named web (Some change) m =
     taken named web (option_and_then
@@ -33,7 +33,7 @@ merge_with named web change None = TooLong
 merge_with named web None (Some m) = taken named web (Some m)
 merge_with named web (Some word) (Some m) = merge_change named web (found_file named (change_name word)) m
 
-abbrev pub merge_web : NamedFiles → Option Found → Option (List ℕ) → Merged
+abbrev pub merge_web : NamedFiles → Option InputFile → Option (List ℕ) → Merged
 merge_web named None change = NoWeb
 merge_web named (Some file) change = merge_with named file.bytes change (read file.name file.bytes start_state)
 

@@ -14,7 +14,7 @@ use Rattle.cw_input.specs.declared.phase.Meets.{Meets}
 use Rattle.cw_input.specs.declared.phase.Meets.TheVariants.{Nothing, MatchLine, OldLine}
 use Rattle.cw_input.specs.declared.phase.Phase.{Phase}
 use Rattle.cw_input.specs.declared.phase.Phase.TheVariants.{Outside, Opening, Skipping, Old, Spent, New}
-use Rattle.cw_input.specs.declared.phase.Piece.{Piece}
+use Rattle.cw_input.specs.declared.phase.LineSpan.{LineSpan}
 
 -- a line and its place
 abbrev pub line_of : List ℕ → Place → FileLine
@@ -25,7 +25,7 @@ abbrev pub lines_from : ℕ → ℕ → ℕ → List ℕ → List FileLine
 lines_from file line at bytes = numbered_lines file line (lines_of (drop at bytes))
 
 -- a line of the change file, and the lines that follow a place in it
-abbrev pub line_at : List ℕ → Piece → FileLine
+abbrev pub line_at : List ℕ → LineSpan → FileLine
 line_at change piece =
     record { text = slice_range change piece.start piece.«end»; place = record { file = 1; line = piece.line } }
 
@@ -64,7 +64,7 @@ abbrev pub with_file : List ℕ → ℕ → Merger → Merger
 with_file name size m = record m { web = record m.web { files = m.web.files ++ name ∷ [] }; sum = m.sum + size }
 
 -- offsets lie within the change file, lines are no more than bytes, and the place behind a line counts that line
-pub record IsPiece (change : List ℕ) (piece : Piece) (rest : Cursor) : Type 0 where
+pub record IsPiece (change : List ℕ) (piece : LineSpan) (rest : Cursor) : Type 0 where
   pub order : piece.start ≤ piece.«end»
   pub within : piece.«end» ≤ length change
   pub numbered : piece.line ≡ rest.line

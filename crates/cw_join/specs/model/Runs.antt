@@ -5,8 +5,8 @@ use Rattle.cw_trees.specs.declared.Control.{Control}
 use Rattle.cw_trees.specs.Printing.{break_bytes, is_backup, is_cancel, strength}
 use Rattle.cw_join.specs.declared.run.Pause.{Pause}
 use Rattle.cw_join.specs.declared.run.Pause.TheVariants.{Nothing, Blank, OptionalBreak, Break, BigBreak}
-use Rattle.cw_join.specs.declared.run.Run.{Run}
-use Rattle.cw_join.specs.declared.run.Run.TheVariants.{Empty, Plain, Marked}
+use Rattle.cw_join.specs.declared.run.ControlRun.{ControlRun}
+use Rattle.cw_join.specs.declared.run.ControlRun.TheVariants.{Empty, Plain, Marked}
 use Rattle.cw_join.specs.Runs.{RunState}
 
 -- one control more
@@ -42,7 +42,7 @@ strength_of OptionalBreak = 2
 strength_of Break = 3
 strength_of BigBreak = 4
 
-abbrev pub state_of : Run → RunState
+abbrev pub state_of : ControlRun → RunState
 state_of Empty = record { strength = 0; cancelled = false; backed = false }
 state_of (Plain pause) = record { strength = strength_of pause; cancelled = false; backed = false }
 state_of (Marked pause cancelled backed) = record {

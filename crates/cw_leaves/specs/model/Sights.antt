@@ -1,10 +1,10 @@
 -- The models beside `specs/Sights`.
 use Rattle.std.specs.Prelude.{Option, Some, None, map}
-use Rattle.cw_leaves.specs.Sights.{Heard, Sight, heard}
+use Rattle.cw_leaves.specs.Sights.{Utterance, Sight, heard}
 
 -- ## Other names
 
-abbrev pub renamed_heard : {M N : Type 0} → (M → N) → Heard M → Heard N
+abbrev pub renamed_heard : {M N : Type 0} → (M → N) → Utterance M → Utterance N
 renamed_heard f h = record { names = map f h.names; stops = h.stops }
 
 abbrev pub renamed_bare : {M N : Type 0} → (M → N) → Option M → Option N

@@ -14,7 +14,7 @@ use Rattle.cw_lex.specs.declared.state.Clear.{Clear}
 use Rattle.cw_lex.specs.declared.state.State.{State}
 use Rattle.cw_base.specs.Bytes.{newline, backslash}
 use Rattle.cw_rules.specs.Bytes.{is_in, run}
-use Rattle.cw_rules.specs.Answers.{Answer, Finish, Note, seen, Where, Found, note_answers}
+use Rattle.cw_rules.specs.Answers.{Answer, Finish, Note, seen, Where, ScanStep, note_answers}
 use Rattle.cw_rules.specs.Pending.{pending_notes, no_notes, IsInside}
 use Rattle.cw_rules.specs.Tokens.{in_hash_line, is_space, found, is_code, is_head_part}
 use Rattle.cw_lex.specs.Lexing.{answers_at, last_at, spot_at}
@@ -26,7 +26,7 @@ abbrev pub coming : List ℕ → State → List Answer
 coming text s = note_answers (pending_notes text s.pending) ++ answers_at text (where_of s) s.at
 
 -- what begins at a place of a text
-abbrev pub found_at : List ℕ → Where → ℕ → Found
+abbrev pub found_at : List ℕ → Where → ℕ → ScanStep
 found_at text w place = found (spot_at text w place) (slice_index text place) (drop (place + 1) text)
 
 -- the open braces of the comments are not more than the bytes before a place

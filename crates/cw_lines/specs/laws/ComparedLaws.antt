@@ -9,7 +9,7 @@ use Rattle.std.proofs.lemmas.Bool.Decides.{eqb_tells}
 use Rattle.std.proofs.lemmas.List.{drop_all, length-take, length-take-le, take-append-drop, take-append-le}
 use Rattle.std.proofs.lemmas.List.{take_all}
 use Rattle.cw_desk.specs.Meaning.{Files}
-use Rattle.cw_desk.specs.Told.{Told, Narrows}
+use Rattle.cw_desk.specs.Told.{DeskState, Narrows}
 use Rattle.cw_lines.specs.Compared.{OldFile, Compares, Shortens, behind, left, left_behind, left_by}
 
 -- the text that is there, or another
@@ -147,30 +147,31 @@ left-read false agrees ahead rest more unread agreed none read longer ended = (
 
 -- ## Comparing
 
-pub compares-none : (old : Option OldFile) (told : Told) → Compares [] old old told told
+pub compares-none : (old : Option OldFile) (told : DeskState) → Compares [] old old told told
 compares-none old told = record { rest = λ files is. sym (left_behind-none (left files told old)) }
 
-pub compares-then : {xs ys : List ℕ} {first second third : Option OldFile} {a b c : Told} → Narrows b c
+pub compares-then : {xs ys : List ℕ} {first second third : Option OldFile} {a b c : DeskState} → Narrows b c
     → Compares xs first second a b → Compares ys second third b c → Compares (xs ++ ys) first third a c
 compares-then {xs = xs} {ys = ys} {first = first} {a = a} narrows begun ended = record {
   rest = λ files is. ended.rest files is ∙ ap (left_behind ys) (begun.rest files (narrows files is))
       ∙ sym (left_behind-append xs ys (left files a first));
 }
 
-pub compares-bytes : {xs ys : List ℕ} {old new : Option OldFile} {a b : Told} → xs ≡ ys → Compares xs old new a b
+pub compares-bytes : {xs ys : List ℕ} {old new : Option OldFile} {a b : DeskState} → xs ≡ ys → Compares xs old new a b
     → Compares ys old new a b
 compares-bytes {old = old} {new = new} {a = a} {b = b} same compares =
     subst (λ (bytes : List ℕ). Compares bytes old new a b) same compares
 
 -- the same file afterwards
-pub compares-as : {xs ys : List ℕ} {old new other : Option OldFile} {a b : Told} → xs ≡ ys → new ≡ other
+pub compares-as : {xs ys : List ℕ} {old new other : Option OldFile} {a b : DeskState} → xs ≡ ys → new ≡ other
     → Compares xs old new a b → Compares ys old other a b
 compares-as {xs = xs} {old = old} {other = other} {a = a} {b = b} same is compares =
     subst (λ (bytes : List ℕ). Compares bytes old other a b) same
     (subst (λ (file : Option OldFile). Compares xs old file a b) is compares)
 
 -- bytes were compared, then more was read, and more bytes were compared
-pub compares-more : {first : List ℕ} (more : List ℕ) {old mid : OldFile} (read : OldFile) {new : OldFile} {a b c : Told}
+pub compares-more : {first : List ℕ} (more : List ℕ) {old mid : OldFile} (read : OldFile) {new : OldFile} {a b c :
+    DeskState}
     → Narrows b c
     → Compares first (Some old) (Some mid) a b
     → ((files : Files) → c.agrees files → left_behind more (left files c (Some read))
@@ -189,10 +190,10 @@ compares-more {first = first} more {old = old} read {new = new} {a = a} {c = c} 
           ∙ sym (left_behind-append first more (left files a (Some old)));
     }
 
-pub shortens-none : (file : Option ℕ) {a b : Told} → b.rest ≡ a.rest → Shortens file a b
+pub shortens-none : (file : Option ℕ) {a b : DeskState} → b.rest ≡ a.rest → Shortens file a b
 shortens-none file same = record { unread = λ files is id named. ([], sym (λ i. same i files id)) }
 
-pub shortens-then : {file : Option ℕ} {a b c : Told} → Narrows b c → Shortens file a b → Shortens file b c
+pub shortens-then : {file : Option ℕ} {a b c : DeskState} → Narrows b c → Shortens file a b → Shortens file b c
     → Shortens file a c
 shortens-then {c = c} narrows begun ended = record {
   unread = λ files is id named.

@@ -2,7 +2,7 @@
 use Rattle.std.specs.Prelude.{◌≡◌, ℕ, List, [], ◌++◌, Result, Ok, Err, IsErrAnd}
 use Rattle.std.proofs.Common.{refl, ◌∙◌}
 use Rattle.std.proofs.lemmas.List.{append-nil}
-use Rattle.cw_desk.specs.Told.{Told}
+use Rattle.cw_desk.specs.Told.{DeskState}
 use Rattle.cw_lines.specs.Sheets.{CanPrint, IsSameSheet, Prints}
 use Rattle.cw_lines.specs.laws.WritesLaws.{can-after, puts-bytes, puts-none, puts-nothing, puts-stop, puts-then}
 use Rattle.cw_lines.specs.declared.put_error.PutError.{PutError}
@@ -16,14 +16,14 @@ pub same-then : {D : Type 0} {first second third : Sheet D} → IsSameSheet firs
     → IsSameSheet first third
 same-then begun ended = record { line = ended.line ∙ begun.line; desk = ended.desk ∙ begun.desk }
 
-pub prints-none : {D T : Type 0} (told : D → Told) (sheet : Sheet D) (value : T)
+pub prints-none : {D T : Type 0} (told : D → DeskState) (sheet : Sheet D) (value : T)
     → Prints told [] sheet sheet (Ok value)
 prints-none told sheet value = record {
   puts = puts-none sheet.line.now (told sheet.desk.now) value;
   same = same-sheet sheet;
 }
 
-pub prints-then : {D T U : Type 0} {told : D → Told} {xs ys : List ℕ} {first second third : Sheet D} {value : T}
+pub prints-then : {D T U : Type 0} {told : D → DeskState} {xs ys : List ℕ} {first second third : Sheet D} {value : T}
     {result : Result U PutError}
     → Prints {T = T} told xs first second (Ok value) → Prints told ys second third result
     → Prints told (xs ++ ys) first third result
@@ -32,14 +32,15 @@ prints-then begun ended = record {
   same = same-then begun.same ended.same;
 }
 
-pub prints-stop : {D T U : Type 0} {told : D → Told} {xs : List ℕ} (ys : List ℕ) {first second : Sheet D}
+pub prints-stop : {D T U : Type 0} {told : D → DeskState} {xs : List ℕ} (ys : List ℕ) {first second : Sheet D}
     {error : PutError} {result : Result U PutError}
     → Prints {T = T} told xs first second (Err error) → IsErrAnd result (λ found. found ≡ error)
     → Prints told (xs ++ ys) first second result
 prints-stop ys begun is = record { puts = puts-stop ys begun.puts is; same = begun.same }
 
 -- memory was refused before a byte was put
-pub prints-nothing : {D U : Type 0} {told : D → Told} (bytes : List ℕ) (sheet : Sheet D) {result : Result U PutError}
+pub prints-nothing : {D U : Type 0} {told : D → DeskState} (bytes : List ℕ) (sheet : Sheet D) {result : Result U
+    PutError}
     → IsErrAnd result (λ found. found ≡ Memory) → Prints told bytes sheet sheet result
 prints-nothing {told = told} bytes sheet is = record {
   puts = puts-nothing bytes sheet.line.now (told sheet.desk.now) is;
@@ -47,26 +48,28 @@ prints-nothing {told = told} bytes sheet is = record {
 }
 
 -- the same bytes
-pub prints-bytes : {D T : Type 0} {told : D → Told} {xs ys : List ℕ} {first second : Sheet D}
+pub prints-bytes : {D T : Type 0} {told : D → DeskState} {xs ys : List ℕ} {first second : Sheet D}
     {result : Result T PutError}
     → xs ≡ ys → Prints told xs first second result → Prints told ys first second result
 prints-bytes same prints = record { puts = puts-bytes same prints.puts; same = prints.same }
 
 -- the same failure of a call around it
-pub prints-failing : {D T U : Type 0} {told : D → Told} {xs ys : List ℕ} {first second : Sheet D} {error : PutError}
+pub prints-failing : {D T U : Type 0} {told : D → DeskState} {xs ys : List ℕ} {first second : Sheet D} {error :
+    PutError}
     {result : Result U PutError} → xs ≡ ys
     → Prints {T = T} told xs first second (Err error) → IsErrAnd result (λ found. found ≡ error)
     → Prints told ys first second result
 prints-failing {xs = xs} same begun is = prints-bytes (append-nil xs ∙ same) (prints-stop [] begun is)
 
 -- a failure in the first bytes is a failure in more of them
-pub prints-longer : {D T : Type 0} {told : D → Told} {xs : List ℕ} (ys : List ℕ) {first second : Sheet D}
+pub prints-longer : {D T : Type 0} {told : D → DeskState} {xs : List ℕ} (ys : List ℕ) {first second : Sheet D}
     {error : PutError}
     → Prints {T = T} told xs first second (Err error) → Prints {T = T} told (xs ++ ys) first second (Err error)
 prints-longer ys begun = prints-stop ys begun refl
 
 -- what is printed keeps the sheet writable
-pub can-print-after : {D T : Type 0} {told : D → Told} {bytes : List ℕ} {old new : Sheet D} {result : Result T PutError}
+pub can-print-after : {D T : Type 0} {told : D → DeskState} {bytes : List ℕ} {old new : Sheet D} {result : Result T
+    PutError}
     → CanPrint told old → Prints told bytes old new result → CanPrint told new
 can-print-after can prints = can-after can prints.puts
 

@@ -10,7 +10,7 @@ use Rattle.cw_desk.specs.Journal.{byte_events}
 use Rattle.cw_desk.specs.laws.JournalLaws.{grown-none, grown-after, byte_events-append, part-first, part-second}
 use Rattle.cw_desk.specs.laws.JournalLaws.{part-same}
 use Rattle.cw_desk.specs.Meaning.{Rose, is_open}
-use Rattle.cw_desk.specs.Told.{Told, OnlyPuts}
+use Rattle.cw_desk.specs.Told.{DeskState, OnlyPuts}
 use Rattle.cw_desk.specs.declared.outputs.Outputs.{Outputs}
 use Rattle.cw_lines.specs.Compared.{Compares, came_without, id_of, rests_without}
 use Rattle.cw_lines.specs.laws.ComparedLaws.{compares-bytes, compares-none, compares-then, shortens-none, shortens-then}
@@ -25,7 +25,7 @@ use Rattle.cw_lines.specs.declared.put_error.PutError.TheVariants.{Fault, Memory
 pub rose-later : (a b c : ℕ) → a ≤ b → Rose b c → Rose a c
 rose-later a b c kept rose = grind arith
 
-only_puts-none : (told : Told) → OnlyPuts told told
+only_puts-none : (told : DeskState) → OnlyPuts told told
 only_puts-none told = record {
   same_names = refl;
   same_opened = refl;
@@ -37,7 +37,7 @@ only_puts-none told = record {
   faults_kept = omega arith;
 }
 
-only_puts-then : {a b c : Told} → OnlyPuts a b → OnlyPuts b c → OnlyPuts a c
+only_puts-then : {a b c : DeskState} → OnlyPuts a b → OnlyPuts b c → OnlyPuts a c
 only_puts-then {a = a} {b = b} {c = c} first second = record {
   same_names = second.same_names ∙ first.same_names;
   same_opened = second.same_opened ∙ first.same_opened;
@@ -51,7 +51,7 @@ only_puts-then {a = a} {b = b} {c = c} first second = record {
       omega arith;
 }
 
-pub adds-none : {T : Type 0} (told : Told) (value : T) → Adds [] told told (Ok value)
+pub adds-none : {T : Type 0} (told : DeskState) (value : T) → Adds [] told told (Ok value)
 adds-none told value = record {
   ok = sym (grown-none told.journal);
   err = tt;
@@ -59,7 +59,7 @@ adds-none told value = record {
   fault = λ e. cc;
 }
 
-pub adds-then : {T U : Type 0} {first second : List Event} {a b c : Told} {value : T} {result : Result U PutError}
+pub adds-then : {T U : Type 0} {first second : List Event} {a b c : DeskState} {value : T} {result : Result U PutError}
     → Adds {T = T} first a b (Ok value) → Adds second b c result → Adds (first ++ second) a c result
 adds-then {first = first} {second = second} {a = a} {b = b} {c = c} {result = result} begun ended = record {
   ok = on_ok_weaker result (λ grew. grown-after a.journal first second begun.ok grew) ended.ok;
@@ -72,7 +72,7 @@ pub is_err : {T E : Type 0} (result : Result T E) (error : E) → IsErrAnd resul
     → result ≡ Err error
 is_err result error is = let p = err_from_is_err_and result is in p.1 ∙ ap Err p.2
 
-pub adds-stop : {T U : Type 0} {first : List Event} (second : List Event) {a b : Told} {error : PutError}
+pub adds-stop : {T U : Type 0} {first : List Event} (second : List Event) {a b : DeskState} {error : PutError}
     {result : Result U PutError}
     → Adds {T = T} first a b (Err error) → IsErrAnd result (λ found. found ≡ error) → Adds (first ++ second) a b result
 adds-stop {U = U} {first = first} second {a = a} {b = b} {error = error} {result = result} begun is =
@@ -85,7 +85,7 @@ adds-stop {U = U} {first = first} second {a = a} {b = b} {error = error} {result
     subst (λ (r : Result U PutError). Adds (first ++ second) a b r) (sym (is_err result error is)) stopped
 
 -- a failure other than Fault, before anything was written
-pub adds-nothing : {U : Type 0} (events : List Event) (told : Told) {error : PutError} {result : Result U PutError}
+pub adds-nothing : {U : Type 0} (events : List Event) (told : DeskState) {error : PutError} {result : Result U PutError}
     → IsErrAnd result (λ found. found ≡ error) → (error ≡ Fault → ⊥) → Adds events told told result
 adds-nothing {U = U} events told {error = error} {result = result} is other =
     let stopped : Adds {T = U} events told told (Err error) = record {
@@ -97,12 +97,13 @@ adds-nothing {U = U} events told {error = error} {result = result} is other =
     subst (λ (r : Result U PutError). Adds events told told r) (sym (is_err result error is)) stopped
 
 -- the same failure, of these events
-pub adds-fail : {T U : Type 0} {events : List Event} {a b : Told} {error : PutError} {result : Result U PutError}
+pub adds-fail : {T U : Type 0} {events : List Event} {a b : DeskState} {error : PutError} {result : Result U PutError}
     → Adds {T = T} events a b (Err error) → IsErrAnd result (λ found. found ≡ error) → Adds events a b result
 adds-fail {events = events} {a = a} {b = b} {result = result} begun is =
     subst (λ (all : List Event). Adds all a b result) (append-nil events) (adds-stop [] begun is)
 
-pub adds-events : {T : Type 0} {first second : List Event} {a b : Told} {result : Result T PutError} → first ≡ second
+pub adds-events : {T : Type 0} {first second : List Event} {a b : DeskState} {result : Result T PutError} → first
+    ≡ second
     → Adds first a b result → Adds second a b result
 adds-events {a = a} {b = b} {result = result} same adds = subst (λ (events : List Event). Adds events a b result) same
     adds
@@ -110,7 +111,7 @@ adds-events {a = a} {b = b} {result = result} same adds = subst (λ (events : Li
 -- ## Calls that may read on in an old file
 
 -- a call that reads none
-pub adds-writes : {T : Type 0} (file : Option ℕ) {events : List Event} {a b : Told} {result : Result T PutError}
+pub adds-writes : {T : Type 0} (file : Option ℕ) {events : List Event} {a b : DeskState} {result : Result T PutError}
     → Adds events a b result → Writes file events a b result
 adds-writes file adds = record {
   adds = record {
@@ -131,10 +132,10 @@ adds-writes file adds = record {
   shorter = shortens-none file adds.same.same_rests;
 }
 
-pub writes-none : {T : Type 0} (file : Option ℕ) (told : Told) (value : T) → Writes file [] told told (Ok value)
+pub writes-none : {T : Type 0} (file : Option ℕ) (told : DeskState) (value : T) → Writes file [] told told (Ok value)
 writes-none file told value = adds-writes file (adds-none told value)
 
-pub writes-then : {T U : Type 0} {file : Option ℕ} {first second : List Event} {a b c : Told} {value : T}
+pub writes-then : {T U : Type 0} {file : Option ℕ} {first second : List Event} {a b c : DeskState} {value : T}
     {result : Result U PutError}
     → Writes {T = T} file first a b (Ok value) → Writes file second b c result
     → Writes file (first ++ second) a c result
@@ -143,26 +144,28 @@ writes-then begun ended = record {
   shorter = shortens-then ended.adds.same.narrows begun.shorter ended.shorter;
 }
 
-pub writes-stop : {T U : Type 0} {file : Option ℕ} {first : List Event} (second : List Event) {a b : Told}
+pub writes-stop : {T U : Type 0} {file : Option ℕ} {first : List Event} (second : List Event) {a b : DeskState}
     {error : PutError} {result : Result U PutError}
     → Writes {T = T} file first a b (Err error) → IsErrAnd result (λ found. found ≡ error)
     → Writes file (first ++ second) a b result
 writes-stop second begun is = record { adds = adds-stop second begun.adds is; shorter = begun.shorter }
 
-pub writes-events : {T : Type 0} {file : Option ℕ} {first second : List Event} {a b : Told} {result : Result T PutError}
+pub writes-events : {T : Type 0} {file : Option ℕ} {first second : List Event} {a b : DeskState} {result : Result T
+    PutError}
     → first ≡ second
     → Writes file first a b result → Writes file second a b result
 writes-events {file = file} {a = a} {b = b} {result = result} same writes =
     subst (λ (events : List Event). Writes file events a b result) same writes
 
 -- the same failure, of these events
-pub writes-fail : {T U : Type 0} {file : Option ℕ} {events : List Event} {a b : Told} {error : PutError}
+pub writes-fail : {T U : Type 0} {file : Option ℕ} {events : List Event} {a b : DeskState} {error : PutError}
     {result : Result U PutError}
     → Writes {T = T} file events a b (Err error) → IsErrAnd result (λ found. found ≡ error)
     → Writes file events a b result
 writes-fail {events = events} begun is = writes-events (append-nil events) (writes-stop [] begun is)
 
-pub writes-file : {T : Type 0} {file other : Option ℕ} {events : List Event} {a b : Told} {result : Result T PutError}
+pub writes-file : {T : Type 0} {file other : Option ℕ} {events : List Event} {a b : DeskState} {result : Result T
+    PutError}
     → file ≡ other
     → Writes file events a b result → Writes other events a b result
 writes-file {events = events} {a = a} {b = b} {result = result} same writes =
@@ -171,7 +174,8 @@ writes-file {events = events} {a = a} {b = b} {result = result} same writes =
 -- ## Calls that put bytes to a line
 
 -- what was written, when what the bytes fill is known
-pub puts-known : {T : Type 0} {bytes : List ℕ} {old new : LineState} {before now : Told} {result : Result T PutError}
+pub puts-known : {T : Type 0} {bytes : List ℕ} {old new : LineState} {before now : DeskState} {result : Result T
+    PutError}
     (filled : Filled) → fill old.line bytes ≡ filled
     → new.line.out ≡ old.line.out → id_of new.compared ≡ id_of old.compared → OnOk result (new.line ≡ filled.line)
     → Writes (id_of old.compared) (byte_events old.line.out filled.written) before now result
@@ -190,7 +194,7 @@ puts-known {old = old} {new = new} {before = before} {now = now} {result = resul
     }
 
 -- a call that was refused
-pub puts-refused : {T : Type 0} {bytes : List ℕ} {old new : LineState} {before now : Told} (error : PutError)
+pub puts-refused : {T : Type 0} {bytes : List ℕ} {old new : LineState} {before now : DeskState} (error : PutError)
     {result : Result T PutError} (filled : Filled) → fill old.line bytes ≡ filled
     → new.line.out ≡ old.line.out → id_of new.compared ≡ id_of old.compared → IsErrAnd result (λ found. found ≡ error)
     → Writes (id_of old.compared) (byte_events old.line.out filled.written) before now result
@@ -204,7 +208,7 @@ puts-refused {T = T} {old = old} {new = new} {before = before} {now = now} error
     tt)
 
 -- a call that was refused before it put a byte to the line
-pub puts-failed : {T : Type 0} {bytes : List ℕ} {old new : LineState} {before now : Told} (error : PutError)
+pub puts-failed : {T : Type 0} {bytes : List ℕ} {old new : LineState} {before now : DeskState} (error : PutError)
     {result : Result T PutError} (filled : Filled) → fill old.line bytes ≡ filled
     → new ≡ old → IsErrAnd result (λ found. found ≡ error)
     → Adds (byte_events old.line.out filled.written) before now result → Puts bytes old new before now result
@@ -213,12 +217,12 @@ puts-failed {old = old} error filled known same is adds =
     (ap (λ (l : LineState). id_of l.compared) same) is (adds-writes (id_of old.compared) adds)
 
 -- memory was refused before a byte was put
-pub puts-nothing : {U : Type 0} (bytes : List ℕ) (line : LineState) (told : Told) {result : Result U PutError}
+pub puts-nothing : {U : Type 0} (bytes : List ℕ) (line : LineState) (told : DeskState) {result : Result U PutError}
     → IsErrAnd result (λ found. found ≡ Memory) → Puts bytes line line told told result
 puts-nothing bytes line told is =
     puts-failed Memory (fill line.line bytes) refl refl is (adds-nothing _ told is (λ e. absurd (cc)))
 
-pub puts-none : {T : Type 0} (line : LineState) (told : Told) (value : T) → Puts [] line line told told (Ok value)
+pub puts-none : {T : Type 0} (line : LineState) (told : DeskState) (value : T) → Puts [] line line told told (Ok value)
 puts-none line told value =
     puts-known (record { line = line.line; written = [] }) (fill-none line.line) refl refl refl
     (writes-none (id_of line.compared) told value)
@@ -240,7 +244,7 @@ written-append line mid xs ys is =
     ap (λ (f : Filled). f.written) (fill-append line xs ys)
     ∙ ap (λ (l : Line). (fill line xs).written ++ (fill l ys).written) (sym is)
 
-pub puts-then : {T U : Type 0} {xs ys : List ℕ} {first second third : LineState} {a b c : Told} {value : T}
+pub puts-then : {T U : Type 0} {xs ys : List ℕ} {first second third : LineState} {a b c : DeskState} {value : T}
     {result : Result U PutError}
     → Puts {T = T} xs first second a b (Ok value) → Puts ys second third b c result
     → Puts (xs ++ ys) first third a c result
@@ -258,7 +262,8 @@ puts-then {xs = xs} {ys = ys} {first = first} {second = second} {third = third} 
           (compares-then ended.writes.adds.same.narrows begun.compares more)) ended.compares;
     }
 
-pub puts-stop : {T U : Type 0} {xs : List ℕ} (ys : List ℕ) {first second : LineState} {a b : Told} {error : PutError}
+pub puts-stop : {T U : Type 0} {xs : List ℕ} (ys : List ℕ) {first second : LineState} {a b : DeskState} {error :
+    PutError}
     {result : Result U PutError}
     → Puts {T = T} xs first second a b (Err error) → IsErrAnd result (λ found. found ≡ error)
     → Puts (xs ++ ys) first second a b result
@@ -268,7 +273,8 @@ puts-stop {U = U} {xs = xs} ys {first = first} {second = second} {a = a} {b = b}
     (writes-events (sym (events-append first.line _ xs ys refl)) (writes-stop _ begun.writes is))
 
 -- a failure in the first n bytes is a failure in all of them
-pub puts-within : {T U : Type 0} (bytes : List ℕ) (n : ℕ) {first second : LineState} {a b : Told} {error : PutError}
+pub puts-within : {T U : Type 0} (bytes : List ℕ) (n : ℕ) {first second : LineState} {a b : DeskState} {error :
+    PutError}
     {result : Result U PutError}
     → Puts {T = T} (take n bytes) first second a b (Err error) → IsErrAnd result (λ found. found ≡ error)
     → Puts bytes first second a b result
@@ -277,26 +283,28 @@ puts-within bytes n {first = first} {second = second} {a = a} {b = b} {result = 
     (puts-stop (drop n bytes) begun is)
 
 -- the same bytes
-pub puts-bytes : {T : Type 0} {xs ys : List ℕ} {first second : LineState} {a b : Told} {result : Result T PutError}
+pub puts-bytes : {T : Type 0} {xs ys : List ℕ} {first second : LineState} {a b : DeskState} {result : Result T PutError}
     → xs ≡ ys
     → Puts xs first second a b result → Puts ys first second a b result
 puts-bytes {first = first} {second = second} {a = a} {b = b} {result = result} same puts =
     subst (λ (bytes : List ℕ). Puts bytes first second a b result) same puts
 
 -- the same failure of a call around it
-pub puts-failing : {T U : Type 0} {xs ys : List ℕ} {first second : LineState} {a b : Told} {error : PutError}
+pub puts-failing : {T U : Type 0} {xs ys : List ℕ} {first second : LineState} {a b : DeskState} {error : PutError}
     {result : Result U PutError} → xs ≡ ys
     → Puts {T = T} xs first second a b (Err error) → IsErrAnd result (λ found. found ≡ error)
     → Puts ys first second a b result
 puts-failing {xs = xs} same begun is = puts-bytes (append-nil xs ∙ same) (puts-stop [] begun is)
 
 -- a failure in the first bytes is a failure in more of them
-pub puts-longer : {T : Type 0} {xs : List ℕ} (ys : List ℕ) {first second : LineState} {a b : Told} {error : PutError}
+pub puts-longer : {T : Type 0} {xs : List ℕ} (ys : List ℕ) {first second : LineState} {a b : DeskState} {error :
+    PutError}
     → Puts {T = T} xs first second a b (Err error) → Puts {T = T} (xs ++ ys) first second a b (Err error)
 puts-longer ys begun = puts-stop ys begun refl
 
 -- what is written keeps the output writable
-pub can-after : {T : Type 0} {bytes : List ℕ} {old new : LineState} {before now : Told} {result : Result T PutError}
+pub can-after : {T : Type 0} {bytes : List ℕ} {old new : LineState} {before now : DeskState} {result : Result T
+    PutError}
     → CanWrite before old → Puts bytes old new before now result → CanWrite now new
 can-after {old = old} {new = new} {before = before} can put = record {
   output =
@@ -308,7 +316,7 @@ can-after {old = old} {new = new} {before = before} can put = record {
 
 -- what a line on which nothing was put before has written, and what it is then, in the words of the definition of
 -- cutting
-pub puts-new : {T : Type 0} {bytes : List ℕ} {old new : LineState} {before now : Told} {result : Result T PutError}
+pub puts-new : {T : Type 0} {bytes : List ℕ} {old new : LineState} {before now : DeskState} {result : Result T PutError}
     (out : Out) → old.line ≡ new_line out
     → Puts bytes old new before now result → Writes (id_of old.compared) (line_events out (cut bytes).lines) before now
     result
@@ -317,7 +325,8 @@ puts-new {bytes = bytes} out is put =
     (ap (λ (l : Line). byte_events l.out (fill l bytes).written) is
     ∙ ap (λ (f : Filled). byte_events out f.written) (fill-cut out bytes)) put.writes
 
-pub puts-new_line : {T : Type 0} {bytes : List ℕ} {old new : LineState} {before now : Told} {result : Result T PutError}
+pub puts-new_line : {T : Type 0} {bytes : List ℕ} {old new : LineState} {before now : DeskState} {result : Result T
+    PutError}
     (out : Out) → old.line ≡ new_line out
     → Puts bytes old new before now result → OnOk result (new.line ≡ (filled_with (new_line out) (cut bytes)).line)
 puts-new_line {bytes = bytes} {result = result} out is put =
@@ -325,7 +334,7 @@ puts-new_line {bytes = bytes} {result = result} out is put =
     ∙ ap (λ (f : Filled). f.line) (fill-cut out bytes)) put.line
 
 -- what it has compared with the old file
-pub puts-new_compared : {T : Type 0} {bytes : List ℕ} {old new : LineState} {before now : Told}
+pub puts-new_compared : {T : Type 0} {bytes : List ℕ} {old new : LineState} {before now : DeskState}
     {result : Result T PutError} (out : Out) → old.line ≡ new_line out
     → Puts bytes old new before now result → OnOk result (Compares (written (cut bytes).lines) old.compared new.compared
     before now)

@@ -5,19 +5,19 @@ use Rattle.cw_names.specs.Names.{Entry}
 use Rattle.cw_trees.specs.Joining.{Scrap}
 use Rattle.cw_table.specs.Normal.{Production}
 use Rattle.cw_leaves.specs.LeafLines.{leaf_line, said, said_by}
-use Rattle.cw_leaves.specs.Sights.{Heard, silence, told_by}
+use Rattle.cw_leaves.specs.Sights.{Utterance, silence, told_by}
 use Rattle.cw_leaves.specs.Spelling.{id_of, item_of, line_of, production_of, spelled}
 use Rattle.cw_tokens.specs.declared.token.Token.{Token}
 use Rattle.cw_tokens.specs.Shapes.{Shape, Plain, Below, InnerBelow, unfolded}
 
 -- what a token of a list says
-abbrev pub token_said : List (List Token) → Shape → Heard ℕ
+abbrev pub token_said : List (List Token) → Shape → Utterance ℕ
 token_said lists (Plain leaf) = told_by (said_by leaf)
 token_said lists (Below list) = said (unfolded lists list)
 token_said lists (InnerBelow list) = silence
 
 -- the names are put behind others, and it is answered whether something stops
-pub record IsSaid (said : Heard ℕ) (old new : List NameId) (stops : Bool) : Type 0 where
+pub record IsSaid (said : Utterance ℕ) (old new : List NameId) (stops : Bool) : Type 0 where
   pub grown : new ≡ old ++ map id_of said.names
   pub is : stops ≡ said.stops
 

@@ -1,7 +1,7 @@
 -- The texts of a web while their logs are written.
 use Rattle.std.specs.Prelude.{ℕ, List, map}
 use Rattle.std.specs.List.{flat_map}
-use Rattle.cw_texts.specs.EachText.{EndedText, Source, text_ended}
+use Rattle.cw_texts.specs.EachText.{EndedText, TextSource, text_ended}
 use Rattle.cw_texts.specs.EachForms.{source_in}
 use Rattle.cw_leaves.specs.declared.lines.TextLog.{TextLog}
 use Rattle.cw_logs.specs.Appending.{block_of}
@@ -13,7 +13,7 @@ use Rattle.cw_translator.specs.Recording.{logged}
 use Rattle.cw_log.specs.declared.writing.WebSource.{WebSource}
 
 -- what stays while they are translated
-abbrev pub source_of : WebSource → Source
+abbrev pub source_of : WebSource → TextSource
 source_of b = source_in b.text.now b.context
 
 -- the texts
@@ -21,11 +21,11 @@ abbrev pub texts_in : WebSource → List TextRef
 texts_in b = texts_of b.text.now b.context.uses.now b.outline.now.sections
 
 -- a text that begins with these names
-abbrev pub ended_by : Source → TextRef → List Entry → EndedText
+abbrev pub ended_by : TextSource → TextRef → List Entry → EndedText
 ended_by s text names = record { text = text; ended = text_ended s text names }
 
 -- what is recorded of it
-abbrev pub recorded_of : Source → EndedText → List TextLog
+abbrev pub recorded_of : TextSource → EndedText → List TextLog
 recorded_of s t = map (logged s.flags) t.ended.known.ended
 
 -- the text of a block that is recorded

@@ -8,7 +8,7 @@ use Rattle.cw_names.specs.Names.{Entry}
 use Rattle.cw_phase1.specs.declared.book.Book.{Book}
 use Rattle.cw_tokens.specs.declared.flat.FlatItem.{FlatItem}
 use Rattle.cw_tokens.specs.declared.flat.FlatItem.TheVariants.{Ident, Reserved}
-use Rattle.cw_index.specs.Mentions.{Row, has_sections}
+use Rattle.cw_index.specs.Mentions.{IndexRow, has_sections}
 use Rattle.cw_mini.specs.declared.places.Places.{Places}
 use Rattle.cw_mini.specs.declared.rows.KeptRow.{KeptRow}
 use Rattle.cw_mini.specs.Mini.{MiniRow, defining, is_own_name, is_used_in, section_rows}
@@ -33,7 +33,7 @@ is_listed_by p section id entry =
 abbrev pub positions : List NameId → List ℕ
 positions ids = map (λ id. id.index) ids
 
-abbrev pub row_names : List Row → List ℕ
+abbrev pub row_names : List IndexRow → List ℕ
 row_names rows = map (λ row. row.name) rows
 
 -- How names lie by sections: a list for each section up to the last, the first of them that of limbo.

@@ -5,7 +5,7 @@ use Rattle.std.specs.Cmp.Lexicographic.{pointwise}
 use Rattle.cw_base.specs.declared.category.Cat.{Cat}
 use Rattle.cw_base.specs.Category.{is_end}
 use Rattle.cw_names.specs.declared.entry.Key.{Key}
-use Rattle.cw_names.specs.declared.entry.Wanted.{Wanted}
+use Rattle.cw_names.specs.declared.entry.NameQuery.{NameQuery}
 use Rattle.cw_names.specs.Names.{Entry, same_kind}
 use Rattle.cw_names.specs.Words.{BeginsWithWords}
 
@@ -22,5 +22,5 @@ pub record AreSound (entries : List (Key × Cat)) : Type 0 where
   pub words : BeginsWithWords (map entry_of entries)
 
 -- Whether a key is the one that is looked for.
-abbrev pub is_wanted : Wanted → Key → Bool
+abbrev pub is_wanted : NameQuery → Key → Bool
 is_wanted wanted key = same_kind wanted.kind key.kind && pointwise nat_eq wanted.text.now key.text.items

@@ -4,7 +4,7 @@ use Rattle.std.specs.Cmp.Lexicographic.{pointwise, bytes_decides}
 use Rattle.cw_names.specs.declared.entry.EntryKind.{EntryKind}
 use Rattle.cw_names.specs.declared.entry.EntryKind.TheVariants.{Ident, Roman, Typewriter, User}
 use Rattle.cw_names.specs.declared.entry.Key.{Key}
-use Rattle.cw_names.specs.declared.entry.Wanted.{Wanted}
+use Rattle.cw_names.specs.declared.entry.NameQuery.{NameQuery}
 use Rattle.cw_names.specs.Names.{same_kind}
 use Rattle.cw_names.specs.model.Inside.{is_wanted}
 
@@ -23,7 +23,8 @@ texts User User _ h = h
 texts _ _ rest h = absurd (let wrong : false ≡ true = h in cc)
 
 -- What is said of a kind and a text is said of both alike.
-pub alike : {X : Type 0} (said : EntryKind → List ℕ → X) (wanted : Wanted) (key : Key) → IsTrue (is_wanted wanted key)
+pub alike : {X : Type 0} (said : EntryKind → List ℕ → X) (wanted : NameQuery) (key : Key)
+    → IsTrue (is_wanted wanted key)
     → said wanted.kind wanted.text.now ≡ said key.kind key.text.items
 alike said wanted key h =
     let kind : wanted.kind ≡ key.kind = kinds wanted.kind key.kind (pointwise nat_eq wanted.text.now key.text.items)

@@ -11,11 +11,11 @@ use Rattle.cw_rules.specs.declared.tokens.TokKind.TheVariants as kinds
 use Rattle.cw_secnames.specs.Kept.{SecName}
 use Rattle.cw_secnames.specs.declared.kinds.SecId.{SecId}
 use Rattle.cw_phase1.specs.declared.roles.Standing.{Standing}
-use Rattle.cw_phase1.specs.declared.held.Held.{Held}
+use Rattle.cw_phase1.specs.declared.held.PassState.{PassState}
 use Rattle.cw_phase1.specs.declared.held.Waiting.{Waiting as WaitingToken}
 use Rattle.cw_phase1.specs.declared.held.Remark.{Remark}
-use Rattle.cw_phase1.specs.declared.told.Told.{Told}
-use Rattle.cw_phase1.specs.Roles.{Placed, Step, name_step, token_step, behind_begin, placed_by}
+use Rattle.cw_phase1.specs.declared.told.TokenLists.{TokenLists}
+use Rattle.cw_phase1.specs.Roles.{Placement, Step, name_step, token_step, behind_begin, placed_by}
 use Rattle.cw_phase1.specs.Entering.{entered_name, kept_behind, note_of, is_unended}
 use Rattle.cw_phase1.specs.Notes.{scanned_note}
 use Rattle.cw_phase1.specs.model.Telling.{told_step, told_all}
@@ -33,7 +33,7 @@ pub record Pass : Type 0 where
 pub record HeldState : Type 0 where
   pub pass : Pass
   pub kept : List SecName
-  pub told : Told
+  pub told : TokenLists
   pub remark : Option Answer
   pub notes : List NoteRecord
 
@@ -47,7 +47,7 @@ abbrev pub remark_of : Option Remark → Option Answer
 remark_of None = None
 remark_of (Some r) = Some (Note r.kind r.place)
 
-abbrev pub held_of : Held → HeldState
+abbrev pub held_of : PassState → HeldState
 held_of h = record {
   pass = record { standing = h.standing; waiting = waiting_of h.waiting };
   kept = h.kept;
@@ -58,7 +58,7 @@ held_of h = record {
 
 -- ## A name that waits
 
-abbrev pub settled_placed : Bool → Option Waiting → Standing → List Placed
+abbrev pub settled_placed : Bool → Option Waiting → Standing → List Placement
 settled_placed headed None s = []
 settled_placed headed (Some w) s = placed_by w.token w.name (name_step headed s) ∷ []
 

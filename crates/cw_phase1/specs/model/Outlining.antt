@@ -7,7 +7,7 @@ use Rattle.cw_phase1.specs.declared.sections.Section.{Section}
 use Rattle.cw_phase1.specs.declared.sections.Sections.{Sections}
 use Rattle.cw_phase1.specs.declared.sections.Open.{Open}
 use Rattle.cw_phase1.specs.Places.{holds_changed}
-use Rattle.cw_phase1.specs.Roles.{Placed}
+use Rattle.cw_phase1.specs.Roles.{Placement}
 use Rattle.cw_phase1.specs.Sections.{span, is_starred, depth_of, is_section_code, ends_tex, ends_definitions}
 
 -- the first place that passes a test, where it didn't come before
@@ -33,7 +33,7 @@ opened head = record {
   name = None;
 }
 
-abbrev pub with_token : Placed → Open → Open
+abbrev pub with_token : Placement → Open → Open
 with_token p o = record o {
   tex_end = or_here o.tex_end (ends_tex p) p.token.span.start;
   definitions_end = or_here o.definitions_end (ends_definitions p) p.token.span.start;
@@ -60,11 +60,11 @@ closing_by (Some o) lines end closed = closed ++ closed_at lines end o ∷ []
 abbrev pub closing : List MergedLine → ℕ → Sections → List Section
 closing lines end s = closing_by s.open_one lines end s.closed
 
-abbrev pub open_with : Option Open → Placed → Option Open
+abbrev pub open_with : Option Open → Placement → Option Open
 open_with None p = None
 open_with (Some o) p = Some (with_token p o)
 
-abbrev pub section_told_by : Bool → List MergedLine → Placed → Sections → Sections
+abbrev pub section_told_by : Bool → List MergedLine → Placement → Sections → Sections
 section_told_by true lines p s = record {
   closed = closing lines p.token.span.start s;
   open_one = Some (opened p.token);
@@ -72,5 +72,5 @@ section_told_by true lines p s = record {
 }
 section_told_by false lines p s = record s { open_one = open_with s.open_one p }
 
-abbrev pub section_told : List MergedLine → Placed → Sections → Sections
+abbrev pub section_told : List MergedLine → Placement → Sections → Sections
 section_told lines p s = section_told_by (is_section_code p.role) lines p s

@@ -4,7 +4,7 @@ use Rattle.std.specs.Option.{option_map}
 use Rattle.cw_base.specs.declared.span.Span.{Span}
 use Rattle.cw_secnames.specs.declared.kinds.SecId.{SecId}
 use Rattle.cw_secnames.specs.Kept.{id}
-use Rattle.cw_phase1.specs.declared.packed.Row.{Row}
+use Rattle.cw_phase1.specs.declared.packed.PackedSection.{PackedSection}
 use Rattle.cw_phase1.specs.declared.packed.RowDepth.{RowDepth}
 use Rattle.cw_phase1.specs.declared.packed.RowDepth.TheVariants as rows
 use Rattle.cw_phase1.specs.declared.packed.ShortSpan.{ShortSpan}
@@ -24,7 +24,7 @@ depth_of (rows.Digits s) = Digits (span_of s)
 abbrev pub name_of : Option ℕ → Option SecId
 name_of name = option_map id name
 
-abbrev pub unpacked : Row → Section
+abbrev pub unpacked : PackedSection → Section
 unpacked r = record {
   starred = r.starred;
   depth = depth_of r.depth;

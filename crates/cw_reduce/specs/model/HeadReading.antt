@@ -2,8 +2,8 @@
 use Rattle.std.specs.Prelude.{◌≡◌, ℕ, Bool, true, false, List, [], ◌∷◌, ◌++◌, length, Option, Some, None}
 use Rattle.cw_rules.specs.Answers.{Answer, Token, Begin, Finish, Note, Seen, seen}
 use Rattle.cw_rules.specs.declared.codes.Code.TheVariants as code
-use Rattle.cw_lex.specs.declared.heads.Wanted.{Wanted}
-use Rattle.cw_lex.specs.declared.heads.Wanted.TheVariants as wants
+use Rattle.cw_lex.specs.declared.heads.Expectation.{Expectation}
+use Rattle.cw_lex.specs.declared.heads.Expectation.TheVariants as wants
 use Rattle.cw_rules.specs.declared.tokens.Tok.{Tok}
 use Rattle.cw_rules.specs.declared.tokens.TokKind.{TokKind}
 use Rattle.cw_rules.specs.declared.tokens.TokKind.TheVariants as kind
@@ -45,7 +45,7 @@ without_notes (Note note place ∷ answers) = without_notes answers
 without_notes answers = answers
 
 -- the words at the beginning of the answers that belong to a head which wants this
-abbrev pub answer_words : Wanted → List Answer → List Seen
+abbrev pub answer_words : Expectation → List Answer → List Seen
 answer_words wanted [] = []
 answer_words wanted (Token token ∷ answers) = elim (head_behind wanted token.kind token.span) [
   | Some next ↦ token ∷ answer_words next answers
@@ -68,7 +68,7 @@ with_break (first ∷ later) = name_in_text first ++ token.Control control.Optio
 abbrev pub format_tokens : ℕ → List StoredToken → List StoredToken
 format_tokens number words = (dead number (with_break words)).tokens
 
-abbrev pub words_tokens : Wanted → ℕ → List StoredToken → Option (List StoredToken)
+abbrev pub words_tokens : Expectation → ℕ → List StoredToken → Option (List StoredToken)
 words_tokens wants.Macro number words = Some (macro_tokens number words)
 words_tokens (wants.First false) number words = Some (format_tokens number words)
 words_tokens wanted number words = None

@@ -14,7 +14,7 @@ use Rattle.cw_desk.specs.laws.JournalLaws.{grown-none, grown-after, part-first, 
 use Rattle.cw_base.specs.declared.event.Out.TheVariants.{Term, Tex, Idx, Scn}
 use Rattle.cw_desk.specs.Meaning.{Files, NamedFiles, has_draft, is_open, with_draft, with_output}
 use Rattle.cw_desk.specs.laws.MeaningLaws.{drafted-is_open, made-is_open}
-use Rattle.cw_desk.specs.Told.{Told, OnlyReads, Turns}
+use Rattle.cw_desk.specs.Told.{DeskState, OnlyReads, Turns}
 use Rattle.cw_desk.specs.declared.desk.MadeOut.{MadeOut}
 use Rattle.cw_desk.specs.declared.desk.MadeOut.TheVariants.{Done, Failed, Memory as no_memory}
 use Rattle.cw_desk.specs.declared.outputs.Outputs.{Outputs}
@@ -30,7 +30,8 @@ use Rattle.cw_run.specs.Files.{IsBegun, OutFile, answered, begun, file_events, n
 use Rattle.cw_run.specs.Files.{settled, settled_if}
 
 -- a call that only prints
-pub adds-emits : {T : Type 0} {events : List Event} {a b : Told} {result : Result T PutError} → Adds events a b result
+pub adds-emits : {T : Type 0} {events : List Event} {a b : DeskState} {result : Result T PutError}
+    → Adds events a b result
     → Emits events a b result
 adds-emits adds = record {
   ok = adds.ok;
@@ -41,7 +42,7 @@ adds-emits adds = record {
   fault = adds.fault;
 }
 
-pub writes-emits : {T : Type 0} {file : Option ℕ} {events : List Event} {a b : Told} {result : Result T PutError}
+pub writes-emits : {T : Type 0} {file : Option ℕ} {events : List Event} {a b : DeskState} {result : Result T PutError}
     → Writes file events a b result → Emits events a b result
 writes-emits writes = record {
   ok = writes.adds.ok;
@@ -53,7 +54,7 @@ writes-emits writes = record {
 }
 
 -- another answer after the same events
-pub emits-value : {T U : Type 0} {events : List Event} {a b : Told} {value : T} (other : U)
+pub emits-value : {T U : Type 0} {events : List Event} {a b : DeskState} {value : T} (other : U)
     → Emits {T = T} events a b (Ok value) → Emits {T = U} events a b (Ok other)
 emits-value other done = record {
   ok = done.ok;
@@ -64,7 +65,7 @@ emits-value other done = record {
   fault = λ e. cc;
 }
 
-pub emits-then : {T U : Type 0} {first second : List Event} {a b c : Told} {value : T} {result : Result U PutError}
+pub emits-then : {T U : Type 0} {first second : List Event} {a b c : DeskState} {value : T} {result : Result U PutError}
     → Emits {T = T} first a b (Ok value) → Emits second b c result → Emits (first ++ second) a c result
 emits-then {first = first} {second = second} {a = a} {b = b} {c = c} {result = result} begun ended = record {
   ok = on_ok_weaker result (λ grew. grown-after a.journal first second begun.ok grew) ended.ok;
@@ -75,7 +76,7 @@ emits-then {first = first} {second = second} {a = a} {b = b} {c = c} {result = r
   fault = λ is. rose-later a.faults b.faults c.faults begun.kept (ended.fault is);
 }
 
-pub emits-stop : {T U : Type 0} {first : List Event} (second : List Event) {a b : Told} {error : PutError}
+pub emits-stop : {T U : Type 0} {first : List Event} (second : List Event) {a b : DeskState} {error : PutError}
     {result : Result U PutError}
     → Emits {T = T} first a b (Err error) → IsErrAnd result (λ found. found ≡ error)
     → Emits (first ++ second) a b result
@@ -91,35 +92,38 @@ emits-stop {U = U} {first = first} second {a = a} {b = b} {error = error} {resul
     } in
     subst (λ (r : Result U PutError). Emits (first ++ second) a b r) (sym (is_err result error is)) stopped
 
-pub emits-events : {T : Type 0} {first second : List Event} {a b : Told} {result : Result T PutError} → first ≡ second
+pub emits-events : {T : Type 0} {first second : List Event} {a b : DeskState} {result : Result T PutError} → first
+    ≡ second
     → Emits first a b result → Emits second a b result
 emits-events {a = a} {b = b} {result = result} same emits = subst (λ (events : List Event). Emits events a b result)
     same emits
 
 -- the same failure of a call around it
-pub emits-fail : {T U : Type 0} {events : List Event} {a b : Told} {error : PutError} {result : Result U PutError}
+pub emits-fail : {T U : Type 0} {events : List Event} {a b : DeskState} {error : PutError} {result : Result U PutError}
     → Emits {T = T} events a b (Err error) → IsErrAnd result (λ found. found ≡ error) → Emits events a b result
 emits-fail {events = events} begun is = emits-events (append-nil events) (emits-stop [] begun is)
 
 -- memory was refused before anything was emitted
-pub emits-nothing : {T : Type 0} (events : List Event) (told : Told) {result : Result T PutError}
+pub emits-nothing : {T : Type 0} (events : List Event) (told : DeskState) {result : Result T PutError}
     → IsErrAnd result (λ found. found ≡ Memory) → Emits events told told result
 emits-nothing events told is = adds-emits (adds-nothing events told is (λ e. absurd cc))
 
 -- ## Faults alone
 
-pub emits-faults : {T : Type 0} {events : List Event} {a b : Told} {result : Result T PutError}
+pub emits-faults : {T : Type 0} {events : List Event} {a b : DeskState} {result : Result T PutError}
     → Emits events a b result → Faults a b result
 emits-faults done = record { kept = done.kept; fault = done.fault }
 
-pub faults-then : {T : Type 0} {a b c : Told} {result : Result T PutError} → a.faults ≤ b.faults → Faults b c result
+pub faults-then : {T : Type 0} {a b c : DeskState} {result : Result T PutError} → a.faults ≤ b.faults
+    → Faults b c result
     → Faults a c result
 faults-then {a = a} {b = b} {c = c} kept done = record {
   kept = let x : b.faults ≤ c.faults = done.kept in omega arith;
   fault = λ is. rose-later a.faults b.faults c.faults kept (done.fault is);
 }
 
-faults-as : {T U : Type 0} {a b : Told} {error : PutError} {result : Result U PutError} → Faults {T = T} a b (Err error)
+faults-as : {T U : Type 0} {a b : DeskState} {error : PutError} {result : Result U PutError}
+    → Faults {T = T} a b (Err error)
     → IsErrAnd result (λ found. found ≡ error) → Faults a b result
 faults-as {U = U} {a = a} {b = b} {error = error} {result = result} done is =
     let refused : Faults {T = U} a b (Err error) = record { kept = done.kept; fault = λ e. done.fault cc } in
@@ -127,11 +131,12 @@ faults-as {U = U} {a = a} {b = b} {error = error} {result = result} done is =
 
 -- ## Events that depend on the files
 
-pub emits-by : {T : Type 0} {events : List Event} {a b : Told} {result : Result T PutError} → Emits events a b result
+pub emits-by : {T : Type 0} {events : List Event} {a b : DeskState} {result : Result T PutError}
+    → Emits events a b result
     → EmitsBy (λ named. events) a b result
 emits-by done = record { emits = λ files is. done; faults = emits-faults done }
 
-pub emits_by-then : {T U : Type 0} {first second : NamedFiles → List Event} {a b c : Told} {value : T}
+pub emits_by-then : {T U : Type 0} {first second : NamedFiles → List Event} {a b c : DeskState} {value : T}
     {result : Result U PutError}
     → EmitsBy {T = T} first a b (Ok value) → EmitsBy second b c result
     → EmitsBy (λ named. first named ++ second named) a c result
@@ -140,7 +145,8 @@ emits_by-then begun ended = record {
   faults = faults-then begun.faults.kept ended.faults;
 }
 
-pub emits_by-stop : {T U : Type 0} {first : NamedFiles → List Event} (second : NamedFiles → List Event) {a b : Told}
+pub emits_by-stop : {T U : Type 0} {first : NamedFiles → List Event} (second : NamedFiles
+    → List Event) {a b : DeskState}
     {error : PutError} {result : Result U PutError}
     → EmitsBy {T = T} first a b (Err error) → IsErrAnd result (λ found. found ≡ error)
     → EmitsBy (λ named. first named ++ second named) a b result
@@ -149,7 +155,8 @@ emits_by-stop second begun is = record {
   faults = faults-as begun.faults is;
 }
 
-pub emits_by-events : {T : Type 0} {first second : NamedFiles → List Event} {a b : Told} {result : Result T PutError}
+pub emits_by-events : {T : Type 0} {first second : NamedFiles → List Event} {a b : DeskState} {result : Result T
+    PutError}
     → ((named : NamedFiles) → first named ≡ second named)
     → EmitsBy first a b result → EmitsBy second a b result
 emits_by-events same done = record {
@@ -158,7 +165,7 @@ emits_by-events same done = record {
 }
 
 -- the same failure of a call around it
-pub emits_by-fail : {T U : Type 0} {events : NamedFiles → List Event} {a b : Told} {error : PutError}
+pub emits_by-fail : {T U : Type 0} {events : NamedFiles → List Event} {a b : DeskState} {error : PutError}
     {result : Result U PutError}
     → EmitsBy {T = T} events a b (Err error) → IsErrAnd result (λ found. found ≡ error) → EmitsBy events a b result
 emits_by-fail done is = record {
@@ -167,7 +174,7 @@ emits_by-fail done is = record {
 }
 
 -- another answer after the same events
-pub emits_by-value : {T U : Type 0} {events : NamedFiles → List Event} {a b : Told} {value : T} (other : U)
+pub emits_by-value : {T U : Type 0} {events : NamedFiles → List Event} {a b : DeskState} {value : T} (other : U)
     → EmitsBy {T = T} events a b (Ok value)
     → EmitsBy {T = U} events a b (Ok other)
 emits_by-value other done = record {
@@ -178,7 +185,7 @@ emits_by-value other done = record {
 -- ## An output file
 
 -- a call that begins or ends an output
-pub turns-emits : {done : Outputs} {event : Event} {a b : Told} (made : MadeOut) → Turns done event made a b
+pub turns-emits : {done : Outputs} {event : Event} {a b : DeskState} (made : MadeOut) → Turns done event made a b
     → Emits (event ∷ []) a b (answered made)
 turns-emits Done turns = record {
   ok = turns.journal;
@@ -206,7 +213,7 @@ turns-emits no_memory turns = record {
 }
 
 -- an output that was made or drafted can be written
-pub made-opens : (out : Out) {event : Event} {a b : Told} (made : MadeOut)
+pub made-opens : (out : Out) {event : Event} {a b : DeskState} (made : MadeOut)
     → Turns (with_output out a.outputs) event made a b
     → OnOk (answered made) (IsTrue (is_open b.outputs out))
 made-opens out {a = a} Done turns = subst (λ (outputs : Outputs). IsTrue (is_open outputs out)) (sym turns.outputs)
@@ -214,7 +221,7 @@ made-opens out {a = a} Done turns = subst (λ (outputs : Outputs). IsTrue (is_op
 made-opens out Failed turns = tt
 made-opens out no_memory turns = tt
 
-pub draft-opens : (out : Out) {event : Event} {a b : Told} (made : MadeOut)
+pub draft-opens : (out : Out) {event : Event} {a b : DeskState} (made : MadeOut)
     → Turns (with_draft out a.outputs) event made a b
     → OnOk (answered made) (IsTrue (is_open b.outputs out))
 draft-opens out {a = a} Done turns = subst (λ (outputs : Outputs). IsTrue (is_open outputs out)) (sym turns.outputs)
@@ -228,7 +235,7 @@ drafted-has_draft Tex outputs file = refl
 drafted-has_draft Idx outputs file = refl
 drafted-has_draft Scn outputs file = refl
 
-pub draft-drafts : (out : Out) {event : Event} {a b : Told} (made : MadeOut) → out ≢ Term
+pub draft-drafts : (out : Out) {event : Event} {a b : DeskState} (made : MadeOut) → out ≢ Term
     → Turns (with_draft out a.outputs) event made a b
     → OnOk (answered made) (IsTrue (has_draft b.outputs out))
 draft-drafts out {a = a} Done file turns = subst (λ (outputs : Outputs). IsTrue (has_draft outputs out))
@@ -260,7 +267,7 @@ settled-same true out bytes old is = ap (λ (same : Bool). settled same out ∷ 
     ∙ end-same bytes old)
 
 -- A file is begun, bytes are put to its lines, and it is ended.
-pub emits_by-file : {S T U : Type 0} (keep : Bool) (f : OutFile) {old new : LineState} {a b c d : Told} {lines : S}
+pub emits_by-file : {S T U : Type 0} (keep : Bool) (f : OutFile) {old new : LineState} {a b c d : DeskState} {lines : S}
     {value : T} {result : Result U PutError}
     → Emits {T = S} (begun keep f.out f.name ∷ []) a b (Ok lines) → IsBegun keep f.out f.name old a b
     → Puts {T = T} f.bytes old new b c (Ok value)
@@ -283,7 +290,7 @@ emits_by-file keep f {old = old} {new = new} {b = b} {c = c} made is put ended f
       faults = faults-then {b = b} made.kept (faults-then {b = c} lines.kept faults);
     }
 
-pub file-refused : {S T U : Type 0} (keep : Bool) (f : OutFile) {old new : LineState} {a b c : Told} {lines : S}
+pub file-refused : {S T U : Type 0} (keep : Bool) (f : OutFile) {old new : LineState} {a b c : DeskState} {lines : S}
     {error : PutError} {result : Result U PutError}
     → Emits {T = S} (begun keep f.out f.name ∷ []) a b (Ok lines) → IsBegun keep f.out f.name old a b
     → Puts {T = T} f.bytes old new b c (Err error)
@@ -295,7 +302,7 @@ file-refused keep f {b = b} made is put err =
       faults = faults-then {b = b} made.kept (faults-as (emits-faults lines) err);
     }
 
-pub file-not_begun : {T U : Type 0} (keep : Bool) (f : OutFile) {a b : Told} {error : PutError}
+pub file-not_begun : {T U : Type 0} (keep : Bool) (f : OutFile) {a b : DeskState} {error : PutError}
     {result : Result U PutError}
     → Emits {T = T} (begun keep f.out f.name ∷ []) a b (Err error) → IsErrAnd result (λ found. found ≡ error)
     → EmitsBy (file_events keep f) a b result
@@ -306,13 +313,13 @@ file-not_begun keep f made err = record {
 
 -- ## The same of runs
 
-pub runs-then : {T : Type 0} {first rest : List Event} {exit : Exit} {a b c : Told} {value : T}
+pub runs-then : {T : Type 0} {first rest : List Event} {exit : Exit} {a b c : DeskState} {value : T}
     {result : Result Exit PutError}
     → Emits {T = T} first a b (Ok value) → Runs (record { rest = rest; exit = exit }) b c result
     → Runs (record { rest = first ++ rest; exit = exit }) a c result
 runs-then begun ended = record { emits = emits-then begun ended.emits; exit = ended.exit }
 
-pub runs-stop : {T : Type 0} {first : List Event} (rest : List Event) (exit : Exit) {a b : Told} {error : PutError}
+pub runs-stop : {T : Type 0} {first : List Event} (rest : List Event) (exit : Exit) {a b : DeskState} {error : PutError}
     {result : Result Exit PutError}
     → Emits {T = T} first a b (Err error) → IsErrAnd result (λ found. found ≡ error)
     → Runs (record { rest = first ++ rest; exit = exit }) a b result
@@ -322,7 +329,7 @@ runs-stop rest exit {error = error} {result = result} begun is = record {
 }
 
 -- the same failure of a call around it
-pub runs-fail : {T : Type 0} {events : List Event} (exit : Exit) {a b : Told} {error : PutError}
+pub runs-fail : {T : Type 0} {events : List Event} (exit : Exit) {a b : DeskState} {error : PutError}
     {result : Result Exit PutError}
     → Emits {T = T} events a b (Err error) → IsErrAnd result (λ found. found ≡ error)
     → Runs (record { rest = events; exit = exit }) a b result
@@ -332,13 +339,14 @@ runs-fail exit {error = error} {result = result} begun is = record {
 }
 
 -- the run that is known
-pub runs-known : {known run : Run} {a b : Told} {result : Result Exit PutError} → known ≡ run → Runs known a b result
+pub runs-known : {known run : Run} {a b : DeskState} {result : Result Exit PutError} → known
+    ≡ run → Runs known a b result
     → Runs run a b result
 runs-known {a = a} {b = b} {result = result} same runs = subst (λ (run : Run). Runs run a b result) same runs
 
 -- ## Runs whose events depend on the files
 
-pub runs-by : {run : Run} {a b : Told} {result : Result Exit PutError} → Runs run a b result
+pub runs-by : {run : Run} {a b : DeskState} {result : Result Exit PutError} → Runs run a b result
     → RunsBy (λ named. run) a b result
 runs-by {run = run} {result = result} runs = record {
   emits = emits-by runs.emits;
@@ -346,14 +354,14 @@ runs-by {run = run} {result = result} runs = record {
       ≡ run.exit) (λ e. (named : NamedFiles) → e ≡ run.exit) (λ e is named. is) runs.exit;
 }
 
-pub runs_by-then : {T : Type 0} {first rest : NamedFiles → List Event} {exit : Exit} {a b c : Told} {value : T}
+pub runs_by-then : {T : Type 0} {first rest : NamedFiles → List Event} {exit : Exit} {a b c : DeskState} {value : T}
     {result : Result Exit PutError}
     → EmitsBy {T = T} first a b (Ok value) → RunsBy (λ named. record { rest = rest named; exit = exit }) b c result
     → RunsBy (λ named. record { rest = first named ++ rest named; exit = exit }) a c result
 runs_by-then begun ended = record { emits = emits_by-then begun ended.emits; exit = ended.exit }
 
 pub runs_by-stop : {T : Type 0} {first : NamedFiles → List Event} (rest : NamedFiles → List Event) (exit : Exit)
-    {a b : Told} {error : PutError} {result : Result Exit PutError}
+    {a b : DeskState} {error : PutError} {result : Result Exit PutError}
     → EmitsBy {T = T} first a b (Err error) → IsErrAnd result (λ found. found ≡ error)
     → RunsBy (λ named. record { rest = first named ++ rest named; exit = exit }) a b result
 runs_by-stop rest exit {error = error} {result = result} begun is = record {
@@ -363,7 +371,7 @@ runs_by-stop rest exit {error = error} {result = result} begun is = record {
 }
 
 -- memory was refused before anything was emitted
-pub runs_by-nothing : (run : NamedFiles → Run) (told : Told) {result : Result Exit PutError}
+pub runs_by-nothing : (run : NamedFiles → Run) (told : DeskState) {result : Result Exit PutError}
     → IsErrAnd result (λ found. found ≡ Memory) → RunsBy run told told result
 runs_by-nothing run told {result = result} is = record {
   emits = record {
@@ -375,14 +383,14 @@ runs_by-nothing run told {result = result} is = record {
 }
 
 -- its status, whatever files there are
-pub runs_by-exit : {run : NamedFiles → Run} {a b : Told} {result : Result Exit PutError} (named : NamedFiles)
+pub runs_by-exit : {run : NamedFiles → Run} {a b : DeskState} {result : Result Exit PutError} (named : NamedFiles)
     → RunsBy run a b result → IfOk result (λ e. e ≡ (run named).exit)
 runs_by-exit {run = run} {result = result} named runs =
     IfOk-weaker result (λ e. (named : NamedFiles) → e ≡ (run named).exit) (λ e. e ≡ (run named).exit)
     (λ e same. same named) runs.exit
 
 -- over files that agree
-pub runs_by-over : {run : NamedFiles → Run} {a b : Told} {result : Result Exit PutError} → RunsBy run a b result
+pub runs_by-over : {run : NamedFiles → Run} {a b : DeskState} {result : Result Exit PutError} → RunsBy run a b result
     → (files : Files) → b.agrees files → Runs (run (get files)) a b result
 runs_by-over runs files is = record {
   emits = runs.emits.emits files is;
@@ -390,7 +398,7 @@ runs_by-over runs files is = record {
 }
 
 -- after a call that only reads
-pub runs-after : {run : Run} {a b c : Told} {result : Result Exit PutError} → OnlyReads a b → Runs run b c result
+pub runs-after : {run : Run} {a b c : DeskState} {result : Result Exit PutError} → OnlyReads a b → Runs run b c result
     → Runs run a c result
 runs-after {run = run} {a = a} {b = b} {c = c} {result = result} read runs = record {
   emits = record {

@@ -9,7 +9,7 @@ use Rattle.cw_secnames.specs.declared.referrers.NameReferrers.TheVariants as nam
 use Rattle.cw_secnames.specs.declared.referrers.Lists.{Lists as InLists}
 use Rattle.cw_secnames.specs.declared.referrers.Referrers.{Referrers}
 use Rattle.cw_secnames.specs.declared.referrers.Referrers.TheVariants as referrers
-use Rattle.cw_secnames.specs.declared.sec_names.Kept.{Kept}
+use Rattle.cw_secnames.specs.declared.sec_names.KeptName.{KeptName}
 use Rattle.cw_secnames.specs.Kept.{SecName}
 use Rattle.cw_secnames.specs.References.{Ascend, with_number}
 
@@ -52,7 +52,7 @@ listed Defined l = l.defined
 listed Used l = l.used
 listed Cited l = l.cited
 
-abbrev pub name_of : Kept → SecName
+abbrev pub name_of : KeptName → SecName
 name_of n = record {
   kind = n.kind;
   text = n.text.items;

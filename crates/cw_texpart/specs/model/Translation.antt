@@ -11,7 +11,7 @@ use Rattle.cw_tokens.specs.Shapes.{unfolded}
 use Rattle.cw_tokens.specs.declared.token.Token.{Token}
 use Rattle.cw_trees.specs.Tree.{Tree}
 use Rattle.cw_texpart.specs.declared.counts.Counts.{Counts}
-use Rattle.cw_texpart.specs.declared.texts.Translated.{Translated}
+use Rattle.cw_texpart.specs.declared.texts.StoredText.{StoredText}
 use Rattle.cw_texpart.specs.Done.{Done}
 use Rattle.cw_texpart.specs.Texts.{Setting, lasting}
 use Rattle.cw_texpart.specs.Weaving.{underlined}
@@ -27,10 +27,10 @@ abbrev pub tree_of : TranslatedState → Tree
 tree_of text = unfolded text.lists text.root
 
 -- a text that is translated into a store, with the lists there
-abbrev pub in_store : CText → List (List Token) → Translated → TranslatedState
+abbrev pub in_store : CText → List (List Token) → StoredText → TranslatedState
 in_store c lists done = record { text = c; lists = lists; root = done.list.index; counts = done.counts }
 
-abbrev pub stored : CText → List (List Token) → Result Translated Memory → Result TranslatedState Memory
+abbrev pub stored : CText → List (List Token) → Result StoredText Memory → Result TranslatedState Memory
 stored c lists (Ok done) = Ok (in_store c lists done)
 stored c lists (Err error) = Err error
 

@@ -5,7 +5,7 @@ use Rattle.cw_trees.specs.Tree.{Tree}
 use Rattle.cw_tokens.specs.declared.token.Token.{Token}
 use Rattle.cw_tokens.specs.declared.flat.Above.{Above}
 use Rattle.cw_tokens.specs.declared.flat.FlatItem.{FlatItem}
-use Rattle.cw_tokens.specs.declared.walk.Part.TheVariants.{Leaf}
+use Rattle.cw_tokens.specs.declared.walk.FlatPart.TheVariants.{Leaf}
 use Rattle.cw_tokens.specs.model.FlatItems.{IsPart}
 use Rattle.cw_tokens.specs.Shapes.{shape, ref_of, item_of, tree_in, trees_from}
 use Rattle.cw_tokens.specs.Trimming.{Trims, StandsFor}

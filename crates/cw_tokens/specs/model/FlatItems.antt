@@ -5,14 +5,14 @@ use Rattle.std.specs.Prelude.{slice_get}
 use Rattle.cw_trees.specs.Flat.{Item}
 use Rattle.cw_trees.specs.Flat.{Close as close_item, flat, leaf_item}
 use Rattle.cw_tokens.specs.declared.token.Token.{Token}
-use Rattle.cw_tokens.specs.declared.walk.Part.{Part}
-use Rattle.cw_tokens.specs.declared.walk.Part.TheVariants.{Leaf, Below, InnerBelow}
+use Rattle.cw_tokens.specs.declared.walk.FlatPart.{FlatPart}
+use Rattle.cw_tokens.specs.declared.walk.FlatPart.TheVariants.{Leaf, Below, InnerBelow}
 use Rattle.cw_tokens.specs.Shapes.{Shape, Plain, Below as below, InnerBelow as inner_below, shape, tree_in, trees_from}
 use Rattle.cw_tokens.specs.References.{Reach, here, next}
 use Rattle.cw_tokens.specs.FlatItems.{item_is}
 
 -- what a token is: an item of its own, or a list below it
-abbrev pub IsPart : Shape → Part → Type 0
+abbrev pub IsPart : Shape → FlatPart → Type 0
 IsPart (Plain leaf) (Leaf item) = leaf_item leaf ≡ item_is item
 IsPart (below list) (Below id) = list ≡ id
 IsPart (inner_below list) (InnerBelow id) = list ≡ id

@@ -12,8 +12,8 @@ use Rattle.cw_weave.specs.model.Pressing.{flags_in, left_in, tex_in, text_in}
 use Rattle.cw_weave.specs.Statistics.{totals_of}
 use Rattle.cw_weave.specs.Woven.{files_events, index_files, tex_out}
 use Rattle.cw_weave.specs.declared.files.IndexFiles.{IndexFiles}
-use Rattle.cw_weave.specs.declared.files.Written.{Written}
-use Rattle.cw_weave.specs.declared.source.Source.{Source}
+use Rattle.cw_weave.specs.declared.files.WrittenFiles.{WrittenFiles}
+use Rattle.cw_weave.specs.declared.source.WeaveSource.{WeaveSource}
 use Rattle.cw_weave.specs.declared.tex_file.TexFile.{TexFile}
 
 -- The TeX file was written, and its C texts are counted.
@@ -28,25 +28,25 @@ abbrev pub index_broken : OutputNames → Option IndexFiles → List Broken
 index_broken names None = []
 index_broken names (Some index) = broken_at names.idx index.idx ∷ broken_at names.scn index.scn ∷ []
 
-abbrev pub all_broken : OutputNames → Written → List Broken
+abbrev pub all_broken : OutputNames → WrittenFiles → List Broken
 all_broken names w = broken_at names.tex w.tex ∷ index_broken names w.index
 
 -- ## All files of a book
 
-abbrev pub tex_of : Source → Book → OutFile
+abbrev pub tex_of : WeaveSource → Book → OutFile
 tex_of source b = tex_out source.line.now.outputs (tex_in source b).out
 
 -- the index and the list of section names of a book as its TeX file leaves it
-abbrev pub index_in : Source → Book → List OutFile
+abbrev pub index_in : WeaveSource → Book → List OutFile
 index_in source left = index_files (flags_in source).index source.line.now (text_in source) left
 
-abbrev pub files_in : Source → Book → List OutFile
+abbrev pub files_in : WeaveSource → Book → List OutFile
 files_in source b = tex_of source b ∷ index_in source (left_in source b)
 
-abbrev pub events_of : Source → Book → NamedFiles → List Event
+abbrev pub events_of : WeaveSource → Book → NamedFiles → List Event
 events_of source b named = files_events (flags_in source) (tex_of source b) (index_in source (left_in source b)) named
 
 -- They were written.
-pub record AreWritten (source : Source) (b : Book) (w : Written) : Type 0 where
+pub record AreWritten (source : WeaveSource) (b : Book) (w : WrittenFiles) : Type 0 where
   pub broken : all_broken source.line.now.outputs w ≡ map broken_in (files_in source b)
   pub totals : w.totals ≡ totals_of (flags_in source) b.outline.sections (tex_in source b)

@@ -1,14 +1,14 @@
 -- What reading the opened file answers is what looking for it answers, and what was read of it is read.
 use Rattle.std.proofs.Common.{ℕ, ◌+◌, List, length, option_map, sym, ap, ◌∙◌, arith}
 use Rattle.std.specs.FinMap.{get}
-use Rattle.cw_input.specs.{declared.found.Found.Found, Merged.found_file}
+use Rattle.cw_input.specs.{declared.found.InputFile.Found, Merged.found_file}
 use Rattle.cw_input.proofs.AnswerLaws.{Finds-err}
 use Rattle.cw_input.proofs.ReadLaws.{reads_on-file, reads_on-more, reads_on-same}
 use Rattle.cw_input.proofs.reading.find_file.Goals as goal
 
 pub returns-in-Err-clause-finds : goal.returns-in-Err-clause-finds
 returns-in-Err-clause-finds g c = λ files is.
-    let made : List ℕ → Found = λ bytes. record { name = c.args.name; bytes = bytes } in
+    let made : List ℕ → InputFile = λ bytes. record { name = c.args.name; bytes = bytes } in
     let before = c.in-Err.ensures.same.narrows files is in
     Finds-err (made ((g.D.Desk.told c.open.new.self).rest files c.in-File.id.index))
     (found_file (get files) c.args.name) c.args.room c.in-Err.error (ap (option_map made)

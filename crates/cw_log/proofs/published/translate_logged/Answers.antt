@@ -1,10 +1,10 @@
 -- What a translation tells a log stands in it when the work is taken apart.
-use Rattle.cw_log.proofs.Terms.{◌≡◌, ◌++◌, ◌∙◌, List, Some, Result, ap, map, take, Flags, TextLog, Told, State}
+use Rattle.cw_log.proofs.Terms.{◌≡◌, ◌++◌, ◌∙◌, List, Some, Result, ap, map, take, Flags, TextLog, WatchState, State}
 use Rattle.cw_log.proofs.Terms.{HasRecorded, logged, HasLogged, LoggedTexts}
 use Rattle.cw_base.specs.declared.memory.Memory.{Memory}
 use Rattle.cw_log.proofs.published.translate_logged.Goals as goal
 
-has-logged : {T : Type 0} (flags : Flags) (states : List State) (before after : Told) (old new : List TextLog)
+has-logged : {T : Type 0} (flags : Flags) (states : List State) (before after : WatchState) (old new : List TextLog)
     (result : Result T Memory) → before.ended ≡ old → new ≡ after.ended
     → HasRecorded flags states (Some before) (Some after) result → HasLogged flags states old new result
 has-logged flags states before after old new result same left h =

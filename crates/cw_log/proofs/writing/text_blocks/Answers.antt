@@ -1,6 +1,6 @@
 -- The names are those of the translation, and the bytes those of the text's blocks.
 use Rattle.cw_log.proofs.Terms.{◌≡◌, ℕ, [], List, Result, Ok, Err, ap, map, subst, ◌∙◌, flat_map, IfOk, EndedText}
-use Rattle.cw_log.proofs.Terms.{Source, text_ended, TextLog, log_text, Entry, text_blocks, LoggedTexts, block_bytes}
+use Rattle.cw_log.proofs.Terms.{TextSource, text_ended, TextLog, log_text, Entry, text_blocks, LoggedTexts, block_bytes}
 use Rattle.cw_log.proofs.Terms.{ended_by, recorded_of, source_of}
 use Rattle.std.specs.Prelude.{OnOk}
 use Rattle.cw_names.specs.declared.NameId.{NameId}
@@ -23,7 +23,7 @@ returns-clause-names g c =
 
 pub returns-clause-text : goal.returns-clause-text
 returns-clause-text g c =
-    let s : Source = source_of c.args.source.now in
+    let s : TextSource = source_of c.args.source.now in
     let t : EndedText = ended_by s c.args.part c.args.work.now.names.now in
     let done = c.translate_recorded.new.work in
     let none : marked_names c.new_in-marks.result ≡ [] = ap (map (λ (id : NameId). id.index)) c.new_in-marks.ensures in

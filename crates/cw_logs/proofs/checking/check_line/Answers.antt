@@ -1,5 +1,5 @@
 -- What the walk found is the verdict.
-use Rattle.cw_logs.proofs.CheckTerms.{ap, map, ◌∙◌, Compared, verdict_of}
+use Rattle.cw_logs.proofs.CheckTerms.{ap, map, ◌∙◌, LogPosition, verdict_of}
 use Rattle.cw_scraps.specs.Applying.{state_of}
 use Rattle.cw_rewrite.proofs.LogSteps.{on-err}
 use Rattle.cw_leaves.specs.Spelling.{production_of}
@@ -16,7 +16,7 @@ returns-clause-judges g c =
     c.reduce_watched.new.names) c.reduce_watched.new.watch.log c.reduce_watched.new.watch.at c.verdict.ensures.within
     c.in_ok-reduced.reduced (rw c.over-against.ensures at c.in_ok-reduced.ensures.told) c.in_ok-reduced.ensures.normal
     (rw c.over-against.ensures at c.in_ok-reduced.ensures.stopped))
-    (c.reduce_watched.ensures.basis ∙ ap (λ (x : Compared). x.log) c.over-against.ensures)
+    (c.reduce_watched.ensures.basis ∙ ap (λ (x : LogPosition). x.log) c.over-against.ensures)
     (c.verdict.ensures.value ∙ ap (λ b. verdict_of b c.reduce_watched.new.watch) c.is_some.ensures) in
     f.judges
 
@@ -30,7 +30,7 @@ returns-clause-stands g c =
     c.reduce_watched.new.names) c.reduce_watched.new.watch.log c.reduce_watched.new.watch.at c.verdict.ensures.within
     c.in_ok-reduced.reduced (rw c.over-against.ensures at c.in_ok-reduced.ensures.told) c.in_ok-reduced.ensures.normal
     (rw c.over-against.ensures at c.in_ok-reduced.ensures.stopped))
-    (c.reduce_watched.ensures.basis ∙ ap (λ (x : Compared). x.log) c.over-against.ensures)
+    (c.reduce_watched.ensures.basis ∙ ap (λ (x : LogPosition). x.log) c.over-against.ensures)
     (c.verdict.ensures.value ∙ ap (λ b. verdict_of b c.reduce_watched.new.watch) c.is_some.ensures) in
     f.stands
 
@@ -41,4 +41,4 @@ returns-in_err-reduced-clause-memory g c = on-err c.from_residual.result _ (ende
     c.reduce_watched.new.line c.reduce_watched.new.marks c.reduce_watched.new.names) c.reduce_watched.new.watch.log
     (map production_of c.args.log.now) c.reduce_watched.new.watch.at c.reduce_watched.ensures.after
     (rw c.over-against.ensures at c.in_err-reduced.ensures.memory) (c.reduce_watched.ensures.basis
-    ∙ ap (λ (x : Compared). x.log) c.over-against.ensures))
+    ∙ ap (λ (x : LogPosition). x.log) c.over-against.ensures))

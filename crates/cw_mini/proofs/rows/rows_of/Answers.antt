@@ -1,6 +1,6 @@
 -- The next name has its row, if the section lists it.
 use Rattle.cw_mini.proofs.Terms.{◌≡◌, ◌∙◌, ℕ, ◌+◌, List, Some, ap, drop, get_or, subst, sym, slice_get, Entry, NameId}
-use Rattle.cw_mini.proofs.Terms.{Occurrence, SectionRef, Row, index_rows, MiniRow, defining, numbers, positions}
+use Rattle.cw_mini.proofs.Terms.{Occurrence, SectionRef, IndexRow, index_rows, MiniRow, defining, numbers, positions}
 use Rattle.cw_mini.proofs.Terms.{row_names}
 use Rattle.cw_mini.proofs.NamedRows.{IsRowOf, index-named}
 use Rattle.cw_mini.proofs.RowPlaces.{IsHere, listed_by, row-here, row-kept, row-left, rows_with}
@@ -11,7 +11,7 @@ pub loop-id-preserved : goal.loop-id-preserved
 loop-id-preserved c =
     let names : List Entry = c.args.places.names.now in
     let occurrences : List Occurrence = c.args.places.occurrences.now in
-    let all : List Row = index_rows names occurrences in
+    let all : List IndexRow = index_rows names occurrences in
     let ids : List NameId = c.as_slice-id-items.result.now in
     let none : NameId = record { index = 0 } in
     let i : ℕ = c.loop-id.id-index in

@@ -1,8 +1,9 @@
 -- The book of what is held when all answers came is that of the whole list of answers.
 use Rattle.cw_phase1.proofs.Terms.{◌≡◌, ◌<◌, ◌≤◌, ◌∙◌, ap, sym, subst, List, [], All, length, arith, text_of, Span}
-use Rattle.cw_phase1.proofs.Terms.{All-nil, SecName, NameUse, Section, answers_of, book, kept_after, Placed, at_limbo}
+use Rattle.cw_phase1.proofs.Terms.{All-nil, SecName, NameUse, Section, answers_of, book, kept_after, Placement}
+use Rattle.cw_phase1.proofs.Terms.{at_limbo}
 use Rattle.cw_phase1.proofs.Terms.{placed, span, sections_of, IsNamedBy, LiesIn, RefersUpTo, unwrap_or, with_references}
-use Rattle.cw_phase1.proofs.Terms.{references_of, section_names, Told}
+use Rattle.cw_phase1.proofs.Terms.{references_of, section_names, TokenLists}
 use Rattle.cw_phase1.proofs.{Outlines.all-sections, Outlines.all-limbo, Referred.all-referred, LimboRoles.all-rise}
 use Rattle.cw_phase1.proofs.{LimboRoles.unnamed, NameSizes.all-short}
 use Rattle.cw_phase1.proofs.WordLaws.{all-names, all-occurrences, all-uses, all-references}
@@ -12,7 +13,7 @@ use Rattle.cw_phase1.proofs.phase.phase_one.Goals as goal
 
 kept : (c : goal.In_ok-book) → with_references c.in_ok-held.held.told.named.references c.in_ok-held.held.kept
     ≡ section_names (kept_after [] (answers_of c.args.web.now.lines)) (placed (answers_of c.args.web.now.lines))
-kept c = (λ i. with_references ((ap (λ (t : Told). t.named.references) c.in_ok-held.ensures.told
+kept c = (λ i. with_references ((ap (λ (t : TokenLists). t.named.references) c.in_ok-held.ensures.told
     ∙ all-references c.args.web.now.lines (placed (answers_of c.args.web.now.lines))) i) (c.in_ok-held.ensures.kept i))
     ∙ all-referred (references_of (placed (answers_of c.args.web.now.lines))) (answers_of c.args.web.now.lines)
 
@@ -23,7 +24,7 @@ name_uses-are : (c : goal.In_ok-book) → c.in_ok-book.book.name_uses ≡ (book 
 name_uses-are c = c.in_ok-book.ensures.name_uses ∙ (grind (arith, all-uses))
 
 limbo-is : (c : goal.In_ok-book) → c.in_ok-book.book.outline.limbo ≡ (book c.args.web.now.lines).outline.limbo
-limbo-is c = c.in_ok-book.ensures.limbo ∙ (ap (λ (t : Told). span 0 (unwrap_or t.sections.limbo_end
+limbo-is c = c.in_ok-book.ensures.limbo ∙ (ap (λ (t : TokenLists). span 0 (unwrap_or t.sections.limbo_end
     (length (text_of c.args.web.now.lines)))) c.in_ok-held.ensures.told ∙ ap (span 0) (grind (arith, all-limbo)))
 
 sections-are : (c : goal.In_ok-book) → c.in_ok-book.book.outline.sections ≡ (book c.args.web.now.lines).outline.sections
@@ -43,7 +44,7 @@ returns-clause-book c =
 
 -- ## What holds of every book
 
-abbrev tokens : goal.In_ok-book → List Placed
+abbrev tokens : goal.In_ok-book → List Placement
 tokens c = placed (answers_of c.args.web.now.lines)
 
 pub returns-clause-references : goal.returns-clause-references

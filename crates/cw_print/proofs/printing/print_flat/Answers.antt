@@ -1,7 +1,7 @@
 -- The brackets and the items, one behind another.
 use Rattle.cw_print.proofs.Terms.{ℕ, Bool, ◌&&◌, List, ◌++◌, ap, ◌∙◌, sym, length, codes, append_assoc, ident_bytes}
 use Rattle.cw_print.proofs.Terms.{printed, items_are, prints-bytes, prints-failing, prints-longer, prints-then, word_at}
-use Rattle.cw_print.proofs.Terms.{shown, source_of, Source, bracket, wrapped}
+use Rattle.cw_print.proofs.Terms.{shown, source_of, PrintSource, bracket, wrapped}
 use Rattle.cw_print.proofs.NameLaws.{only-named, only-printed}
 use Rattle.cw_print.proofs.printing.print_flat.Goals as goal
 
@@ -27,7 +27,7 @@ returns-in_err-put_bracket g c =
 
 pub returns-in_err-print_items : goal.returns-in_err-print_items
 returns-in_err-print_items g c =
-    let s : Source = source_of c.args.c in
+    let s : PrintSource = source_of c.args.c in
     let wraps : Bool = c.args.c.inner && c.args.c.flags.now.wrap in
     prints-failing ((λ i. (bracket (c.is_wrapped-wraps.ensures i) (codes "\\PB{") ++ printed c.args.c.inner
     (shown s (items_are (c.items.ensures i)))) ++ bracket wraps (codes "}"))

@@ -1,13 +1,13 @@
 -- The note that is met is the first of those that were left; a byte without one leaves them all.
 use Rattle.std.proofs.Common.{◌≡◌, ◌∷◌, true, None, Some, slice_index, drop, ap, sym, ◌∙◌}
-use Rattle.cw_rules.specs.{declared.bodies.Noted.Noted, Bodies.goes_on, Bodies.note_here, Bodies.stepped}
+use Rattle.cw_rules.specs.{declared.bodies.NoteAt.Noted, Bodies.goes_on, Bodies.note_here, Bodies.stepped}
 use Rattle.cw_rules.proofs.Inside.{noted-at}
 use Rattle.cw_rules.proofs.bodies.next_noted.Goals as goal
 
 pub returns-in-Some-clause-value : goal.returns-in-Some-clause-value
 returns-in-Some-clause-value c =
     let bytes = drop c.loop-place.i.place c.args.text.now in
-    let n : Noted = record { kind = c.in-Some.kind; place = c.loop-place.i.place } in
+    let n : NoteAt = record { kind = c.in-Some.kind; place = c.loop-place.i.place } in
     let goes : goes_on c.loop-place.i bytes ≡ true = cc in
     let here : note_here c.loop-place.i (slice_index bytes 0) (drop 1 bytes) ≡ Some c.in-Some.kind = cc in
     let next : c.step-next.result ≡ stepped c.loop-place.i (slice_index bytes 0) (drop 1 bytes) = cc in

@@ -1,5 +1,6 @@
 -- The next name goes to the sections that list its row.
-use Rattle.cw_mini.proofs.Terms.{◌≡◌, ◌∙◌, ℕ, List, Some, ap, arith, subst, slice_get, Entry, NameId, Occurrence, Row}
+use Rattle.cw_mini.proofs.Terms.{◌≡◌, ◌∙◌, ℕ, List, Some, ap, arith, subst, slice_get, Entry, NameId, Occurrence}
+use Rattle.cw_mini.proofs.Terms.{IndexRow}
 use Rattle.cw_mini.proofs.Terms.{index_rows, names_at, positions, row_names}
 use Rattle.cw_mini.proofs.NamedRows.{IsRowOf, index-named}
 use Rattle.cw_mini.proofs.RowPlaces.{IsHere, row-here, with-next}
@@ -9,7 +10,7 @@ pub loop-id-preserved : goal.loop-id-preserved
 loop-id-preserved c =
     let names : List Entry = c.args.book.now.names in
     let occurrences : List Occurrence = c.args.book.now.xrefs in
-    let rows : List Row = index_rows names occurrences in
+    let rows : List IndexRow = index_rows names occurrences in
     let ids : List NameId = c.as_slice-id-items.result.now in
     let none : NameId = record { index = 0 } in
     let i : ℕ = c.loop-id.id-index in

@@ -1,12 +1,12 @@
 -- What a code prints is laid as a word.
-use Rattle.cw_plain.proofs.Terms.{◌≡◌, ℕ, List, [], ◌++◌, refl, sym, ap, ◌∙◌, Code, Placed, Stand, Word, placed}
+use Rattle.cw_plain.proofs.Terms.{◌≡◌, ℕ, List, [], ◌++◌, refl, sym, ap, ◌∙◌, Code, PlacedPiece, Stand, Word, placed}
 use Rattle.cw_plain.proofs.Terms.{token_placed, titles, Walked}
 use Rattle.cw_rules.specs.ControlTexts.{text_behind_code}
 use Rattle.cw_plain.proofs.MakingLaws.{laid-makes, other-code}
 use Rattle.cw_rules.specs.declared.tokens.TokKind.TheVariants as kinds
 use Rattle.cw_plain.proofs.plainer.Plainer.code.Goals as goal
 
-abbrev code_in : ℕ → Code → List ℕ → Walked → Placed
+abbrev code_in : ℕ → Code → List ℕ → Walked → PlacedPiece
 code_in number code text w =
     token_placed number (titles w.reads.kept w.reads.uses number) (kinds.Code code) text w.walk.stand
 

@@ -1,11 +1,12 @@
 -- What a token prints is laid.
-use Rattle.cw_plain.proofs.Terms.{ℕ, Bool, true, false, List, codes, refl, sym, ap, Answer, TokKind, Laying, Placed}
+use Rattle.cw_plain.proofs.Terms.{ℕ, Bool, true, false, List, codes, refl, sym, ap, Answer, TokKind, Laying}
+use Rattle.cw_plain.proofs.Terms.{PlacedPiece}
 use Rattle.cw_plain.proofs.Terms.{Stand, Word, in_comment, token_placed, titles, Walked}
 use Rattle.cw_secnames.specs.{Kept.SecName, Uses.NameUse}
 use Rattle.cw_plain.proofs.MakingLaws.{laid-makes, other-token}
 use Rattle.cw_plain.proofs.plainer.Plainer.found.Goals as goal
 
-abbrev token_in : ℕ → TokKind → List ℕ → Walked → Placed
+abbrev token_in : ℕ → TokKind → List ℕ → Walked → PlacedPiece
 token_in number kind text w = token_placed number (titles w.reads.kept w.reads.uses number) kind text w.walk.stand
 
 -- a walk with these comments open

@@ -1,6 +1,6 @@
 -- What a control prints by where it stands goes behind what the joiner prints of it.
 use Rattle.cw_print.proofs.Terms.{None, refl, sym, ap, ◌∙◌, ◌++◌, append-nil, on_ok_weaker, item_is, shown, shown_next}
-use Rattle.cw_print.proofs.Terms.{Shown, behind}
+use Rattle.cw_print.proofs.Terms.{ItemPrint, behind}
 use Rattle.cw_print.proofs.PrintingLaws.{next-appended, next-behind}
 use Rattle.cw_tokens.specs.declared.flat.FlatItem.TheVariants as flat_item
 use Rattle.cw_print.proofs.printing.Printer.control.Goals as goal
@@ -19,7 +19,7 @@ returns-then-is_placed-clause-behind c = λ s inner items b. on_ok_weaker c.show
 pub returns-clause-bytes : goal.returns-clause-bytes
 returns-clause-bytes c = λ s inner items b. next-appended s inner items c.args.self.now b
     (flat_item.Control c.args.control) None refl c.args.buffer.now c.append.new.out c.append.new.out
-    (c.in_ok-append.ensures.bytes (shown s items) b.stands) (sym (append-nil c.append.new.out) ∙ ap (λ (x : Shown).
+    (c.in_ok-append.ensures.bytes (shown s items) b.stands) (sym (append-nil c.append.new.out) ∙ ap (λ (x : ItemPrint).
     c.append.new.out ++ x.bytes) (sym ((rw c.if-is_placed.false at c.is_placed.ensures) c.args.self.now.walk.stand)))
 
 pub returns-clause-behind : goal.returns-clause-behind

@@ -2,16 +2,16 @@
 use Rattle.std.proofs.Common.{◌-◌, ◌≤◌, Bool, length}
 use Rattle.cw_tokens.specs.FlatItems.{items_are}
 use Rattle.cw_print.specs.model.Printing.{Midway}
-use Rattle.cw_print.specs.Walk.{Source}
+use Rattle.cw_print.specs.Walk.{PrintSource}
 use Rattle.cw_print.proofs.PrintingLaws.{Waiting}
 use Rattle.cw_print.proofs.printing.Printer.print_all.Given as goal
 
 abbrev pub invariant-loop-at : goal.invariant-loop-at
 invariant-loop-at g l = record {
   within : l.at ≤ length l.items;
-  midway : (s : Source) (inner : Bool) → Midway s inner (items_are l.items) 0 l.fn.self
+  midway : (s : PrintSource) (inner : Bool) → Midway s inner (items_are l.items) 0 l.fn.self
       → Midway s inner (items_are l.items) l.at l.self;
-  waiting : (s : Source) (inner : Bool) → Midway s inner (items_are l.items) 0 l.fn.self
+  waiting : (s : PrintSource) (inner : Bool) → Midway s inner (items_are l.items) 0 l.fn.self
       → Waiting g.D.Desk.told inner s (items_are l.items) l.at l.buffer l.fn.sheet l.sheet;
 }
 

@@ -1,6 +1,6 @@
 -- The name in the list gets what the name in memory gets.
 use Rattle.std.proofs.Common.{◌∙◌, ap, sym, subst, length, arith}
-use Rattle.cw_secnames.specs.{declared.sec_names.Kept.Kept, model.Inside.name_of, model.Sound.AreSound}
+use Rattle.cw_secnames.specs.{declared.sec_names.KeptName.Kept, model.Inside.name_of, model.Sound.AreSound}
 use Rattle.cw_secnames.specs.References.{RefersAscending, with_section}
 use Rattle.cw_secnames.proofs.NamedMarks.{named-with_reference}
 use Rattle.cw_secnames.proofs.Finding.{same-map, reference-map, length-named, length-with_reference}
@@ -17,7 +17,7 @@ pub returns-clause-len : goal.returns-clause-len
 returns-clause-len c = grind (arith, returns-clause-ok, length-with_reference)
 
 pub add_ref-requires : goal.add_ref-requires
-add_ref-requires c = subst (λ (x : Kept). RefersAscending (name_of x)) (sym c.index_mut.ensures.value)
+add_ref-requires c = subst (λ (x : KeptName). RefersAscending (name_of x)) (sym c.index_mut.ensures.value)
     (ascending-at c.self.inside.names.items c.args.id.index c.index_mut.result.now c.self.invariant.ascending
     (omega (arith, length-named c.self.inside.names.items, ap length c.self.view_is, c.requires)))
 

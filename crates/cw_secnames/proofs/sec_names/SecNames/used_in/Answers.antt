@@ -7,6 +7,6 @@ use Rattle.cw_secnames.proofs.sec_names.SecNames.used_in.Goals as goal
 
 pub returns-clause-ascending : goal.returns-clause-ascending
 returns-clause-ascending c = subst Ascend (sym c.listed.ensures)
-    (ascending-in Used c.index.result.now (subst (λ (x : Kept). RefersAscending (name_of x)) (sym c.index.ensures)
+    (ascending-in Used c.index.result.now (subst (λ (x : KeptName). RefersAscending (name_of x)) (sym c.index.ensures)
     (ascending-at c.self.inside.names.items c.args.id.index c.index.result.now c.self.invariant.ascending
     (omega (arith, length-named c.self.inside.names.items, ap length c.self.view_is, c.requires)))))

@@ -1,6 +1,6 @@
 -- `section`: answer; said here, so that a wrong one fails at once.
 use Rattle.cw_phase1.proofs.Terms.{arith, common_steps}
-use Rattle.cw_phase1.proofs.packed.Row.section.Goals as goal
+use Rattle.cw_phase1.proofs.packed.PackedSection.section.Goals as goal
 
 pub returns : goal.returns
 returns c = grind (arith, common_steps)

@@ -2,7 +2,7 @@
 use Rattle.cw_phase1.proofs.Terms.{arith}
 use Rattle.std.proofs.lemmas.Result.{on_ok_weaker}
 use Rattle.cw_phase1.proofs.FreeTokens.{word-step, stays-held}
-use Rattle.cw_phase1.proofs.held.Held.free_word.Goals as goal
+use Rattle.cw_phase1.proofs.held.PassState.free_word.Goals as goal
 
 pub returns-clause-held : goal.returns-clause-held
 returns-clause-held c =

@@ -3,7 +3,7 @@ use Rattle.cw_phase1.proofs.Terms.{◌≡◌, List, Option, Some, None, sym, ap,
 use Rattle.cw_phase1.proofs.Terms.{SecName, answer_of, kept_by, kept_id, name_of_entering, note_by, note_on_name}
 use Rattle.cw_phase1.proofs.Terms.{HeldState, held_of, behind_begin}
 use Rattle.cw_secnames.specs.declared.kinds.Entered.{Entered}
-use Rattle.cw_phase1.proofs.held.Held.name.Goals as goal
+use Rattle.cw_phase1.proofs.held.PassState.name.Goals as goal
 
 abbrev waits : Option SecId → List SecName → Option Answer → Seen → HeldState → HeldState
 waits name kept remark t h = record h {

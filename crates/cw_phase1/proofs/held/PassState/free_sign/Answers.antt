@@ -2,7 +2,7 @@
 use Rattle.cw_phase1.proofs.Terms.{arith, seen}
 use Rattle.cw_phase1.proofs.FreeTokens.{silent-step, stays-held}
 use Rattle.cw_phase1.specs.declared.roles.Role.TheVariants as roles
-use Rattle.cw_phase1.proofs.held.Held.free_sign.Goals as goal
+use Rattle.cw_phase1.proofs.held.PassState.free_sign.Goals as goal
 
 pub returns-clause-held : goal.returns-clause-held
 returns-clause-held c = λ lines. stays-held roles.Plain lines c.args.self.now (seen c.args.token)
