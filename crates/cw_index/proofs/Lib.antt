@@ -10,7 +10,6 @@ mod EachRow
 mod StandLaws
 mod EnteredLaws
 mod PrintingLaws
-mod AloneLaws
 mod SectionLaws
 mod ClosingLaws
 mod Rows

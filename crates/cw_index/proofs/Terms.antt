@@ -42,7 +42,7 @@ pub use Rattle.cw_lines.specs.{Sheets.Prints, Sheets.IsSameSheet, declared.put_e
 pub use Rattle.cw_lines.specs.laws.SheetLaws.{prints-bytes, prints-none, prints-stop, prints-then, same-sheet}
 pub use Rattle.cw_lines.specs.laws.SheetLaws.{same-then}
 pub use Rattle.cw_lines.specs.laws.SheetLaws.{prints-failing, prints-longer, prints-nothing}
-pub use Rattle.cw_lines.specs.laws.WritesLaws.{puts-stop, can-after, puts-bytes, puts-longer, puts-then, puts-failing}
+pub use Rattle.cw_lines.specs.laws.WritesLaws.{puts-stop, can-after, puts-bytes, puts-longer, puts-then}
 pub use Rattle.cw_names.specs.{laws.MentionLaws.sections-at, laws.MentionLaws.sections-ascending}
 pub use Rattle.cw_names.specs.{declared.entry.EntryKind.EntryKind, declared.entry.NameId.NameId}
 pub use Rattle.cw_names.specs.{declared.xrefs.Occurrence.Occurrence, declared.xrefs.SectionRef.SectionRef}
@@ -66,4 +66,4 @@ pub use Rattle.cw_texpart.proofs.WeavingLaws.{weaves-behind, weaves-refused, wea
 pub use Rattle.cw_texpart.specs.{Done.Done, Done.done_behind, Done.as_it_is, Done.done_then, TexParts.IsWhole}
 pub use Rattle.cw_texpart.specs.{Texts.Setting, Texts.Lasting, Texts.lasting, Texts.text_done, Weaving.Press}
 pub use Rattle.cw_texpart.specs.{Weaving.Weaves, Weaving.press, declared.counts.Counts.Counts}
-pub use Rattle.cw_trees.specs.Printing.{Printable, reserved_bytes, ident_bytes}
+pub use Rattle.cw_trees.specs.Printing.{reserved_bytes}

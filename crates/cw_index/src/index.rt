@@ -8,7 +8,7 @@ ghost use Rattle.cw_print.specs.Escaping.{braced};
 ghost use Rattle.cw_print.specs.Sources.{is_changed};
 ghost use Rattle.cw_print.specs.Walk.{section_number};
 ghost use Rattle.cw_table.specs.Sound.{is_exp};
-ghost use Rattle.cw_trees.specs.Printing.{ident_bytes, reserved_bytes};
+ghost use Rattle.cw_trees.specs.Printing.{reserved_bytes};
 ghost use Rattle.cw_index.specs.model.Headings.{IsNamed, entry_of, row_of};
 ghost use Rattle.cw_index.specs.Index.{entry_bytes, formula, index_bytes, number_bytes, row_bytes, section_bytes};
 ghost use Rattle.cw_index.specs.Index.{word_bytes};
@@ -18,49 +18,14 @@ use crate::heading::Heading;
 use crate::headings::headings;
 use cw_base::{Cat, Web};
 use cw_desk::Desk;
-use cw_join::{FlatToken, Joiner};
+use cw_join::{put_ident_of, put_reserved_of};
 use cw_lines::{LineOut, PutError, Sheet};
 use cw_names::{EntryKind, NameId, Names, SectionRef};
 use cw_phase1::Book;
 use cw_print::is_changed;
 use cw_texpart::{Counts, put_number};
-use cw_tokens::FlatItem;
 use std::alloc::Global;
 use std::collections::BTreeSet;
-
-// Puts an identifier, as it stands in C text.
-fn put_ident<D: Desk>(names: &Names, id: NameId, sheet: &mut Sheet<D>) -> Result<(), PutError>
-    requires can { CanPrint D.told sheet.old }
-    requires name { id.index < length names.now }
-    ensures { Prints D.told (word_at ident_bytes names.now id.index) sheet.old sheet.new result }
-{
-    let item = FlatItem::Ident(id, 0);
-    let mut joiner = Joiner::new(false);
-    joiner.push(
-        FlatToken { item, bytes: b"" },
-        names,
-        sheet.line,
-        sheet.desk,
-    )?;
-    joiner.finish(sheet.line, sheet.desk)
-}
-
-// Puts a reserved word, as it stands in C text.
-fn put_reserved<D: Desk>(names: &Names, id: NameId, sheet: &mut Sheet<D>) -> Result<(), PutError>
-    requires can { CanPrint D.told sheet.old }
-    requires name { id.index < length names.now }
-    ensures { Prints D.told (word_at reserved_bytes names.now id.index) sheet.old sheet.new result }
-{
-    let item = FlatItem::Reserved(id, 0);
-    let mut joiner = Joiner::new(false);
-    joiner.push(
-        FlatToken { item, bytes: b"" },
-        names,
-        sheet.line,
-        sheet.desk,
-    )?;
-    joiner.finish(sheet.line, sheet.desk)
-}
 
 // Puts a name between the dollars of a formula.
 fn put_formula<D: Desk>(names: &Names, id: NameId, sheet: &mut Sheet<D>) -> Result<(), PutError>
@@ -69,7 +34,7 @@ fn put_formula<D: Desk>(names: &Names, id: NameId, sheet: &mut Sheet<D>) -> Resu
     ensures { Prints D.told (formula (word_at reserved_bytes names.now id.index)) sheet.old sheet.new result }
 {
     sheet.put_all(b"$")?;
-    put_reserved(names, id, sheet)?;
+    put_reserved_of(names, id, sheet)?;
     sheet.put_all(b"$")
 }
 
@@ -97,9 +62,9 @@ fn put_word<D: Desk>(names: &Names, heading: &Heading, sheet: &mut Sheet<D>) -> 
         return put_formula(names, heading.id, sheet);
     }
     if is_exp(heading.category) {
-        return put_ident(names, heading.id, sheet);
+        return put_ident_of(names, heading.id, sheet);
     }
-    put_reserved(names, heading.id, sheet)
+    put_reserved_of(names, heading.id, sheet)
 }
 
 // Puts a text in braces, behind a macro.

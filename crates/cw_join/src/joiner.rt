@@ -11,7 +11,7 @@ ghost use Rattle.cw_join.specs.Standing.{Stands};
 ghost use Rattle.cw_join.specs.Stretches.{is_inner};
 ghost use Rattle.cw_join.specs.Tokens.{CanCome, HasRoom, IsNamed, item_bytes, printable};
 
-use crate::naming::{put_identifier, put_reserved_of};
+use crate::naming::{put_ident_of, put_reserved_of};
 use crate::pieces::{put_some, sign};
 use crate::run::{ControlRun, indent, run_control};
 use crate::token::FlatToken;
@@ -181,7 +181,7 @@ fn put_item<D: Desk>(token: FlatToken, names: &Names, sheet: &mut Sheet<D>) -> R
     ensures { Prints D.told (item_bytes names.now token.entry.item token.entry.bytes.now) sheet.old sheet.new result }
 {
     match token.item {
-        FlatItem::Ident(name, _) => put_identifier(names, name, sheet),
+        FlatItem::Ident(name, _) => put_ident_of(names, name, sheet),
         FlatItem::Reserved(name, _) => put_reserved_of(names, name, sheet),
         FlatItem::Control(control) => put_some(sign(control, token.bytes), sheet),
         FlatItem::Source(_) | FlatItem::Open | FlatItem::Close => put_some(token.bytes, sheet),

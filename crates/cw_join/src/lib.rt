@@ -12,5 +12,5 @@ mod short_names;
 mod token;
 
 pub use joiner::Joiner;
-pub use naming::put_ident_of;
+pub use naming::{put_ident_of, put_reserved_of};
 pub use token::FlatToken;

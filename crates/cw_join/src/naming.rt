@@ -3,7 +3,6 @@ ghost use Rattle.std.specs.Prelude.{◌≡◌, ◌+◌, ◌<◌, ◌≤◌, ◌�
 ghost use Rattle.std.specs.List.{list_any, position_or_len};
 ghost use Rattle.cw_trees.specs.Printing.{ident_bytes, is_lower, name_bytes, reserved_bytes};
 ghost use Rattle.cw_lines.specs.Sheets.{CanPrint, Prints};
-ghost use Rattle.cw_lines.specs.Writes.{CanWrite, Puts};
 ghost use Rattle.cw_join.specs.Tokens.{category_at, is_tex_like, macro_bytes};
 ghost use Rattle.cw_join.specs.model.Tokens.{BeginsMarked, font_bytes, is_marked};
 ghost use Rattle.cw_join.specs.Tokens.{macro_letter, text_at, word_at};
@@ -11,7 +10,7 @@ ghost use Rattle.cw_join.specs.Tokens.{macro_letter, text_at, word_at};
 use crate::short_names::{LONGEST, short_ident};
 use cw_base::Cat;
 use cw_desk::Desk;
-use cw_lines::{LineOut, PutError, Sheet};
+use cw_lines::{PutError, Sheet};
 use cw_names::{NameId, Names};
 
 /// The text of a name.
@@ -34,22 +33,6 @@ pub(crate) fn is_macro(names: &Names, name: NameId) -> bool
 pub fn put_ident_of<D: Desk>(
     names: &Names,
     name: NameId,
-    out: &mut LineOut,
-    desk: &mut D,
-) -> Result<(), PutError>
-    requires can { CanWrite (D.told desk.old) out.old }
-    requires named { name.index < length names.now }
-    ensures { Puts (word_at ident_bytes names.now name.index) out.old out.new
-        (D.told desk.old) (D.told desk.new) result }
-{
-    let mut sheet = Sheet { line: out, desk };
-    put_identifier(names, name, &mut sheet)
-}
-
-/// Puts the same on a sheet.
-pub(crate) fn put_identifier<D: Desk>(
-    names: &Names,
-    name: NameId,
     sheet: &mut Sheet<D>,
 ) -> Result<(), PutError>
     requires can { CanPrint D.told sheet.old }
@@ -64,7 +47,7 @@ pub(crate) fn put_identifier<D: Desk>(
 }
 
 /// Puts a reserved word, which may be a macro of TeX.
-pub(crate) fn put_reserved_of<D: Desk>(
+pub fn put_reserved_of<D: Desk>(
     names: &Names,
     name: NameId,
     sheet: &mut Sheet<D>,

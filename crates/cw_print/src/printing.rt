@@ -313,7 +313,7 @@ fn print_name<D: Desk>(
     ensures { Prints D.told (wrapped wraps (word_at ident_bytes names.now name.index)) sheet.old sheet.new result }
 {
     put_bracket(wraps, b"\\PB{", sheet)?;
-    put_ident_of(names, name, sheet.line, sheet.desk)?;
+    put_ident_of(names, name, sheet)?;
     put_bracket(wraps, b"}", sheet)
 }
 

@@ -13,9 +13,8 @@ returns-in_err-put_ident_of g c =
     let behind : List ℕ = bracket c.args.wraps (codes "}") in
     prints-failing (append_assoc (bracket c.args.wraps (codes "\\PB{")) (word_at ident_bytes c.args.names.now
     c.args.name.index) behind) (prints-longer behind (prints-then c.in_ok-put_bracket.ensures
-    (record { puts = c.in_err-put_ident_of.ensures; same = record { line = refl; desk = refl } })))
-    c.from_residual-in_err-put_ident_of.ensures.1
+    c.in_err-put_ident_of.ensures)) c.from_residual-in_err-put_ident_of.ensures.1
 
 pub returns : goal.returns
-returns g c = prints-then c.in_ok-put_bracket.ensures (prints-then (record
-    { puts = c.in_ok-put_ident_of.ensures; same = record { line = refl; desk = refl } }) c.put_bracket-2.ensures)
+returns g c =
+    prints-then c.in_ok-put_bracket.ensures (prints-then c.in_ok-put_ident_of.ensures c.put_bracket-2.ensures)
