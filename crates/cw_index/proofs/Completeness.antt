@@ -5,8 +5,8 @@ use Rattle.cw_index.proofs.Terms.{true≢false, AllByRecursion, list_any, insert
 use Rattle.cw_index.proofs.Terms.{is_eq, ordering_reverse, ordering_then, nat_cmp, Occurrence, SectionRef, sections-at}
 use Rattle.cw_index.proofs.Terms.{any_in, mention_of, mentions, AreDistinct, Entry, is_entry, same_kind, or-false}
 use Rattle.cw_index.proofs.Terms.{EntryKind, classes_cmp, entry_cmp, entry_kind_place, text_cmp, entry_cmp-total}
-use Rattle.cw_index.proofs.Terms.{IndexRow}
-use Rattle.cw_index.proofs.Terms.{has_sections, is_listed, listed, needs_underline, row, row_cmp, rows_from, with_row}
+use Rattle.cw_index.proofs.Terms.{IndexRow, has_sections, is_listed, listed, needs_underline, row, row_cmp, rows_from}
+use Rattle.cw_index.proofs.Terms.{with_row}
 use Rattle.std.specs.List.{IsDistinct}
 use Rattle.std.specs.Cmp.Lexicographic.{lists_ties, pointwise, slice_cmp}
 use Rattle.cw_index.specs.Completeness.{IndexIsComplete, as_mention, is_at, lists, occurs}

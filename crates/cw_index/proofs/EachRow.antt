@@ -5,8 +5,7 @@ use Rattle.cw_index.proofs.Terms.{range_with_len, insert_key, IsTotalOrder, Orde
 use Rattle.cw_index.proofs.Terms.{All-cons, All-filter, All-get_or, All-head, All-map, All-nil, All-tail}
 use Rattle.cw_index.proofs.Terms.{All-insert_key, Occurrence, SectionRef, sections-ascending, AreAscending, above_all}
 use Rattle.cw_index.proofs.Terms.{any_in, mention_of, mentions, Entry, entry_cmp-total, IndexRow, has_sections}
-use Rattle.cw_index.proofs.Terms.{index_rows}
-use Rattle.cw_index.proofs.Terms.{is_listed, needs_underline, row, row_cmp, rows_from, with_row}
+use Rattle.cw_index.proofs.Terms.{index_rows, is_listed, needs_underline, row, row_cmp, rows_from, with_row}
 use Rattle.std.specs.List.Sorted.{IsStrictlySortedBy}
 use Rattle.std.proofs.lemmas.List.Kept.{AllPairs-filter}
 use Rattle.std.proofs.lemmas.Map.Keys.{IsDistinct-from_apart, Less-from_sorted}

@@ -3,8 +3,7 @@ use Rattle.cw_index.proofs.Terms.{◌≡◌, ℕ, zero, suc, ◌+◌, ◌-◌, B
 use Rattle.cw_index.proofs.Terms.{length, drop, refl, sym, ap, subst, ◌∙◌, arith, append_assoc, append-nil}
 use Rattle.cw_index.proofs.Terms.{if◌then◌else◌, take_all, Code, TokKind, Answer, Token, Begin, Finish, Note, Where}
 use Rattle.cw_index.proofs.Terms.{ScanStep, code_of, code_at, is_section, begins_section, still_fresh, answers}
-use Rattle.cw_index.proofs.Terms.{tokens_of}
-use Rattle.cw_index.proofs.Terms.{is_name_kind, name-plain, drop-on, all_cut, is_name, section, section_code}
+use Rattle.cw_index.proofs.Terms.{tokens_of, is_name_kind, name-plain, drop-on, all_cut, is_name, section, section_code}
 use Rattle.cw_index.proofs.Terms.{found_apart, in_text_apart, not-both}
 use Rattle.cw_rules.specs.{declared.tokens.Mode.Mode, Bytes.at_sign}
 use Rattle.cw_lex.proofs.FirstTokens.{bare-code}

@@ -20,8 +20,7 @@ pub use Rattle.cw_base.proofs.TestLaws.{not-both, or-false}
 pub use Rattle.cw_base.specs.declared.category.Cat.TheVariants.{Exp, RawInt}
 pub use Rattle.cw_desk.specs.Told.{DeskState}
 pub use Rattle.cw_index.specs.{laws.CollationLaws.entry_cmp-total, model.ListForms.list_setting, Sorted.sorted_on}
-pub use Rattle.cw_index.specs.{Sorted.sorted}
-pub use Rattle.cw_index.specs.{declared.heading.Heading.Heading, declared.standing.Listed.Listed}
+pub use Rattle.cw_index.specs.{Sorted.sorted, declared.heading.Heading.Heading, declared.standing.Listed.Listed}
 pub use Rattle.cw_index.specs.{declared.standing.Standing.Standing}
 pub use Rattle.cw_index.specs.Closing.{change, changed_from, changes_line, printed_changes, closing_lines, last_lines}
 pub use Rattle.cw_index.specs.Collation.{entry_cmp, text_cmp, class_cmp, class_of, classes_cmp, entry_kind_place}
@@ -40,8 +39,7 @@ pub use Rattle.cw_lex.specs.Lexing.{still_fresh, answers, tokens_of, joined, fre
 pub use Rattle.cw_lex.specs.Limbo.{is_name_kind}
 pub use Rattle.cw_lines.specs.{Sheets.Prints, Sheets.IsSameSheet, declared.put_error.PutError.PutError}
 pub use Rattle.cw_lines.specs.laws.SheetLaws.{prints-bytes, prints-none, prints-stop, prints-then, same-sheet}
-pub use Rattle.cw_lines.specs.laws.SheetLaws.{same-then}
-pub use Rattle.cw_lines.specs.laws.SheetLaws.{prints-failing, prints-longer, prints-nothing}
+pub use Rattle.cw_lines.specs.laws.SheetLaws.{same-then, prints-failing, prints-longer, prints-nothing}
 pub use Rattle.cw_lines.specs.laws.WritesLaws.{puts-stop, can-after, puts-bytes, puts-longer, puts-then}
 pub use Rattle.cw_names.specs.{laws.MentionLaws.sections-at, laws.MentionLaws.sections-ascending}
 pub use Rattle.cw_names.specs.{declared.entry.EntryKind.EntryKind, declared.entry.NameId.NameId}

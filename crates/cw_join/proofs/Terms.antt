@@ -20,7 +20,7 @@ pub use Rattle.cw_join.specs.Tokens.{alone}
 pub use Rattle.cw_lines.specs.{Sheets.Prints, declared.sheet.Sheet.Sheet}
 pub use Rattle.cw_lines.specs.laws.SheetLaws.{prints-none, prints-bytes, prints-failing, prints-longer, prints-then}
 pub use Rattle.cw_trees.specs.Flat.{Item, IdentItem, SignItem, Open, Close}
-pub use Rattle.cw_trees.specs.Printing.{Printable, is_backup, is_cancel, opened, run_sign, strength}
-pub use Rattle.cw_trees.specs.Printing.{strongest, ident_bytes, is_lower, long_ident_bytes, name_bytes, run_bytes}
-pub use Rattle.cw_trees.specs.Printing.{printed, printed_from, indents, sign_bytes, reserved_bytes}
+pub use Rattle.cw_trees.specs.Printing.{Printable, is_backup, is_cancel, opened, run_sign, strength, strongest}
+pub use Rattle.cw_trees.specs.Printing.{ident_bytes, is_lower, long_ident_bytes, name_bytes, run_bytes, printed}
+pub use Rattle.cw_trees.specs.Printing.{printed_from, indents, sign_bytes, reserved_bytes}
 pub use Rattle.cw_trees.specs.declared.Control.{Control}

@@ -16,8 +16,7 @@ use Rattle.cw_rules.specs.Codes.{begins_section, code_at, effect_in_c, effect_at
 use Rattle.cw_rules.specs.{Prefixes.prefix_size, Signs.all_signs, Signs.spelling}
 use Rattle.cw_rules.specs.Tokens.{all_cut, alone_size, behind_include, behind_word, closes_on_line, code_token}
 use Rattle.cw_rules.specs.Tokens.{comment_begin, control_or_plain, control_text, effect_in, ends_at_bar, directive_at}
-use Rattle.cw_rules.specs.Tokens.{word}
-use Rattle.cw_rules.specs.Tokens.{in_hash_line, include_name, inner_end, is_include, is_name, is_quote, line_end}
+use Rattle.cw_rules.specs.Tokens.{word, in_hash_line, include_name, inner_end, is_include, is_name, is_quote, line_end}
 use Rattle.cw_rules.specs.Tokens.{may_head, moved, one, passed, piece_start, section, section_code, section_name}
 use Rattle.cw_rules.specs.Tokens.{string, comment_cut, inner_or_none, part_cut, takes_hash_line}
 use Rattle.cw_rules.proofs.Choices.{if-both}

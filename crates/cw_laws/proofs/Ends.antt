@@ -13,8 +13,7 @@ use Rattle.cw_rules.specs.{Codes.code_at, Codes.begins_section, Codes.is_section
 use Rattle.cw_rules.specs.Tokens.{in_hash_line, takes_hash_line, is_deep, ends_at_bar, moved, passed, one, line_end}
 use Rattle.cw_rules.specs.Tokens.{skipped_byte, comment_kind, all_cut, comment_end, part_cut, section, inner_cut}
 use Rattle.cw_rules.specs.Tokens.{behind_word, comment_begin, inner_end, inner_begin, identifier, directive_at, word}
-use Rattle.cw_rules.specs.Tokens.{piece_start}
-use Rattle.cw_rules.specs.Tokens.{code_token, is_code_part, dropped_code, alone_size}
+use Rattle.cw_rules.specs.Tokens.{piece_start, code_token, is_code_part, dropped_code, alone_size}
 use Rattle.cw_rules.specs.model.Apart.{comment_text_apart, in_text_apart, found_apart}
 use Rattle.cw_rules.proofs.{Choices.if-both, Rules.code-rule, Rules.comment-rule, Rules.part-rule}
 use Rattle.cw_rules.proofs.Rules.{BeginsPart, Macro, IsPassed, Standing, Dropping, CodeRule, LineEnd, Space, HashLine}

@@ -1,37 +1,18 @@
 -- A production changes what is seen of scraps as it changes the scraps, and so the two have the same log.
 use Rattle.cw_leaves.proofs.Terms.{◌≡◌, ℕ, zero, suc, ◌+◌, eqb, Option, Some, None, List, [], ◌∷◌, ◌++◌, refl, sym, ◌∙◌}
-use Rattle.cw_leaves.proofs.Terms.{ap, map}
-use Rattle.cw_leaves.proofs.Terms.{take, drop, set, get_or, arith, map-append, map-set, take-map, drop-map, get_or-map}
-use Rattle.cw_leaves.proofs.Terms.{Flags, MathMode, Tree, Empty, Then, Sub, Inner, Source, Reserved, Sign, search_sign}
-use Rattle.cw_leaves.proofs.Terms.{reserve_first, bare_name, Scrap, no_scrap, JoinPiece, Whole, Mark, joined_tree}
-use Rattle.cw_leaves.proofs.Terms.{needs}
-use Rattle.cw_leaves.proofs.Terms.{after, Action, Piece, Row, Place, Nowhere, At, least_place, weight, Production}
-use Rattle.cw_leaves.proofs.Terms.{log_of}
-use Rattle.cw_trees.specs.Tree.{Ident}
+use Rattle.cw_leaves.proofs.Terms.{ap, map, take, drop, set, get_or, arith, map-append, map-set, take-map, drop-map}
+use Rattle.cw_leaves.proofs.Terms.{get_or-map, Flags, MathMode, search_sign, Scrap, no_scrap, JoinPiece, Whole, Mark}
+use Rattle.cw_leaves.proofs.Terms.{joined_tree, needs, after, Action, Piece, Row, Place, Nowhere, At, least_place}
+use Rattle.cw_leaves.proofs.Terms.{weight, Production, log_of}
 use Rattle.cw_table.specs.Rewriting.{cats_of, joined_of, new_scrap, search_in, reserved_in, reserved_at, bolded}
-use Rattle.cw_table.specs.Rewriting.{bolded_at}
-use Rattle.cw_table.specs.Rewriting.{worded_at, named_scrap, named_right, rewrite_from, State, rewrite}
+use Rattle.cw_table.specs.Rewriting.{bolded_at, worded_at, named_scrap, named_right, rewrite_from, State, rewrite}
 use Rattle.cw_table.specs.Normal.{log}
 use Rattle.cw_leaves.specs.Sights.{Utterance, silence, followed, told_by, heard, Sight, sight, no_sight, seen_cats}
 use Rattle.cw_leaves.specs.Sights.{heard_all, seen_new, seen_reserved, seen_reserved_at, seen_named, seen_named_by}
-use Rattle.cw_leaves.specs.Sights.{seen_bolded, seen_bolded_at, seen_worded_at}
-use Rattle.cw_leaves.specs.Sights.{names_at, seen_rewritten_from, seen_rewritten, seen_weight, seen_log_of, seen_log}
+use Rattle.cw_leaves.specs.Sights.{seen_bolded, seen_bolded_at, seen_worded_at, names_at, seen_rewritten_from}
+use Rattle.cw_leaves.specs.Sights.{seen_rewritten, seen_weight, seen_log_of, seen_log}
+use Rattle.cw_table.proofs.ScrapFacts.{joined-bare, reserve-bare}
 use Rattle.cw_leaves.proofs.SightFacts.{first-heard, heard-reserved, heard-toggled}
-
--- these two stand in ScrapFacts of cw_table
-reserve-bare : (t : Tree) → bare_name (reserve_first t) ≡ None
-reserve-bare Empty = refl
-reserve-bare (Then (Source number mode) rest) = refl
-reserve-bare (Then (Ident name number) rest) = refl
-reserve-bare (Then (Reserved name number cat) rest) = grind arith
-reserve-bare (Then (Sign control) rest) = grind arith
-reserve-bare (Sub tree rest) = grind arith
-reserve-bare (Inner tree rest) = refl
-
-joined-bare : (m : MathMode) (js : List JoinPiece) → bare_name (joined_tree m js) ≡ None
-joined-bare m [] = refl
-joined-bare m (Whole t l r ∷ js) = grind arith
-joined-bare m (Mark c ∷ js) = grind arith
 
 -- what is heard of pieces
 abbrev piece_heard : JoinPiece → Utterance ℕ

@@ -1,6 +1,6 @@
 -- The leaf line of a scrap.
-use Rattle.std.specs.Prelude.{◌≡◌, ℕ, Bool, true, false, ◌&&◌, nat_eq, slice_get, Option, Some, None, List, []}
-use Rattle.std.specs.Prelude.{◌∷◌, map, All}
+use Rattle.std.specs.Prelude.{◌≡◌, ℕ, Bool, true, false, ◌&&◌, nat_eq, slice_get, Option, Some, None, List, [], ◌∷◌}
+use Rattle.std.specs.Prelude.{map, All}
 use Rattle.std.specs.Cmp.Lexicographic.{pointwise}
 use Rattle.cw_base.specs.declared.category.Cat.{Cat}
 use Rattle.cw_base.specs.declared.flags.Flags.{Flags}

@@ -8,11 +8,11 @@ use Rattle.cw_rules.specs.declared.{codes.Code.Code, codes.Effect.Effect, bodies
 use Rattle.cw_rules.specs.declared.{parts.Opened.Opened, tokens.Mode.Mode, tokens.TokKind.TokKind}
 use Rattle.cw_rules.specs.{Bodies.one_note, Bodies.note_unless, Bodies.noted, model.Apart.found_apart, Bytes.at_sign}
 use Rattle.cw_rules.specs.Codes.{is_section, begins_section, effect_in_c, code_at}
-use Rattle.cw_rules.specs.Tokens.{parameter_follows, parameter, format_name, one, skipped_byte, piece_start}
-use Rattle.cw_rules.specs.Tokens.{passed, moved, in_hash_line, ends_at_bar, line_end, comment_begin, comment_end}
-use Rattle.cw_rules.specs.Tokens.{inner_cut, comment_cut, part_cut, inner_or_none, all_cut, inner_end, effect_in}
-use Rattle.cw_rules.specs.Tokens.{code_token, control_or_plain, head_text, section, section_code, behind_word}
-use Rattle.cw_rules.specs.Tokens.{directive_at, is_include, may_head, takes_hash_line, name_follows, macro_name, word}
+use Rattle.cw_rules.specs.Tokens.{parameter_follows, parameter, format_name, one, skipped_byte, piece_start, passed}
+use Rattle.cw_rules.specs.Tokens.{moved, in_hash_line, ends_at_bar, line_end, comment_begin, comment_end, inner_cut}
+use Rattle.cw_rules.specs.Tokens.{comment_cut, part_cut, inner_or_none, all_cut, inner_end, effect_in, code_token}
+use Rattle.cw_rules.specs.Tokens.{control_or_plain, head_text, section, section_code, behind_word, directive_at}
+use Rattle.cw_rules.specs.Tokens.{is_include, may_head, takes_hash_line, name_follows, macro_name, word}
 use Rattle.cw_rules.specs.model.Apart.{behind_head_apart, code_text_apart, comment_text_apart, part_text_apart}
 use Rattle.cw_rules.specs.model.Apart.{in_text_apart}
 use Rattle.cw_rules.specs.Answers.{Answer, Note, Where, Cut, ScanStep, before, note_answers, plain}

@@ -9,9 +9,9 @@ use Rattle.cw_base.proofs.TestLaws.{both-right, one-failed-left, one-failed-righ
 use Rattle.cw_rules.specs.declared.{bodies.Noted.Noted, codes.Code.Code, codes.Effect.Effect, tokens.TokKind.TokKind}
 use Rattle.cw_rules.specs.Answers.{Answer, Token, Begin, Finish, Note, Seen, Where, Cut, ScanStep, note_answers}
 use Rattle.cw_rules.specs.Answers.{token_of}
-use Rattle.cw_rules.specs.{Answers.cut_token}
-use Rattle.cw_rules.specs.{Answers.plain, Answers.has_sign, Bodies.at_start, Bodies.extent, Bytes.at_sign, Bytes.equals}
-use Rattle.cw_rules.specs.{Bytes.run, Bytes.begins, Bytes.is_in, Order.Covers, model.Apart.found_apart}
+use Rattle.cw_rules.specs.{Answers.cut_token, Answers.plain, Answers.has_sign, Bodies.at_start, Bodies.extent}
+use Rattle.cw_rules.specs.{Bytes.at_sign, Bytes.equals, Bytes.run, Bytes.begins, Bytes.is_in, Order.Covers}
+use Rattle.cw_rules.specs.{model.Apart.found_apart}
 use Rattle.cw_base.specs.Text.{bar}
 use Rattle.cw_rules.specs.Codes.{code_of, code_at, is_section, begins_section, effect_in_tex}
 use Rattle.cw_lex.specs.{model.Coming.found_at, Limbo.is_name_kind, Parts.closing_bar_from}

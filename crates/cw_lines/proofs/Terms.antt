@@ -17,8 +17,7 @@ pub use Rattle.cw_desk.specs.{Journal.byte_events, Journal.grown, Journal.GrownB
 pub use Rattle.cw_desk.specs.{DeskState.OnlyPuts}
 pub use Rattle.cw_desk.specs.laws.JournalLaws.{byte_events-append, grown-none, grown-after, part-first, part-all}
 pub use Rattle.cw_lines.specs.{laws.CutLaws.divide-short, model.Whole.WholeLines, model.Whole.behind_lines}
-pub use Rattle.cw_lines.specs.{model.Whole.counted, Writes.HasPut}
-pub use Rattle.cw_lines.specs.{Writes.HasWritten, Writes.Puts, Writes.Writes}
+pub use Rattle.cw_lines.specs.{model.Whole.counted, Writes.HasPut, Writes.HasWritten, Writes.Puts, Writes.Writes}
 pub use Rattle.cw_lines.specs.Compared.{OldFile, id_of, behind, Compares, left_by}
 pub use Rattle.cw_lines.specs.laws.ComparedLaws.{compares-as, compares-none, compares-bytes, compares-then, ahead-none}
 pub use Rattle.cw_lines.specs.laws.ComparedLaws.{left-ended, ahead-some, left-lost, left-more, left-read, compares-more}
@@ -31,8 +30,6 @@ pub use Rattle.cw_lines.specs.Line.{Line, LineState, Filled, fill, filled_on}
 pub use Rattle.cw_lines.specs.model.Line.{HasNoLineEnd, IsEndedLine, with_text}
 pub use Rattle.cw_lines.specs.Line.{next_number, divided, new_line, fill_by, with_byte, ended}
 pub use Rattle.cw_lines.specs.laws.WritesLaws.{puts-known, writes-none, puts-refused, puts-stop, writes-events}
-pub use Rattle.cw_lines.specs.laws.WritesLaws.{writes-file}
-pub use Rattle.cw_lines.specs.laws.WritesLaws.{writes-stop, writes-then, adds-writes, writes-fail, puts-then}
-pub use Rattle.cw_lines.specs.laws.WritesLaws.{puts-bytes}
-pub use Rattle.cw_lines.specs.laws.WritesLaws.{puts-failing, puts-none, puts-within, can-after}
+pub use Rattle.cw_lines.specs.laws.WritesLaws.{writes-file, writes-stop, writes-then, adds-writes, writes-fail}
+pub use Rattle.cw_lines.specs.laws.WritesLaws.{puts-then, puts-bytes, puts-failing, puts-none, puts-within, can-after}
 pub use Rattle.memchr.specs.Find.{Nowhere, NoneBefore, Passes, is_byte, NoneAfter}

@@ -3,9 +3,9 @@ use Rattle.cw_log_laws.proofs.Terms.{ℕ, zero, suc, ◌<◌, ◌≤◌, ◌^◌
 use Rattle.cw_log_laws.proofs.Terms.{length, All, arith, if◌then◌else◌, flat_map-cons, All-append, All-filter, All-head}
 use Rattle.cw_log_laws.proofs.Terms.{All-map, All-nil, All-tail, All-weaker, MergedLine, text_of, Span, Code, TokKind}
 use Rattle.cw_log_laws.proofs.Terms.{Answer, Seen, Token, Begin, Finish, Note, tokens-cover, answers_of, book}
-use Rattle.cw_log_laws.proofs.Terms.{Placement}
-use Rattle.cw_log_laws.proofs.Terms.{at_limbo, placed, NameUse, definition_ref, definition_refs, part_refs, piece_refs}
-use Rattle.cw_log_laws.proofs.Terms.{refs_from, section_refs, tex_refs, text_ref, texts_of, TextRef, IsInside}
+use Rattle.cw_log_laws.proofs.Terms.{Placement, at_limbo, placed, NameUse, definition_ref, definition_refs, part_refs}
+use Rattle.cw_log_laws.proofs.Terms.{piece_refs, refs_from, section_refs, tex_refs, text_ref, texts_of, TextRef}
+use Rattle.cw_log_laws.proofs.Terms.{IsInside}
 use Rattle.cw_base.specs.Conditions.{list_if}
 use Rattle.cw_rules.specs.Order.{AreWithin}
 use Rattle.cw_lex.proofs.TokensWithin.{tokens-within}

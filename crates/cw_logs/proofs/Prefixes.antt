@@ -1,10 +1,8 @@
 -- Common prefixes.
 use Rattle.cw_logs.proofs.CheckTerms.{◌≡◌, ◌≢◌, ℕ, zero, suc, ◌+◌, ◌<◌, ◌≤◌, Bool, true, false, not, ◌&&◌, eqb, List}
-use Rattle.cw_logs.proofs.CheckTerms.{[]}
-use Rattle.cw_logs.proofs.CheckTerms.{◌∷◌, ◌++◌, length, take, slice_get, Option, Some, None, IfSome, is_some, refl}
-use Rattle.cw_logs.proofs.CheckTerms.{sym}
-use Rattle.cw_logs.proofs.CheckTerms.{◌∙◌, ap, subst, arith, if◌then◌else◌, same_item, differs_from, refused_by, common}
-use Rattle.cw_logs.proofs.CheckTerms.{LogPosition, Judges, StandsAt, StopsWithin, told_alone, verdict_of}
+use Rattle.cw_logs.proofs.CheckTerms.{[], ◌∷◌, ◌++◌, length, take, slice_get, Option, Some, None, IfSome, is_some, refl}
+use Rattle.cw_logs.proofs.CheckTerms.{sym, ◌∙◌, ap, subst, arith, if◌then◌else◌, same_item, differs_from, refused_by}
+use Rattle.cw_logs.proofs.CheckTerms.{common, LogPosition, Judges, StandsAt, StopsWithin, told_alone, verdict_of}
 use Rattle.std.proofs.{Math.Seq.take-length, lemmas.Bool.eq-eqb, lemmas.Bool.eqb-true, lemmas.List.length-take-le}
 use Rattle.cw_base.specs.declared.flags.Flags.{Flags}
 use Rattle.cw_table.specs.{declared.types.Row.Row, Productions.productions, Reaching.IsAfter, Rewriting.State}

@@ -11,8 +11,7 @@ pub use Rattle.std.specs.Prelude.{◌≢◌, slice_get, Result, Ok, Err, IsErrAn
 pub use Rattle.cw_base.specs.{Conditions.list_if, declared.category.Cat.Cat, declared.event.Out.TheVariants.Tex}
 pub use Rattle.cw_desk.specs.Journal.{byte_events}
 pub use Rattle.cw_index.specs.Mentions.{IndexRow, has_sections, index_rows, needs_underline, row, is_ident, listed}
-pub use Rattle.cw_index.specs.Mentions.{row_cmp}
-pub use Rattle.cw_index.specs.Mentions.{rows_from, with_row}
+pub use Rattle.cw_index.specs.Mentions.{row_cmp, rows_from, with_row}
 pub use Rattle.cw_join.specs.Early.{added, depth_behind, late}
 pub use Rattle.cw_join.specs.Tokens.{CanCome, alone, item_bytes, is_tex_like}
 pub use Rattle.cw_lines.specs.laws.WritesLaws.{adds-events, adds-none}

@@ -13,8 +13,7 @@ pub use Rattle.cw_lex.specs.Lexing.{answers_at, tokens_of, beginning}
 pub use Rattle.cw_lines.specs.{Line.LineState, Sheets.Prints, Sheets.IsSameSheet, Writes.Puts}
 pub use Rattle.cw_lines.specs.{declared.put_error.PutError.PutError, declared.put_error.PutError.TheVariants.Memory}
 pub use Rattle.cw_lines.specs.laws.SheetLaws.{prints-bytes, prints-none, prints-stop, prints-then, same-sheet}
-pub use Rattle.cw_lines.specs.laws.SheetLaws.{same-then}
-pub use Rattle.cw_lines.specs.laws.SheetLaws.{prints-longer}
+pub use Rattle.cw_lines.specs.laws.SheetLaws.{same-then, prints-longer}
 pub use Rattle.cw_lines.specs.laws.WritesLaws.{puts-bytes, puts-none, puts-stop, puts-then, puts-nothing, can-after}
 pub use Rattle.cw_lines.specs.laws.WritesLaws.{puts-longer}
 pub use Rattle.cw_names.specs.Names.{Entry}

@@ -1,11 +1,10 @@
 -- Pieces of a book are woven one after another.
 use Rattle.cw_part.proofs.Terms.{◌≡◌, ℕ, ◌+◌, ◌≤◌, refl, sym, ap, ◌∙◌, List, [], ◌++◌, append_assoc, arith, Result, Ok}
 use Rattle.cw_part.proofs.Terms.{Err, IsErrAnd, append-nil, DeskState, LineState, Puts, puts-bytes, puts-none}
-use Rattle.cw_part.proofs.Terms.{puts-stop}
-use Rattle.cw_part.proofs.Terms.{puts-then, puts-nothing, PutError, Memory, Entry, limit_in, Counts, Done, joined_done}
-use Rattle.cw_part.proofs.Terms.{as_it_is, done_then, Setting, Press, Weaves, underlined, joined-joined, limit-append}
-use Rattle.cw_part.proofs.Terms.{productions-append, scraps-append, ticks-append, underlined-append, underlined-none}
-use Rattle.cw_part.proofs.Terms.{weaves-as, weaves-refused}
+use Rattle.cw_part.proofs.Terms.{puts-stop, puts-then, puts-nothing, PutError, Memory, Entry, limit_in, Counts, Done}
+use Rattle.cw_part.proofs.Terms.{joined_done, as_it_is, done_then, Setting, Press, Weaves, underlined, joined-joined}
+use Rattle.cw_part.proofs.Terms.{limit-append, productions-append, scraps-append, ticks-append, underlined-append}
+use Rattle.cw_part.proofs.Terms.{underlined-none, weaves-as, weaves-refused}
 use Rattle.cw_names.specs.declared.xrefs.Occurrence.{Occurrence}
 
 -- ## One piece

@@ -1,8 +1,7 @@
 -- A word or a sign in no head leaves the text standing as it does.
 use Rattle.cw_phase1.proofs.Terms.{◌≡◌, ap, false, true, List, None, arith, Span, MergedLine, head_behind, Seen}
 use Rattle.cw_phase1.proofs.Terms.{TokKind, Role, Standing, TokenLists, HeldState, held_of, is_silent, plain_held}
-use Rattle.cw_phase1.proofs.Terms.{remark_of}
-use Rattle.cw_phase1.proofs.Terms.{waiting_of, free_step, placed_by, stay, token_step, told_step}
+use Rattle.cw_phase1.proofs.Terms.{remark_of, waiting_of, free_step, placed_by, stay, token_step, told_step}
 use Rattle.cw_phase1.specs.declared.held.PassState.{PassState}
 use Rattle.cw_lex.specs.declared.heads.Expectation.TheVariants as wants
 use Rattle.cw_rules.specs.declared.tokens.TokKind.TheVariants as kinds

@@ -2,10 +2,9 @@
 use Rattle.cw_phase1.proofs.Terms.{◌≡◌, ℕ, Bool, true, false, List, [], ◌∷◌, ◌++◌, Option, Some, None, refl, ap, ◌∙◌}
 use Rattle.cw_phase1.proofs.Terms.{append_assoc, if◌then◌else◌, arith, append-nil, MergedLine, SecId, Section, Sections}
 use Rattle.cw_phase1.proofs.Terms.{Open, TokenLists, holds_changed, Placement, span, ends_tex, ends_definitions}
-use Rattle.cw_phase1.proofs.Terms.{ends_section}
-use Rattle.cw_phase1.proofs.Terms.{first_start, c_part_name, sections_of, is_section_code, or_here, name_here, opened}
-use Rattle.cw_phase1.proofs.Terms.{with_token, closed_at, closing, closing_by, open_with, unwrap_or, told_all}
-use Rattle.cw_phase1.proofs.Terms.{told_step, told_start}
+use Rattle.cw_phase1.proofs.Terms.{ends_section, first_start, c_part_name, sections_of, is_section_code, or_here}
+use Rattle.cw_phase1.proofs.Terms.{name_here, opened, with_token, closed_at, closing, closing_by, open_with, unwrap_or}
+use Rattle.cw_phase1.proofs.Terms.{told_all, told_step, told_start}
 
 -- the name of the token that ends the definitions, now or later
 abbrev name_or : Option ℕ → Option SecId → Option SecId → Option SecId

@@ -2,8 +2,7 @@
 use Rattle.cw_phase1.proofs.Terms.{arith, ◌≡◌, ℕ, Bool, true, false, not, ◌||◌, List, [], ◌∷◌, ◌++◌, Option, Some, None}
 use Rattle.cw_phase1.proofs.Terms.{append-nil, refl, sym, ap, subst, ◌∙◌, ◌⊎◌, inl, inr, if◌then◌else◌, list_any}
 use Rattle.cw_phase1.proofs.Terms.{one-failed-left, one-failed-right, Span, Code, Expectation, Mode, TokKind, Answer}
-use Rattle.cw_phase1.proofs.Terms.{Token}
-use Rattle.cw_phase1.proofs.Terms.{Begin, Finish, Note, Seen, has_sign, is_section_kind, is_section_answer}
+use Rattle.cw_phase1.proofs.Terms.{Token, Begin, Finish, Note, Seen, has_sign, is_section_kind, is_section_answer}
 use Rattle.cw_phase1.proofs.Terms.{begins_section_in, tokens_of, is_some, SecName, Part, Standing, entered_name}
 use Rattle.cw_phase1.proofs.Terms.{kept_behind, Placement, Step, defining, name_step, token_step, word_role, head_role}
 use Rattle.cw_phase1.proofs.Terms.{behind_begin, placed_by, placed_from, is_section_code, is_tex, first_start}

@@ -1,14 +1,11 @@
 -- The tokens that one answer settles, and those that are still to come.
 use Rattle.cw_phase1.proofs.Terms.{◌≡◌, ℕ, Bool, true, false, List, [], ◌∷◌, ◌++◌, Option, Some, None, refl}
 use Rattle.cw_phase1.proofs.Terms.{append_assoc, if◌then◌else◌, arith, MergedLine, Expectation, TokKind, Seen, Answer}
-use Rattle.cw_phase1.proofs.Terms.{Note}
-use Rattle.cw_phase1.proofs.Terms.{has_sign, Span, NoteKind, SecName, Standing, TokenLists, Void, naming_by}
-use Rattle.cw_phase1.proofs.Terms.{scanned_note}
-use Rattle.cw_phase1.proofs.Terms.{scanned_notes, enters, kept_after, is_unended, note_behind_end, noted_from}
-use Rattle.cw_phase1.proofs.Terms.{Placement}
-use Rattle.cw_phase1.proofs.Terms.{name_step, token_step, token_step_by, behind_begin, placed_by, placed_from}
-use Rattle.cw_phase1.proofs.Terms.{told_step, told_all, is_name_kind, Waiting, HeldState, settled, remark_put}
-use Rattle.cw_phase1.proofs.Terms.{held_step}
+use Rattle.cw_phase1.proofs.Terms.{Note, has_sign, Span, NoteKind, SecName, Standing, TokenLists, Void, naming_by}
+use Rattle.cw_phase1.proofs.Terms.{scanned_note, scanned_notes, enters, kept_after, is_unended, note_behind_end}
+use Rattle.cw_phase1.proofs.Terms.{noted_from, Placement, name_step, token_step, token_step_by, behind_begin, placed_by}
+use Rattle.cw_phase1.proofs.Terms.{placed_from, told_step, told_all, is_name_kind, Waiting, HeldState, settled}
+use Rattle.cw_phase1.proofs.Terms.{remark_put, held_step}
 use Rattle.cw_base.specs.declared.notes.Note.{Note as NoteRecord}
 
 -- The tokens that are settled from here on, where these answers are still to come.

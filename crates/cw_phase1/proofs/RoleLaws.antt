@@ -4,10 +4,9 @@ use Rattle.cw_phase1.proofs.Terms.{Some, None, All, map, length, refl, sym, ◌�
 use Rattle.cw_phase1.proofs.Terms.{true≢false, filter, eqb-true, ltb-false, ltb-true, All-nil, All-cons, MergedLine}
 use Rattle.cw_phase1.proofs.Terms.{Code, Expectation, TokKind, Seen, Answer, Token, Begin, Finish, Note, SecId, SecName}
 use Rattle.cw_phase1.proofs.Terms.{AscendFrom, Reference, once, is_of, referred, NameUse, Role, Standing, Placement}
-use Rattle.cw_phase1.proofs.Terms.{Step}
-use Rattle.cw_phase1.proofs.Terms.{name_step, code_step, free_step, token_step, word_role, head_role, behind_begin}
-use Rattle.cw_phase1.proofs.Terms.{placed_by, placed_from, is_section_code, sections_of, Ascend, RefersUpTo, use_by}
-use Rattle.cw_phase1.proofs.Terms.{uses_of, reference_by, references_of}
+use Rattle.cw_phase1.proofs.Terms.{Step, name_step, code_step, free_step, token_step, word_role, head_role}
+use Rattle.cw_phase1.proofs.Terms.{behind_begin, placed_by, placed_from, is_section_code, sections_of, Ascend}
+use Rattle.cw_phase1.proofs.Terms.{RefersUpTo, use_by, uses_of, reference_by, references_of}
 use Rattle.cw_secnames.specs.{declared.kinds.RefKind.RefKind, Marks.is_one_of}
 use Rattle.cw_secnames.specs.declared.kinds.RefKind.TheVariants.{Defined, Used, Cited}
 use Rattle.cw_secnames.specs.laws.OnceLaws.{head-in, in-once, not-in, once-ascends, tail-in}

@@ -8,8 +8,7 @@ use Rattle.cw_phase1.proofs.Terms.{Standing, Open, Section, Placement, Step, nam
 use Rattle.cw_phase1.proofs.Terms.{code_step, section_step, word_role, placed_by, is_section_code, use_by, reference_by}
 use Rattle.cw_phase1.proofs.Terms.{closing_by, open_with, KnownNames, known_behind, with_format, IsKnown, told_step}
 use Rattle.cw_phase1.proofs.Terms.{told_all, TokenLists, IsScanned, open_count, section_total, NoteKind, Covers}
-use Rattle.cw_phase1.proofs.Terms.{tokens_of}
-use Rattle.cw_phase1.proofs.Terms.{Waiting, HeldState, waiting_of, settled_placed, settled_standing, settled}
+use Rattle.cw_phase1.proofs.Terms.{tokens_of, Waiting, HeldState, waiting_of, settled_placed, settled_standing, settled}
 use Rattle.cw_phase1.proofs.Terms.{remark_put, token_held_by, ended_held, held_step, IsToken, AreBefore, WaitsBehind}
 use Rattle.cw_phase1.proofs.Terms.{CanSettle, WaitingIsKept, held_start}
 use Rattle.cw_phase1.specs.declared.held.Waiting.{Waiting as WaitingToken}

@@ -3,8 +3,7 @@ use Rattle.cw_phase1.proofs.Terms.{◌≡◌, ℕ, zero, suc, ◌+◌, ◌<◌, 
 use Rattle.cw_phase1.proofs.Terms.{length, map, cond, not, eqb, refl, sym, arith, length-append, append_assoc, add-zero}
 use Rattle.cw_phase1.proofs.Terms.{append-nil, map-append, bytes_decides, MergedLine, Cat, Exp, EntryKind, Ident}
 use Rattle.cw_phase1.proofs.Terms.{built_in_words, Role, TokenLists, Placement, text_behind_code, KnownNames, Mention}
-use Rattle.cw_phase1.proofs.Terms.{word}
-use Rattle.cw_phase1.proofs.Terms.{with_format, known_behind, known_after, names_after, mention_by, mentions_from}
+use Rattle.cw_phase1.proofs.Terms.{word, with_format, known_behind, known_after, names_after, mention_by, mentions_from}
 use Rattle.cw_phase1.proofs.Terms.{occurrence, occurrences, uses_of, references_of, known_of, told_step, told_all}
 use Rattle.cw_phase1.proofs.Terms.{told_start, NameId, Option}
 use Rattle.std.proofs.lemmas.List.Folds.{position_or_len_push}

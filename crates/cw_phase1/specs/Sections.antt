@@ -1,7 +1,6 @@
 -- The sections of a web: their heads, and the spans of their parts.
 use Rattle.std.specs.Prelude.{ℕ, ◌+◌, ◌==◌, ◌||◌, Bool, true, false, not, List, [], ◌∷◌, Option, None, length, drop}
-use Rattle.std.specs.Prelude.{if◌then◌else◌}
-use Rattle.std.specs.Prelude.{take_while}
+use Rattle.std.specs.Prelude.{if◌then◌else◌, take_while}
 use Rattle.cw_base.specs.Web.{MergedLine}
 use Rattle.cw_base.specs.declared.span.Span.{Span}
 use Rattle.cw_rules.specs.declared.codes.Code.TheVariants as at

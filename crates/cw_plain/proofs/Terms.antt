@@ -8,15 +8,13 @@ pub use Rattle.cw_texts.specs.EachForms.{Each, HasTranslated, IsWholeRef, GivesT
 pub use Rattle.cw_texts.specs.declared.each.NextText.{NextText}
 pub use Rattle.cw_plain.specs.{Plain.plain, Plain.plain_tree, Titles.source_by, Titles.titles}
 pub use Rattle.cw_plain.specs.model.Laying.{Laying, begun, ended, ended_text, no_run, piece_text, pieces_text}
-pub use Rattle.cw_plain.specs.model.Laying.{with_control}
-pub use Rattle.cw_plain.specs.model.Laying.{with_piece, Lays}
+pub use Rattle.cw_plain.specs.model.Laying.{with_control, with_piece, Lays}
 pub use Rattle.cw_plain.specs.Lines.{Added, Layout, Other, Run, Stretch, at_start, backed, behind_piece, behind_run}
 pub use Rattle.cw_plain.specs.Lines.{break_text, cut_off, ink_bytes, ink_text, laid, laid_from, level_behind, level_in}
 pub use Rattle.cw_plain.specs.Lines.{moved, piece_inks, run_text, stretches, with_move, last_behind, indent}
 pub use Rattle.cw_plain.specs.Pieces.{Closing, Ending, Move, Nothing, Opening, Part, Piece, Word, PlacedPiece, Stand}
-pub use Rattle.cw_plain.specs.Pieces.{placed}
-pub use Rattle.cw_plain.specs.Pieces.{token_placed, PlainSource, item_placed, passed, pieces, pieces_from, pieces_in}
-pub use Rattle.cw_plain.specs.Pieces.{in_name, name_placed, found_placed, number_placed, in_comment}
+pub use Rattle.cw_plain.specs.Pieces.{placed, token_placed, PlainSource, item_placed, passed, pieces, pieces_from}
+pub use Rattle.cw_plain.specs.Pieces.{pieces_in, in_name, name_placed, found_placed, number_placed, in_comment}
 pub use Rattle.cw_plain.specs.model.Walking.{MakesPlaced, Walked, Walk, behind_at, items_text, text_at, walk_begun}
 pub use Rattle.cw_plain.specs.model.Walking.{with_placed, source_of}
 pub use Rattle.cw_rules.specs.{Answers.Answer, Answers.seen, declared.codes.Code.Code, declared.tokens.TokKind.TokKind}

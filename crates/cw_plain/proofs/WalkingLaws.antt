@@ -1,8 +1,7 @@
 -- Plain text that is made item by item is that of the definition.
 use Rattle.cw_plain.proofs.Terms.{◌≡◌, ℕ, zero, suc, List, [], ◌∷◌, ◌++◌, refl, ap, ◌∙◌, Item, trimmed_items}
 use Rattle.cw_plain.proofs.Terms.{piece_text, pieces_text, PlainSource, item_placed, passed, pieces, pieces_from}
-use Rattle.cw_plain.proofs.Terms.{pieces_in}
-use Rattle.cw_plain.proofs.Terms.{plain, Walk, behind_at, items_text, text_at, walk_begun, with_placed}
+use Rattle.cw_plain.proofs.Terms.{pieces_in, plain, Walk, behind_at, items_text, text_at, walk_begun, with_placed}
 use Rattle.cw_plain.proofs.LayingLaws.{pieces-laid}
 
 abbrev AsPieces : PlainSource → List Item → Type 0

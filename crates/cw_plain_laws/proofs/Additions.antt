@@ -3,8 +3,7 @@ use Rattle.cw_plain_laws.proofs.Terms.{◌≡◌, ℕ, Bool, true, false, List, 
 use Rattle.cw_plain_laws.proofs.Terms.{refl, arith, All-cons, All-nil, All, list_all, both, Own, Added, Layout, Other}
 use Rattle.cw_plain_laws.proofs.Terms.{Run, Stretch, behind_piece, behind_run, blank_before, clash, laid_from, Word}
 use Rattle.cw_plain_laws.proofs.Terms.{Part, Ending, Opening, Closing, Move, Nothing, PlainSource, AddsLittle}
-use Rattle.cw_plain_laws.proofs.Terms.{MayBeAdded}
-use Rattle.cw_plain_laws.proofs.Terms.{PlainAddsLittle, is_in}
+use Rattle.cw_plain_laws.proofs.Terms.{MayBeAdded, PlainAddsLittle, is_in}
 use Rattle.cw_plain_laws.proofs.{Again.AreWhite, SpacedLaws.white-run}
 use Rattle.cw_plain_laws.proofs.OwnInks.{StretchesOwn, pieces-own, stretched-own}
 use Rattle.cw_rules.specs.declared.classes.Class.TheVariants.{White}

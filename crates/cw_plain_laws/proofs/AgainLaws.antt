@@ -3,8 +3,7 @@ use Rattle.cw_plain_laws.proofs.Terms.{◌≡◌, ℕ, suc, ◌+◌, ◌-◌, Bo
 use Rattle.cw_plain_laws.proofs.Terms.{◌∷◌, ◌++◌, length, codes, drop, inl, inr, refl, sym, ap, ◌∙◌, arith, subst}
 use Rattle.cw_plain_laws.proofs.Terms.{if◌then◌else◌, nat_tests, append-nil, take_at, Class, TokKind, spelling, Answer}
 use Rattle.cw_plain_laws.proofs.Terms.{Cut, Token, Where, ScanStep, token_of, plain, at_start, newline, is_in}
-use Rattle.cw_plain_laws.proofs.Terms.{is_letter}
-use Rattle.cw_plain_laws.proofs.Terms.{is_mark, run, hash, at_sign, begins_by, begins_with, is_prefix_letter}
+use Rattle.cw_plain_laws.proofs.Terms.{is_letter, is_mark, run, hash, at_sign, begins_by, begins_with, is_prefix_letter}
 use Rattle.cw_plain_laws.proofs.Terms.{prefix_size, found_apart, and-none, at-byte, or-false, or-first, or-second}
 use Rattle.cw_plain_laws.proofs.Terms.{constant, answers, joined, still_fresh, clash, is_wordy, is_joining, signs_touch}
 use Rattle.cw_plain_laws.proofs.Terms.{words_touch, all_unplaced, is_hash}

@@ -6,10 +6,10 @@ use Rattle.cw_plain_laws.proofs.Terms.{not, Option, Some, slice_index, if◌then
 use Rattle.cw_plain_laws.proofs.Terms.{take-append-drop, answers, joined, still_fresh, tokens_of, AreSimpleTokens}
 use Rattle.cw_plain_laws.proofs.Terms.{BeginsBefore, is_hash, is_program, is_simple, both-left, both-right, and-none}
 use Rattle.cw_plain_laws.proofs.Terms.{if-both, constant-le, run-le, AreNotes, Answer, Token, Begin, Finish, Note, Cut}
-use Rattle.cw_plain_laws.proofs.Terms.{ScanStep, Seen, Where, note_answers, plain, at_start, extent, at_sign}
-use Rattle.cw_plain_laws.proofs.Terms.{begins, begins_by, begins_with, hash, is_in, is_letter, is_mark, less, run}
-use Rattle.cw_plain_laws.proofs.Terms.{slash, star, newline, is_prefix_letter, prefix_size, constant, all_signs}
-use Rattle.cw_plain_laws.proofs.Terms.{longest, spelling, code_text_apart, found_apart, NoteAt, Code, CPart, TokKind}
+use Rattle.cw_plain_laws.proofs.Terms.{ScanStep, Seen, Where, note_answers, plain, at_start, extent, at_sign, begins}
+use Rattle.cw_plain_laws.proofs.Terms.{begins_by, begins_with, hash, is_in, is_letter, is_mark, less, run, slash, star}
+use Rattle.cw_plain_laws.proofs.Terms.{newline, is_prefix_letter, prefix_size, constant, all_signs, longest, spelling}
+use Rattle.cw_plain_laws.proofs.Terms.{code_text_apart, found_apart, NoteAt, Code, CPart, TokKind}
 use Rattle.cw_plain_laws.proofs.{AgainLaws.at-mark, CutStrings.sign-alone, CutStrings.string-closed, Tests.or-case}
 use Rattle.cw_plain_laws.proofs.Again.{Bare, IsAloneText, IsClosed, IsString, Prefix, in_part, prefix_bytes}
 use Rattle.cw_plain_laws.proofs.CutConstants.{constant-cut, constant-last, run-cut}

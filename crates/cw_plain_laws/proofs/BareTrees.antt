@@ -3,12 +3,11 @@ use Rattle.cw_plain_laws.proofs.Terms.{◌≡◌, ℕ, Bool, true, ◌&&◌, Lis
 use Rattle.cw_plain_laws.proofs.Terms.{subst, ◌∙◌, arith, All, All-append, All-cons, All-nil, Cat, Flags, headed}
 use Rattle.cw_plain_laws.proofs.Terms.{headed_by, headless, Nest, End, Leaf, Group, first_nest, leaf, nest, nests}
 use Rattle.cw_plain_laws.proofs.Terms.{Entry, NameId, Piece, PlainSource, Stand, control_placed, item_placed}
-use Rattle.cw_plain_laws.proofs.Terms.{pieces_from}
-use Rattle.cw_plain_laws.proofs.Terms.{pieces_in, AreSimpleTokens, BeginsBefore, is_program, is_simple, Answer, Token}
-use Rattle.cw_plain_laws.proofs.Terms.{Seen, TokKind, LeafForm, word_form, tree_in, Item, SignItem, Open, Close}
-use Rattle.cw_plain_laws.proofs.Terms.{begins_after, flat, is_break, leaf_item, trim_back, trim_front, trimmed_items}
-use Rattle.cw_plain_laws.proofs.Terms.{without_inserted, Sign, Tree, Empty, Then, Sub, Inner, Search, Stopped}
-use Rattle.cw_plain_laws.proofs.Terms.{first_ident, reserve_first, reserved_leaf, search_leaf, Control}
+use Rattle.cw_plain_laws.proofs.Terms.{pieces_from, pieces_in, AreSimpleTokens, BeginsBefore, is_program, is_simple}
+use Rattle.cw_plain_laws.proofs.Terms.{Answer, Token, Seen, TokKind, LeafForm, word_form, tree_in, Item, SignItem, Open}
+use Rattle.cw_plain_laws.proofs.Terms.{Close, begins_after, flat, is_break, leaf_item, trim_back, trim_front}
+use Rattle.cw_plain_laws.proofs.Terms.{trimmed_items, without_inserted, Sign, Tree, Empty, Then, Sub, Inner, Search}
+use Rattle.cw_plain_laws.proofs.Terms.{Stopped, first_ident, reserve_first, reserved_leaf, search_leaf, Control}
 use Rattle.cw_plain_laws.proofs.{KeptTrees.OfScrap, KeptTrees.end-kept, OwnInks.IsUnbarred, OwnInks.number-unbarred}
 use Rattle.cw_plain_laws.proofs.{Walks.IsFree}
 use Rattle.cw_reduce.specs.Visible.{shown, shown_in, shown_token}

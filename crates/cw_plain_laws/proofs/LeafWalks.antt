@@ -3,11 +3,10 @@ use Rattle.cw_rules.specs.declared.tokens.Directive.{Directive}
 use Rattle.cw_plain_laws.proofs.Terms.{arith, ◌≡◌, ℕ, Bool, true, false, List, [], ◌∷◌, ◌++◌, Option, Some, None, refl}
 use Rattle.cw_plain_laws.proofs.Terms.{sym, ap, ◌∙◌, if◌then◌else◌, All, codes, append_assoc, All-head, All-tail, Cat}
 use Rattle.cw_plain_laws.proofs.Terms.{Exp, Flags, MathMode, Text, Maybe, IsGroupOf, NameId, Entry, Piece, Word}
-use Rattle.cw_plain_laws.proofs.Terms.{PlacedPiece}
-use Rattle.cw_plain_laws.proofs.Terms.{PlainSource, Stand, before, in_name, number_placed, outside, pieces_from, placed}
-use Rattle.cw_plain_laws.proofs.Terms.{token_placed, Answer, Seen, Code, TokKind, LeafForm, code_form, sign_mode}
-use Rattle.cw_plain_laws.proofs.Terms.{token_form, word_form, tree_in, Item, SignItem, Close, continues_name, flat}
-use Rattle.cw_plain_laws.proofs.Terms.{struck, Ident, Reserved, Sign, Tree, Then}
+use Rattle.cw_plain_laws.proofs.Terms.{PlacedPiece, PlainSource, Stand, before, in_name, number_placed, outside}
+use Rattle.cw_plain_laws.proofs.Terms.{pieces_from, placed, token_placed, Answer, Seen, Code, TokKind, LeafForm}
+use Rattle.cw_plain_laws.proofs.Terms.{code_form, sign_mode, token_form, word_form, tree_in, Item, SignItem, Close}
+use Rattle.cw_plain_laws.proofs.Terms.{continues_name, flat, struck, Ident, Reserved, Sign, Tree, Then}
 use Rattle.cw_plain_laws.proofs.{FoundTokens.IsFound, WalkLaws.inner-passed, WalkLaws.sign-walks, Walks.Walks}
 use Rattle.cw_plain_laws.proofs.{Walks.among, Walks.owners}
 use Rattle.cw_reduce.proofs.ShownLaws.{struck-parts}

@@ -3,10 +3,9 @@ use Rattle.cw_plain_laws.proofs.Terms.{arith, ◌≡◌, ℕ, List, [], ◌∷�
 use Rattle.cw_plain_laws.proofs.Terms.{append-nil, Own, Layout, Other, Run, Stretch, behind_piece, behind_run}
 use Rattle.cw_plain_laws.proofs.Terms.{laid_from, stretches, with_move, Piece, Word, Part, Ending, Opening, Closing}
 use Rattle.cw_plain_laws.proofs.Terms.{Move, Nothing, PlacedPiece, PlainSource, Stand, comment_end, control_placed}
-use Rattle.cw_plain_laws.proofs.Terms.{found_placed}
-use Rattle.cw_plain_laws.proofs.Terms.{item_placed, number_placed, outside, pieces, pieces_from, pieces_in}
-use Rattle.cw_plain_laws.proofs.Terms.{token_placed, plain_inks, MayBeAdded, own_ink, own_inks, token_bytes, Seen}
-use Rattle.cw_plain_laws.proofs.Terms.{TokKind, Item, flat, struck, trimmed_items, Tree, Control}
+use Rattle.cw_plain_laws.proofs.Terms.{found_placed, item_placed, number_placed, outside, pieces, pieces_from}
+use Rattle.cw_plain_laws.proofs.Terms.{pieces_in, token_placed, plain_inks, MayBeAdded, own_ink, own_inks, token_bytes}
+use Rattle.cw_plain_laws.proofs.Terms.{Seen, TokKind, Item, flat, struck, trimmed_items, Tree, Control}
 use Rattle.cw_plain_laws.proofs.{Walks.Walks, Walks.owners, TrimLaws.trims-no-bytes}
 
 -- ## Each piece of a number is that of its token

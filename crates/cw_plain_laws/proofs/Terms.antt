@@ -26,11 +26,9 @@ pub use Rattle.cw_plain.specs.Lines.{blank_before, break_text, indent, ink_bytes
 pub use Rattle.cw_plain.specs.Lines.{laid, laid_from, last_behind, signs_touch, words_touch, piece_inks, run_text}
 pub use Rattle.cw_plain.specs.Lines.{stretches, level_behind, backed, cut_off, with_move, behind_piece}
 pub use Rattle.cw_plain.specs.Pieces.{Piece, Word, Part, Ending, Opening, Closing, Move, Nothing, PlainSource}
-pub use Rattle.cw_plain.specs.Pieces.{found_placed}
-pub use Rattle.cw_plain.specs.Pieces.{number_placed, outside, pieces, token_placed, Stand, pieces_from, pieces_in}
-pub use Rattle.cw_plain.specs.Pieces.{control_placed, item_placed, PlacedPiece, comment_end, name_behind, passed}
-pub use Rattle.cw_plain.specs.Pieces.{before}
-pub use Rattle.cw_plain.specs.Pieces.{in_name, placed}
+pub use Rattle.cw_plain.specs.Pieces.{found_placed, number_placed, outside, pieces, token_placed, Stand, pieces_from}
+pub use Rattle.cw_plain.specs.Pieces.{pieces_in, control_placed, item_placed, PlacedPiece, comment_end, name_behind}
+pub use Rattle.cw_plain.specs.Pieces.{passed, before, in_name, placed}
 pub use Rattle.cw_plain.specs.Plain.{plain_inks}
 pub use Rattle.cw_plain_laws.specs.OwnLaws.{text_source, text_tree, AddsLittle, MayBeAdded, PlainAddsLittle, own_ink}
 pub use Rattle.cw_plain_laws.specs.OwnLaws.{own_inks, token_bytes, PlainHasEachToken}
@@ -44,8 +42,7 @@ pub use Rattle.cw_rules.proofs.Taking.{AreNotes, AreBare, TakesAll, bare-all-cut
 pub use Rattle.cw_rules.specs.{model.Apart.found_apart, model.Apart.code_text_apart, Prefixes.is_prefix_letter}
 pub use Rattle.cw_rules.specs.{Prefixes.prefix_size, Signs.spelling, Signs.all_signs, Signs.longest, Signs.longer}
 pub use Rattle.cw_rules.specs.{declared.bodies.Inside.Inside, declared.bodies.NoteAt.Noted}
-pub use Rattle.cw_rules.specs.{declared.classes.Class.Class}
-pub use Rattle.cw_rules.specs.{declared.codes.Code.Code, declared.tokens.Mode.Mode}
+pub use Rattle.cw_rules.specs.{declared.classes.Class.Class, declared.codes.Code.Code, declared.tokens.Mode.Mode}
 pub use Rattle.cw_rules.specs.{declared.tokens.Mode.TheVariants.CPart, declared.tokens.TokKind.TokKind}
 pub use Rattle.cw_rules.specs.Answers.{plain, Answer, Token, Where, Begin, Finish, Note, Seen, Cut, ScanStep, token_of}
 pub use Rattle.cw_rules.specs.Answers.{is_head_sign, note_answers}

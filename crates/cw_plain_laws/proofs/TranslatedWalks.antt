@@ -2,8 +2,7 @@
 use Rattle.cw_plain_laws.proofs.Terms.{◌≡◌, ℕ, true, false, List, Option, is_some, subst, arith, Flags, c-texts-nested}
 use Rattle.cw_plain_laws.proofs.Terms.{headed, without_head, tokens_of, IsWell, nest, IsNested, begins_section_in}
 use Rattle.cw_plain_laws.proofs.Terms.{is_c_mode, Entry, PlainSource, PlainHasEachToken, own_ink, text_source}
-use Rattle.cw_plain_laws.proofs.Terms.{text_tree}
-use Rattle.cw_plain_laws.proofs.Terms.{translated-shown, Answer, Mode, texts_kept}
+use Rattle.cw_plain_laws.proofs.Terms.{text_tree, translated-shown, Answer, Mode, texts_kept}
 use Rattle.cw_base.specs.declared.span.Span.{Span}
 use Rattle.cw_lex.proofs.{HeadNests.head-leaves, Nests.nest-well}
 use Rattle.cw_plain.specs.Titles.{text_kept}

@@ -2,8 +2,7 @@
 use Rattle.cw_plain_laws.proofs.Terms.{◌≡◌, ℕ, Bool, true, ◌&&◌, List, [], ◌∷◌, refl, if◌then◌else◌, arith, both-left}
 use Rattle.cw_plain_laws.proofs.Terms.{both-right, Control, Item, SignItem, begins_after, is_break, is_inserted}
 use Rattle.cw_plain_laws.proofs.Terms.{trim_back, trim_front, trimmed_items, without_inserted, Piece, PlainSource}
-use Rattle.cw_plain_laws.proofs.Terms.{Stand}
-use Rattle.cw_plain_laws.proofs.Terms.{pieces_from, pieces_in}
+use Rattle.cw_plain_laws.proofs.Terms.{Stand, pieces_from, pieces_in}
 use Rattle.cw_plain_laws.proofs.Walks.{owners}
 use Rattle.cw_trees.specs.declared.Control.TheVariants as control
 

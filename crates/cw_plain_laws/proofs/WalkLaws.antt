@@ -3,8 +3,7 @@ use Rattle.cw_plain_laws.proofs.Terms.{arith, ◌≡◌, ℕ, zero, suc, Bool, L
 use Rattle.cw_plain_laws.proofs.Terms.{append_assoc, Control, Sign, Tree, Empty, Then, Sub, Inner, Search, Stopped}
 use Rattle.cw_plain_laws.proofs.Terms.{first_ident, reserve_first, reserved_leaf, search_leaf, Item, IdentItem}
 use Rattle.cw_plain_laws.proofs.Terms.{ReservedItem, Open, Close, flat, leaf_item, Piece, PlainSource, Stand}
-use Rattle.cw_plain_laws.proofs.Terms.{item_placed}
-use Rattle.cw_plain_laws.proofs.Terms.{name_behind, passed, pieces_from, pieces_in}
+use Rattle.cw_plain_laws.proofs.Terms.{item_placed, name_behind, passed, pieces_from, pieces_in}
 use Rattle.cw_trees.specs.Tree.{Leaf, Found, Nothing as no_ident}
 use Rattle.cw_table.proofs.NumberLaws.{struck-reserved}
 use Rattle.cw_plain_laws.proofs.Walks.{IsFree, Walks, among, owners}

@@ -7,8 +7,7 @@ use Rattle.cw_print.proofs.Terms.{run_sign, FlatItem, item_is, items_are, prints
 use Rattle.cw_print.proofs.Terms.{prints-stop, prints-then, added, depth_behind, early, late, Stands, CanCome, alone}
 use Rattle.cw_print.proofs.Terms.{AllMay, MayCome, IsBehind, IsMidway, Midway, PrintsOn, shown, shown_next, titles}
 use Rattle.cw_print.proofs.Terms.{PrintSource, Title, items_shown, outside, own_bytes, placed_shown, stand_after}
-use Rattle.cw_print.proofs.Terms.{title_in}
-use Rattle.cw_print.proofs.Terms.{behind}
+use Rattle.cw_print.proofs.Terms.{title_in, behind}
 use Rattle.std.specs.Prelude.{Result, IsErrAnd, ⊤, option_map}
 use Rattle.std.proofs.lemmas.List.Sums.{fold_push}
 use Rattle.std.proofs.lemmas.Option.{get_or_from_slice_get, slice_get-get_or, slice_get-map, slice_get_within}

@@ -13,10 +13,8 @@ pub use Rattle.cw_lex.specs.Nested.{until_section}
 pub use Rattle.cw_lines.specs.laws.SheetLaws.{prints-bytes, prints-none, prints-nothing, prints-stop, prints-then}
 pub use Rattle.cw_lines.specs.laws.SheetLaws.{prints-failing, prints-longer, can-print-after}
 pub use Rattle.cw_print.specs.{model.Coming.AllMay, model.Coming.MayCome, model.Coming.MayStand, Escaping.escaped_byte}
-pub use Rattle.cw_print.specs.{Escaping.escaped}
-pub use Rattle.cw_print.specs.{model.Scanning.IsSeeking, Sources.titles, Sources.numbered_in, model.Walked.behind}
-pub use Rattle.cw_print.specs.{model.Walked.Walked}
-pub use Rattle.cw_print.specs.{declared.dividing.Portion.Portion}
+pub use Rattle.cw_print.specs.{Escaping.escaped, model.Scanning.IsSeeking, Sources.titles, Sources.numbered_in}
+pub use Rattle.cw_print.specs.{model.Walked.behind, model.Walked.Walked, declared.dividing.Portion.Portion}
 pub use Rattle.cw_print.specs.Comments.{comment_piece, piece_of, closing_braces, CommentPiece, Prints, byte_piece}
 pub use Rattle.cw_print.specs.Comments.{is_special, joined_pieces}
 pub use Rattle.cw_print.specs.Constants.{hex_digits, mantissa_bytes, suffix, exponent_bytes}
@@ -25,10 +23,8 @@ pub use Rattle.cw_print.specs.model.Printing.{IsOnlyName, shown, IsBehind, IsMid
 pub use Rattle.cw_print.specs.model.Printing.{source_of}
 pub use Rattle.cw_print.specs.Texts.{string_bytes, divided, divided_units, division, units, include_bytes}
 pub use Rattle.cw_print.specs.Walk.{PrintSource, Title, items_shown, outside, own_bytes, placed_shown, stand_after}
-pub use Rattle.cw_print.specs.Walk.{title_in}
-pub use Rattle.cw_print.specs.Walk.{Fixed, Stand, control_shown, item_shown, own_sign, later_number, PrintsSign}
-pub use Rattle.cw_print.specs.Walk.{ItemPrint}
-pub use Rattle.cw_print.specs.Walk.{bracket, wrapped}
+pub use Rattle.cw_print.specs.Walk.{title_in, Fixed, Stand, control_shown, item_shown, own_sign, later_number}
+pub use Rattle.cw_print.specs.Walk.{PrintsSign, ItemPrint, bracket, wrapped}
 pub use Rattle.cw_rules.specs.ControlTexts.{text_to_end}
 pub use Rattle.cw_tokens.specs.{FlatItems.items_are, FlatItems.item_is, declared.flat.FlatItem.FlatItem}
 pub use Rattle.cw_trees.specs.Flat.{IdentItem, Item, Close, leaf_item, flat, begins_after, ends_text, is_break}

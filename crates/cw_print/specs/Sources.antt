@@ -1,7 +1,6 @@
 -- What a C text of a book is printed from.
 use Rattle.std.specs.Prelude.{ℕ, ◌-◌, ◌==◌, ◌&&◌, Bool, true, false, List, [], ◌∷◌, Option, Some, None, option_map}
-use Rattle.std.specs.Prelude.{if◌then◌else◌}
-use Rattle.std.specs.Prelude.{drop, map, slice_get, unwrap_or}
+use Rattle.std.specs.Prelude.{if◌then◌else◌, drop, map, slice_get, unwrap_or}
 use Rattle.cw_base.specs.declared.flags.Flags.{Flags}
 use Rattle.cw_base.specs.declared.span.Span.{Span}
 use Rattle.cw_rules.specs.Answers.{Answer}

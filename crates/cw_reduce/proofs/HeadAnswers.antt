@@ -2,8 +2,7 @@
 use Rattle.cw_reduce.proofs.Terms.{◌≡◌, ℕ, ◌<◌, ◌≤◌, ◌^◌, length, arith, Bool, true, Option, Some, None, List, [], ◌∷◌}
 use Rattle.cw_reduce.proofs.Terms.{◌++◌, option_map, refl, sym, ap, ◌∙◌, subst, list_all, append-nil, both, both-left}
 use Rattle.cw_reduce.proofs.Terms.{both-right, Span, Answer, Token, Begin, Note, Seen, seen, Gives, Expectation, Lexed}
-use Rattle.cw_reduce.proofs.Terms.{Tok}
-use Rattle.cw_reduce.proofs.Terms.{TokKind, Nest, End, Leaf, Group, group, nests, first_nest, nest, IsNested}
+use Rattle.cw_reduce.proofs.Terms.{Tok, TokKind, Nest, End, Leaf, Group, group, nests, first_nest, nest, IsNested}
 use Rattle.cw_reduce.proofs.Terms.{nested-behind, nest-token, Entry, StoredToken, LeafForm, token_form, names_with}
 use Rattle.cw_reduce.proofs.Terms.{is_word, NamesWithin, without_notes, answer_words, StartsBelow, answers_in}
 use Rattle.cw_reduce.proofs.Terms.{append_assoc, first_word, form_tokens, later_words, spelled, word_tokens}

@@ -1,11 +1,11 @@
 -- What the head of a definition makes: the tokens of its list, and its scrap. They refer to no list, and their names
 -- are names. Behind that, what stands behind heads, as they are read.
 use Rattle.cw_rules.specs.declared.tokens.Directive.{Directive}
-use Rattle.cw_reduce.proofs.Terms.{list_all, ltb-true, both-left, both-right, Cat, NameId, is_entry}
-use Rattle.cw_reduce.proofs.Terms.{with_entry, Ident as ident_kind, word_form, is_word, names-grow, Expectation, nest}
-use Rattle.cw_reduce.proofs.Terms.{IsNested, ListId, HeadRead, empty-line, keeps-itself, err-if, err-ok, on-err, Token}
-use Rattle.cw_reduce.proofs.Terms.{seen, Gives, is_head_sign, Lexed, Tok, is_name_kind, Nest, Leaf, End, Group, group}
-use Rattle.cw_reduce.proofs.Terms.{nests, first_nest, nested-behind, nest-token, words-leave, Beginning, StartsBelow}
+use Rattle.cw_reduce.proofs.Terms.{list_all, ltb-true, both-left, both-right, Cat, NameId, is_entry, with_entry}
+use Rattle.cw_reduce.proofs.Terms.{Ident as ident_kind, word_form, is_word, names-grow, Expectation, nest, IsNested}
+use Rattle.cw_reduce.proofs.Terms.{ListId, HeadRead, empty-line, keeps-itself, err-if, err-ok, on-err, Token, seen}
+use Rattle.cw_reduce.proofs.Terms.{Gives, is_head_sign, Lexed, Tok, is_name_kind, Nest, Leaf, End, Group, group, nests}
+use Rattle.cw_reduce.proofs.Terms.{first_nest, nested-behind, nest-token, words-leave, Beginning, StartsBelow}
 use Rattle.std.proofs.lemmas.Option.{slice_get-get_or}
 use Rattle.cw_rules.specs.declared.tokens.TokKind.TheVariants as kind
 use Rattle.cw_trees.specs.declared.Control.TheVariants as control
@@ -35,8 +35,7 @@ use Rattle.cw_translator.proofs.Terms.{Memory, subst, Begin, Note, answers_in}
 use Rattle.std.proofs.Common.{Bool, false, Ok, Result, ◌^◌}
 use Rattle.cw_reduce.specs.model.HeadReading.{macro_tokens, format_tokens, with_break, IsLast, HasTokens, answer_words}
 use Rattle.cw_reduce.specs.HeadReading.{head_line, read_made, words_in, NamesWithin}
-use Rattle.cw_reduce.specs.model.HeadReading.{is_definition, words_tokens}
-use Rattle.cw_reduce.specs.model.HeadReading.{answers_ahead, head_named, without_notes}
+use Rattle.cw_reduce.specs.model.HeadReading.{is_definition, words_tokens, answers_ahead, head_named, without_notes}
 use Rattle.cw_lex.specs.Heads.{Head, Macro, Format, Silent, headed_by, head_words, wanted_by, Named, Headed, headed}
 use Rattle.cw_lex.specs.Heads.{headless, named_headed, without_words}
 use Rattle.cw_scraps.proofs.LeafForms.{leaf-sound}

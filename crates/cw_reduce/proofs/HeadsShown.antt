@@ -7,14 +7,13 @@ use Rattle.cw_rules.specs.declared.tokens.Directive.{Directive}
 use Rattle.cw_reduce.proofs.Terms.{◌≡◌, ℕ, Bool, true, false, Option, Some, List, [], ◌∷◌, ◌++◌, refl, ap, ◌∙◌}
 use Rattle.cw_reduce.proofs.Terms.{list_all, append-nil, Cat, Flags, MathMode, Text, Math, Span, Answer, Seen}
 use Rattle.cw_reduce.proofs.Terms.{is_head_sign, Expectation, TokKind, Head, Headless, Macro, Format, Silent, Named}
-use Rattle.cw_reduce.proofs.Terms.{Headed}
-use Rattle.cw_reduce.proofs.Terms.{headed, headed_by, headless, named_headed, head_behind, head_words, Nest, Leaf, nest}
-use Rattle.cw_reduce.proofs.Terms.{NameId, Entry, reads, StoredToken as Token, tree_in, sign_mode, token_form}
-use Rattle.cw_reduce.proofs.Terms.{word_form, names_with, is_word, InnersRead, ReadsInText, Known, leaf_scrap}
-use Rattle.cw_reduce.proofs.Terms.{sign_behind, names_in_text, names-append, struck, starts, scrap_agrees, append_assoc}
-use Rattle.cw_reduce.proofs.Terms.{IsWell, ◌≤◌, arith, State, productions-sound, ticks_in, limit_in, is_some, Dead}
-use Rattle.cw_reduce.proofs.Terms.{IsNested, list_if, nest-well, shown_in, shown_head, shown, ticks-most, limit-one}
-use Rattle.cw_reduce.proofs.Terms.{limits-more, ticks-more, ticks-one}
+use Rattle.cw_reduce.proofs.Terms.{Headed, headed, headed_by, headless, named_headed, head_behind, head_words, Nest}
+use Rattle.cw_reduce.proofs.Terms.{Leaf, nest, NameId, Entry, reads, StoredToken as Token, tree_in, sign_mode}
+use Rattle.cw_reduce.proofs.Terms.{token_form, word_form, names_with, is_word, InnersRead, ReadsInText, Known}
+use Rattle.cw_reduce.proofs.Terms.{leaf_scrap, sign_behind, names_in_text, names-append, struck, starts, scrap_agrees}
+use Rattle.cw_reduce.proofs.Terms.{append_assoc, IsWell, ◌≤◌, arith, State, productions-sound, ticks_in, limit_in}
+use Rattle.cw_reduce.proofs.Terms.{is_some, Dead, IsNested, list_if, nest-well, shown_in, shown_head, shown, ticks-most}
+use Rattle.cw_reduce.proofs.Terms.{limit-one, limits-more, ticks-more, ticks-one}
 use Rattle.cw_lex.specs.declared.heads.Expectation.TheVariants as wants
 use Rattle.cw_rules.specs.declared.signs.Sign.{Sign}
 use Rattle.cw_rules.specs.declared.tokens.TokKind.TheVariants as kind

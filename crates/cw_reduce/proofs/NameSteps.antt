@@ -24,9 +24,9 @@ use Rattle.cw_translator.proofs.Terms.{map, option_map, refl, ap, ◌∙◌, add
 use Rattle.cw_translator.proofs.Terms.{All-head, All-tail, Flags, Memory, Answer, Seen, Begin, Finish, TokKind, Entry}
 use Rattle.cw_translator.proofs.Terms.{all_roots, answers_in, frames_of, IsTranslating, Progress, after_answers}
 use Rattle.cw_translator.proofs.Terms.{NamesAmong, later, WatchState, Advances, over, progress_over, append_assoc, ◌⊎◌}
-use Rattle.cw_translator.proofs.Terms.{inl}
-use Rattle.cw_translator.proofs.Terms.{inr, IfSome, Token as StoredToken, StoredLists, Text, IsSoundLine, scraps_of}
-use Rattle.cw_translator.proofs.Terms.{marked_names, CText, all_ended, here, Known, sign_behind, with_names, EndsIn}
+use Rattle.cw_translator.proofs.Terms.{inl, inr, IfSome, Token as StoredToken, StoredLists, Text, IsSoundLine}
+use Rattle.cw_translator.proofs.Terms.{scraps_of, marked_names, CText, all_ended, here, Known, sign_behind, with_names}
+use Rattle.cw_translator.proofs.Terms.{EndsIn}
 use Rattle.cw_secnames.specs.declared.kinds.SecId.{SecId}
 use Rattle.cw_translator.specs.NameParts.{AreNamesOf, name_texts, parts_by_kind, texts_kept, texts_of_name}
 

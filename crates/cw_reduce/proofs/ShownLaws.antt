@@ -23,11 +23,10 @@ use Rattle.cw_translator.proofs.Terms.{Flags, Maybe, Answer, Seen, TokKind, Entr
 use Rattle.cw_translator.proofs.Terms.{LeafForm, token_form, Then, Sign, Empty, leaf_scrap, CommentItem, Piece}
 use Rattle.cw_translator.proofs.Terms.{InnerText, comment_rest, comment_tree, Known, state_in, end_from, append_assoc}
 use Rattle.cw_translator.proofs.Terms.{suc, get_or, map, take, drop, All, All-head, All-tail, inl, inr, length, Text}
-use Rattle.cw_translator.proofs.Terms.{Inner, scrap_agrees, State, arith, All-append, reads, names_with}
-use Rattle.cw_translator.proofs.Terms.{comment_scrap, with_names}
+use Rattle.cw_translator.proofs.Terms.{Inner, scrap_agrees, State, arith, All-append, reads, names_with, comment_scrap}
+use Rattle.cw_translator.proofs.Terms.{with_names}
 use Rattle.cw_trees.specs.Joining.{dollar_before, scrap_in_text, blank_and_whole, no_scrap, JoinPiece, Whole, Mark}
-use Rattle.cw_trees.specs.Joining.{needs}
-use Rattle.cw_trees.specs.Joining.{after, toggled, joined_tree, Agrees}
+use Rattle.cw_trees.specs.Joining.{needs, after, toggled, joined_tree, Agrees}
 use Rattle.cw_table.proofs.ScrapFacts.{all-append}
 use Rattle.cw_reduce.specs.Visible.{is_shown, is_shown_code, is_comment, shown_token, shown_in}
 use Rattle.cw_lex.specs.Nest.{Nest, End, Leaf, Group, is_text_kind, IsGroupOf, IsWell, nest}

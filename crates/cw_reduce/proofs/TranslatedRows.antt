@@ -1,9 +1,9 @@
 -- Worked rows of translation: the counts, the productions, the visible tokens and the bytes of some C texts.
 use Rattle.std.proofs.Common.{if◌then◌else◌}
-use Rattle.cw_reduce.proofs.Terms.{Option, MathMode, ◌≡◌, ℕ, false, List, [], ◌∷◌, map, codes, get_or, length}
-use Rattle.cw_reduce.proofs.Terms.{eqb, refl, Some, None, is_some, Text, CPart, Definition, inner_mode as InnerMode}
-use Rattle.cw_reduce.proofs.Terms.{Answer, tokens_of, Entry, Item, SourceItem, IdentItem, ReservedItem, SignItem, Open}
-use Rattle.cw_reduce.proofs.Terms.{Close, flat, trimmed_items, struck, reads, scraps_in, productions_in, logs_in}
+use Rattle.cw_reduce.proofs.Terms.{Option, MathMode, ◌≡◌, ℕ, false, List, [], ◌∷◌, map, codes, get_or, length, eqb}
+use Rattle.cw_reduce.proofs.Terms.{refl, Some, None, is_some, Text, CPart, Definition, inner_mode as InnerMode, Answer}
+use Rattle.cw_reduce.proofs.Terms.{tokens_of, Entry, Item, SourceItem, IdentItem, ReservedItem, SignItem, Open, Close}
+use Rattle.cw_reduce.proofs.Terms.{flat, trimmed_items, struck, reads, scraps_in, productions_in, logs_in}
 use Rattle.cw_reduce.proofs.Terms.{parts_of_name, Ended, shown as shown_numbers, Ident as ident_kind, built_in_words}
 use Rattle.cw_base.specs.declared.category.Cat.TheVariants as cat
 use Rattle.cw_trees.specs.Printing.{Printable, printed, sign_bytes, ident_bytes, reserved_bytes}

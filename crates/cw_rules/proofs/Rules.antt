@@ -17,9 +17,9 @@ use Rattle.cw_rules.specs.Tokens.{alone_size, behind_format, behind_include, beh
 use Rattle.cw_rules.specs.Tokens.{code_by, code_token, comment_begin, comment_closed, comment_end, dropped_code}
 use Rattle.cw_rules.specs.Tokens.{directive_at, effect_in, ends_at_bar, format_name, identifier, in_code, in_hash_line}
 use Rattle.cw_rules.specs.Tokens.{include_name, inner_begin, inner_end, is_code_part, is_deep, is_head, is_name}
-use Rattle.cw_rules.specs.Tokens.{is_space, limbo_by}
-use Rattle.cw_rules.specs.Tokens.{limbo_text, line_end, macro_name, may_head, moved, name_follows, one, parameter}
-use Rattle.cw_rules.specs.Tokens.{parameter_follows, passed, piece, sign_or_other, skipped_byte, string, word}
+use Rattle.cw_rules.specs.Tokens.{is_space, limbo_by, limbo_text, line_end, macro_name, may_head, moved, name_follows}
+use Rattle.cw_rules.specs.Tokens.{one, parameter, parameter_follows, passed, piece, sign_or_other, skipped_byte, string}
+use Rattle.cw_rules.specs.Tokens.{word}
 use Rattle.cw_rules.{specs.Tokens.takes_hash_line, specs.Tokens.tex_by, specs.Tokens.with_inner, proofs.Choices.if-both}
 use Rattle.cw_base.specs.declared.notes.NoteKind.TheVariants as notes
 use Rattle.cw_rules.specs.declared.classes.Class.TheVariants as classes

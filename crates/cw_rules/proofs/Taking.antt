@@ -16,8 +16,8 @@ use Rattle.cw_rules.specs.Bodies.{stops, goes_on, extent, ended, noted}
 use Rattle.cw_rules.specs.Tokens.{in_hash_line, is_space, is_deep, passed, one, skipped_byte, comment_end, inner_cut}
 use Rattle.cw_rules.specs.Tokens.{comment_cut, part_cut, inner_or_none, all_cut, section, section_code, line_end}
 use Rattle.cw_rules.specs.Tokens.{identifier, word, directive_at, alone_size, control_or_plain, code_token}
-use Rattle.cw_rules.specs.Tokens.{dropped_code, comment_begin}
-use Rattle.cw_rules.specs.Tokens.{inner_begin, inner_end, piece_start, piece, comment_closed}
+use Rattle.cw_rules.specs.Tokens.{dropped_code, comment_begin, inner_begin, inner_end, piece_start, piece}
+use Rattle.cw_rules.specs.Tokens.{comment_closed}
 use Rattle.cw_rules.proofs.{Inside.ended-some, Choices.if-both, Choices.or-false, Choices.at-byte}
 use Rattle.cw_rules.specs.declared.classes.Class.TheVariants as classes
 use Rattle.cw_rules.specs.declared.parts.Behind.TheVariants as behinds

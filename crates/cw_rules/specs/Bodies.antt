@@ -1,7 +1,7 @@
 -- The insides of strings, include names, control texts, section names and pieces of comments. Each goes on byte by byte
 -- until it stops; some bytes take the next one along, and some have a note.
-use Rattle.std.specs.Prelude.{ℕ, ◌+◌, ◌-◌, Bool, false, ◌&&◌, ◌||◌, not, ◌==◌, List, [], ◌∷◌, ◌++◌, Option, Some}
-use Rattle.std.specs.Prelude.{None, codes, drop, length, if◌then◌else◌}
+use Rattle.std.specs.Prelude.{ℕ, ◌+◌, ◌-◌, Bool, false, ◌&&◌, ◌||◌, not, ◌==◌, List, [], ◌∷◌, ◌++◌, Option, Some, None}
+use Rattle.std.specs.Prelude.{codes, drop, length, if◌then◌else◌}
 use Rattle.cw_base.specs.declared.notes.NoteKind.{NoteKind}
 use Rattle.cw_base.specs.declared.notes.NoteKind.TheVariants.{AtInString, CodeInControlText, CodeInName, AtInComment}
 use Rattle.cw_base.specs.declared.notes.NoteKind.TheVariants.{ExtraBrace, TooDeep}

@@ -28,8 +28,8 @@ use Rattle.cw_rules.specs.declared.tokens.Directive.TheVariants.{No, Word, Macro
 use Rattle.cw_rules.specs.declared.tokens.TokKind.{TokKind}
 use Rattle.cw_rules.specs.declared.tokens.TokKind.TheVariants as kinds
 use Rattle.cw_base.specs.Bytes.{newline, backslash}
-use Rattle.cw_rules.specs.Bytes.{hash, apostrophe, left_paren, right_paren, star, comma, slash, less}
-use Rattle.cw_rules.specs.Bytes.{greater, equals, at_sign, run, begins, begins_by, begins_with}
+use Rattle.cw_rules.specs.Bytes.{hash, apostrophe, left_paren, right_paren, star, comma, slash, less, greater, equals}
+use Rattle.cw_rules.specs.Bytes.{at_sign, run, begins, begins_by, begins_with}
 use Rattle.cw_base.specs.Conditions.{list_if}
 use Rattle.cw_base.specs.Text.{bar}
 use Rattle.cw_rules.specs.Bytes.{is_letter, is_mark, is_in}
@@ -40,8 +40,7 @@ use Rattle.cw_rules.specs.Codes.{code_at, begins_section, has_control_text, effe
 use Rattle.cw_rules.specs.Codes.{effect_in_definition, effect_at_begin}
 use Rattle.cw_rules.specs.Bodies.{at_start, extent, noted, ended, one_note, note_unless, all_notes}
 use Rattle.cw_rules.specs.Names.{is_void}
-use Rattle.cw_rules.specs.Answers.{Answer, Token, Begin, Finish, Note, Where, Spot, Cut, ScanStep, before}
-use Rattle.cw_rules.specs.Answers.{note_answers}
+use Rattle.cw_rules.specs.Answers.{Answer, Token, Begin, Finish, Note, Where, Spot, Cut, ScanStep, before, note_answers}
 use Rattle.cw_rules.specs.Answers.{token_of, cut_token, plain, dropped}
 
 -- ## Tokens, by their classes

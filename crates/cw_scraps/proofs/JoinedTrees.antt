@@ -1,11 +1,10 @@
 -- The tokens of a new list have the joined tree.
 use Rattle.cw_scraps.proofs.Terms.{◌≡◌, ℕ, suc, ◌+◌, ◌≤◌, List, [], ◌∷◌, ◌++◌, length, map, refl, sym, ◌∙◌, arith}
 use Rattle.cw_scraps.proofs.Terms.{MathMode, Math, Sign, Tree, Then, Sub, JoinPiece, Whole, Mark, needs, after}
-use Rattle.cw_scraps.proofs.Terms.{first_mode}
-use Rattle.cw_scraps.proofs.Terms.{toggled, joined_tree, joined_left, joined_right, Piece, scraps_in, numbers_from}
-use Rattle.cw_scraps.proofs.Terms.{math_piece, joined_of, Token, shape, item_of, tree_in, trees_from, LineEntry, Insert}
-use Rattle.cw_scraps.proofs.Terms.{scraps_of, insert_in, inserting, IsPieceWithin, toggle, tokens_of, left_of}
-use Rattle.cw_scraps.proofs.Terms.{right_after}
+use Rattle.cw_scraps.proofs.Terms.{first_mode, toggled, joined_tree, joined_left, joined_right, Piece, scraps_in}
+use Rattle.cw_scraps.proofs.Terms.{numbers_from, math_piece, joined_of, Token, shape, item_of, tree_in, trees_from}
+use Rattle.cw_scraps.proofs.Terms.{LineEntry, Insert, scraps_of, insert_in, inserting, IsPieceWithin, toggle, tokens_of}
+use Rattle.cw_scraps.proofs.Terms.{left_of, right_after}
 use Rattle.cw_scraps.proofs.Buildings.{Kind, scrap, sign, kind, Goes, goes}
 use Rattle.cw_scraps.proofs.Reservings.{seen-get}
 

@@ -6,11 +6,10 @@ use Rattle.cw_scraps.proofs.Terms.{All-tail, cases_lt, Cat, RawInt, Flags, MathM
 use Rattle.cw_scraps.proofs.Terms.{Empty, Then, Sub, Inner, bare_name, Search, Found, Nothing, or_else, search_leaf}
 use Rattle.cw_scraps.proofs.Terms.{first_ident, reserve_first, Scrap, no_scrap, scrap_agrees, JoinPiece, Whole, Mark}
 use Rattle.cw_scraps.proofs.Terms.{needs, after, toggled, joined_tree, join, Agrees, Action, Piece, Row, result_at}
-use Rattle.cw_scraps.proofs.Terms.{is_exp}
-use Rattle.cw_scraps.proofs.Terms.{cats_of, row_pieces, math_piece, joined_of, alone, with_cat, new_from, new_scrap}
-use Rattle.cw_scraps.proofs.Terms.{search_in, reserved_in, reserved_at, bolded, bolded_at, worded_at, is_bare_name}
-use Rattle.cw_scraps.proofs.Terms.{named_scrap, named_right}
-use Rattle.cw_scraps.proofs.Terms.{rewrite_from, leaf_named_below, IsNamedBelow, piece_agrees}
+use Rattle.cw_scraps.proofs.Terms.{is_exp, cats_of, row_pieces, math_piece, joined_of, alone, with_cat, new_from}
+use Rattle.cw_scraps.proofs.Terms.{new_scrap, search_in, reserved_in, reserved_at, bolded, bolded_at, worded_at}
+use Rattle.cw_scraps.proofs.Terms.{is_bare_name, named_scrap, named_right, rewrite_from, leaf_named_below, IsNamedBelow}
+use Rattle.cw_scraps.proofs.Terms.{piece_agrees}
 use Rattle.cw_scraps.proofs.ModeLaw.{join-agrees, agrees-same, reserve-reads}
 use Rattle.cw_table.specs.declared.types.Piece.TheVariants as piece
 

@@ -2,10 +2,9 @@
 use Rattle.cw_scraps.proofs.Terms.{◌≡◌, List, [], ◌∷◌, Option, Some, refl, sym, ap, ◌∙◌, subst, arith, All, All-head}
 use Rattle.cw_scraps.proofs.Terms.{All-tail, MathMode, Text, Math, Maybe, Control, Leaf, Sign, Tree, Empty, Then, Sub}
 use Rattle.cw_scraps.proofs.Terms.{Inner, Search, search_leaf, first_ident, reserved_leaf, reserve_first, JoinPiece}
-use Rattle.cw_scraps.proofs.Terms.{Whole}
-use Rattle.cw_scraps.proofs.Terms.{Mark, needs, after, first_mode, toggled, joined_tree, joined_left, joined_right}
-use Rattle.cw_scraps.proofs.Terms.{stays, reads_sign, reads_leaf, leads_on, reads, Agrees, IsSteady, piece_agrees}
-use Rattle.cw_scraps.proofs.Terms.{JoinsAgree}
+use Rattle.cw_scraps.proofs.Terms.{Whole, Mark, needs, after, first_mode, toggled, joined_tree, joined_left}
+use Rattle.cw_scraps.proofs.Terms.{joined_right, stays, reads_sign, reads_leaf, leads_on, reads, Agrees, IsSteady}
+use Rattle.cw_scraps.proofs.Terms.{piece_agrees, JoinsAgree}
 
 -- a mode that is told
 abbrev pub IsTold : MathMode → Type 0

@@ -20,17 +20,14 @@ pub use Rattle.cw_base.specs.declared.mode.MathMode.TheVariants.{Math, Maybe, Te
 pub use Rattle.cw_names.specs.{declared.NameId.NameId, declared.entry.EntryKind.TheVariants.Ident}
 pub use Rattle.cw_names.specs.Names.{Entry, place_of, with_entry, with_category}
 pub use Rattle.cw_scraps.specs.{model.Building.Joins, model.Changing.Changes, Changing.Keeps, model.Gap.around}
-pub use Rattle.cw_scraps.specs.{model.Gap.IsGap}
-pub use Rattle.cw_scraps.specs.{model.Making.pieces_at, model.Making.IsMade, model.Making.kept, model.Making.joined}
-pub use Rattle.cw_scraps.specs.{model.Modes.piece_agrees}
-pub use Rattle.cw_scraps.specs.{model.Modes.IsSteady, model.Modes.JoinsAgree, model.Replacing.replaced_from}
-pub use Rattle.cw_scraps.specs.{model.Replacing.Replaces}
+pub use Rattle.cw_scraps.specs.{model.Gap.IsGap, model.Making.pieces_at, model.Making.IsMade, model.Making.kept}
+pub use Rattle.cw_scraps.specs.{model.Making.joined, model.Modes.piece_agrees, model.Modes.IsSteady}
+pub use Rattle.cw_scraps.specs.{model.Modes.JoinsAgree, model.Replacing.replaced_from, model.Replacing.Replaces}
 pub use Rattle.cw_scraps.specs.{model.Turning.named_by, model.Turning.Turns, declared.line.LineEntry.LineEntry}
 pub use Rattle.cw_scraps.specs.{declared.pieces.Insert.Insert}
 pub use Rattle.cw_scraps.specs.Applying.{categories, looked_at, state_of, retyped, retyped_by}
 pub use Rattle.cw_scraps.specs.model.Inserting.{insert_in, inserting, IsPieceWithin, toggle, tokens_of, left_of}
-pub use Rattle.cw_scraps.specs.model.Inserting.{right_after}
-pub use Rattle.cw_scraps.specs.model.Inserting.{IsRun, entry_cats, inserted_by, IsInsertionWithin}
+pub use Rattle.cw_scraps.specs.model.Inserting.{right_after, IsRun, entry_cats, inserted_by, IsInsertionWithin}
 pub use Rattle.cw_scraps.specs.Leaves.{LeafForm, source, code_form, form_of, word_form, word_cat, own_cat, token_form}
 pub use Rattle.cw_scraps.specs.Leaves.{MakesLeaf, HasForm, entry_of}
 pub use Rattle.cw_scraps.specs.Lines.{no_entry, roots_of, AreRoots, seen, scraps_of, IsOutside, leaf_named_below}
@@ -42,9 +39,9 @@ pub use Rattle.cw_table.specs.{Productions.productions, declared.types.Piece.Pie
 pub use Rattle.cw_table.specs.declared.types.Action.{Action}
 pub use Rattle.cw_table.specs.{declared.types.RowResult.TheVariants.SameAs}
 pub use Rattle.cw_table.specs.Rewriting.{alone, takes_other, reserved_in, reserved_at, cats_of, row_pieces, math_piece}
-pub use Rattle.cw_table.specs.Rewriting.{bolded, bolded_at, worded_at}
-pub use Rattle.cw_table.specs.Rewriting.{joined_of, with_cat, new_from, new_scrap, search_in, is_bare_name, named_scrap}
-pub use Rattle.cw_table.specs.Rewriting.{named_right, rewrite_from, found_names, with_type, rewrite, is_stmt}
+pub use Rattle.cw_table.specs.Rewriting.{bolded, bolded_at, worded_at, joined_of, with_cat, new_from, new_scrap}
+pub use Rattle.cw_table.specs.Rewriting.{search_in, is_bare_name, named_scrap, named_right, rewrite_from, found_names}
+pub use Rattle.cw_table.specs.Rewriting.{with_type, rewrite, is_stmt}
 pub use Rattle.cw_table.specs.Rows.{pieces_for, test, tests_of, result_at, no_row, row_numbered, row_of}
 pub use Rattle.cw_table.specs.Sound.{scraps_in, numbers_from, IsSound, row_is_sound, is_exp}
 pub use Rattle.cw_tokens.proofs.Linking.{refers-more, pushed-ref, refers-within, refers-old}

@@ -1,13 +1,12 @@
 -- Productions keep the numbers of the source tokens, in order.
-use Rattle.cw_table.proofs.Terms.{◌≡◌, ℕ, zero, suc, ◌+◌, true, List, [], ◌∷◌, ◌++◌, map, get_or, take, drop}
-use Rattle.cw_table.proofs.Terms.{set, refl, sym, ◌∙◌, ap, drop-drop, arith, append_assoc, take-append-drop, list_all}
-use Rattle.cw_table.proofs.Terms.{nat_tests, Cat, Flags, MathMode, Leaf, Tree, Empty, Then, Sub, Inner, Search}
-use Rattle.cw_table.proofs.Terms.{reserved_leaf, reserve_first, Scrap, no_scrap, JoinPiece, Whole, Mark, needs, after}
-use Rattle.cw_table.proofs.Terms.{toggled, joined_tree, Piece, Row, result_at, scraps_in, numbers_from, row_is_sound}
-use Rattle.cw_table.proofs.Terms.{IsSound, cats_of, row_pieces, math_piece, joined_of, new_from, new_scrap, search_in}
-use Rattle.cw_table.proofs.Terms.{Action, reserved_in, bolded, worded_at, named_scrap, named_right, rewrite_from, State}
-use Rattle.cw_table.proofs.Terms.{rewrite}
-use Rattle.cw_table.proofs.Terms.{Place, Nowhere, At, next_place, weight, is_fine, steps}
+use Rattle.cw_table.proofs.Terms.{◌≡◌, ℕ, zero, suc, ◌+◌, true, List, [], ◌∷◌, ◌++◌, map, get_or, take, drop, set, refl}
+use Rattle.cw_table.proofs.Terms.{sym, ◌∙◌, ap, drop-drop, arith, append_assoc, take-append-drop, list_all, nat_tests}
+use Rattle.cw_table.proofs.Terms.{Cat, Flags, MathMode, Leaf, Tree, Empty, Then, Sub, Inner, Search, reserved_leaf}
+use Rattle.cw_table.proofs.Terms.{reserve_first, Scrap, no_scrap, JoinPiece, Whole, Mark, needs, after, toggled}
+use Rattle.cw_table.proofs.Terms.{joined_tree, Piece, Row, result_at, scraps_in, numbers_from, row_is_sound, IsSound}
+use Rattle.cw_table.proofs.Terms.{cats_of, row_pieces, math_piece, joined_of, new_from, new_scrap, search_in, Action}
+use Rattle.cw_table.proofs.Terms.{reserved_in, bolded, worded_at, named_scrap, named_right, rewrite_from, State}
+use Rattle.cw_table.proofs.Terms.{rewrite, Place, Nowhere, At, next_place, weight, is_fine, steps}
 use Rattle.cw_trees.specs.Flat.{leaf_numbers, is_name_text, continues_name, struck}
 use Rattle.cw_table.specs.{Normal.normal, SourceNumbers.numbers_of}
 use Rattle.cw_table.proofs.Falling.{pieces-whole, alone-is}

@@ -29,17 +29,17 @@ pub use Rattle.cw_base.specs.declared.category.Cat.TheVariants.{TypedefLike, Dec
 pub use Rattle.cw_base.specs.declared.category.Cat.TheVariants.{TypeofLike, Colcol, AttrHead}
 pub use Rattle.cw_base.specs.declared.mode.MathMode.TheVariants.{Maybe, Math}
 pub use Rattle.cw_table.specs.{model.Joined.joined, model.Joined.zipped, NormalLaws.NoneFitsBelow}
-pub use Rattle.cw_table.specs.{NormalLaws.SafeReachesFar}
-pub use Rattle.cw_table.specs.{Productions.productions, declared.masks.RowSet.RowSet, declared.productions.Head.Head}
-pub use Rattle.cw_table.specs.{declared.types.Piece.Piece, declared.types.Piece.TheVariants.Blank}
-pub use Rattle.cw_table.specs.{declared.types.Row.Row, declared.types.RowResult.RowResult}
+pub use Rattle.cw_table.specs.{NormalLaws.SafeReachesFar, Productions.productions, declared.masks.RowSet.RowSet}
+pub use Rattle.cw_table.specs.{declared.productions.Head.Head, declared.types.Piece.Piece}
+pub use Rattle.cw_table.specs.{declared.types.Piece.TheVariants.Blank, declared.types.Row.Row}
+pub use Rattle.cw_table.specs.{declared.types.RowResult.RowResult}
 pub use Rattle.cw_table.specs.Fitting.{all_hold, first_of, row_fits, seen, window_of}
 pub use Rattle.cw_table.specs.Normal.{Production, rank_with, weight_of, weight, fine_with, is_fine, Place, Nowhere, At}
 pub use Rattle.cw_table.specs.Normal.{least_place, next_place, steps, log_of, normal, log, count}
 pub use Rattle.cw_table.specs.NormalWalk.{walk_left, Position, positions_of, turns, walk_of, walked_of}
 pub use Rattle.cw_table.specs.Rewriting.{State, cats_of, row_pieces, joined_of, alone, with_cat, new_scrap, worded_at}
-pub use Rattle.cw_table.specs.Rewriting.{rewrite_from, rewrite, math_piece, new_from, search_in, reserved_in}
-pub use Rattle.cw_table.specs.Rewriting.{bolded, named_scrap, named_right, is_bare_name}
+pub use Rattle.cw_table.specs.Rewriting.{rewrite_from, rewrite, math_piece, new_from, search_in, reserved_in, bolded}
+pub use Rattle.cw_table.specs.Rewriting.{named_scrap, named_right, is_bare_name}
 pub use Rattle.cw_table.specs.Rows.{tests_of, empty, test, result_at, no_row, pieces_for, row_numbered, row_of, joins}
 pub use Rattle.cw_table.specs.Rows.{replaces_all, only}
 pub use Rattle.cw_table.specs.Safe.{Pair, SafeIsSound, brings, is_hazard, least, members, pairs_by, pairs_of, reserves}

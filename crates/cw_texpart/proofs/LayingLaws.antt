@@ -4,11 +4,10 @@ use Rattle.cw_texpart.proofs.Terms.{ap, ◌∙◌, List, [], ◌∷◌, ◌++◌
 use Rattle.cw_texpart.proofs.Terms.{ne_eqb, length-drop, take-take, subst, Result, Ok, Err, IsErrAnd, min, nat_lt}
 use Rattle.cw_texpart.proofs.Terms.{slice_range, append-nil, drop-drop, drop-take, drop_more, length-take}
 use Rattle.cw_texpart.proofs.Terms.{take-append-drop, All-head, All-tail, DeskState, HasNoLineEnd, Line, LineState}
-use Rattle.cw_texpart.proofs.Terms.{fill_by}
-use Rattle.cw_texpart.proofs.Terms.{fill_byte, HasPut, Puts, puts-bytes, puts-none, puts-stop, puts-then, PutError}
-use Rattle.cw_texpart.proofs.Terms.{Seen, is_text_kind, TokKind, Ink, Print, LineEnd, bytes_of, copied, end_if, ink_by}
-use Rattle.cw_texpart.proofs.Terms.{kind_inks, laid, prints, token_inks, token_inks_by, held, held_behind, holds_bytes}
-use Rattle.cw_texpart.proofs.Terms.{inked}
+use Rattle.cw_texpart.proofs.Terms.{fill_by, fill_byte, HasPut, Puts, puts-bytes, puts-none, puts-stop, puts-then}
+use Rattle.cw_texpart.proofs.Terms.{PutError, Seen, is_text_kind, TokKind, Ink, Print, LineEnd, bytes_of, copied}
+use Rattle.cw_texpart.proofs.Terms.{end_if, ink_by, kind_inks, laid, prints, token_inks, token_inks_by, held}
+use Rattle.cw_texpart.proofs.Terms.{held_behind, holds_bytes, inked}
 use Rattle.cw_lines.specs.Line.{fill}
 
 -- ## Bytes

@@ -20,8 +20,7 @@ pub use Rattle.cw_lines.specs.{declared.put_error.PutError.TheVariants.Memory}
 pub use Rattle.cw_lines.specs.Line.{Line, LineState, fill_by, fill_byte}
 pub use Rattle.cw_lines.specs.model.Line.{HasNoLineEnd}
 pub use Rattle.cw_lines.specs.laws.SheetLaws.{prints-bytes, same-sheet, same-then, prints-failing, prints-none}
-pub use Rattle.cw_lines.specs.laws.SheetLaws.{prints-stop}
-pub use Rattle.cw_lines.specs.laws.SheetLaws.{prints-then, prints-longer}
+pub use Rattle.cw_lines.specs.laws.SheetLaws.{prints-stop, prints-then, prints-longer}
 pub use Rattle.cw_lines.specs.laws.WritesLaws.{puts-bytes, puts-none, puts-stop, puts-then, puts-failing, puts-nothing}
 pub use Rattle.cw_lines.specs.laws.WritesLaws.{is_err, can-after}
 pub use Rattle.cw_names.specs.{Names.Entry, declared.entry.NameId.NameId, declared.xrefs.Occurrence.Occurrence}
@@ -30,8 +29,7 @@ pub use Rattle.cw_print.specs.Walk.{section_number, changed_mark, tree_bytes}
 pub use Rattle.cw_rules.specs.{declared.tokens.Mode.TheVariants.Inner, declared.tokens.TokKind.TokKind}
 pub use Rattle.cw_rules.specs.Answers.{Seen, Answer, Token, Begin, Finish, Note, has_sign, seen}
 pub use Rattle.cw_texpart.specs.{Limbo.limbo_bytes, Limbo.printed_limbo, model.PartForms.tex_setting}
-pub use Rattle.cw_texpart.specs.{model.PartForms.TexSetting}
-pub use Rattle.cw_texpart.specs.{declared.counts.Counts.Counts}
+pub use Rattle.cw_texpart.specs.{model.PartForms.TexSetting, declared.counts.Counts.Counts}
 pub use Rattle.cw_texpart.specs.Beside.{code_beside, is_nothing, has_prose, is_prose}
 pub use Rattle.cw_texpart.specs.Done.{Done, done_behind, joined_done, as_it_is, reprinted}
 pub use Rattle.cw_texpart.specs.Heads.{Added, add_behind, carry_to, one_if_carried, successor, with_one, head, head_by}

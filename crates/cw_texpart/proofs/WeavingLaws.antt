@@ -2,13 +2,12 @@
 use Rattle.cw_texpart.proofs.Terms.{◌≡◌, ℕ, ◌+◌, ◌≤◌, ◌==◌, Bool, true, false, refl, sym, ap, ◌∙◌, subst, List, [], ◌∷◌}
 use Rattle.cw_texpart.proofs.Terms.{◌++◌, append_assoc, length, arith, Result, Ok, Err, IfOk, IsErrAnd, Option, Some}
 use Rattle.cw_texpart.proofs.Terms.{None, append-nil, map-append, Flags, Span, DeskState, Inner, LineState, HasPut}
-use Rattle.cw_texpart.proofs.Terms.{Puts}
-use Rattle.cw_texpart.proofs.Terms.{is_err, puts-bytes, puts-failing, puts-none, puts-stop, puts-then, puts-nothing}
-use Rattle.cw_texpart.proofs.Terms.{PutError, Memory, Entry, Occurrence, Section, Counts, Done, done_behind}
-use Rattle.cw_texpart.proofs.Terms.{joined_done, as_it_is, reprinted, section_number, head, head_by, printed_depth, Ink}
-use Rattle.cw_texpart.proofs.Terms.{end_if, laid, prints, held, held_behind, holds_bytes, inked, piece_is, piece_done}
-use Rattle.cw_texpart.proofs.Terms.{pieces_done, head_and_tex, TexPiece, Setting, lasting, name_done_by, text_done}
-use Rattle.cw_texpart.proofs.Terms.{Press, Weaves, underlined}
+use Rattle.cw_texpart.proofs.Terms.{Puts, is_err, puts-bytes, puts-failing, puts-none, puts-stop, puts-then}
+use Rattle.cw_texpart.proofs.Terms.{puts-nothing, PutError, Memory, Entry, Occurrence, Section, Counts, Done}
+use Rattle.cw_texpart.proofs.Terms.{done_behind, joined_done, as_it_is, reprinted, section_number, head, head_by}
+use Rattle.cw_texpart.proofs.Terms.{printed_depth, Ink, end_if, laid, prints, held, held_behind, holds_bytes, inked}
+use Rattle.cw_texpart.proofs.Terms.{piece_is, piece_done, pieces_done, head_and_tex, TexPiece, Setting, lasting}
+use Rattle.cw_texpart.proofs.Terms.{name_done_by, text_done, Press, Weaves, underlined}
 use Rattle.std.specs.Option.{option_map}
 use Rattle.std.proofs.lemmas.List.Sums.{sum_by-append}
 use Rattle.cw_translator.specs.Counting.{limit_in, productions_in, scraps_in, text_limit, ticks_in}

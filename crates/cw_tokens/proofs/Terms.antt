@@ -31,8 +31,8 @@ pub use Rattle.cw_tokens.specs.model.Stored.{built, IsStored}
 pub use Rattle.cw_tokens.specs.Trimming.{AllGaps, Trims, StandsFor}
 pub use Rattle.cw_tokens.specs.model.Trimming.{unbroken, gap_before, parted, ends_before}
 pub use Rattle.cw_tokens.specs.Walking.{found_name}
-pub use Rattle.cw_tokens.specs.model.Walking.{top, down, IsPassed, stops_at, before, Path, Walks, Finds}
-pub use Rattle.cw_tokens.specs.model.Walking.{only_name_of, size, size_from, size_above}
+pub use Rattle.cw_tokens.specs.model.Walking.{top, down, IsPassed, stops_at, before, Path, Walks, Finds, only_name_of}
+pub use Rattle.cw_tokens.specs.model.Walking.{size, size_from, size_above}
 pub use Rattle.cw_tokens.specs.declared.token.Token.TheVariants.{Ident, Reserved}
 pub use Rattle.cw_trees.specs.Flat.{Item, SignItem, is_break, is_break_sign, is_run_sign, is_wall_sign, is_gap}
 pub use Rattle.cw_trees.specs.Flat.{is_inserted, begins_after, ends_text, trim_back, trim_front, trimmed_items}

@@ -2,9 +2,8 @@
 use Rattle.cw_translator.proofs.Terms.{◌≡◌, ℕ, List, [], ◌∷◌, length, ◌⊎◌, inl, inr, refl, sym, ap, subst, Option, None}
 use Rattle.cw_translator.proofs.Terms.{arith, append-nil, Result, Ok, OnOk, All, on_ok_weaker, Flags, Memory, Begin}
 use Rattle.cw_translator.proofs.Terms.{Note, Seen, TokKind, State, Token as StoredToken, Entry, WatchState, Keeps}
-use Rattle.cw_translator.proofs.Terms.{names_with}
-use Rattle.cw_translator.proofs.Terms.{MarkList, Open, Translator, Work, IsSoundFrame, IsTranslating, all_roots}
-use Rattle.cw_translator.proofs.Terms.{answers_in, begun_by, frames_of, progress_of, Progress, Frame}
+use Rattle.cw_translator.proofs.Terms.{names_with, MarkList, Open, Translator, Work, IsSoundFrame, IsTranslating}
+use Rattle.cw_translator.proofs.Terms.{all_roots, answers_in, begun_by, frames_of, progress_of, Progress, Frame}
 use Rattle.cw_translator.proofs.Terms.{Comment as CommentFrame, frames_begun, after_answers, after_token, with_names}
 use Rattle.cw_translator.proofs.Terms.{Known, NamesAmong, here, later, IsSameWork, Advances, over, progress_over}
 use Rattle.cw_base.specs.declared.notes.NoteKind.{NoteKind}

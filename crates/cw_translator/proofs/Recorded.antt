@@ -3,8 +3,7 @@ use Rattle.cw_translator.proofs.Terms.{◌≡◌, ◌+◌, ◌≤◌, List, [], 
 use Rattle.cw_translator.proofs.Terms.{arith, Result, Ok, IfOk, IsErrAnd, OnOk, append-nil, length-append, map-append}
 use Rattle.cw_translator.proofs.Terms.{take-append-le, take_all, on_ok_weaker, Flags, Memory, Scrap, Production, log}
 use Rattle.cw_translator.proofs.Terms.{productions, State, WatchState, grown_by, HasRecorded, begun_over, ended_now}
-use Rattle.cw_translator.proofs.Terms.{logged}
-use Rattle.cw_translator.proofs.Terms.{longer_by, texts_told, append_assoc}
+use Rattle.cw_translator.proofs.Terms.{logged, longer_by, texts_told, append_assoc}
 use Rattle.std.proofs.Math.Seq.{take-append-add}
 use Rattle.cw_leaves.specs.declared.lines.TextLog.{TextLog}
 

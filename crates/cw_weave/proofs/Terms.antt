@@ -21,11 +21,10 @@ pub use Rattle.cw_phase1.specs.{Book.book, declared.book.Book.Book, declared.sec
 pub use Rattle.cw_run.specs.{Emits.Run, Emits.Runs, Stops.stopped, declared.statistics.Totals.Totals}
 pub use Rattle.cw_run.specs.Closing.{exit_by, closing_run, has_error, has_note}
 pub use Rattle.cw_run.specs.laws.EmitsLaws.{adds-emits, emits-by, emits_by-fail, emits_by-file, emits_by-stop}
-pub use Rattle.cw_run.specs.laws.EmitsLaws.{emits_by-then}
-pub use Rattle.cw_run.specs.laws.EmitsLaws.{emits_by-value, file-not_begun, file-refused, runs-known, runs-stop}
-pub use Rattle.cw_run.specs.laws.EmitsLaws.{runs-then}
-pub use Rattle.cw_run.specs.laws.EmitsLaws.{emits_by-events, runs_by-exit, runs_by-nothing, emits-faults, faults-then}
-pub use Rattle.cw_run.specs.laws.EmitsLaws.{runs-after, runs_by-over, runs-by, runs_by-stop, runs_by-then}
+pub use Rattle.cw_run.specs.laws.EmitsLaws.{emits_by-then, emits_by-value, file-not_begun, file-refused, runs-known}
+pub use Rattle.cw_run.specs.laws.EmitsLaws.{runs-stop, runs-then, emits_by-events, runs_by-exit, runs_by-nothing}
+pub use Rattle.cw_run.specs.laws.EmitsLaws.{emits-faults, faults-then, runs-after, runs_by-over, runs-by, runs_by-stop}
+pub use Rattle.cw_run.specs.laws.EmitsLaws.{runs_by-then}
 pub use Rattle.cw_run.specs.Files.{OutFile, broken_lines, Broken, broken_notes, broken_in}
 pub use Rattle.cw_run.specs.laws.NotesLaws.{error-broken, note-append, none-broken, some-broken, first-broken}
 pub use Rattle.cw_run.specs.Terminal.{no_change_text, no_web_text, unknown_text}

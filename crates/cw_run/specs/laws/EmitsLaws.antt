@@ -1,6 +1,5 @@
 -- Laws of calls that emit events: nothing, more after some, and a failure that ends the rest.
-use Rattle.std.specs.Prelude.{◌≢◌, ◌==◌, ◌&&◌, Bool, true, false, cond, bytes_eq, IsErrAnd, IfOk, IsTrue, OnErr}
-use Rattle.std.specs.Prelude.{OnOk}
+use Rattle.std.specs.Prelude.{◌≢◌, ◌==◌, ◌&&◌, Bool, true, false, cond, bytes_eq, IsErrAnd, IfOk, IsTrue, OnErr, OnOk}
 use Rattle.std.specs.FinMap.{get}
 use Rattle.std.proofs.Common.{◌≡◌, ℕ, ◌≤◌, List, [], ◌∷◌, ◌++◌, Option, Some, None, Result, Ok, Err, refl, sym, ap, ◌∙◌}
 use Rattle.std.proofs.Common.{subst, arith}
@@ -26,8 +25,7 @@ use Rattle.cw_lines.specs.laws.WritesLaws.{adds-nothing, is_err, rose-later, put
 use Rattle.cw_lines.specs.declared.put_error.PutError.{PutError}
 use Rattle.cw_lines.specs.declared.put_error.PutError.TheVariants.{Memory}
 use Rattle.cw_run.specs.Emits.{Emits, EmitsBy, Faults, Run, Runs, RunsBy}
-use Rattle.cw_run.specs.Files.{IsBegun, OutFile, answered, begun, file_events, none_left, is_same}
-use Rattle.cw_run.specs.Files.{settled, settled_if}
+use Rattle.cw_run.specs.Files.{IsBegun, OutFile, answered, begun, file_events, none_left, is_same, settled, settled_if}
 
 -- a call that only prints
 pub adds-emits : {T : Type 0} {events : List Event} {a b : DeskState} {result : Result T PutError}

@@ -1,9 +1,7 @@
 -- The models beside `specs/FlatItems`.
 use Rattle.std.specs.Prelude.{◌≡◌, ℕ, ◌+◌, ◌<◌, ◌≤◌, List, [], ◌∷◌, ◌++◌, length, Option, Some, None, drop}
-use Rattle.std.specs.Prelude.{slice_index_or}
-use Rattle.std.specs.Prelude.{slice_get}
-use Rattle.cw_trees.specs.Flat.{Item}
-use Rattle.cw_trees.specs.Flat.{Close as close_item, flat, leaf_item}
+use Rattle.std.specs.Prelude.{slice_index_or, slice_get}
+use Rattle.cw_trees.specs.Flat.{Item, Close as close_item, flat, leaf_item}
 use Rattle.cw_tokens.specs.declared.token.Token.{Token}
 use Rattle.cw_tokens.specs.declared.walk.FlatPart.{FlatPart}
 use Rattle.cw_tokens.specs.declared.walk.FlatPart.TheVariants.{Leaf, Below, InnerBelow}

@@ -1,9 +1,8 @@
 -- The book of what is held when all answers came is that of the whole list of answers.
 use Rattle.cw_phase1.proofs.Terms.{◌≡◌, ◌<◌, ◌≤◌, ◌∙◌, ap, sym, subst, List, [], All, length, arith, text_of, Span}
 use Rattle.cw_phase1.proofs.Terms.{All-nil, SecName, NameUse, Section, answers_of, book, kept_after, Placement}
-use Rattle.cw_phase1.proofs.Terms.{at_limbo}
-use Rattle.cw_phase1.proofs.Terms.{placed, span, sections_of, IsNamedBy, LiesIn, RefersUpTo, unwrap_or, with_references}
-use Rattle.cw_phase1.proofs.Terms.{references_of, section_names, TokenLists}
+use Rattle.cw_phase1.proofs.Terms.{at_limbo, placed, span, sections_of, IsNamedBy, LiesIn, RefersUpTo, unwrap_or}
+use Rattle.cw_phase1.proofs.Terms.{with_references, references_of, section_names, TokenLists}
 use Rattle.cw_phase1.proofs.{Outlines.all-sections, Outlines.all-limbo, Referred.all-referred, LimboRoles.all-rise}
 use Rattle.cw_phase1.proofs.{LimboRoles.unnamed, NameSizes.all-short}
 use Rattle.cw_phase1.proofs.WordLaws.{all-names, all-occurrences, all-uses, all-references}

@@ -1,7 +1,6 @@
 -- The next name goes to the sections that list its row.
 use Rattle.cw_mini.proofs.Terms.{◌≡◌, ◌∙◌, ℕ, List, Some, ap, arith, subst, slice_get, Entry, NameId, Occurrence}
-use Rattle.cw_mini.proofs.Terms.{IndexRow}
-use Rattle.cw_mini.proofs.Terms.{index_rows, names_at, positions, row_names}
+use Rattle.cw_mini.proofs.Terms.{IndexRow, index_rows, names_at, positions, row_names}
 use Rattle.cw_mini.proofs.NamedRows.{IsRowOf, index-named}
 use Rattle.cw_mini.proofs.RowPlaces.{IsHere, row-here, with-next}
 use Rattle.cw_mini.proofs.listing.Listing.of_book.Goals as goal

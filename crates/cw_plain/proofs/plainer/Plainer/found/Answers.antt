@@ -1,7 +1,6 @@
 -- What a token prints is laid.
 use Rattle.cw_plain.proofs.Terms.{ℕ, Bool, true, false, List, codes, refl, sym, ap, Answer, TokKind, Laying}
-use Rattle.cw_plain.proofs.Terms.{PlacedPiece}
-use Rattle.cw_plain.proofs.Terms.{Stand, Word, in_comment, token_placed, titles, Walked}
+use Rattle.cw_plain.proofs.Terms.{PlacedPiece, Stand, Word, in_comment, token_placed, titles, Walked}
 use Rattle.cw_secnames.specs.{Kept.SecName, Uses.NameUse}
 use Rattle.cw_plain.proofs.MakingLaws.{laid-makes, other-token}
 use Rattle.cw_plain.proofs.plainer.Plainer.found.Goals as goal
