@@ -6,7 +6,7 @@ use Rattle.std.proofs.Common.{append_assoc}
 use Rattle.std.proofs.{lemmas.List.append-nil, lemmas.Bool.Decides.nat_tests}
 use Rattle.cw_base.proofs.TestLaws.{both-failed, both-left, not-both, or-true}
 use Rattle.cw_base.specs.{Bytes.backslash, declared.notes.NoteKind.NoteKind}
-use Rattle.cw_rules.specs.declared.{bodies.Noted.Noted, codes.Code.Code, codes.Effect.Effect, parts.Part.Part}
+use Rattle.cw_rules.specs.declared.{bodies.NoteAt.NoteAt, codes.Code.Code, codes.Effect.Effect, parts.Part.Part}
 use Rattle.cw_rules.specs.declared.{parts.Opened.Opened, signs.Sign.Sign, tokens.TokKind.TokKind}
 use Rattle.cw_rules.specs.Answers.{Answer, Where, Cut, ScanStep, note_answers, plain}
 use Rattle.cw_rules.specs.model.Apart.{part_text_apart, in_text_apart, found_apart}

@@ -3,7 +3,7 @@ use Rattle.std.proofs.Common.{ℕ, ◌+◌, ◌<◌, ◌≤◌, Bool, List, [], 
 use Rattle.std.proofs.Common.{length-drop, if◌then◌else◌}
 use Rattle.std.proofs.{lemmas.Bool.Decides.nat_tests, lemmas.Grind.common_steps}
 use Rattle.cw_base.specs.declared.notes.NoteKind.{NoteKind}
-use Rattle.cw_rules.specs.declared.{bodies.Inside.Inside, bodies.Noted.Noted, codes.Code.Code, tokens.TokKind.TokKind}
+use Rattle.cw_rules.specs.declared.{bodies.Inside.Inside, bodies.NoteAt.NoteAt, codes.Code.Code, tokens.TokKind.TokKind}
 use Rattle.cw_rules.specs.{Answers.Cut, Answers.note_answers, Bytes.apostrophe, Names.is_void}
 use Rattle.cw_rules.specs.Bodies.{at_start, goes_on, note_here, stepped, with_note, noted, extent, note_unless}
 use Rattle.cw_rules.specs.Bodies.{one_note, and_last, all_notes}

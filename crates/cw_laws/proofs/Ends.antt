@@ -4,7 +4,7 @@ use Rattle.std.proofs.Common.{if◌then◌else◌, drop, refl, sym, ap, subst, �
 use Rattle.std.proofs.{lemmas.Bool.eqb-true, lemmas.List.append-nil, lemmas.Bool.Decides.nat_tests}
 use Rattle.cw_base.specs.{declared.notes.NoteKind.NoteKind, Text.bar, Bytes.newline}
 use Rattle.cw_base.proofs.TestLaws.{both-left}
-use Rattle.cw_rules.specs.declared.{bodies.Noted.Noted, codes.Effect.Effect, parts.Part.Part, parts.Opened.Opened}
+use Rattle.cw_rules.specs.declared.{bodies.NoteAt.NoteAt, codes.Effect.Effect, parts.Part.Part, parts.Opened.Opened}
 use Rattle.cw_rules.specs.declared.{signs.Sign.Sign, tokens.Mode.Mode, tokens.TokKind.TokKind}
 use Rattle.cw_rules.specs.Answers.{Answer, Where, Cut, ScanStep, before, note_answers, plain, dropped}
 use Rattle.cw_rules.specs.Bodies.{note_unless, one_note, noted, ended, extent}

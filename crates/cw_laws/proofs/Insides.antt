@@ -4,7 +4,7 @@ use Rattle.std.proofs.Common.{if◌then◌else◌, refl, sym, subst, ap, ◌∙�
 use Rattle.std.proofs.Common.{length}
 use Rattle.std.proofs.lemmas.Bool.Decides.{nat_tests}
 use Rattle.cw_base.specs.declared.notes.NoteKind.{NoteKind}
-use Rattle.cw_rules.specs.declared.{bodies.Body.Body, bodies.Inside.Inside, bodies.Noted.Noted, codes.Code.Code}
+use Rattle.cw_rules.specs.declared.{bodies.Body.Body, bodies.Inside.Inside, bodies.NoteAt.NoteAt, codes.Code.Code}
 use Rattle.cw_rules.specs.declared.{tokens.Mode.Mode, tokens.TokKind.TokKind}
 use Rattle.cw_rules.specs.{Answers.Answer, Answers.note_answers, Bytes.at_sign, Bytes.greater, Bytes.begins}
 use Rattle.cw_rules.specs.{Bytes.begins_with, Codes.begins_section, Tokens.comment_kind, Tokens.section_name}

@@ -4,7 +4,7 @@ use Rattle.std.proofs.Common.{[], ◌∷◌, ◌++◌, Some, None, if◌then◌e
 use Rattle.std.proofs.Common.{subst, ◌∙◌, arith}
 use Rattle.std.proofs.{lemmas.Bool.eqb-true, lemmas.Bool.Decides.nat_tests}
 use Rattle.cw_base.proofs.TestLaws.{both-failed, both-left, both-right, not-both, not-true, other-one}
-use Rattle.cw_rules.specs.declared.{bodies.Noted.Noted, codes.Code.Code, parts.Part.Part, parts.Opened.Opened}
+use Rattle.cw_rules.specs.declared.{bodies.NoteAt.NoteAt, codes.Code.Code, parts.Part.Part, parts.Opened.Opened}
 use Rattle.cw_rules.specs.declared.{signs.Sign.Sign, tokens.TokKind.TokKind}
 use Rattle.cw_rules.specs.Answers.{Answer, Token, Finish, Note, Where, Cut, ScanStep, note_answers, plain}
 use Rattle.cw_base.specs.{Bytes.newline, Bytes.backslash, declared.notes.NoteKind.NoteKind}

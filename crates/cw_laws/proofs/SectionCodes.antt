@@ -4,7 +4,7 @@ use Rattle.std.proofs.Common.{sym, ap, subst, ◌∙◌, arith}
 use Rattle.std.specs.Prelude.{if◌then◌else◌}
 use Rattle.std.proofs.{lemmas.Bool.eqb-true, lemmas.Bool.Decides.nat_tests}
 use Rattle.cw_base.proofs.TestLaws.{both-left, both, not-both}
-use Rattle.cw_rules.specs.{declared.bodies.NoteAt.Noted, Bytes.at_sign, Bytes.begins, Codes.is_section}
+use Rattle.cw_rules.specs.{declared.bodies.NoteAt.NoteAt, Bytes.at_sign, Bytes.begins, Codes.is_section}
 use Rattle.cw_rules.specs.{Codes.begins_section, model.Apart.in_text_apart, model.Apart.found_apart}
 use Rattle.cw_rules.specs.Answers.{Answer, Token, Begin, Finish, Note, Seen, Where, ScanStep, note_answers, cut_token}
 use Rattle.cw_rules.specs.Tokens.{all_cut, section, section_code}

@@ -2,7 +2,7 @@
 use Rattle.std.proofs.Common.{◌≡◌, Bool, true, false, Option, Some, None, List, [], ◌∷◌, refl, sym, ap, if◌then◌else◌}
 use Rattle.std.proofs.Common.{arith}
 use Rattle.std.proofs.{lemmas.Bool.Decides.nat_tests, lemmas.Grind.common_steps}
-use Rattle.cw_lex.specs.{declared.heads.Expectation.Wanted, Nested.Level, Nested.InCode, Nested.after_token}
+use Rattle.cw_lex.specs.{declared.heads.Expectation.Expectation, Nested.Level, Nested.InCode, Nested.after_token}
 use Rattle.cw_lex.specs.{Nested.IsNested}
 use Rattle.cw_rules.specs.declared.tokens.TokKind.{TokKind}
 use Rattle.cw_rules.specs.Answers.{Answer, Token, Begin, Note, Seen, is_head_sign}

@@ -7,7 +7,7 @@ use Rattle.cw_rules.specs.declared.classes.Class.TheVariants as classes
 use Rattle.cw_rules.specs.declared.{codes.Code.Code, parts.Opened.Opened, parts.Start.Start, signs.Sign.Sign}
 use Rattle.cw_rules.specs.declared.parts.Part.TheVariants as parts
 use Rattle.cw_rules.specs.declared.parts.Start.TheVariants as start
-use Rattle.cw_rules.specs.{Answers.Answer, Answers.Where, Answers.Found, Codes.begins_section, Codes.effect_in_c}
+use Rattle.cw_rules.specs.{Answers.Answer, Answers.Where, Answers.ScanStep, Codes.begins_section, Codes.effect_in_c}
 use Rattle.cw_rules.specs.{Constants.constant, Prefixes.prefix_size, Tokens.section, Signs.all_signs, Signs.longest}
 use Rattle.cw_base.specs.{Bytes.newline, Text.bar}
 use Rattle.cw_rules.specs.Bytes.{hash, star, slash, less, at_sign, begins, is_letter, is_mark, is_in}

@@ -4,7 +4,7 @@ use Rattle.std.proofs.Common.{refl, sym, ◌∙◌, ap, subst, append-nil, appen
 use Rattle.std.specs.Prelude.{if◌then◌else◌, ◌==◌}
 use Rattle.std.proofs.lemmas.Bool.Decides.{nat_tests}
 use Rattle.cw_base.{proofs.TestLaws.both-left, proofs.TestLaws.both-right, specs.declared.notes.NoteKind.NoteKind}
-use Rattle.cw_rules.specs.declared.{codes.Code.Code, codes.Effect.Effect, bodies.Noted.Noted, parts.Part.Part}
+use Rattle.cw_rules.specs.declared.{codes.Code.Code, codes.Effect.Effect, bodies.NoteAt.NoteAt, parts.Part.Part}
 use Rattle.cw_rules.specs.declared.{parts.Opened.Opened, tokens.Mode.Mode, tokens.TokKind.TokKind}
 use Rattle.cw_rules.specs.{Bodies.one_note, Bodies.note_unless, Bodies.noted, model.Apart.found_apart, Bytes.at_sign}
 use Rattle.cw_rules.specs.Codes.{is_section, begins_section, effect_in_c, code_at}

@@ -6,7 +6,7 @@ use Rattle.cw_rules.specs.declared.bodies.Body.TheVariants as bodies
 use Rattle.cw_rules.specs.declared.{bodies.Inside.Inside, parts.Part.Part, parts.Opened.Opened}
 use Rattle.cw_rules.specs.declared.tokens.Directive.TheVariants as directives
 use Rattle.cw_rules.specs.declared.tokens.TokKind.TheVariants as kinds
-use Rattle.cw_rules.specs.{Bodies.stops, Bodies.ended, Bodies.extent, Bodies.noted, Answers.Found}
+use Rattle.cw_rules.specs.{Bodies.stops, Bodies.ended, Bodies.extent, Bodies.noted, Answers.ScanStep}
 use Rattle.cw_rules.specs.{model.Cuttings.bytes_at}
 use Rattle.cw_rules.specs.Tokens.{in_hash_line, is_deep, one, piece}
 use Rattle.cw_rules.proofs.Inside.{ended-some}

@@ -6,7 +6,7 @@ use Rattle.std.specs.Prelude.{if◌then◌else◌, is_some}
 use Rattle.std.proofs.{lemmas.Bool.eqb-true, lemmas.Bool.Decides.nat_tests}
 use Rattle.std.proofs.lemmas.List.{drop-drop, length-take}
 use Rattle.cw_base.proofs.TestLaws.{both-right, one-failed-left, one-failed-right, not-both}
-use Rattle.cw_rules.specs.declared.{bodies.Noted.Noted, codes.Code.Code, codes.Effect.Effect, tokens.TokKind.TokKind}
+use Rattle.cw_rules.specs.declared.{bodies.NoteAt.NoteAt, codes.Code.Code, codes.Effect.Effect, tokens.TokKind.TokKind}
 use Rattle.cw_rules.specs.Answers.{Answer, Token, Begin, Finish, Note, Seen, Where, Cut, ScanStep, note_answers}
 use Rattle.cw_rules.specs.Answers.{token_of}
 use Rattle.cw_rules.specs.{Answers.cut_token, Answers.plain, Answers.has_sign, Bodies.at_start, Bodies.extent}

@@ -3,7 +3,7 @@ use Rattle.std.proofs.Common.{◌≡◌, ℕ, zero, suc, ◌+◌, ◌<◌, ◌�
 use Rattle.std.proofs.Common.{take, drop, sym, ap, ◌∙◌, arith, add-zero, zero-add, length-drop}
 use Rattle.std.proofs.{lemmas.List.drop-drop, Math.Seq.take-nil, lemmas.Grind.common_steps}
 use Rattle.std.proofs.lemmas.Bool.Decides.{nat_tests}
-use Rattle.cw_rules.{proofs.Runs.drop-here, specs.Answers.Answer, specs.Answers.Where, specs.Answers.Found}
+use Rattle.cw_rules.{proofs.Runs.drop-here, specs.Answers.Answer, specs.Answers.Where, specs.Answers.ScanStep}
 use Rattle.cw_lex.specs.model.Coming.{found_at}
 use Rattle.cw_lex.specs.Lexing.{still_fresh, joined, answers, fresh_after, last_after, fresh_at, last_at, answers_at}
 

@@ -3,12 +3,12 @@ use Rattle.cw_log.proofs.Terms.{◌≡◌, ℕ, zero, suc, ◌+◌, All, Some, R
 use Rattle.cw_log.proofs.Terms.{take, slice_get, refl, sym, ◌∙◌, ap, subst, arith, append_assoc, flat_map}
 use Rattle.cw_log.proofs.Terms.{flat_map-append, append-nil, take_all, Flags, EndedText, TextSource, text_ended}
 use Rattle.cw_log.proofs.Terms.{TextLog, item_of, production_of, PutError, block_of, Block, block_lines, ended}
-use Rattle.cw_log.proofs.Terms.{log_lines, log_text, Entry, DeskState as Recorded, Production, log, productions, State}
+use Rattle.cw_log.proofs.Terms.{log_lines, log_text, Entry, WatchState as Recorded, Production, log, productions, State}
 use Rattle.cw_log.proofs.Terms.{TextRef, HasRecorded, logged, blocks_from, state_block, text_blocks, block_bytes}
 use Rattle.cw_log.proofs.Terms.{ended_by, recorded_of}
 use Rattle.std.proofs.lemmas.List.Elements.{All-head, All-tail}
 use Rattle.cw_base.specs.declared.event.Out.TheVariants.{Tex}
-use Rattle.cw_desk.specs.{Journal.byte_events, DeskState.Told}
+use Rattle.cw_desk.specs.{Journal.byte_events, Told.DeskState}
 use Rattle.cw_texts.specs.EachForms.{IsWholeRef}
 use Rattle.cw_lines.specs.{declared.put_error.PutError.TheVariants.Memory as no_memory, Writes.Adds, Writes.HasAdded}
 use Rattle.cw_lines.specs.{laws.WritesLaws.adds-events, laws.WritesLaws.adds-none}

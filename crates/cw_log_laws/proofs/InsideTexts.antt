@@ -11,7 +11,7 @@ use Rattle.cw_rules.specs.Order.{AreWithin}
 use Rattle.cw_lex.proofs.TokensWithin.{tokens-within}
 use Rattle.cw_phase1.specs.{Sections.sections_of, Sound.LiesIn, declared.sections.Section.Section}
 use Rattle.cw_phase1.proofs.SpanLaws.{Follow, all-lie, follows}
-use Rattle.cw_texts.specs.{Printed.is_printed, Scans.scanned, declared.definitions.OpenDefinition.Begun}
+use Rattle.cw_texts.specs.{Printed.is_printed, Scans.scanned, declared.definitions.OpenDefinition.OpenDefinition}
 use Rattle.cw_texts.specs.{declared.definitions.Definition.Definition}
 use Rattle.cw_texts.specs.Definitions.{begun_by, next_begin, definitions_in, definitions_of, not_silent}
 use Rattle.cw_texts.specs.Definitions.{printed_definitions, with_begun}

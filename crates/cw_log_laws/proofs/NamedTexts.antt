@@ -4,7 +4,7 @@ use Rattle.cw_log_laws.proofs.Terms.{Answer, Seen, TokKind, Nest, Leaf, Group, n
 use Rattle.cw_log_laws.proofs.Terms.{Sign, tree_in, names_with, token_form, greatest}
 use Rattle.cw_base.specs.declared.mode.MathMode.{MathMode}
 use Rattle.cw_base.specs.declared.mode.MathMode.TheVariants.{Text, Maybe}
-use Rattle.cw_lex.specs.{declared.heads.Expectation.Wanted, Nest.End}
+use Rattle.cw_lex.specs.{declared.heads.Expectation.Expectation, Nest.End}
 use Rattle.cw_lex.specs.Heads.{Head, Headless, Macro, Format, Silent, Named, Headed, headed, headed_by, head_behind}
 use Rattle.cw_lex.specs.Heads.{Words, head_words, headless, named_headed, no_word, word_before}
 use Rattle.cw_tokens.specs.declared.token.Token.{Token}

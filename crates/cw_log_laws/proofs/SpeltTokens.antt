@@ -6,7 +6,7 @@ use Rattle.cw_log_laws.proofs.Terms.{Cut, ScanStep, note_answers, bar, code_text
 use Rattle.cw_log_laws.proofs.Terms.{behind_head_apart, part_text_apart, in_text_apart, found_apart, AreBare}
 use Rattle.cw_log_laws.proofs.Terms.{bare-all-cut, still_fresh, answers, tokens_of, is_section_answer, until_section}
 use Rattle.cw_log_laws.proofs.Terms.{is_identifier}
-use Rattle.cw_rules.specs.{declared.bodies.NoteAt.Noted, declared.codes.Effect.Effect, declared.parts.Part.Part}
+use Rattle.cw_rules.specs.{declared.bodies.NoteAt.NoteAt, declared.codes.Effect.Effect, declared.parts.Part.Part}
 use Rattle.cw_rules.specs.{declared.parts.Opened.Opened, declared.parts.Start.Start, declared.signs.Sign.Sign}
 use Rattle.cw_rules.specs.{Codes.code_at, Codes.begins_section, Constants.constant, Prefixes.prefix_size}
 use Rattle.cw_rules.specs.{Signs.all_signs, Signs.longest, Bodies.one_note, Bodies.note_unless, Bodies.noted}

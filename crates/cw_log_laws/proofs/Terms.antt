@@ -30,7 +30,7 @@ pub use Rattle.cw_names.specs.{declared.entry.EntryKind.EntryKind, declared.entr
 pub use Rattle.cw_names.specs.{declared.entry.NameId.NameId}
 pub use Rattle.cw_names.specs.Names.{Entry, AreDistinct, is_entry, with_category, with_entry, place_of, same_kind}
 pub use Rattle.cw_names.specs.Words.{built_in_words, category_among, directive_words, words_with}
-pub use Rattle.cw_phase1.specs.{Book.book, Book.answers_of, Roles.Placed, Roles.placed, Roles.at_limbo}
+pub use Rattle.cw_phase1.specs.{Book.book, Book.answers_of, Roles.Placement, Roles.placed, Roles.at_limbo}
 pub use Rattle.cw_rules.proofs.Taking.{AreBare, AreNotes, TakesAll, Takes, bare-all-cut, found-takes}
 pub use Rattle.cw_rules.specs.{declared.codes.Code.Code, declared.tokens.Mode.Mode, declared.tokens.TokKind.TokKind}
 pub use Rattle.cw_rules.specs.Answers.{Answer, Token, Begin, Finish, Note, Seen, Where, ScanStep, Cut, note_answers}

@@ -6,7 +6,7 @@ use Rattle.cw_names.proofs.Terms.{keys_of, insert_entry, set_value_at, Cat, Exp,
 use Rattle.cw_names.proofs.Terms.{place_of, with_entry, with_category, entry_of, is_wanted, nat_tests}
 use Rattle.std.specs.List.{IsDistinct}
 use Rattle.std.proofs.lemmas.Bool.{ltb-false, lt-ltb, le-ltb}
-use Rattle.cw_names.specs.{contracts.entry.KeyPartialEq.TheImpl.eq-value, declared.entry.NameQuery.Wanted}
+use Rattle.cw_names.specs.{contracts.entry.KeyPartialEq.TheImpl.eq-value, declared.entry.NameQuery.NameQuery}
 use Rattle.cw_names.specs.{model.Wanting.alike}
 
 -- what `==` says of two keys

@@ -9,7 +9,7 @@ use Rattle.cw_rules.specs.{declared.codes.Code.Code, declared.tokens.TokKind.Tok
 use Rattle.cw_rules.specs.Answers.{Answer, Token, Begin, Finish, Note, has_sign}
 use Rattle.cw_lex.specs.{Nested.begins_section_in, Openings.opened_by, Openings.TextsEndAtOpenings}
 use Rattle.cw_lex.proofs.{TokensWithin.tokens-within, Openings.uncut-right}
-use Rattle.cw_texts.specs.{declared.definitions.OpenDefinition.Begun, Scans.scanned}
+use Rattle.cw_texts.specs.{declared.definitions.OpenDefinition.OpenDefinition, Scans.scanned}
 use Rattle.cw_rules.specs.declared.tokens.Mode.TheVariants as modes
 use Rattle.cw_rules.specs.declared.tokens.TokKind.TheVariants as kinds
 

@@ -2,7 +2,7 @@
 use Rattle.cw_phase1.proofs.Terms.{◌≡◌, ℕ, zero, suc, ◌+◌, ◌<◌, ◌∙◌, ◌||◌, true, false, List, [], ◌∷◌, ap, refl, arith}
 use Rattle.cw_phase1.proofs.Terms.{map, drop, length, get_or, set, at_drop_more, get_or-map, length-map, has_changed}
 use Rattle.cw_phase1.proofs.Terms.{with_last_changed, with_last_marked, Section}
-use Rattle.cw_phase1.specs.{model.Packed.unpacked, declared.packed.PackedSection.Row}
+use Rattle.cw_phase1.specs.{model.Packed.unpacked, declared.packed.PackedSection.PackedSection}
 
 has-more : (rows : List PackedSection) (k : ℕ) (d : PackedSection) → k < length rows → has_changed (drop k
     (map unpacked rows))

@@ -18,7 +18,7 @@ pub use Rattle.cw_base.specs.{Web.MergedLine, Web.text_of, Web.info_from, Web.in
 pub use Rattle.cw_base.specs.{declared.notes.NoteKind.NoteKind, declared.span.Span.Span, declared.web.LineInfo.LineInfo}
 pub use Rattle.cw_base.specs.declared.category.Cat.TheVariants.{Exp, RawInt}
 pub use Rattle.cw_lex.specs.{Heads.head_behind, Lexing.answers_at, Lexing.beginning, Lexing.tokens_of}
-pub use Rattle.cw_lex.specs.{model.Limbo.HasNoNames, Limbo.is_name_kind, declared.heads.Expectation.Wanted}
+pub use Rattle.cw_lex.specs.{model.Limbo.HasNoNames, Limbo.is_name_kind, declared.heads.Expectation.Expectation}
 pub use Rattle.cw_lex.specs.Nested.{is_section_kind, is_section_answer, begins_section_in}
 pub use Rattle.cw_names.specs.{Words.built_in_words, declared.entry.EntryKind.EntryKind, declared.entry.NameId.NameId}
 pub use Rattle.cw_names.specs.declared.entry.EntryKind.TheVariants.{Ident, Roman}
@@ -27,7 +27,7 @@ pub use Rattle.cw_phase1.specs.{Places.holds_changed, Places.nowhere, model.Refe
 pub use Rattle.cw_phase1.specs.{Sound.IsNamedBy, Sound.Ascend, Sound.RefersUpTo, declared.roles.Part.Part}
 pub use Rattle.cw_phase1.specs.{declared.roles.Role.Role, declared.roles.Standing.Standing, declared.sections.Open.Open}
 pub use Rattle.cw_phase1.specs.{declared.sections.Section.Section, declared.sections.Sections.Sections}
-pub use Rattle.cw_phase1.specs.{declared.told.TokenLists.Told}
+pub use Rattle.cw_phase1.specs.{declared.told.TokenLists.TokenLists}
 pub use Rattle.cw_phase1.specs.Changed.{has_changed, with_last_changed, with_last_marked}
 pub use Rattle.cw_phase1.specs.model.Ending.{notes_at_by, with_references, IsScanned, open_count, section_total}
 pub use Rattle.cw_phase1.specs.Entering.{kept_behind, entering, kept_by, kept_after, entered_name, enters, is_unended}

@@ -13,7 +13,7 @@ use Rattle.cw_reduce.proofs.ShownLaws.{struck-parts}
 use Rattle.cw_tokens.specs.declared.token.Token.{Token}
 use Rattle.cw_translator.specs.Translating.{CommentItem, Piece as TextPiece, InnerText, Known, comment_rest}
 use Rattle.cw_translator.specs.Translating.{comment_tree, plain_text, texts_made}
-use Rattle.cw_trees.specs.Tree.{PlainSource as SourceLeaf}
+use Rattle.cw_trees.specs.Tree.{Source as SourceLeaf}
 use Rattle.cw_rules.specs.declared.codes.Code.TheVariants as code
 use Rattle.cw_rules.specs.declared.tokens.TokKind.TheVariants as kind
 use Rattle.cw_trees.specs.declared.Control.TheVariants as control

@@ -22,7 +22,7 @@ use Rattle.cw_translator.specs.Translating.{first_word, form_made, form_tokens, 
 use Rattle.cw_translator.specs.Translating.{later_words, leaf_of_name, leaf_scrap, is_macro, made, name_in_text}
 use Rattle.cw_translator.specs.Translating.{names_in_text, one_item, one_scrap, sign_behind, spelled, state_in}
 use Rattle.cw_translator.specs.Translating.{texts_named, token_made, with_names, word_tokens}
-use Rattle.cw_trees.specs.Tree.{PlainSource as SourceLeaf}
+use Rattle.cw_trees.specs.Tree.{Source as SourceLeaf}
 use Rattle.cw_rules.specs.declared.codes.Code.TheVariants as code
 use Rattle.cw_rules.specs.declared.tokens.TokKind.TheVariants as kind
 use Rattle.cw_tokens.specs.declared.token.Token.TheVariants as token

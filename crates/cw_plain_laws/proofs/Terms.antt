@@ -41,7 +41,7 @@ pub use Rattle.cw_rules.proofs.Sizes.{digits-le, mantissa-le, number-le, constan
 pub use Rattle.cw_rules.proofs.Taking.{AreNotes, AreBare, TakesAll, bare-all-cut, found-takes}
 pub use Rattle.cw_rules.specs.{model.Apart.found_apart, model.Apart.code_text_apart, Prefixes.is_prefix_letter}
 pub use Rattle.cw_rules.specs.{Prefixes.prefix_size, Signs.spelling, Signs.all_signs, Signs.longest, Signs.longer}
-pub use Rattle.cw_rules.specs.{declared.bodies.Inside.Inside, declared.bodies.NoteAt.Noted}
+pub use Rattle.cw_rules.specs.{declared.bodies.Inside.Inside, declared.bodies.NoteAt.NoteAt}
 pub use Rattle.cw_rules.specs.{declared.classes.Class.Class, declared.codes.Code.Code, declared.tokens.Mode.Mode}
 pub use Rattle.cw_rules.specs.{declared.tokens.Mode.TheVariants.CPart, declared.tokens.TokKind.TokKind}
 pub use Rattle.cw_rules.specs.Answers.{plain, Answer, Token, Where, Begin, Finish, Note, Seen, Cut, ScanStep, token_of}

@@ -3,7 +3,7 @@
 use Rattle.std.proofs.Common.{arith, ◌≡◌, ℕ, Bool, true, false, List, [], ◌∷◌, refl, sym, ap, subst}
 use Rattle.std.specs.Prelude.{if◌then◌else◌}
 use Rattle.std.proofs.lemmas.Bool.Decides.{nat_tests}
-use Rattle.cw_rules.specs.declared.{bodies.Noted.Noted, codes.Code.Code, parts.Part.Part, parts.Opened.Opened}
+use Rattle.cw_rules.specs.declared.{bodies.NoteAt.NoteAt, codes.Code.Code, parts.Part.Part, parts.Opened.Opened}
 use Rattle.cw_rules.specs.Answers.{Answer, Token, Note, Seen, Where, Cut, ScanStep, before}
 use Rattle.cw_rules.specs.Codes.{code_at, is_section, effect_in_tex, effect_in_c, effect_in_definition, effect_at_begin}
 use Rattle.cw_rules.specs.Tokens.{one, moved, passed, in_hash_line, effect_in, is_head, is_name, is_space, code_by}

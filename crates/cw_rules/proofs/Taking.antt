@@ -5,7 +5,7 @@ use Rattle.std.specs.Prelude.{if◌then◌else◌}
 use Rattle.std.proofs.{lemmas.Bool.ltb-true, lemmas.Bool.Decides.nat_tests}
 use Rattle.cw_base.proofs.TestLaws.{one-left, one-right}
 use Rattle.cw_base.specs.{Bytes.newline, Bytes.backslash, Text.bar, declared.notes.NoteKind.TheVariants.ImproperFormat}
-use Rattle.cw_rules.specs.declared.{bodies.Noted.Noted, classes.Class.Class, codes.Code.Code, parts.Part.Part}
+use Rattle.cw_rules.specs.declared.{bodies.NoteAt.NoteAt, classes.Class.Class, codes.Code.Code, parts.Part.Part}
 use Rattle.cw_rules.specs.declared.{parts.Opened.Opened, signs.Sign.Sign}
 use Rattle.cw_rules.specs.Bytes.{star, slash, at_sign, run, is_in, is_letter, is_digit, begins, equals}
 use Rattle.cw_rules.specs.{Constants.constant, Answers.note_answers, Answers.dropped, Order.begins_space}

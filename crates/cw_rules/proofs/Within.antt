@@ -5,7 +5,7 @@ use Rattle.std.proofs.{lemmas.Bool.Decides.nat_tests, lemmas.Grind.common_steps}
 use Rattle.cw_base.proofs.TestLaws.{both-right}
 use Rattle.cw_base.specs.{declared.notes.NoteKind.NoteKind, Bytes.newline, Text.bar}
 use Rattle.cw_base.specs.declared.notes.NoteKind.TheVariants.{UnknownCode, MissingBrace, ImproperMacro, ImproperFormat}
-use Rattle.cw_rules.specs.declared.{bodies.Noted.Noted, codes.Code.Code, codes.Effect.Effect, parts.Part.Part}
+use Rattle.cw_rules.specs.declared.{bodies.NoteAt.NoteAt, codes.Code.Code, codes.Effect.Effect, parts.Part.Part}
 use Rattle.cw_rules.specs.declared.{parts.Opened.Opened, parts.Start.Start, signs.Sign.Sign}
 use Rattle.cw_rules.specs.Bytes.{hash, star, comma, slash, less, right_paren, at_sign, is_in, is_letter, begins}
 use Rattle.cw_rules.specs.{Bytes.begins_with, Prefixes.prefix_size, Order.AreWithin, model.Apart.found_apart}

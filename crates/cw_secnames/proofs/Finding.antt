@@ -3,7 +3,7 @@ use Rattle.std.proofs.Common.{◌≡◌, ℕ, zero, suc, ◌+◌, ◌<◌, ◌�
 use Rattle.std.proofs.Common.{Option, Some, None, map, length, drop, cond, refl, ap, sym, get_or, add-zero, zero-add}
 use Rattle.std.proofs.Common.{arith}
 use Rattle.cw_secnames.specs.declared.kinds.Earliest.TheVariants.{Nobody, One, Several}
-use Rattle.cw_secnames.specs.declared.{kinds.RefKind.RefKind, sec_names.Kept.Kept}
+use Rattle.cw_secnames.specs.declared.{kinds.RefKind.RefKind, sec_names.KeptName.KeptName}
 use Rattle.cw_secnames.specs.{References.with_section, References.with_reference, model.Inside.name_of}
 use Rattle.std.specs.{List.position, List.position_or_len, Option.option_map, Global.Vec}
 use Rattle.cw_secnames.specs.Kept.{SecName, with_text, positions_from, grown, earliest}

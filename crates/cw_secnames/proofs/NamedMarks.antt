@@ -1,7 +1,7 @@
 -- All names are marked while the marks are there. Where they were given back, each position is near.
 use Rattle.std.proofs.Common.{◌≡◌, ℕ, ◌+◌, ◌<◌, true, List, [], ◌∷◌, ◌++◌, length, map, slice_set, arith}
-use Rattle.cw_secnames.specs.declared.{kinds.RefKind.RefKind, kinds.SecKind.SecKind, sec_names.Kept.Kept}
-use Rattle.cw_secnames.specs.{declared.name_marks.NameMarks.NameMarks, model.Inside.name_of, KeptName.SecName}
+use Rattle.cw_secnames.specs.declared.{kinds.RefKind.RefKind, kinds.SecKind.SecKind, sec_names.KeptName.KeptName}
+use Rattle.cw_secnames.specs.{declared.name_marks.NameMarks.NameMarks, model.Inside.name_of, Kept.SecName}
 use Rattle.cw_secnames.specs.{model.NameMarks.AreMarkedNames, model.NameMarks.KeepsNames, References.with_reference}
 use Rattle.cw_secnames.specs.Marks.{is_one_of}
 use Rattle.cw_secnames.specs.model.Marks.{HoldNear, IsMarked}

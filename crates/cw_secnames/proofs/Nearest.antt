@@ -8,7 +8,7 @@ use Rattle.std.specs.List.{position, position_or_len}
 use Rattle.std.proofs.{lemmas.List.Sums.position_or_len_is, lemmas.Bool.Decides.nat_tests, lemmas.Grind.common_steps}
 use Rattle.cw_base.proofs.TestLaws.{one-left, one-right}
 use Rattle.cw_secnames.specs.declared.{kinds.SecKind.SecKind, kinds.SecKind.TheVariants.Named, sec_names.Asked.Asked}
-use Rattle.cw_secnames.specs.declared.{sec_names.Kept.Kept, marks.Marks.Marks, kinds.RefKind.RefKind}
+use Rattle.cw_secnames.specs.declared.{sec_names.KeptName.KeptName, marks.Marks.Marks, kinds.RefKind.RefKind}
 use Rattle.cw_secnames.specs.{References.with_reference, References.with_section, model.Inside.name_of}
 use Rattle.cw_secnames.specs.Kept.{SecName, same_name_kind, is_beginning_of, unreferred}
 use Rattle.cw_secnames.specs.model.Asked.{kind_asked, passes, passes_at, is_below, chosen, is_lesser, least_of}

@@ -5,8 +5,8 @@ use Rattle.std.proofs.Common.{MatchResult}
 use Rattle.std.specs.{List.Sorted.IsBinarySearchResult, Ordering.nat_cmp}
 use Rattle.std.proofs.{lemmas.List.Sorted.searched, lemmas.Bool.eq-eqb, lemmas.Bool.eqb-true}
 use Rattle.cw_base.proofs.TestLaws.{or-false}
-use Rattle.cw_secnames.specs.declared.{kinds.RefKind.RefKind, sec_names.Kept.Kept}
-use Rattle.cw_secnames.specs.{model.Inside.listed, model.Inside.lists_of, model.Inside.name_of, KeptName.SecName}
+use Rattle.cw_secnames.specs.declared.{kinds.RefKind.RefKind, sec_names.KeptName.KeptName}
+use Rattle.cw_secnames.specs.{model.Inside.listed, model.Inside.lists_of, model.Inside.name_of, Kept.SecName}
 use Rattle.cw_secnames.specs.{Marks.is_one_of}
 use Rattle.cw_secnames.specs.References.{Ascend, AscendFrom, ReferAscending, RefersAscending, with_number}
 use Rattle.cw_secnames.specs.References.{with_reference, with_section}

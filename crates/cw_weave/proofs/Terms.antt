@@ -11,7 +11,7 @@ pub use Rattle.cw_base.specs.{declared.exit.Exit.Exit, declared.flags.Flags.Flag
 pub use Rattle.cw_base.specs.declared.event.Event.TheVariants.{Made, Drafted, Kept, Replaced}
 pub use Rattle.cw_base.specs.declared.event.Out.TheVariants.{Tex, Idx, Scn}
 pub use Rattle.cw_base.specs.declared.exit.Exit.TheVariants.{Fault, Clean, Errors}
-pub use Rattle.cw_desk.specs.{Journal.byte_events, Meaning.NamedFiles, Meaning.has_draft, DeskState.Told}
+pub use Rattle.cw_desk.specs.{Journal.byte_events, Meaning.NamedFiles, Meaning.has_draft, Told.DeskState}
 pub use Rattle.cw_desk.specs.{declared.outputs.Outputs.Outputs}
 pub use Rattle.cw_lines.specs.{Line.Line, Line.LineState, Line.as_count, Line.new_line, Writes.Puts}
 pub use Rattle.cw_lines.specs.laws.WritesLaws.{puts-new_line, is_err, puts-bytes, puts-none, puts-stop, puts-then}

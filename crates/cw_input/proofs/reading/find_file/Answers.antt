@@ -1,7 +1,7 @@
 -- What reading the opened file answers is what looking for it answers, and what was read of it is read.
 use Rattle.std.proofs.Common.{ℕ, ◌+◌, List, length, option_map, sym, ap, ◌∙◌, arith}
 use Rattle.std.specs.FinMap.{get}
-use Rattle.cw_input.specs.{declared.found.InputFile.Found, Merged.found_file}
+use Rattle.cw_input.specs.{declared.found.InputFile.InputFile, Merged.found_file}
 use Rattle.cw_input.proofs.AnswerLaws.{Finds-err}
 use Rattle.cw_input.proofs.ReadLaws.{reads_on-file, reads_on-more, reads_on-same}
 use Rattle.cw_input.proofs.reading.find_file.Goals as goal

@@ -1,6 +1,6 @@
 -- The note that is met is the first of those that were left; a byte without one leaves them all.
 use Rattle.std.proofs.Common.{◌≡◌, ◌∷◌, true, None, Some, slice_index, drop, ap, sym, ◌∙◌}
-use Rattle.cw_rules.specs.{declared.bodies.NoteAt.Noted, Bodies.goes_on, Bodies.note_here, Bodies.stepped}
+use Rattle.cw_rules.specs.{declared.bodies.NoteAt.NoteAt, Bodies.goes_on, Bodies.note_here, Bodies.stepped}
 use Rattle.cw_rules.proofs.Inside.{noted-at}
 use Rattle.cw_rules.proofs.bodies.next_noted.Goals as goal
 

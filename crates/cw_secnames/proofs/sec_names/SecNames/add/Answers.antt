@@ -1,6 +1,6 @@
 -- A name more is marked, and the others stay marked; nothing refers to it.
 use Rattle.std.proofs.Common.{List, map, refl, ◌∙◌, sym, subst}
-use Rattle.cw_secnames.specs.{declared.sec_names.KeptName.Kept, model.Inside.name_of, model.Sound.AreSound}
+use Rattle.cw_secnames.specs.{declared.sec_names.KeptName.KeptName, model.Inside.name_of, model.Sound.AreSound}
 use Rattle.cw_secnames.proofs.NamedMarks.{named-more, named-behind}
 use Rattle.cw_secnames.proofs.{Nearest.marked-as, References.ascending-behind}
 use Rattle.cw_secnames.proofs.sec_names.SecNames.add.Goals as goal

@@ -1,6 +1,6 @@
 -- The name in the list gets what the name in memory gets.
 use Rattle.std.proofs.Common.{◌∙◌, ap, sym, subst, length, arith}
-use Rattle.cw_secnames.specs.{declared.sec_names.KeptName.Kept, model.Inside.name_of, model.Sound.AreSound}
+use Rattle.cw_secnames.specs.{declared.sec_names.KeptName.KeptName, model.Inside.name_of, model.Sound.AreSound}
 use Rattle.cw_secnames.specs.References.{RefersAscending, with_section}
 use Rattle.cw_secnames.proofs.NamedMarks.{named-with_reference}
 use Rattle.cw_secnames.proofs.Finding.{same-map, reference-map, length-named, length-with_reference}

@@ -1,6 +1,6 @@
 -- What refers to each kept name ascends.
 use Rattle.std.proofs.Common.{sym, subst, ap, length, arith}
-use Rattle.cw_secnames.specs.declared.{kinds.RefKind.TheVariants.Used, sec_names.Kept.Kept}
+use Rattle.cw_secnames.specs.declared.{kinds.RefKind.TheVariants.Used, sec_names.KeptName.KeptName}
 use Rattle.cw_secnames.specs.{model.Inside.name_of, References.Ascend, References.RefersAscending}
 use Rattle.cw_secnames.proofs.{Finding.length-named, References.ascending-at, References.ascending-in}
 use Rattle.cw_secnames.proofs.sec_names.SecNames.used_in.Goals as goal
