@@ -4,7 +4,7 @@ ghost use Rattle.cw_lex.specs.Nested.{begins_section_in};
 ghost use Rattle.cw_trees.specs.Flat.{Item, Open as open_item, Close as close_item};
 ghost use Rattle.cw_trees.specs.Printing.{ident_bytes, printed};
 ghost use Rattle.cw_tokens.specs.FlatItems.{item_is, items_are};
-ghost use Rattle.cw_tokens.specs.declared.flat.FlatItem.TheVariants.{PrintSource as FlatSource, Ident as FlatIdent};
+ghost use Rattle.cw_tokens.specs.declared.flat.FlatItem.TheVariants.{Source as FlatSource, Ident as FlatIdent};
 ghost use Rattle.cw_tokens.specs.declared.flat.FlatItem.TheVariants.{Reserved as FlatReserved};
 ghost use Rattle.cw_tokens.specs.declared.flat.FlatItem.TheVariants.{Control as FlatControl, Open, Close};
 ghost use Rattle.cw_tokens.specs.Shapes.{unfolded};
