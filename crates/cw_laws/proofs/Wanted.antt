@@ -5,7 +5,8 @@ use Rattle.std.proofs.Common.{if◌then◌else◌, drop, sym, ap, ◌∙◌, ari
 use Rattle.std.proofs.{lemmas.List.drop-drop, lemmas.Bool.Decides.nat_tests}
 use Rattle.cw_base.{proofs.TestLaws.both-right, specs.Bytes.backslash}
 use Rattle.cw_rules.specs.declared.{codes.Code.Code, codes.Effect.Effect, parts.Part.Part, tokens.Mode.Mode}
-use Rattle.cw_rules.specs.{declared.parts.Opened.Opened, Answers.Where, Answers.ScanStep, Bodies.at_start, Bodies.extent}
+use Rattle.cw_rules.specs.{declared.parts.Opened.Opened, Answers.Where, Answers.ScanStep}
+use Rattle.cw_rules.specs.{Bodies.at_start, Bodies.extent}
 use Rattle.cw_rules.specs.{Codes.begins_section, Codes.code_at, Tokens.is_code_part}
 use Rattle.cw_rules.specs.model.Apart.{in_text_apart, found_apart}
 use Rattle.cw_rules.specs.Bytes.{at_sign, apostrophe, left_paren, begins, begins_by, is_in, is_letter, run}
