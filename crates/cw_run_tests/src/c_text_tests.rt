@@ -47,7 +47,7 @@ fn without_index(alloc: Global, section: &[u8]) -> Result<Bytes, Memory> {
 }
 
 /// A text of a C part, what its section prints, and its index.
-const ROWS: [(&[u8], &[u8], &[u8]); 17] = [
+static ROWS: [(&[u8], &[u8], &[u8]); 17] = [
     (
         b"int a=b+c, *d;",
         b"\\Y\\B\\&{int} \\|a${}\\K\\|b+\\|c,{}$ ${}{*}\\|d;$\\par\n",

@@ -4,7 +4,7 @@ use crate::runs::{FOO, HELLO};
 use std::test::Fail;
 
 /// Command lines, and what each has to tell.
-const RUNS: [Run; 8] = [
+static RUNS: [Run; 8] = [
     Run {
         name: "help",
         words: &[b"--help"],
@@ -108,7 +108,7 @@ Errors",
 ];
 
 /// Command lines whose outputs would overwrite an input or one another, and what each has to tell.
-const OVERWRITING: [Run; 9] = [
+static OVERWRITING: [Run; 9] = [
     Run {
         name: "the web",
         words: &[b"foo.tex"],

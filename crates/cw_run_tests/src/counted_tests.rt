@@ -9,7 +9,7 @@ use std::test::Fail;
 const SAMPLE: &[&[u8]] = &[b"--sample", b"3"];
 
 /// Runs, and how many calls each makes.
-const COUNTED: [Counted; 4] = [
+static COUNTED: [Counted; 4] = [
     // A call for each line.
     Counted {
         run: Run {

@@ -70,7 +70,7 @@ struct Called {
     files: &'static [(&'static [u8], &'static [u8])],
 }
 
-const RUNS: [Called; 7] = [
+static RUNS: [Called; 7] = [
     Called {
         way: Way::Direct,
         first: 1,

@@ -23,7 +23,7 @@ struct Run {
     links: &'static [(&'static str, &'static str)],
 }
 
-const RUNS: [Run; 10] = [
+static RUNS: [Run; 10] = [
     // Another path to the web, and to one that was found in a folder.
     Run {
         words: &[b"./foo.w", b"-", b"foo.w"],

@@ -9,7 +9,7 @@ use std::alloc::Global;
 use std::process::Abort;
 use std::test::Fail;
 
-const KEEPING: [&[u8]; 2] = [b"+k", FOO];
+static KEEPING: [&[u8]; 2] = [b"+k", FOO];
 
 /// The TeX file of the web.
 const TEX: &[u8] = b"\\input cwebmac

@@ -23,7 +23,7 @@ Done.
 (No errors were found.)
 Clean";
 
-const DEEP: [Large; 3] = [
+static DEEP: [Large; 3] = [
     // A statement with a comment that has C text with a comment, and so on.
     Large {
         name: "twenty texts deep",

@@ -39,7 +39,7 @@ new
 ";
 
 /// Runs, and what each has to tell.
-const RUNS: [Run; 9] = [
+static RUNS: [Run; 9] = [
     Run {
         name: "a change",
         words: &[FOO, FOO],

@@ -7,7 +7,7 @@ use std::test::Fail;
 const CHANGE: &[u8] = b"@x\n@ @<A |1| b@>=x;\n@y\n@ @<A |1| b@>=y;\n@z\n";
 
 /// Runs, and what each has to tell.
-const RUNS: [Run; 3] = [
+static RUNS: [Run; 3] = [
     Run {
         name: "tokens and a changed name",
         words: &[b"-x", FOO, b"foo.ch"],

@@ -4,7 +4,7 @@ use crate::runs::FOO;
 use std::test::Fail;
 
 /// Each rule without the flag, and with it.
-const RUNS: [Run; 8] = [
+static RUNS: [Run; 8] = [
     Run {
         name: "depths",
         words: &[FOO, b"-bphx"],

@@ -25,7 +25,7 @@ struct Run {
 
 const HELLO_TEX: &[u8] = b"\\input cwebmac\n% limbo\n\\M{1}Hello.\n\\fi\n\n\\inx\n\\fin\n\\end\n";
 
-const RUNS: [Run; 11] = [
+static RUNS: [Run; 11] = [
     // A file that is missing, one that is read twice, and a path through a file.
     Run {
         words: &[b"foo"],
@@ -202,7 +202,7 @@ struct Failing {
     call: u64,
 }
 
-const FAILING: [Failing; 7] = [
+static FAILING: [Failing; 7] = [
     // A folder can be opened, but not read.
     Failing {
         words: &[b"folder"],

@@ -26,7 +26,7 @@ fn expect_notes(rt: &impl Abort, alloc: Global, web: &[u8], notes: &[u8]) -> Res
 }
 
 // One web for each note that limbo and TeX text can make, with its line.
-const ROWS: [(&[u8], &[u8]); 9] = [
+static ROWS: [(&[u8], &[u8]); 9] = [
     (
         b"a\n@ b\nc@3d\n",
         b"! Unknown control code (l. 3 of foo.w)\n",

@@ -7,7 +7,7 @@ use std::process::Abort;
 use std::test::Fail;
 
 /// A web, and what its run prints of its sections, of its index and at the end.
-const ROWS: [(&[u8], &[u8], &[u8], &[u8]); 8] = [
+static ROWS: [(&[u8], &[u8], &[u8], &[u8]); 8] = [
     // Two names begin with the prefix.
     (
         b"@ @<Read a@>= x;\n@ @<Read b@>= y;\n@ @c @<Read...@>;\n",

@@ -18,7 +18,7 @@ const TEX: &[u8] = b"[tex] is foo.tex\n[tex]\\input cwebmac\n\\M{1}";
 const END: &[u8] = b"\n\\fi\n\n\\end\nClean";
 
 /// The same behind a section that defines the name `x`.
-const PARTS_WITH_A_NAME: [Row; 7] = [
+static PARTS_WITH_A_NAME: [Row; 7] = [
     (
         b"f() @<x@> int g(){a;}",
         b"\\Y\\B\\|f(\\,)\\6
@@ -49,7 +49,7 @@ ${}\\{\\1{}$\\6
 ];
 
 /// Inner texts between bars.
-const INNER_TEXTS: [Row; 13] = [
+static INNER_TEXTS: [Row; 13] = [
     (b"int x=5", b"\\PB{\\&{int} \\|x${}\\K\\T{5}$}"),
     (b"a;b", b"\\PB{\\|a; \\|b}"),
     (b"case 1: b", b"\\PB{\\&{case} \\T{1}: \\|b}"),
@@ -89,7 +89,7 @@ const DEFINITIONS: [Row; 3] = [
 ];
 
 /// Expressions that are assigned to `a`.
-const TOKENS: [Row; 17] = [
+static TOKENS: [Row; 17] = [
     (b"0b1010'1010", b"\\T{\\\\1010\\ 1010}"),
     (b"0B1uL", b"\\T{\\\\1\\$U\\$L}"),
     (b"1'000'000u", b"\\T{1\\ 000\\ 000\\$U}"),

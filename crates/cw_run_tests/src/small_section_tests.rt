@@ -8,7 +8,7 @@ use std::alloc::Global;
 use std::test::Fail;
 
 /// Runs, and what each has to tell.
-const RUNS: [Run; 7] = [
+static RUNS: [Run; 7] = [
     Run {
         name: "a declaration with its index",
         words: &[FOO],

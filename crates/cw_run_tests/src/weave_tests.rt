@@ -4,7 +4,7 @@ use crate::runs::{FOO, HELLO};
 use std::test::Fail;
 
 /// Runs, and what each has to tell.
-const RUNS: [Run; 8] = [
+static RUNS: [Run; 8] = [
     Run {
         name: "a section",
         words: &[FOO],

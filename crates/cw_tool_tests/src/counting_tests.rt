@@ -20,7 +20,7 @@ const WEBS: [(&[u8], &[u8]); 6] = [
     (b"part", b"% part\n"),
 ];
 
-const RUNS: [Run; 11] = [
+static RUNS: [Run; 11] = [
     Run {
         words: &[b"none", b"-", b"out"],
         files: &WEBS,

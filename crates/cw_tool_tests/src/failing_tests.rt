@@ -38,7 +38,7 @@ const COUNTING: [Run; 3] = [
     },
 ];
 
-const MINI: [Run; 1] = [Run {
+static MINI: [Run; 1] = [Run {
     words: &[b"foo", b"foo", b"out"],
     files: &[
         (b"foo.w", b"@ @c int i;\n@ @c i=i+1;\n"),
@@ -47,7 +47,7 @@ const MINI: [Run; 1] = [Run {
     exit: Exit::Clean,
 }];
 
-const PLAIN: [Run; 5] = [
+static PLAIN: [Run; 5] = [
     Run {
         words: &[b"foo", b"-"],
         files: &[],
@@ -79,7 +79,7 @@ const PLAIN: [Run; 5] = [
     },
 ];
 
-const LOG: [Run; 9] = [
+static LOG: [Run; 9] = [
     Run {
         words: &[b"weave", b"foo"],
         files: &[],

@@ -2,7 +2,7 @@
 use cw_logs::judge;
 
 // Logs, and files that are none, each with the number of its fault; 0 stands for a log.
-const FILES: [(&str, usize); 38] = [
+static FILES: [(&str, usize); 38] = [
     ("", 0),
     ("text 0\nend\n", 0),
     ("text 0\nend", 0),

@@ -9,7 +9,7 @@ use std::alloc::Global;
 use std::test::Fail;
 
 // Files, what is printed of each, and the status.
-const RUNS: [(&str, &str, Exit); 15] = [
+static RUNS: [(&str, &str, Exit); 15] = [
     ("", "accepted: 0 texts, 0 productions\n", Exit::Clean),
     (
         "text 0\nend",

@@ -14,7 +14,7 @@ struct Row {
     lines: Lines,
 }
 
-const ROWS: [Row; 12] = [
+static ROWS: [Row; 12] = [
     // The section that defines a name doesn't list it.
     Row {
         web: &[b"@ @c int i;", b"@ @c i=i+1;"],

@@ -37,7 +37,7 @@ const SUM: [LogItem; 3] = [
     LogItem { row: P8, place: 0 },
 ];
 
-const LOGS: [Judged; 13] = [
+static LOGS: [Judged; 13] = [
     Judged {
         tokens: b"a=a+b;",
         log: &SUM,

@@ -49,7 +49,7 @@ fn set_failing(desk: &mut MemDesk) -> Result<(), Memory> {
 }
 
 /// What its journal has then.
-const WRITTEN: [Told<'static>; 2] = [Told::Made(Out::Tex, b"a.tex"), Told::Byte(Out::Tex, b'x')];
+static WRITTEN: [Told<'static>; 2] = [Told::Made(Out::Tex, b"a.tex"), Told::Byte(Out::Tex, b'x')];
 
 /// The answer of a desk that is written to, how often it was called, and whether its journal has that and no more.
 fn write_in_memory(desk: &mut MemDesk) -> (Result<Taken, MadeOut>, u64, bool) {

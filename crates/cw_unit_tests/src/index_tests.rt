@@ -76,7 +76,7 @@ pub(crate) fn list_names<D: Desk>(
 }
 
 /// Webs, and their index or section list.
-const ROWS: [Expected; 2] = [
+static ROWS: [Expected; 2] = [
     Expected {
         name: "an index is written",
         lines: &[

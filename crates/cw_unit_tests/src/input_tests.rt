@@ -79,7 +79,7 @@ fn expect_loaded(
 }
 
 // Change files for a web of three lines, and what is shown of the changed web.
-const CHANGES: [(&[u8], &[u8]); 5] = [
+static CHANGES: [(&[u8], &[u8]); 5] = [
     // The second old line differs.
     (
         b"@x\n@c a;\nc;\n@y\n@c z;\n@z\n",
@@ -150,7 +150,7 @@ const INCLUDED: [(&[u8], &[u8]); 5] = [
 ];
 
 // A file that includes itself is opened ten times.
-const IN_ITSELF: [(&[u8], &[u8]); 2] = [(b"foo.w", b"@i a\n"), (b"a", b"@i a\nlast\n")];
+static IN_ITSELF: [(&[u8], &[u8]); 2] = [(b"foo.w", b"@i a\n"), (b"a", b"@i a\nlast\n")];
 
 #[test]
 fn included_files(rt: HostRuntime) -> Result<(), Fail> {

@@ -71,7 +71,7 @@ fn is_leaf(
 
 const SOURCE: FlatItem = FlatItem::Source(3);
 
-const SIGNS: [(Sign, Cat, MathMode); 40] = [
+static SIGNS: [(Sign, Cat, MathMode); 40] = [
     (Sign::Slash, Cat::Binop, MathMode::Math),
     (Sign::Dot, Cat::Dot, MathMode::Math),
     (Sign::Less, Cat::Binop, MathMode::Math),
@@ -209,7 +209,7 @@ const CANCEL: FlatItem = FlatItem::Control(Control::Cancel);
 
 const WALL: FlatItem = FlatItem::Control(Control::Wall);
 
-const CODES: [(u8, Cat, MathMode, &[FlatItem]); 13] = [
+static CODES: [(u8, Cat, MathMode, &[FlatItem]); 13] = [
     (b'=', Cat::Box, MathMode::Maybe, &[SOURCE]),
     (b't', Cat::Box, MathMode::Maybe, &[SOURCE]),
     (b'\'', Cat::Exp, MathMode::Maybe, &[SOURCE]),
@@ -281,7 +281,7 @@ fn a_line_of_the_preprocessor_is_put_on_a_line_of_its_own(rt: HostRuntime) -> Re
 }
 
 // Words that have one category wherever they stand.
-const WORDS: [(&[u8], Cat); 25] = [
+static WORDS: [(&[u8], Cat); 25] = [
     (b"n", Cat::Exp),
     (b"size_t", Cat::RawInt),
     (b"_Bool", Cat::RawInt),
@@ -310,7 +310,7 @@ const WORDS: [(&[u8], Cat); 25] = [
 ];
 
 // Words with their categories where they stand directly behind the `#` of a `#` line, and elsewhere.
-const DIRECTIVES: [(&[u8], Cat, Cat); 16] = [
+static DIRECTIVES: [(&[u8], Cat, Cat); 16] = [
     (b"elif", Cat::HashLike, Cat::Exp),
     (b"elifdef", Cat::HashLike, Cat::Exp),
     (b"elifndef", Cat::HashLike, Cat::Exp),

@@ -91,7 +91,7 @@ fn an_answer_tells_its_bytes_and_its_line(rt: HostRuntime) {
 }
 
 // Lines that begin with a `#`, and where their first token stands that is a directive.
-const DIRECTIVES: [(&[u8], Option<(usize, Directive)>); 15] = [
+static DIRECTIVES: [(&[u8], Option<(usize, Directive)>); 15] = [
     (b"\n#if a", Some((2, Directive::Word))),
     (b"\n # else", Some((4, Directive::Word))),
     (b"\n#\\\nendif", Some((4, Directive::Word))),

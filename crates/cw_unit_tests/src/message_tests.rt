@@ -115,7 +115,7 @@ fn is_kept(alloc: Global, name: &[u8]) -> Result<bool, Fail> {
 }
 
 /// New files, and whether the old file is kept in the place of each.
-const OLD_FILES: [(&[u8], bool); 3] = [(b"a.idx", true), (b"b.idx", false), (b"c.idx", false)];
+static OLD_FILES: [(&[u8], bool); 3] = [(b"a.idx", true), (b"b.idx", false), (b"c.idx", false)];
 
 #[test]
 fn old_files(rt: HostRuntime) -> Result<(), Fail> {
@@ -177,7 +177,7 @@ fn said(alloc: Global, part: &Part) -> Result<Said, Fail> {
 }
 
 /// Each part, how its runs have to end, and what it has to say.
-const PARTS: [(Part, Option<[Exit; 3]>, &[u8]); 4] = [
+static PARTS: [(Part, Option<[Exit; 3]>, &[u8]); 4] = [
     (
         Part::Lines,
         None,

@@ -14,7 +14,7 @@ fn expect_notes(rt: &impl Abort, rows: &[Row]) {
     }
 }
 
-const CODES: [Row; 11] = [
+static CODES: [Row; 11] = [
     (Mode::TexText, b"a@3b", NoteKind::UnknownCode, 1),
     (Mode::TexText, b"a@lb", NoteKind::UnknownCode, 1),
     (Mode::CPart, b"a @@ b", NoteKind::UnknownCode, 2),
@@ -33,7 +33,7 @@ fn notes_on_codes(rt: HostRuntime) {
     expect_notes(&rt, &CODES);
 }
 
-const STRINGS_AND_CONTROL_TEXTS: [Row; 8] = [
+static STRINGS_AND_CONTROL_TEXTS: [Row; 8] = [
     (Mode::CPart, b"\"a@b\"", NoteKind::AtInString, 2),
     (Mode::CPart, b"@'@a'", NoteKind::AtInString, 2),
     (Mode::CPart, b"\"ab\nc\n", NoteKind::StringUnended, 3),
@@ -66,7 +66,7 @@ fn notes_on_section_names(rt: HostRuntime) {
 const DEEP: &[u8] = b"|/*|/*|/*|/*|/*|/*|/*|/*|/*|/*|/*|/*|/*|/*|/*|/*|/*|/*|/*|/*\
     |*/|*/|*/|*/|*/|*/|*/|*/|*/|*/|*/|*/|*/|*/|*/|*/|*/|*/|*/|*/|";
 
-const COMMENTS: [Row; 12] = [
+static COMMENTS: [Row; 12] = [
     (Mode::CPart, b"a /*b", NoteKind::CommentUnended, 2),
     (Mode::CPart, b"a //b", NoteKind::CommentUnended, 2),
     (Mode::CPart, b"a /*b@ c", NoteKind::CommentUnended, 2),

@@ -36,7 +36,7 @@ pub(crate) fn put_rest<D: Desk>(
 }
 
 /// Webs, and what stands behind the TeX part of their first section.
-const ROWS: [Expected; 2] = [
+static ROWS: [Expected; 2] = [
     Expected {
         name: "parts are printed",
         lines: &[

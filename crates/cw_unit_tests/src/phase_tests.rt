@@ -86,7 +86,7 @@ fn has_notes(alloc: Global, lines: &[&[u8]], kinds: &[NoteKind]) -> Result<bool,
 }
 
 /// Webs, and the notes on each: where a `=` seems to be missing, and five where none is.
-const EQUALS: [(&[&[u8]], &[NoteKind]); 7] = [
+static EQUALS: [(&[&[u8]], &[NoteKind]); 7] = [
     (
         &[b"@ Text.", b"  @<Read@>", b"x=1;"],
         &[

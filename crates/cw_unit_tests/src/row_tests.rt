@@ -220,7 +220,7 @@ const FROM_139: [(u8, &[Cat], usize, usize, Cat, &[u8]); 10] = rows! {
 
 // The same for the rows that a flag changes, with all flags off. Behind a function a declaration is set apart all the
 // same.
-const FLAGS_OFF: [(u8, &[Cat], usize, usize, Cat, &[u8]); 9] = rows! {
+static FLAGS_OFF: [(u8, &[Cat], usize, usize, Cat, &[u8]); 9] = rows! {
     4: [Exp Lbrace] 0 2 FnDecl b"0";
     36: [DeclHead Lbrace] 0 2 FnDecl b"0";
     39: [Decl Stmt] 0 1 Stmt b"0F1";

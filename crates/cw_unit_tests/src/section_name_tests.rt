@@ -142,7 +142,7 @@ fn enter_many(names: &mut SecNames) -> Result<bool, Memory> {
 const LAST: SecId = SecId { index: 300 };
 
 /// What is answered behind three hundred names.
-const BEHIND_MANY: [(Option<SecKind>, &[u8], Entered); 6] = [
+static BEHIND_MANY: [(Option<SecKind>, &[u8], Entered); 6] = [
     (
         NAMED,
         b"Read 217 of them",

@@ -35,7 +35,7 @@ pub(crate) fn put_first<D: Desk>(
 }
 
 /// Webs, and their limbo or the start of their first section.
-const ROWS: [Expected; 2] = [
+static ROWS: [Expected; 2] = [
     Expected {
         name: "limbo is copied",
         lines: &[b"% a@@b", b"@l", b"@q c@>", b"", b"@ A"],

@@ -4,7 +4,7 @@ use cw_base::NoteKind;
 use cw_lex::{Code, Mode, Sign, TokKind};
 
 // A letter is a code in either case.
-const CODES: [(&[u8], Code); 25] = [
+static CODES: [(&[u8], Code); 25] = [
     (b"@,", Code::ThinSpace),
     (b"@/", Code::LineBreak),
     (b"@|", Code::OptionalBreak),
@@ -39,7 +39,7 @@ fn codes_of_c_text(rt: HostRuntime) {
     }
 }
 
-const CODES_OF_LIMBO_AND_TEX_TEXT: [Row; 2] = [
+static CODES_OF_LIMBO_AND_TEX_TEXT: [Row; 2] = [
     // In limbo a code that may not stand there is dropped without what follows it, in TeX text with its control text.
     (
         Mode::Limbo,
@@ -93,7 +93,7 @@ fn codes_of_limbo_and_tex_text(rt: HostRuntime) {
 }
 
 // The blanks of its line behind a section code belong to it, a line's end never.
-const SECTION_CODES: [Row; 1] = [(
+static SECTION_CODES: [Row; 1] = [(
     Mode::TexText,
     b"@\n@***",
     &[
@@ -118,7 +118,7 @@ fn section_codes(rt: HostRuntime) {
 const NAME: Shown = Shown::Token(TokKind::Code(Code::SectionName), 0, 5);
 
 // A name begins a C part where a sign stands behind it on its line, else it is a citation or a use.
-const HEADS_OF_C_PARTS: [Row; 6] = [
+static HEADS_OF_C_PARTS: [Row; 6] = [
     (
         Mode::TexText,
         b"@<a@> +=|",
@@ -166,7 +166,7 @@ fn heads_of_c_parts(rt: HostRuntime) {
 
 const DEFINE: Shown = Shown::Token(TokKind::Code(Code::Define), 0, 2);
 
-const HEADS_OF_DEFINITIONS: [Row; 4] = [
+static HEADS_OF_DEFINITIONS: [Row; 4] = [
     (
         Mode::TexText,
         b"@d\nm(a,...)@f a b",

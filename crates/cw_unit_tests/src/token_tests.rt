@@ -65,7 +65,7 @@ const CHARACTER: Shown = Shown::Token(TokKind::Quoted, 1, 4);
 
 // Digits are wanted behind `0x` and `0b`, behind a dot that begins a constant, and in an exponent; a dot before a dot
 // belongs to no constant, and between two digits of one run one quote may stand.
-const WHERE_A_CONSTANT_ENDS: [Row; 11] = [
+static WHERE_A_CONSTANT_ENDS: [Row; 11] = [
     (Mode::CPart, b"0x", &[CONSTANT, NAME]),
     (Mode::CPart, b"0b", &[CONSTANT, NAME]),
     (Mode::CPart, b"1e", &[CONSTANT, NAME]),
@@ -130,7 +130,7 @@ fn where_a_constant_ends(rt: HostRuntime) {
     expect_answers(&rt, &WHERE_A_CONSTANT_ENDS);
 }
 
-const SIGNS: [(&[u8], Sign); 40] = [
+static SIGNS: [(&[u8], Sign); 40] = [
     (b"/", Sign::Slash),
     (b".", Sign::Dot),
     (b"<", Sign::Less),
@@ -181,7 +181,7 @@ fn each_sign(rt: HostRuntime) {
 }
 
 // Of the signs that fit the longest is taken, and what begins none is a byte of its own.
-const WHERE_A_SIGN_ENDS: [Row; 5] = [
+static WHERE_A_SIGN_ENDS: [Row; 5] = [
     (
         Mode::CPart,
         b"<<=",
@@ -248,7 +248,7 @@ const WHOLE_STRINGS: [&[u8]; 12] = [
     b"\"a\\@b\"",
 ];
 
-const STRINGS: [Row; 3] = [
+static STRINGS: [Row; 3] = [
     (
         Mode::CPart,
         b"uL'a'",
@@ -287,7 +287,7 @@ fn strings(rt: HostRuntime) {
     expect_answers(&rt, &STRINGS);
 }
 
-const LINES_WITH_HASH: [Row; 5] = [
+static LINES_WITH_HASH: [Row; 5] = [
     // It is the first byte of its line that isn't blank, in a C part.
     (
         Mode::CPart,
@@ -365,7 +365,7 @@ const LETTER: Shown = Shown::Token(TokKind::Identifier, 9, 10);
 const GREATER: Shown = Shown::Token(TokKind::Sign(Sign::Greater), 10, 11);
 
 // An include name is the next token behind the word `include` of a `#` line.
-const INCLUDE_NAMES: [Row; 5] = [
+static INCLUDE_NAMES: [Row; 5] = [
     (
         Mode::CPart,
         b"#include<a//b>",
@@ -418,7 +418,7 @@ fn include_names(rt: HostRuntime) {
 }
 
 // A backslash takes the next byte of a comment along, so that `\*/` ends none.
-const COMMENTS: [Row; 4] = [
+static COMMENTS: [Row; 4] = [
     (
         Mode::CPart,
         b"/* \\| \\} @@\\*/",

@@ -197,7 +197,7 @@ struct Sample {
     productions: Option<u64>,
 }
 
-const SAMPLES: [Sample; 15] = [
+static SAMPLES: [Sample; 15] = [
     Sample {
         text: b"a; /* |b| */",
         mode: Mode::CPart,

@@ -82,7 +82,7 @@ struct Line {
     marks: Option<usize>,
 }
 
-const LINES: [Line; 5] = [
+static LINES: [Line; 5] = [
     // A declaration is one scrap with two marks.
     Line {
         first: (b"Ta=b+c,*d;", 1),
