@@ -12,7 +12,7 @@ use cw_answers::Answers;
 use cw_base::{Flags, Out, Silent, Span, Steps, Web};
 use cw_desk::{Batch, Desk, FileDesk, MadeOut};
 use cw_lex::Mode;
-use cw_lines::{LineOut, PutError};
+use cw_lines::{LineOut, PutError, Sheet};
 use cw_phase1::{Book, phase_one};
 use cw_print::{KeptText, print_answers};
 use cw_reduce::{is_uncut, translate};
@@ -51,7 +51,11 @@ fn measured<D: Desk>(
         inner: false,
     };
     let mut out = LineOut::new_in(alloc, Out::Tex);
-    print_answers(alloc, text, &held.store, list, &mut out, desk)?;
+    let mut sheet = Sheet {
+        line: &mut out,
+        desk,
+    };
+    print_answers(alloc, text, &held.store, list, &mut sheet)?;
     Ok(out.lines())
 }
 

@@ -7,5 +7,5 @@ pub use Rattle.std.proofs.lemmas.List.Elements.{All-push, All-tail, All-nil, All
 pub use Rattle.cw_answers.specs.model.Kept.{IsWithin, answers_at, BeginWith, StandsIn, answer_at}
 pub use Rattle.cw_answers.specs.Reading.{Stays, IsReadUp, Reading}
 pub use Rattle.cw_answers.specs.model.Reading.{Goes, GoesByNote, IsReading, Stand, all_of}
-pub use Rattle.cw_answers.specs.declared.kept.KeptAnswer.{KeptAnswer}
+pub use Rattle.cw_answers.specs.declared.kept_answer.KeptAnswer.{KeptAnswer}
 pub use Rattle.cw_rules.specs.Answers.{Answer, Note, Token, Begin, Finish, Seen, Gives, seen}

@@ -4,7 +4,7 @@ ghost use Rattle.cw_rules.specs.Answers.{Gives};
 ghost use Rattle.cw_lex.specs.Lexing.{tokens_of};
 ghost use Rattle.cw_answers.specs.model.Kept.{BeginWith, IsWithin, answers_at};
 
-use crate::kept::{KeptAnswer, NotePlace, Stretch};
+use crate::kept_answer::{KeptAnswer, NotePlace, Stretch};
 use cw_base::{Memory, Span};
 use cw_lex::{Lexed, Lexer, Mode};
 use std::alloc::Global;

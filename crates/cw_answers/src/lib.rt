@@ -2,7 +2,7 @@
 #![tactic(auto)]
 
 mod answers;
-mod kept;
+mod kept_answer;
 mod reader;
 
 pub use answers::Answers;

@@ -6,7 +6,7 @@ ghost use Rattle.cw_answers.specs.Reading.{Stays};
 ghost use Rattle.cw_answers.specs.model.Reading.{Goes, GoesByNote};
 
 use crate::answers::Answers;
-use crate::kept::{KeptAnswer, NotePlace, Stretch};
+use crate::kept_answer::{KeptAnswer, NotePlace, Stretch};
 use cw_base::{Memory, NoteKind, Span};
 use cw_lex::{Lexed, Lexer, Mode};
 use std::alloc::Global;

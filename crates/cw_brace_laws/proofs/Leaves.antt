@@ -2,11 +2,11 @@
 use Rattle.cw_rules.specs.declared.tokens.Directive.{Directive}
 use Rattle.cw_brace_laws.proofs.Terms.{◌≡◌, ℕ, Bool, false, Option, Some, None, IfSome, List, [], ◌∷◌, ◌++◌, ◌∙◌, refl}
 use Rattle.cw_brace_laws.proofs.Terms.{arith, MathMode, Entry, TokKind, LeafForm, token_form, is_text, Token}
-use Rattle.cw_brace_laws.proofs.Terms.{form_tokens, leaf_scrap, Tree, EndsAt, IsBraced, IsBracedScrap, depth_of}
-use Rattle.cw_brace_laws.proofs.Terms.{nat_tests}
+use Rattle.cw_brace_laws.proofs.Terms.{leaf_scrap, Tree, EndsAt, IsBraced, IsBracedScrap, depth_of, nat_tests}
 use Rattle.cw_tokens.specs.Shapes.{item_of, shape, tree_in}
 use Rattle.cw_brace_laws.proofs.CleanScraps.{IsLeafScrap, leaf-is-braced}
 use Rattle.cw_brace_laws.proofs.Depths.{ends-maybe, ends-math}
+use Rattle.std.specs.Option.{option_map_or}
 
 -- ## Scraps
 
@@ -44,5 +44,5 @@ flat-braced [] all = refl
 flat-braced (token ∷ tokens) all = all.0 (tree_in [] tokens) ∙ flat-braced tokens all.1
 
 pub token-flat : (k : TokKind) (text : List ℕ) (hash_line : Bool) (d : Directive) (number : ℕ) (names : List Entry)
-    → AreFlat (form_tokens (token_form k text hash_line d number names))
+    → AreFlat (option_map_or (λ form. form.tokens) (token_form k text hash_line d number names) [])
 token-flat k text hash_line d number names = grind (arith, nat_tests)

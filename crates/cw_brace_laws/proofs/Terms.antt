@@ -38,13 +38,12 @@ pub use Rattle.cw_table.specs.declared.types.Action.{Action}
 pub use Rattle.cw_table.specs.declared.types.Piece.TheVariants.{MathScrap, OpenBrace, CloseBrace, OpenRelation}
 pub use Rattle.cw_table.specs.declared.types.RowResult.TheVariants.{Is, SameAs}
 pub use Rattle.cw_tokens.specs.declared.token.Token.{Token}
-pub use Rattle.cw_translator.specs.Translating.{form_tokens, leaf_scrap, CommentItem, Ended, InnerText, Known, Made}
-pub use Rattle.cw_translator.specs.Translating.{NameTexts, begin, beside, comment_rest, comment_scrap, dead, dollared}
-pub use Rattle.cw_translator.specs.Translating.{end_of, first_word, form_made, group_made, head_made, headed_made}
-pub use Rattle.cw_translator.specs.Translating.{later_words, leaf_of_name, made, name_in_text, names_in_text, no_name}
-pub use Rattle.cw_translator.specs.Translating.{nothing, one_scrap, plain_text, sign_behind, spelled, state_in}
-pub use Rattle.cw_translator.specs.Translating.{texts_made, texts_named, token_made, with_names, word_tokens}
-pub use Rattle.cw_translator.specs.Translating.{translated}
+pub use Rattle.cw_translator.specs.Translating.{leaf_scrap, CommentItem, Ended, InnerText, Known, Made, NameTexts}
+pub use Rattle.cw_translator.specs.Translating.{begin, beside, comment_rest, comment_scrap, dead, dollared, end_of}
+pub use Rattle.cw_translator.specs.Translating.{first_word, form_made, group_made, head_made, headed_made, later_words}
+pub use Rattle.cw_translator.specs.Translating.{leaf_of_name, made, name_in_text, names_in_text, no_name, nothing}
+pub use Rattle.cw_translator.specs.Translating.{one_scrap, plain_text, sign_behind, spelled, state_in, texts_made}
+pub use Rattle.cw_translator.specs.Translating.{texts_named, token_made, with_names, word_tokens, translated}
 pub use Rattle.cw_trees.specs.Flat.{Item, SourceItem, IdentItem, ReservedItem, SignItem, Open, Close, flat, is_run_sign}
 pub use Rattle.cw_trees.specs.Flat.{trimmed_items, begins_after, ends_text, is_break, is_inserted, leaf_item, trim_back}
 pub use Rattle.cw_trees.specs.Flat.{trim_front, without_inserted}

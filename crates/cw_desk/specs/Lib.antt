@@ -13,7 +13,7 @@ pub mod Put
 pub mod Quiet
 pub mod Read
 pub mod Reader
-pub mod Told
+pub mod State
 pub mod Trail
 pub mod laws
 pub mod model

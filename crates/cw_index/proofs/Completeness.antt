@@ -3,13 +3,13 @@ use Rattle.cw_index.proofs.Terms.{◌||◌, ◌≡◌, ◌≢◌, ℕ, ◌+◌, 
 use Rattle.cw_index.proofs.Terms.{◌∙◌, subst, List, [], ◌∷◌, ◌++◌, length, filter, fold, arith, eq-eqb, ne_eqb}
 use Rattle.cw_index.proofs.Terms.{true≢false, AllByRecursion, list_any, insert_key, Ordering, Equal, unsigned_ties}
 use Rattle.cw_index.proofs.Terms.{is_eq, ordering_reverse, ordering_then, nat_cmp, Occurrence, SectionRef, sections-at}
-use Rattle.cw_index.proofs.Terms.{any_in, mention_of, mentions, AreDistinct, Entry, is_entry, same_kind, or-false}
-use Rattle.cw_index.proofs.Terms.{EntryKind, classes_cmp, entry_cmp, entry_kind_place, text_cmp, entry_cmp-total}
-use Rattle.cw_index.proofs.Terms.{IndexRow, has_sections, is_listed, listed, needs_underline, row, row_cmp, rows_from}
-use Rattle.cw_index.proofs.Terms.{with_row}
+use Rattle.cw_index.proofs.Terms.{any_in, mentions, AreDistinct, Entry, is_entry, same_kind, or-false, EntryKind}
+use Rattle.cw_index.proofs.Terms.{classes_cmp, entry_cmp, entry_kind_place, text_cmp, entry_cmp-total, IndexRow}
+use Rattle.cw_index.proofs.Terms.{has_sections, is_listed, listed, needs_underline, row, row_cmp, rows_from, with_row}
 use Rattle.std.specs.List.{IsDistinct}
 use Rattle.std.specs.Cmp.Lexicographic.{lists_ties, pointwise, slice_cmp}
 use Rattle.cw_index.specs.Completeness.{IndexIsComplete, as_mention, is_at, lists, occurs}
+use Rattle.cw_names.specs.Mentions.{any_underlined_in}
 
 -- ## Truth values
 
@@ -20,7 +20,8 @@ or-swap a b c = grind arith
 
 -- the occurrences, as they are listed
 all-mentions : (only : Bool) (section : ℕ) (os : List Occurrence) → (any_in os section && is_listed only
-    (mention_of os section)) ≡ list_any (λ (o : Occurrence). is_at only section (as_mention o)) os
+    (record { section = section; underlined = any_underlined_in os section }))
+    ≡ list_any (λ (o : Occurrence). is_at only section (as_mention o)) os
 all-mentions true section (o ∷ os) = grind (arith, all-mentions true section os)
 all-mentions false section (o ∷ os) = grind (arith, all-mentions false section os)
 all-mentions _ _ _ = refl

@@ -4,13 +4,14 @@ use Rattle.cw_index.proofs.Terms.{IsTrue, get_or, slice_get, refl, subst, arith,
 use Rattle.cw_index.proofs.Terms.{range_with_len, insert_key, IsTotalOrder, Ordering, Less, on_total, tied_itself}
 use Rattle.cw_index.proofs.Terms.{All-cons, All-filter, All-get_or, All-head, All-map, All-nil, All-tail}
 use Rattle.cw_index.proofs.Terms.{All-insert_key, Occurrence, SectionRef, sections-ascending, AreAscending, above_all}
-use Rattle.cw_index.proofs.Terms.{any_in, mention_of, mentions, Entry, entry_cmp-total, IndexRow, has_sections}
-use Rattle.cw_index.proofs.Terms.{index_rows, is_listed, needs_underline, row, row_cmp, rows_from, with_row}
+use Rattle.cw_index.proofs.Terms.{any_in, mentions, Entry, entry_cmp-total, IndexRow, has_sections, index_rows}
+use Rattle.cw_index.proofs.Terms.{is_listed, needs_underline, row, row_cmp, rows_from, with_row}
 use Rattle.std.specs.List.Sorted.{IsStrictlySortedBy}
 use Rattle.std.proofs.lemmas.List.Kept.{AllPairs-filter}
 use Rattle.std.proofs.lemmas.Map.Keys.{IsDistinct-from_apart, Less-from_sorted}
 use Rattle.cw_index.specs.Completeness.{RowsAreOfNames, are_of_one_name, occurs}
 use Rattle.cw_index.proofs.Completeness.{each-inserted, of-name}
+use Rattle.cw_names.specs.Mentions.{any_underlined_in}
 
 -- ## What holds of each row
 
@@ -64,7 +65,9 @@ AsOccurring name os m = m.underlined ≡ occurs true name m.section os
 row-underlined : (name : ℕ) (entry : Entry) (os : List Occurrence)
     → All (AsOccurring name os) (row name entry os).sections
 row-underlined name entry os = All-filter (is_listed (needs_underline name entry)) (AsOccurring name os) (mentions name
-    os) (All-map (AsOccurring name os) (mention_of own) (filter (any_in own) (range_with_len 0 (above_all own)))
+    os) (All-map (AsOccurring name os) (λ section.
+    record { section = section; underlined = any_underlined_in own section })
+    (filter (any_in own) (range_with_len 0 (above_all own)))
     (λ k d within. of-name true name (get_or (filter (any_in own) (range_with_len 0 (above_all own))) k d) os))
   where
     own : List Occurrence

@@ -2,10 +2,11 @@
 use Rattle.cw_index.proofs.Terms.{◌≡◌, ℕ, Bool, true, false, ◌⊎◌, inl, inr, refl, sym, ap, ◌∙◌, subst, List, [], ◌∷◌}
 use Rattle.cw_index.proofs.Terms.{Option, Some, None, map, get_or, arith, slice_get, insert_key, IsTotalOrder, Ordering}
 use Rattle.cw_index.proofs.Terms.{Less, Equal, Greater, on, alike_right, tied_itself, SecName, Listed, Standing}
-use Rattle.cw_index.proofs.Terms.{sorted_on, StandingName, has_reference, kept_stand, stand_by, stand_cmp, Holds}
-use Rattle.cw_index.proofs.Terms.{HoldsName, IsSorting, stand_of, stands_of}
+use Rattle.cw_index.proofs.Terms.{sorted_on, StandingName, has_reference, kept_stand, stand_cmp, Holds, HoldsName}
+use Rattle.cw_index.proofs.Terms.{IsSorting, stand_of, stands_of}
 use Rattle.cw_index.specs.{declared.standing.Sorting.Sorting, laws.StandingLaws.stand_cmp-total}
 use Rattle.cw_index.proofs.RowLaws.{inserted}
+use Rattle.cw_base.specs.Conditions.{list_if}
 
 holds-same : {K : Type 0} (o : K → K → Ordering) (x : K) (keys : List K) → Holds o x keys → insert_key o keys x ≡ keys
 holds-same o x [] h = absurd h
@@ -29,7 +30,7 @@ holds-still o total x y (k ∷ keys) h = grind (arith, holds-still o total x y k
 
 -- a name that is entered changes nothing
 kept-by : (b : Bool) (n : SecName) (listed : Listed) (stands : List StandingName) → HoldsName stands n
-    → stands ≡ sorted_on stand_cmp stands (stand_by b n listed)
+    → stands ≡ sorted_on stand_cmp stands (list_if b (record { kind = n.kind; text = n.text; listed = listed } ∷ []))
 kept-by true n listed stands h = grind (arith, holds-same)
 kept-by false n listed stands h = refl
 

@@ -18,7 +18,7 @@ pub use Rattle.std.specs.Prelude.{if◌then◌else◌, slice_get, Result, Ok, Er
 pub use Rattle.std.specs.declared.cmp.Ordering.TheVariants.{Less, Greater, Equal}
 pub use Rattle.cw_base.proofs.TestLaws.{not-both, or-false}
 pub use Rattle.cw_base.specs.declared.category.Cat.TheVariants.{Exp, RawInt}
-pub use Rattle.cw_desk.specs.Told.{DeskState}
+pub use Rattle.cw_desk.specs.State.{DeskState}
 pub use Rattle.cw_index.specs.{laws.CollationLaws.entry_cmp-total, model.ListForms.list_setting, Sorted.sorted_on}
 pub use Rattle.cw_index.specs.{Sorted.sorted, declared.heading.Heading.Heading, declared.standing.Listed.Listed}
 pub use Rattle.cw_index.specs.{declared.standing.Standing.Standing}
@@ -28,9 +28,9 @@ pub use Rattle.cw_index.specs.model.Headings.{IsNamed, entered, entered_by, entr
 pub use Rattle.cw_index.specs.Index.{entry_bytes, index_bytes, section_bytes, row_bytes, number_bytes}
 pub use Rattle.cw_index.specs.Mentions.{is_listed, listed, IndexRow, has_sections, row, row_cmp, rows_from, with_row}
 pub use Rattle.cw_index.specs.Mentions.{needs_underline, index_rows}
-pub use Rattle.cw_index.specs.NameList.{IsWholeName, name_span, all_listed, listed_done, name_ending, use_notes}
-pub use Rattle.cw_index.specs.Standing.{StandingName, named_stands, stand_at, stand_cmp, kept_stand, stand_by}
-pub use Rattle.cw_index.specs.Standing.{has_reference, listed_names}
+pub use Rattle.cw_index.specs.NameList.{IsWholeName, name_span, all_listed, listed_done, use_notes}
+pub use Rattle.cw_index.specs.Standing.{StandingName, named_stands, stand_at, stand_cmp, kept_stand, has_reference}
+pub use Rattle.cw_index.specs.Standing.{listed_names}
 pub use Rattle.cw_index.specs.model.StandingForms.{stand_of, stands_of, Holds, HoldsName, IsSorting}
 pub use Rattle.cw_join.specs.Tokens.{word_at}
 pub use Rattle.cw_lex.proofs.Covering.{drop-on, drop-part}
@@ -44,7 +44,7 @@ pub use Rattle.cw_lines.specs.laws.WritesLaws.{puts-stop, can-after, puts-bytes,
 pub use Rattle.cw_names.specs.{laws.MentionLaws.sections-at, laws.MentionLaws.sections-ascending}
 pub use Rattle.cw_names.specs.{declared.entry.EntryKind.EntryKind, declared.entry.NameId.NameId}
 pub use Rattle.cw_names.specs.{declared.xrefs.Occurrence.Occurrence, declared.xrefs.SectionRef.SectionRef}
-pub use Rattle.cw_names.specs.Mentions.{any_in, mention_of, mentions, AreAscending, above_all}
+pub use Rattle.cw_names.specs.Mentions.{any_in, mentions, AreAscending, above_all}
 pub use Rattle.cw_names.specs.Names.{Entry, AreDistinct, is_entry, same_kind}
 pub use Rattle.cw_names.specs.declared.entry.EntryKind.TheVariants.{Ident, Roman, Typewriter, User}
 pub use Rattle.cw_part.proofs.PrintLaws.{Printing, printing-as, printing-begun}

@@ -3,7 +3,7 @@ use Rattle.cw_index.proofs.Terms.{arith, ◌≡◌, ℕ, Bool, true, false, List
 use Rattle.cw_index.proofs.Terms.{insert_key, All-append, All-head, All-map, All-nil, All-tail, All-insert_key, TokKind}
 use Rattle.cw_index.proofs.Terms.{Answer, Token, Begin, Finish, Note, Seen, has_sign, is_name_kind, SecName, id}
 use Rattle.cw_index.proofs.Terms.{NameUse, Listed, IsWholeName, sorted_on, StandingName, kept_stand, named_stands}
-use Rattle.cw_index.proofs.Terms.{stand_at, stand_by, stand_cmp}
+use Rattle.cw_index.proofs.Terms.{stand_at, stand_cmp}
 use Rattle.cw_base.specs.Web.{text_of}
 use Rattle.cw_phase1.specs.{declared.roles.Standing.Standing, Book.answers_of, Book.book, Entering.entered_name}
 use Rattle.cw_phase1.specs.{Entering.kept_behind, Uses.use_by, Uses.uses_of}
@@ -14,6 +14,7 @@ use Rattle.cw_index.specs.WholeNames.{NamesAreWhole}
 use Rattle.cw_index.proofs.NameSpans.{begun-whole}
 use Rattle.cw_index.proofs.NameTokens.{BeginsName, HaveNames, text-names}
 use Rattle.cw_rules.specs.declared.tokens.Mode.TheVariants as modes
+use Rattle.cw_base.specs.Conditions.{list_if}
 
 -- ## Where the names of a book stand
 
@@ -47,7 +48,7 @@ abbrev Whole : List ℕ → StandingName → Type 0
 Whole text s = IsWholeName text s.listed
 
 by-reference : (text : List ℕ) (t : Bool) (n : SecName) (l : Listed) → IsWholeName text l
-    → All (Whole text) (stand_by t n l)
+    → All (Whole text) (list_if t (record { kind = n.kind; text = n.text; listed = l } ∷ []))
 by-reference text t n l whole = grind arith
 
 by-kept : (text : List ℕ) (n : Option SecName) (l : Listed) → IsWholeName text l → All (Whole text) (kept_stand n l)

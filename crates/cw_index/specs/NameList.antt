@@ -24,14 +24,11 @@ name_span text place = first_span place (tokens_of text place (length text) Inne
 abbrev pub use_notes : Lasting → Listed → List ℕ
 use_notes book l = of_name (use_footnotes book.outline.sections) book.sec_names (Some l.id)
 
-abbrev pub name_ending : Setting → Listed → List ℕ
-name_ending s l = codes "\n" ++ use_notes s.book l
-
 -- A listed name prints as a C text of its own.
 abbrev pub listed_done : Setting → Listed → List Entry → Done ℕ
 listed_done s l names =
     done_behind (codes "\\I") (done_then (text_done s Inner false (name_span s.text l.place) names)
-    (as_it_is (name_ending s l)))
+    (as_it_is (codes "\n" ++ use_notes s.book l)))
 
 -- names that are listed one after another
 abbrev pub all_listed : Setting → List Listed → List Entry → Done ℕ

@@ -35,12 +35,9 @@ has_any (n ∷ numbers) = true
 abbrev pub has_reference : SecName → Bool
 has_reference n = has_any n.defined || (has_any n.used || has_any n.cited)
 
-abbrev pub stand_by : Bool → SecName → Listed → List StandingName
-stand_by referred n listed = list_if referred (record { kind = n.kind; text = n.text; listed = listed } ∷ [])
-
 abbrev pub kept_stand : Option SecName → Listed → List StandingName
 kept_stand None listed = []
-kept_stand (Some n) listed = stand_by (has_reference n) n listed
+kept_stand (Some n) listed = list_if (has_reference n) (record { kind = n.kind; text = n.text; listed = listed } ∷ [])
 
 -- the name for which a section name stands, at the place of this one
 abbrev pub stand_at : List SecName → NameUse → List StandingName

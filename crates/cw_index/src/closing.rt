@@ -2,14 +2,13 @@
 ghost use Rattle.std.specs.Prelude.{◌≡◌, ◌&&◌, [], IfOk, codes, if◌then◌else◌};
 ghost use Rattle.std.specs.List.{list_any};
 ghost use Rattle.cw_lines.specs.Sheets.{CanPrint, Prints};
-ghost use Rattle.cw_lines.specs.Writes.{CanWrite, Puts};
 ghost use Rattle.cw_index.specs.Closing.{before_change, change, changed_from, changes_line};
 ghost use Rattle.cw_index.specs.Closing.{printed_changes, closing_lines};
 ghost use Rattle.cw_index.specs.Closing.{last_lines};
 
 use cw_base::Flags;
 use cw_desk::Desk;
-use cw_lines::{LineOut, PutError, Sheet};
+use cw_lines::{PutError, Sheet};
 use cw_phase1::Book;
 use cw_texpart::{Counts, put_number};
 
@@ -58,7 +57,7 @@ fn put_change<D: Desk>(first: bool, number: u32, sheet: &mut Sheet<D>) -> Result
     ensures { Prints D.told (change first number) sheet.old sheet.new result }
 {
     sheet.put_all(before_change(first))?;
-    put_number(number, true, sheet.line, sheet.desk)
+    put_number(number, true, sheet)
 }
 
 // Puts a line with the numbers of the changed sections, where there is one.
@@ -96,24 +95,7 @@ fn put_changes_if<D: Desk>(book: &Book, flags: &Flags, sheet: &mut Sheet<D>) -> 
 
 /// Prints the lines that end the TeX file: with flag r that of the changed sections, those that read the index and the
 /// section list in, where they are written, and the last one. It translates nothing.
-pub fn write_closing<D: Desk>(
-    book: &Book,
-    flags: &Flags,
-    out: &mut LineOut,
-    desk: &mut D,
-) -> Result<Counts, PutError>
-    requires can { CanWrite (D.told desk.old) out.old }
-    ensures puts { Puts (closing_lines flags.now book.now.outline.sections) out.old out.new
-        (D.told desk.old) (D.told desk.new) result }
-    ensures scraps { IfOk result (λ counts. counts.scraps ≡ 0) }
-    ensures productions { IfOk result (λ counts. counts.productions ≡ 0) }
-{
-    let mut sheet = Sheet { line: out, desk };
-    print_closing(book, flags, &mut sheet)
-}
-
-// Prints the same on a sheet.
-fn print_closing<D: Desk>(
+pub fn print_closing<D: Desk>(
     book: &Book,
     flags: &Flags,
     sheet: &mut Sheet<D>,

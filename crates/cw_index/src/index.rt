@@ -107,7 +107,7 @@ fn put_section_number<D: Desk>(
     ensures { Prints D.told (section_number number (is_changed book.now.outline.sections number))
         sheet.old sheet.new result }
 {
-    put_number(number, is_changed(book, number), sheet.line, sheet.desk)
+    put_number(number, is_changed(book, number), sheet)
 }
 
 // Puts the number of a section in which a name is underlined.

@@ -12,10 +12,10 @@ mod published;
 mod standing;
 mod whole;
 
-pub use closing::write_closing;
+pub use closing::print_closing;
 pub use headings::index_order;
 pub use index::{is_exp, is_tex_like, write_index};
 pub use laws::{index_law, whole_names_law};
 pub use names::write_names;
-pub use published::compare_entries;
+pub use published::{compare_entries, write_closing};
 pub use whole::are_names_whole;

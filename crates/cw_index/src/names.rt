@@ -67,9 +67,9 @@ fn put_listed<D: Desk, L: Ledger>(
         flags: t.flags,
     };
     sheet.put_all(b"\\I")?;
-    let counts = print_text(t.alloc, c, book, sheet.line, sheet.desk, steps)?;
+    let counts = print_text(t.alloc, c, book, sheet, steps)?;
     sheet.put_all(b"\n")?;
-    put_use_footnotes(book, listed.id, sheet.line, sheet.desk)?;
+    put_use_footnotes(book, listed.id, sheet)?;
     Ok(counts)
 }
 

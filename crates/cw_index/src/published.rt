@@ -1,11 +1,19 @@
-//! Two entries in the order of the index. No program calls it, users of the
-//! library do: a thin call of what programs run.
-ghost use Rattle.std.specs.Prelude.{◌≡◌, ◌<◌, Some, length, slice_get};
+//! Two entries in the order of the index, and the closing lines printed to a line and a desk. No program calls them,
+//! users of the library do: thin calls of what programs run.
+ghost use Rattle.std.specs.Prelude.{◌≡◌, ◌<◌, IfOk, Some, length, slice_get};
+ghost use Rattle.cw_lines.specs.Writes.{CanWrite, Puts};
 ghost use Rattle.cw_names.specs.Names.{Entry};
+ghost use Rattle.cw_index.specs.Closing.{closing_lines};
 ghost use Rattle.cw_index.specs.Collation.{entry_cmp};
 
+use crate::closing::print_closing;
 use crate::collation::Collated;
+use cw_base::Flags;
+use cw_desk::Desk;
+use cw_lines::{LineOut, PutError, Sheet};
 use cw_names::{NameId, Names};
+use cw_phase1::Book;
+use cw_texpart::Counts;
 use std::cmp::Ordering;
 
 /// The order of two entries in the index. It takes no memory.
@@ -24,4 +32,21 @@ pub fn compare_entries(names: &Names, a: NameId, b: NameId) -> Ordering
         text: names.text(b),
     };
     first.compare(&second)
+}
+
+/// Prints the lines that end the TeX file. It translates nothing.
+pub fn write_closing<D: Desk>(
+    book: &Book,
+    flags: &Flags,
+    out: &mut LineOut,
+    desk: &mut D,
+) -> Result<Counts, PutError>
+    requires can { CanWrite (D.told desk.old) out.old }
+    ensures puts { Puts (closing_lines flags.now book.now.outline.sections) out.old out.new
+        (D.told desk.old) (D.told desk.new) result }
+    ensures scraps { IfOk result (λ counts. counts.scraps ≡ 0) }
+    ensures productions { IfOk result (λ counts. counts.productions ≡ 0) }
+{
+    let mut sheet = Sheet { line: out, desk };
+    print_closing(book, flags, &mut sheet)
 }

@@ -4,7 +4,7 @@ use Rattle.std.proofs.Common.{OnOk}
 use Rattle.std.proofs.{lemmas.List.Sums.sum_by-append, lemmas.Bool.Decides.nat_tests}
 use Rattle.std.specs.FinMap.{get}
 use Rattle.cw_base.specs.declared.limits.TheConstants.{INPUT_LIMIT}
-use Rattle.cw_desk.specs.{Meaning.Files, Told.DeskState, Told.Narrows, Told.Opens}
+use Rattle.cw_desk.specs.{Meaning.Files, State.DeskState, State.Narrows, State.Opens}
 use Rattle.cw_desk.specs.declared.{desk.FileId.FileId, desk.Opened.TheVariants.File}
 use Rattle.cw_input.specs.Reading.{AreRead, CameAtMost, HasRead, ReadsAtMost, ReadsFirst, ReadsOn, ReadsOnly, ReadsTo}
 use Rattle.cw_input.specs.model.State.{Moves}

@@ -4,7 +4,7 @@ use Rattle.std.specs.Prelude.{Ok, Err}
 use Rattle.std.specs.FinMap.{get}
 use Rattle.cw_base.specs.declared.limits.TheConstants.{INPUT_LIMIT}
 use Rattle.cw_desk.specs.Meaning.{Files}
-use Rattle.cw_desk.specs.Told.{DeskState, Narrows}
+use Rattle.cw_desk.specs.State.{DeskState, Narrows}
 use Rattle.cw_input.specs.declared.error.LoadError.{LoadError}
 use Rattle.cw_input.specs.declared.found.InputFile.{InputFile}
 

@@ -6,7 +6,7 @@ pub use Rattle.std.proofs.Common.{Option, Some, None, arith, if◌then◌else◌
 pub use Rattle.std.proofs.Common.{take, drop, subst, fold, map, get_or, add-one, drop-cons, ◌*◌, ◌≤◌}
 pub use Rattle.std.specs.{List.list_any, List.position_or_len, Prelude.Ok, Prelude.⊤}
 pub use Rattle.arrayvec.specs.ArrayVec.{array_vec_len}
-pub use Rattle.cw_desk.specs.Told.{DeskState}
+pub use Rattle.cw_desk.specs.State.{DeskState}
 pub use Rattle.cw_join.specs.{Appending.StaysBefore, Standing.JoinerState, Standing.Stands}
 pub use Rattle.cw_join.specs.Early.{added, run_back, run_front, run_with, depth_behind, last_run, early_bytes, early}
 pub use Rattle.cw_join.specs.Early.{late}

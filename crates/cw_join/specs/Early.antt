@@ -1,10 +1,12 @@
 -- What is printed of a list to which more may come, and what is printed when nothing more comes.
 use Rattle.std.specs.Prelude.{ℕ, ◌++◌, Bool, true, false, List, [], ◌∷◌, Some, None, length, drop, fold, if◌then◌else◌}
+use Rattle.std.specs.Prelude.{codes, nat_lt}
 use Rattle.std.specs.List.{list_any}
 use Rattle.cw_trees.specs.declared.Control.{Control}
-use Rattle.cw_trees.specs.Printing.{Printable, backup_bytes, break_bytes, indents, inner_run, is_cancel, opened}
-use Rattle.cw_trees.specs.Printing.{run_bytes, run_sign, strongest}
+use Rattle.cw_trees.specs.Printing.{Printable, break_bytes, indents, is_cancel, opened, run_bytes, run_sign, strongest}
+use Rattle.cw_trees.specs.Printing.{is_backup}
 use Rattle.cw_join.specs.Stretches.{Stretch, Run, Other, stretches, is_inner}
+use Rattle.cw_base.specs.Conditions.{list_if}
 
 -- what a run prints at once: its indents, which are left out in inner C text
 abbrev pub run_front : Bool → List Control → List ℕ
@@ -12,8 +14,9 @@ run_front early run = if early then [] else indents run
 
 -- what it prints when it has ended: its break or blank and its backup, which a Cancel takes away
 abbrev pub run_back : Bool → List Control → List ℕ
-run_back true run = inner_run run
-run_back false run = if list_any is_cancel run then [] else break_bytes (strongest run) ++ backup_bytes run
+run_back true run = if list_any is_cancel run then [] else list_if (nat_lt 0 (strongest run)) (codes " ")
+run_back false run =
+    if list_any is_cancel run then [] else break_bytes (strongest run) ++ list_if (list_any is_backup run) (codes "\\4")
 
 -- The bytes of stretches, but for what the run with which they end, if they end with one, prints when it has ended.
 abbrev pub early_bytes : Bool → ℕ → List Stretch → List ℕ

@@ -21,7 +21,7 @@ use Rattle.cw_secnames.specs.Uses.{NameUse}
 use Rattle.cw_table.specs.Rewriting.{State}
 use Rattle.cw_texpart.specs.Done.{Done}
 use Rattle.cw_texpart.specs.Texts.{Setting, setting}
-use Rattle.cw_texpart.specs.Weaving.{mark_at, marked, underlined}
+use Rattle.cw_texpart.specs.Weaving.{marked, underlined, mark}
 use Rattle.cw_texts.specs.declared.definitions.Definition.{Definition}
 use Rattle.cw_texts.specs.declared.text_list.TextRef.{TextRef}
 use Rattle.cw_texts.specs.Definitions.{printed_definitions}
@@ -82,7 +82,7 @@ none-by false n = refl
 apart-by : (none : Bool) (n : ℕ) (xs ys : List ℕ) → (if none then [] else marked n (xs ++ ys))
     ≡ (if none then [] else marked n xs) ++ (if none then [] else marked n ys)
 apart-by true n xs ys = refl
-apart-by false n xs ys = map-append (mark_at n) xs ys
+apart-by false n xs ys = map-append (λ name. mark n (record { index = name })) xs ys
 
 refs-in-one : (s : Setting) (n : ℕ) (refs : List TextRef) (names : List Entry) → AreIn n refs
     → refs_marks s refs names ≡ underlined n (refs_done s refs names).marks

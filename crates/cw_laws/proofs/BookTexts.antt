@@ -1,18 +1,18 @@
 -- Sections leave what their texts leave, one after another.
 use Rattle.std.proofs.Common.{◌≡◌, ℕ, suc, Bool, true, false, ◌||◌, List, [], ◌∷◌, ◌++◌, Option, Some, None, All, refl}
 use Rattle.std.proofs.Common.{sym, ap, ◌∙◌, append_assoc, arith}
-use Rattle.std.specs.Prelude.{is_some}
+use Rattle.std.specs.Prelude.{is_some, codes}
 use Rattle.std.proofs.lemmas.List.{append-nil}
 use Rattle.std.proofs.lemmas.List.Elements.{All-head, All-tail, filter-append}
 use Rattle.std.proofs.lemmas.Bool.Decides.{nat_tests}
+use Rattle.std.specs.Option.{option_map_or}
 use Rattle.cw_base.specs.Conditions.{list_if}
 use Rattle.cw_base.specs.Web.{text_of}
 use Rattle.cw_base.specs.declared.span.Span.{Span}
 use Rattle.cw_lex.specs.NestLaws.{NestsAreWell}
 use Rattle.cw_lex.specs.Nested.{CTextsAreNested}
 use Rattle.cw_names.specs.Names.{Entry}
-use Rattle.cw_part.specs.Parts.{definition_done, definitions_done, first_opening, later_opening, paragraph_if}
-use Rattle.cw_part.specs.Parts.{part_done}
+use Rattle.cw_part.specs.Parts.{definitions_done, first_opening, paragraph_if, part_done, paragraph}
 use Rattle.cw_part.specs.Sections.{at_section, ending, rest_done, section_done, sections_done}
 use Rattle.cw_phase1.specs.declared.sections.Section.{Section}
 use Rattle.cw_phase1.specs.Book.{book}
@@ -25,7 +25,7 @@ use Rattle.cw_texpart.specs.Done.{Done, as_it_is, reprinted, done_then}
 use Rattle.cw_texpart.specs.Heads.{head}
 use Rattle.cw_texpart.specs.Inks.{prints}
 use Rattle.cw_texpart.specs.TexParts.{beside_in, piece_done, pieces_done, head_and_tex, tex_done}
-use Rattle.cw_texpart.specs.Texts.{Setting, name_done_by, setting}
+use Rattle.cw_texpart.specs.Texts.{Setting, setting, text_done}
 use Rattle.cw_texts.specs.declared.definitions.Definition.{Definition}
 use Rattle.cw_texts.specs.declared.text_list.TextRef.{TextRef}
 use Rattle.cw_texts.specs.Definitions.{printed_definitions}
@@ -37,6 +37,7 @@ use Rattle.cw_laws.specs.BookTexts.{EveryTextIsWoven, LeaveTheSame, TextsAreWove
 use Rattle.cw_laws.specs.BookTexts.{with_scraps}
 use Rattle.cw_laws.proofs.ProseLaws.{no-prose, no-refs}
 use Rattle.cw_laws.proofs.QuietParts.{quiet-text}
+use Rattle.cw_rules.specs.declared.tokens.Mode.TheVariants.{Inner}
 
 -- a piece that leaves nothing that is looked at
 pub record LeavesNothing (looked_at : List State → List State) (before : List Entry) (d : Done ℕ) : Type 0 where
@@ -80,7 +81,8 @@ module _ (looked_at : List State → List State)
   -- ## The pieces of a section
 
   cited-left : (s : Setting) (n : ℕ) (part : Span) (o : Option ℕ) (names : List Entry)
-      → LeaveTheSame looked_at (reprinted prints (name_done_by (at_section s n) true part o names))
+      → LeaveTheSame looked_at (reprinted prints
+      (option_map_or (λ _. text_done (at_section s n) Inner true part names) o (as_it_is [] names)))
       (refs_done s (list_if (is_some o) (text_ref n modes.Inner part ∷ [])) names)
   cited-left s n part None names = record { names = refl; marks = refl; ended = refl }
   cited-left s n part (Some k) names = one-left s (text_ref n modes.Inner part) prints names
@@ -104,10 +106,11 @@ module _ (looked_at : List State → List State)
   definitions-left : (s : Setting) (n : ℕ) (opening : List ℕ) (ds : List Definition) (names : List Entry) → LeaveTheSame
       looked_at (definitions_done (at_section s n) opening ds names) (refs_done s (definition_refs n ds) names)
   definitions-left s n opening [] names = record { names = refl; marks = refl; ended = refl }
-  definitions-left s n opening (d ∷ ds) names = across (definition_done (at_section s n) opening d names)
-      (ref_done s (text_ref n modes.Definition d.span) names) (definitions_done (at_section s n) later_opening ds)
+  definitions-left s n opening (d ∷ ds) names =
+      across (paragraph opening (text_done (at_section s n) modes.Definition false d.span names))
+      (ref_done s (text_ref n modes.Definition d.span) names) (definitions_done (at_section s n) (codes "\\B") ds)
       (refs_done s (definition_refs n ds)) (record { names = refl; marks = refl; ended = refl })
-      (λ ns. definitions-left s n later_opening ds ns)
+      (λ ns. definitions-left s n (codes "\\B") ds ns)
 
   -- ## The C part
 

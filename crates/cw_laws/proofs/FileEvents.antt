@@ -8,6 +8,8 @@ use Rattle.std.proofs.lemmas.List.Elements.{filter-append}
 use Rattle.std.proofs.lemmas.List.Folds.{list_any-append}
 use Rattle.std.proofs.lemmas.Bool.Decides.{nat_tests}
 use Rattle.std.proofs.lemmas.Grind.{common_steps}
+use Rattle.std.specs.Prelude.{bytes_eq}
+use Rattle.std.specs.Option.{option_map_or}
 use Rattle.cw_base.specs.Conditions.{list_if}
 use Rattle.cw_base.specs.Web.{WebState, text_of}
 use Rattle.cw_base.specs.declared.event.Event.{Event}
@@ -22,7 +24,8 @@ use Rattle.cw_input.specs.declared.words.CommandLine.{CommandLine}
 use Rattle.cw_phase1.specs.declared.book.Book.{Book}
 use Rattle.cw_run.specs.Closing.{closing_by}
 use Rattle.cw_run.specs.Emits.{Run}
-use Rattle.cw_run.specs.Files.{Broken, OutFile, broken_events, broken_in, file_events, is_same, settled_if}
+use Rattle.cw_lines.specs.{Cut.cut, Line.line_events}
+use Rattle.cw_run.specs.Files.{Broken, OutFile, broken_events, broken_in, file_events, settled_if}
 use Rattle.cw_run.specs.Notes.{note_events}
 use Rattle.cw_run.specs.Saying.{says, says_if}
 use Rattle.cw_run.specs.Statistics.{statistics_if}
@@ -33,7 +36,7 @@ use Rattle.cw_texpart.specs.Done.{Done}
 use Rattle.cw_weave.specs.Statistics.{totals_of}
 use Rattle.cw_weave.specs.TexFile.{left_by, tex_file}
 use Rattle.cw_weave.specs.Woven.{end_of_run, index_events, index_files, index_of, index_out, list_out, book_of}
-use Rattle.cw_weave.specs.Woven.{name_list, tex_out, weave_book, with_banner, woven}
+use Rattle.cw_weave.specs.Woven.{name_list, weave_book, with_banner, woven}
 use Rattle.cw_laws.specs.Files.{AskFor, IsThere, KeepEach, files_of, is_of_file, kept_events, rewrites, written_of}
 
 -- ## Events of the terminal
@@ -88,13 +91,19 @@ file-bytes out file [] = refl
 file-bytes out file (byte ∷ bytes) = grind (arith, nat_tests, file-bytes out file bytes)
 
 kept-same : (f : OutFile) (old : Option (List ℕ)) → old ≡ Some (written_of f.bytes)
-    → settled_if true (is_same old (written_of f.bytes)) f.out ≡ Kept f.out ∷ []
-kept-same f old is = ap (λ (old : Option (List ℕ)). settled_if true (is_same old (written_of f.bytes)) f.out) is
+    → settled_if true (option_map_or (bytes_eq (written_of f.bytes)) old false) f.out ≡ Kept f.out ∷ []
+kept-same f old is =
+    ap (λ (old : Option (List ℕ)). settled_if true (option_map_or (bytes_eq (written_of f.bytes)) old false) f.out) is
     ∙ ap (λ (same : Bool). settled_if true same f.out) (nat_list_eq_equiv.refl (written_of f.bytes))
 
 file-kept : (keep : Bool) (f : OutFile) (named : NamedFiles) → keep ≡ true → IsFile f.out → IsThere named f
     → filter is_of_file (file_events keep f named) ≡ kept_events f
-file-kept keep f named asked file is = grind (arith, nat_tests, kept-same, filter-append, file-bytes)
+file-kept false f named asked file is = absurd cc
+file-kept true f named asked file is =
+    let rest : filter is_of_file (Drafted f.out f.name ∷ (line_events f.out (cut f.bytes).lines ++ Kept f.out ∷ []))
+    ≡ kept_events f = grind (arith, nat_tests, filter-append, file-bytes) in
+    ap (λ (end : List Event). filter is_of_file (Drafted f.out f.name ∷ (line_events f.out (cut f.bytes).lines ++ end)))
+    (kept-same f (named f.name) is) ∙ rest
 
 -- What is told is left out, and what is done to files is left.
 run-kept : {notes said end a b : List Event} (tex index : List Event) → AreTold notes → AreTold said
@@ -157,7 +166,7 @@ keeps line web b named asked there =
     let text : List ℕ = text_of web.lines in
     let done : Done ℕ = tex_file text line.flags b in
     let left : Book = left_by text line.flags b done in
-    let tex : OutFile = tex_out line.outputs done.out in
+    let tex : OutFile = record { out = Tex; name = line.outputs.tex; bytes = done.out } in
     let index : List OutFile = index_files line.flags.index line text left in
     let notes : List Note = web.notes ++ b.outline.notes in
     let totals : Totals = totals_of line.flags b.outline.sections done in

@@ -3,27 +3,29 @@ use Rattle.std.proofs.Common.{arith, ℕ, Bool, true, false, refl, List, [], ◌
 use Rattle.std.proofs.Common.{slice_get}
 use Rattle.std.specs.List.{AllByRecursion, flat_map, list_any}
 use Rattle.std.proofs.lemmas.Bool.Decides.{nat_tests}
+use Rattle.std.specs.Option.{option_map_or}
 use Rattle.cw_input.specs.declared.words.CommandLine.{CommandLine}
 use Rattle.cw_names.specs.Names.{Entry}
 use Rattle.cw_phase1.specs.declared.book.Book.{Book}
 use Rattle.cw_phase1.specs.declared.sections.Section.{Section}
 use Rattle.cw_secnames.specs.Kept.{SecName}
 use Rattle.cw_rules.specs.declared.tokens.Mode.TheVariants.{Inner}
-use Rattle.cw_part.specs.Footnotes.{footnote, footnote_numbers, number_in, of_kept, use_footnotes}
+use Rattle.cw_part.specs.Footnotes.{footnote, footnote_numbers, number_in, use_footnotes}
 use Rattle.cw_texpart.specs.Limbo.{limbo_bytes}
 use Rattle.cw_texpart.specs.Texts.{Setting, setting, text_done}
 use Rattle.cw_index.specs.Closing.{changes_line, closing_lines, last_line, last_lines}
 use Rattle.cw_index.specs.Index.{entry_bytes, row_bytes, section_bytes}
 use Rattle.cw_index.specs.Mentions.{IndexRow}
-use Rattle.cw_index.specs.NameList.{all_listed, listed_done, name_ending, name_span, use_notes}
+use Rattle.cw_index.specs.NameList.{all_listed, listed_done, name_span, use_notes}
 use Rattle.cw_index.specs.Standing.{listed_names}
 use Rattle.cw_run.specs.Files.{OutFile}
 use Rattle.cw_weave.specs.TexFile.{all_sections, left_by, tex_file}
-use Rattle.cw_weave.specs.Woven.{index_files, index_of, index_out, list_out, name_list, tex_out}
+use Rattle.cw_weave.specs.Woven.{index_files, index_of, index_out, list_out, name_list}
 use Rattle.cw_laws.specs.Files.{EndInLine, FilesAreWhole, HasLineEnd, IsWritten, files_of}
 use Rattle.cw_laws.proofs.CutLines.{uncut, written-ends, written-short}
 use Rattle.cw_laws.proofs.Endings.{all-end, behind-any, both-end, ends-then, lines-end, none-pending}
 use Rattle.cw_laws.proofs.FileEvents.{keeps, keeps-by-run}
+use Rattle.cw_base.specs.declared.event.Out.TheVariants.{Tex}
 
 is-written : (f : OutFile) → EndInLine f.bytes → IsWritten f
 is-written f ended = grind (arith, nat_tests, none-pending, lines-end, uncut, written-short)
@@ -71,7 +73,8 @@ uses-end : (sections : List Section) (name : SecName) → EndInLine (use_footnot
 uses-end sections name = both-end (footnote sections (codes "\\Q") name.cited) (footnote sections (codes "\\U")
     name.used) (footnote-ends sections (codes "\\Q") name.cited) (footnote-ends sections (codes "\\U") name.used)
 
-kept-ends : (sections : List Section) (name : Option SecName) → EndInLine (of_kept (use_footnotes sections) name)
+kept-ends : (sections : List Section) (name : Option SecName)
+    → EndInLine (option_map_or (use_footnotes sections) name [])
 kept-ends sections name = grind (arith, nat_tests, uses-end)
 
 names-uses : (s : Setting) (l : _) → EndInLine (use_notes s.book l)
@@ -80,8 +83,9 @@ names-uses s l = kept-ends s.book.outline.sections (slice_get s.book.sec_names l
 name-ends : (s : Setting) (l : _) (names : List Entry) → EndInLine (listed_done s l names).out
 name-ends s l names =
     let text : List ℕ = (text_done s Inner false (name_span s.text l.place) names).out in
-    inr (behind-any (codes "\\I") (text ++ name_ending s l)
-    (behind-any text (name_ending s l) (ends-then (codes "\n") (use_notes s.book l) ([], refl) (names-uses s l))))
+    inr (behind-any (codes "\\I") (text ++ (codes "\n" ++ use_notes s.book l))
+    (behind-any text (codes "\n" ++ use_notes s.book l)
+    (ends-then (codes "\n") (use_notes s.book l) ([], refl) (names-uses s l))))
 
 names-end : (s : Setting) (ls : List _) (names : List Entry) → EndInLine (all_listed s ls names).out
 names-end s [] names = inl refl
@@ -103,7 +107,7 @@ index-written true line text left = grind (
 all-written : (line : CommandLine) (text : List ℕ) (b : Book) → AllByRecursion IsWritten (files_of line text b)
 all-written line text b =
     let tex : List ℕ = (tex_file text line.flags b).out in (
-      is-written (tex_out line.outputs tex) (inr (tex-ends line text b)),
+      is-written (record { out = Tex; name = line.outputs.tex; bytes = tex }) (inr (tex-ends line text b)),
       index-written line.flags.index line text (left_by text line.flags b (tex_file text line.flags b)),
     )
 

@@ -1,8 +1,10 @@
 -- A C part without a scrap leaves nothing.
 use Rattle.std.proofs.Common.{◌≡◌, ℕ, Bool, false, ◌||◌, List, [], ◌∷◌, Option, None, refl, ap, ◌∙◌, if◌then◌else◌}
 use Rattle.std.proofs.Common.{arith}
-use Rattle.std.specs.Prelude.{is_some}
+use Rattle.std.specs.Prelude.{is_some, option_map}
 use Rattle.std.proofs.lemmas.Bool.Decides.{nat_tests}
+use Rattle.std.specs.List.{slice_get}
+use Rattle.std.specs.Option.{option_and_then}
 use Rattle.cw_base.specs.declared.flags.Flags.{Flags}
 use Rattle.cw_lex.specs.Heads.{Headed, Named, headed, headed_by, headless, named_headed}
 use Rattle.cw_lex.specs.Nest.{Nest, End, Leaf, Group, IsGroupOf, IsWell, first_nest, group, is_text_kind, leaf, nest}
@@ -17,7 +19,7 @@ use Rattle.cw_table.specs.Normal.{normal}
 use Rattle.cw_secnames.specs.Kept.{SecName}
 use Rattle.cw_secnames.specs.Uses.{NameUse}
 use Rattle.cw_texts.specs.Printed.{group_makes, has_scrap, is_kept, token_makes}
-use Rattle.cw_translator.specs.NameParts.{name_texts, texts_kept}
+use Rattle.cw_translator.specs.NameParts.{name_texts, parts_by_kind}
 use Rattle.cw_translator.specs.Translating.{Ended, Known, Made, made_before, begin, beside, end_of, headed_made}
 use Rattle.cw_translator.specs.Translating.{leaf_of_name, made, nothing, state_in, token_made, translated}
 use Rattle.cw_translator.specs.Translating.{with_categories}
@@ -62,7 +64,8 @@ first-quiet uses ns q = grind (arith, nat_tests)
 
 -- ## What is made of them
 
-no-text : (kept : List SecName) (o : Option ℕ) → is_some o ≡ false → texts_kept kept o ≡ None
+no-text : (kept : List SecName) (o : Option ℕ) → is_some o ≡ false
+    → option_and_then (λ k. option_map (λ name. parts_by_kind name.kind name.text) (slice_get kept k)) o ≡ None
 no-text kept o h = grind (arith, nat_tests)
 
 group-none : {A : Type 0} (k : TokKind) → IsGroupOf false k → group_makes k ≡ false → A

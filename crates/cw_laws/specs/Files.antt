@@ -5,7 +5,7 @@ use Rattle.cw_base.specs.Bytes.{newline}
 use Rattle.cw_base.specs.Web.{WebState, text_of}
 use Rattle.cw_base.specs.declared.event.Event.{Event}
 use Rattle.cw_base.specs.declared.event.Event.TheVariants.{Byte, Drafted, Kept, Made, Replaced}
-use Rattle.cw_base.specs.declared.event.Out.TheVariants.{Term}
+use Rattle.cw_base.specs.declared.event.Out.TheVariants.{Term, Tex}
 use Rattle.cw_desk.specs.Meaning.{NamedFiles}
 use Rattle.cw_input.specs.Merged.{Whole, merged}
 use Rattle.cw_input.specs.Overwriting.{overwriting}
@@ -17,7 +17,7 @@ use Rattle.cw_lines.specs.Line.{line_events}
 use Rattle.cw_phase1.specs.declared.book.Book.{Book}
 use Rattle.cw_run.specs.Files.{OutFile}
 use Rattle.cw_weave.specs.TexFile.{left_by, tex_file}
-use Rattle.cw_weave.specs.Woven.{book_of, index_files, tex_out, weave_book, woven}
+use Rattle.cw_weave.specs.Woven.{book_of, index_files, weave_book, woven}
 
 -- ## How files end
 
@@ -48,7 +48,7 @@ pub record IsWritten (f : OutFile) : Type 0 where
 -- the files of a book
 abbrev pub files_of : CommandLine → List ℕ → Book → List OutFile
 files_of line text b =
-    tex_out line.outputs (tex_file text line.flags b).out
+    record { out = Tex; name = line.outputs.tex; bytes = (tex_file text line.flags b).out }
     ∷ index_files line.flags.index line text (left_by text line.flags b (tex_file text line.flags b))
 
 -- ## Files that are there already

@@ -3,6 +3,7 @@ use Rattle.std.proofs.Common.{◌≡◌, ℕ, zero, suc, ◌+◌, ◌-◌, Bool,
 use Rattle.std.proofs.Common.{◌∷◌, ◌++◌, Option, Some, None, length, refl, sym, ap, ◌∙◌, arith, append_assoc}
 use Rattle.std.specs.Prelude.{if◌then◌else◌}
 use Rattle.std.proofs.lemmas.Bool.Decides.{nat_tests}
+use Rattle.std.specs.Option.{option_map_or}
 use Rattle.cw_rules.specs.declared.classes.Class.TheVariants as classes
 use Rattle.cw_rules.specs.declared.{codes.Code.Code, parts.Opened.Opened, parts.Start.Start, signs.Sign.Sign}
 use Rattle.cw_rules.specs.declared.parts.Part.TheVariants as parts
@@ -12,7 +13,7 @@ use Rattle.cw_rules.specs.{Constants.constant, Prefixes.prefix_size, Tokens.sect
 use Rattle.cw_base.specs.{Bytes.newline, Text.bar}
 use Rattle.cw_rules.specs.Bytes.{hash, star, slash, less, at_sign, begins, is_letter, is_mark, is_in}
 use Rattle.cw_lex.specs.{Lexing.still_fresh, Lexing.joined, Lexing.answers, Nested.begins_section_in, Parts.closing_bar}
-use Rattle.cw_rules.specs.Tokens.{is_tex_inner, sign_or_other, inner_cut, all_cut, line_end, code_by, in_code, start_of}
+use Rattle.cw_rules.specs.Tokens.{is_tex_inner, inner_cut, all_cut, line_end, code_by, in_code, start_of}
 use Rattle.cw_rules.specs.model.Apart.{code_text_apart, comment_text_apart, in_text_apart, found_apart}
 use Rattle.cw_rules.proofs.InnerTwins.{tex_inner, alone, in_tex, in_text-twin}
 use Rattle.cw_rules.proofs.Choices.{if-both, and-none}
@@ -44,7 +45,7 @@ ends_inner _ = false
 record Bar (byte : ℕ) (s : Start) : Type 0 where
   is : ends_inner s ≡ true → (byte == bar) ≡ true
 
-sign-bar : (byte : ℕ) (o : Option Sign) → Bar byte (sign_or_other o)
+sign-bar : (byte : ℕ) (o : Option Sign) → Bar byte (option_map_or start.Sign o start.OtherByte)
 sign-bar byte o = grind arith
 
 bar-start : (ends : Bool) (byte : ℕ) (bytes : List ℕ) → Bar byte (start_of ends byte bytes)
@@ -55,7 +56,8 @@ bar-start ends byte bytes = if-both (Bar byte) (nat_lt 0 (prefix_size (byte ∷ 
     (byte == slash && begins star bytes) _ _ (λ e. record { is = λ h. absurd cc }) (λ e. if-both (Bar byte)
     (byte == slash && begins slash bytes) _ _ (λ e. record { is = λ h. absurd cc }) (λ e. if-both (Bar byte)
     (byte == at_sign) _ _ (λ e. record { is = λ h. absurd cc }) (λ e. if-both (Bar byte) (byte == bar &&
-    (ends && not (begins bar bytes))) start.EndOfInner (sign_or_other (longest all_signs (byte ∷ bytes))) (λ e. record
+    (ends && not (begins bar bytes))) start.EndOfInner
+    (option_map_or start.Sign (longest all_signs (byte ∷ bytes)) start.OtherByte) (λ e. record
     { is = λ h. both-left (byte == bar) _ e }) (λ e. sign-bar byte (longest all_signs (byte ∷ bytes))))))))))
 
 no-bar : (ends : Bool) (byte : ℕ) (bytes : List ℕ) → (byte == bar) ≡ false → start_of ends byte bytes ≡ start.EndOfInner

@@ -12,12 +12,13 @@ use Rattle.cw_rules.specs.{Answers.Where, Answers.plain, Constants.constant, Pre
 use Rattle.cw_rules.specs.{Signs.longest, Signs.spelling, Tokens.passed, Tokens.one, Tokens.moved}
 use Rattle.cw_rules.specs.{model.Cuttings.bytes_at}
 use Rattle.cw_rules.specs.Bytes.{is_in, is_letter, is_mark, begins, begins_by, run}
-use Rattle.cw_rules.specs.Tokens.{in_code, start_of, sign_or_other, is_include, behind_word, ends_at_bar, in_hash_line}
+use Rattle.cw_rules.specs.Tokens.{in_code, start_of, is_include, behind_word, ends_at_bar, in_hash_line}
 use Rattle.cw_lex.specs.{model.Coming.found_at, model.Calm.is_calm}
 use Rattle.cw_lex.specs.model.Short.{is_alone, is_lone, IsShort, BeginsString, EndsInner}
 use Rattle.cw_lex.proofs.{White.other-byte, Calm.calm-code, Calm.calm-part, Steps.bytes-here}
 use Rattle.cw_rules.proofs.{Sizes.run-le, StringPrefixes.no-prefix}
 use Rattle.std.proofs.{lemmas.Bool.lt-ltb, lemmas.Bool.eqb-true, lemmas.Bool.Decides.nat_tests}
+use Rattle.std.specs.Option.{option_map_or}
 use Rattle.cw_base.proofs.TestLaws.{and-false}
 
 -- a byte that begins no line's end, white space, code or `#` line
@@ -204,12 +205,14 @@ bar-starts : IsStart 124
 bar-starts = record { newline = refl; blank = refl; backslash = refl; at_sign = refl; hash = refl }
 
 bar-kind : (bars : Bool) (bs : List ℕ) → start_of bars 124 bs
-    ≡ (if bars && not (begins 124 bs) then start.EndOfInner else sign_or_other (longest all_signs (124 ∷ bs)))
+    ≡ (if bars && not (begins 124 bs) then start.EndOfInner
+    else option_map_or start.Sign (longest all_signs (124 ∷ bs)) start.OtherByte)
 bar-kind bars bs = grind (arith, nat_tests, no-constant)
 
 bar-is : (text : List ℕ) (place : ℕ) (bars ends : Bool) → slice_index text place ≡ 124
     → (bars && not (begins 124 (drop (place + 1) text))) ≡ ends → start_of bars (slice_index text place) (drop
-    (place + 1) text) ≡ (if ends then start.EndOfInner else sign_or_other (longest all_signs (bytes_at text place)))
+    (place + 1) text) ≡ (if ends then start.EndOfInner
+    else option_map_or start.Sign (longest all_signs (bytes_at text place)) start.OtherByte)
 bar-is text place bars ends here e = grind (arith, nat_tests, bar-kind)
 
 pub inner-ends : (text : List ℕ) (part : Part) (comments : List Opened) (place : ℕ) → is_calm part comments ≡ true

@@ -13,8 +13,8 @@ pub use Rattle.std.specs.List.{list_any}
 pub use Rattle.std.specs.Prelude.{slice_index, min, codes, is_some, ⊤, Result, IsErrAnd, get_or, replicate, nat_lt}
 pub use Rattle.std.specs.Prelude.{nat_eq}
 pub use Rattle.cw_base.specs.declared.event.Out.{Out}
-pub use Rattle.cw_desk.specs.{Journal.byte_events, Journal.grown, Journal.GrownByPart, Told.DeskState}
-pub use Rattle.cw_desk.specs.{Told.OnlyPuts}
+pub use Rattle.cw_desk.specs.{Journal.byte_events, Journal.grown, Journal.GrownByPart, State.DeskState}
+pub use Rattle.cw_desk.specs.{State.OnlyPuts}
 pub use Rattle.cw_desk.specs.laws.JournalLaws.{byte_events-append, grown-none, grown-after, part-first, part-all}
 pub use Rattle.cw_lines.specs.{laws.CutLaws.divide-short, model.Whole.WholeLines, model.Whole.behind_lines}
 pub use Rattle.cw_lines.specs.{model.Whole.counted, Writes.HasPut, Writes.HasWritten, Writes.Puts, Writes.Writes}

@@ -1,6 +1,6 @@
 -- What a call does that prints on a sheet: a line of output, with the desk that it is written to.
 use Rattle.std.specs.Prelude.{◌≡◌, ℕ, List, Result}
-use Rattle.cw_desk.specs.Told.{DeskState}
+use Rattle.cw_desk.specs.State.{DeskState}
 use Rattle.cw_lines.specs.Writes.{CanWrite, Puts}
 use Rattle.cw_lines.specs.declared.put_error.PutError.{PutError}
 use Rattle.cw_lines.specs.declared.sheet.Sheet.{Sheet}

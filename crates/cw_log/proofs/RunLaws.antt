@@ -5,7 +5,7 @@ use Rattle.cw_log.proofs.Terms.{judged, no_log_text, run_of, too_long_text, chec
 use Rattle.cw_log.proofs.Terms.{LOG_LIMIT}
 use Rattle.std.proofs.lemmas.Result.{IfOk-weaker}
 use Rattle.cw_base.specs.{declared.exit.Exit.Exit, declared.exit.Exit.TheVariants.Fault}
-use Rattle.cw_desk.specs.Told.{DeskState}
+use Rattle.cw_desk.specs.State.{DeskState}
 use Rattle.cw_logs.specs.Judgement.{Judgement, log, no_log}
 use Rattle.cw_logs.proofs.Faults.{fault-no-log, fault-same}
 use Rattle.cw_run.specs.Emits.{Run, Runs}

@@ -2,7 +2,7 @@
 ghost use Rattle.std.specs.Prelude.{◌<◌, IfOk, IsErrOf, Some};
 ghost use Rattle.std.specs.FinMap.{get};
 ghost use Rattle.cw_desk.specs.Meaning.{Files, Rose};
-ghost use Rattle.cw_desk.specs.Told.{OnlyReads};
+ghost use Rattle.cw_desk.specs.State.{OnlyReads};
 ghost use Rattle.cw_input.specs.Reading.{ReadsOnly};
 ghost use Rattle.cw_log.specs.model.LogFile.{IsFileOf, IsShort};
 

@@ -6,13 +6,15 @@ use Rattle.cw_log_laws.proofs.Terms.{MergedLine, text_of, tokens-cover, EntryKin
 use Rattle.cw_log_laws.proofs.Terms.{is_entry, with_category, with_entry, built_in_words, answers_of, book, Placement}
 use Rattle.cw_log_laws.proofs.Terms.{placed, SecName, AreNames}
 use Rattle.std.specs.List.{IsDistinct}
+use Rattle.std.specs.Option.{option_map_or}
 use Rattle.cw_phase1.proofs.NameSizes.{all-short}
 use Rattle.cw_rules.specs.ControlTexts.{text_behind_code}
 use Rattle.cw_phase1.specs.{Uses.references_of, declared.roles.Role.Role}
-use Rattle.cw_phase1.specs.Words.{KnownNames, category_of, known_after, known_behind, name_id, with_format}
+use Rattle.cw_phase1.specs.Words.{KnownNames, known_after, known_behind, name_id, with_format}
 use Rattle.cw_log_laws.proofs.LaterNames.{HaveCats, are_real, distinct-entry, have-entry, real-law}
 use Rattle.cw_rules.specs.declared.tokens.Mode.TheVariants as modes
 use Rattle.cw_phase1.specs.declared.roles.Role.TheVariants as roles
+use Rattle.cw_base.specs.declared.category.Cat.TheVariants.{Exp}
 
 -- ## The built-in words
 
@@ -58,7 +60,8 @@ have-at place c [] h all = tt
 have-at zero c (e ∷ es) h all = (h, all.1)
 have-at (suc place) c (e ∷ es) h all = (all.0, have-at place c es h all.1)
 
-category-real : (es : List Entry) (k : ℕ) → HaveCats es → category_of (slice_get es k) ≢ End
+category-real : (es : List Entry) (k : ℕ) → HaveCats es
+    → (option_map_or (λ entry. entry.category) (slice_get es k) Exp) ≢ End
 category-real [] k all = λ e. absurd cc
 category-real (e ∷ es) zero all = all.0
 category-real (e ∷ es) (suc k) all = category-real es k all.1

@@ -3,15 +3,15 @@ use Rattle.cw_log_laws.proofs.Terms.{◌≡◌, ◌≢◌, ℕ, zero, suc, Bool,
 use Rattle.cw_log_laws.proofs.Terms.{[], ◌∷◌, ◌++◌, slice_get, unwrap_or, refl, arith, nat_eq, pointwise, Cat, End}
 use Rattle.cw_log_laws.proofs.Terms.{Code, TokKind, Ident as ident_kind, NameId, Entry, AreDistinct, place_of}
 use Rattle.cw_log_laws.proofs.Terms.{with_entry, category_among, directive_words, words_with, tree_in, LeafForm}
-use Rattle.cw_log_laws.proofs.Terms.{code_form, form_of}
-use Rattle.cw_log_laws.proofs.Terms.{names_with, own_cat, sign_cat, token_form, word_cat, word_form, is_identifier}
-use Rattle.cw_log_laws.proofs.Terms.{IsLater, cat_in_line}
+use Rattle.cw_log_laws.proofs.Terms.{code_form, form_of, names_with, own_cat, sign_cat, token_form, word_cat, word_form}
+use Rattle.cw_log_laws.proofs.Terms.{is_identifier, IsLater, cat_in_line}
 use Rattle.std.specs.Prelude.{codes}
+use Rattle.std.specs.Option.{option_map_or}
 use Rattle.cw_base.specs.declared.category.Cat.TheVariants.{SizeofLike}
 use Rattle.cw_rules.specs.declared.{signs.Sign.Sign, tokens.Directive.Directive}
 use Rattle.cw_tokens.specs.declared.token.Token.{Token}
 use Rattle.cw_logs.proofs.Adding.{IsNamed, entry-there}
-use Rattle.cw_translator.specs.Translating.{leaf_scrap, form_tokens}
+use Rattle.cw_translator.specs.Translating.{leaf_scrap}
 use Rattle.cw_log_laws.proofs.LaterNames.{HaveCats, distinct-entry, have-entry, later-entry, later-same, real-law}
 use Rattle.cw_log_laws.proofs.SpeltTokens.{IsSpelt}
 use Rattle.cw_log_laws.proofs.WrittenScraps.{IsLogged, IsWord, IsWordEntry, IsWritten}
@@ -115,5 +115,5 @@ tokens-append names (token.Inner list ∷ xs) ys h g = tokens-append names xs ys
 tokens-append names (token.«List» list ∷ xs) ys h g = (h.0, tokens-append names xs ys h.1 g)
 
 pub form-tokens : (names : List Entry) (o : Option LeafForm) → MayBeForm names o
-    → IsWritten names (tree_in [] (form_tokens o))
+    → IsWritten names (tree_in [] (option_map_or (λ form. form.tokens) o []))
 form-tokens names o h = grind arith

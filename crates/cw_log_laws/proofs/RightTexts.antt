@@ -9,13 +9,15 @@ use Rattle.cw_rules.specs.declared.tokens.Mode.TheVariants.{Inner}
 use Rattle.cw_secnames.specs.Parts.{begins_with_bar, one_more, part_here, parts_from, size_to_bar}
 use Rattle.cw_secnames.specs.declared.kinds.SecKind.{SecKind}
 use Rattle.cw_texts.specs.EachText.{TextSource}
-use Rattle.cw_translator.specs.NameParts.{name_texts, parts_by_kind, texts_kept, texts_of_name}
+use Rattle.cw_translator.specs.NameParts.{name_texts, parts_by_kind}
 use Rattle.cw_translator.specs.Translating.{begin}
 use Rattle.cw_log_laws.proofs.{LaterNames.HaveCats, MadeTexts.AreFine, MadeTexts.Grows, MadeTexts.fine-later}
 use Rattle.cw_log_laws.proofs.{SpeltTokens.tokens-spelt, SpeltTokens.until-spelt, WrittenScraps.IsFineState}
 use Rattle.cw_log_laws.proofs.{WrittenScraps.block-right}
 use Rattle.cw_log_laws.proofs.CountedTokens.{tokens-count, tokens_in, until-count}
 use Rattle.cw_log_laws.proofs.NamedTexts.{ArePlainNames, ArePlainTexts, MayBePlain, text-grows}
+use Rattle.std.specs.Prelude.{option_map}
+use Rattle.std.specs.Option.{option_and_then}
 
 -- ## The inner texts of a name
 
@@ -88,11 +90,12 @@ short-at [] k all = tt
 short-at (name ∷ kept) zero all = All-head (λ (n : SecName). length n.text ≤ 2 ^ 24) name kept all
 short-at (name ∷ kept) (suc k) all = short-at kept k (All-tail (λ (n : SecName). length n.text ≤ 2 ^ 24) name kept all)
 
-name-plain : (o : Option SecName) → IsShortName o → MayBePlain (texts_of_name o)
+name-plain : (o : Option SecName) → IsShortName o
+    → MayBePlain (option_map (λ name. parts_by_kind name.kind name.text) o)
 name-plain o h = grind (arith, kind-plain)
 
 kept-plain : (kept : List SecName) (o : Option ℕ) → All (λ name. length name.text ≤ 2 ^ 24) kept
-    → MayBePlain (texts_kept kept o)
+    → MayBePlain (option_and_then (λ k. option_map (λ name. parts_by_kind name.kind name.text) (slice_get kept k)) o)
 kept-plain kept o all = grind (arith, name-plain, slice_get, short-at)
 
 names-plain : (kept : List SecName) (uses : List NameUse) → All (λ name. length name.text ≤ 2 ^ 24) kept

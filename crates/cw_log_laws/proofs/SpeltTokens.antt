@@ -14,15 +14,16 @@ use Rattle.cw_rules.specs.Bytes.{slash, star, at_sign, hash, less, begins, begin
 use Rattle.cw_rules.specs.Bytes.{is_in, run}
 use Rattle.cw_rules.specs.Tokens.{in_hash_line, behind_include, takes_hash_line, is_space, is_deep, ends_at_bar}
 use Rattle.cw_rules.specs.Tokens.{closes_on_line, moved, passed, comment_end, section, section_code, string, line_end}
-use Rattle.cw_rules.specs.Tokens.{sign_or_other, start_of, effect_in, code_by, in_code, code_token, limbo_by}
-use Rattle.cw_rules.specs.Tokens.{limbo_text, tex_by, tex_text, name_follows, macro_name, parameter_follows, parameter}
-use Rattle.cw_rules.specs.Tokens.{format_name, include_name, piece_start, behind_white}
+use Rattle.cw_rules.specs.Tokens.{start_of, effect_in, code_by, in_code, code_token, limbo_by, limbo_text, tex_by}
+use Rattle.cw_rules.specs.Tokens.{tex_text, name_follows, macro_name, parameter_follows, parameter, format_name}
+use Rattle.cw_rules.specs.Tokens.{include_name, piece_start, behind_white}
 use Rattle.cw_base.specs.{Bytes.newline, declared.notes.NoteKind.NoteKind}
 use Rattle.cw_rules.proofs.Choices.{if-both}
 use Rattle.cw_rules.specs.declared.classes.Class.TheVariants as classes
 use Rattle.cw_rules.specs.declared.parts.Part.TheVariants as parts
 use Rattle.cw_rules.specs.declared.parts.Start.TheVariants as start
 use Rattle.cw_rules.specs.declared.tokens.TokKind.TheVariants as kinds
+use Rattle.std.specs.Option.{option_map_or}
 
 -- the text of a token, where it is an identifier
 abbrev pub IsSpelt : TokKind → List ℕ → Type 0
@@ -104,7 +105,7 @@ code-by-spelt : (effect : Effect) (code : Code) (w : Where) (place : ℕ) (bytes
 code-by-spelt effect code w place bytes = grind (arith, code-token-other, noted-spelt)
 
 sign-spelt : (o : Option Sign) (w : Where) (place : ℕ) (bytes : List ℕ)
-    → Spelt (in_code (sign_or_other o) w place bytes)
+    → Spelt (in_code (option_map_or start.Sign o start.OtherByte) w place bytes)
 sign-spelt o w place bytes = grind arith
 
 in-code-spelt : (bar_ends : Bool) (w : Where) (place byte : ℕ) (bytes : List ℕ)
@@ -121,7 +122,8 @@ in-code-spelt bar_ends w place byte bytes =
     (λ h. if-both P (byte == slash && begins slash bytes) start.ShortComment _ (λ h. tt) (λ h. if-both P
     (byte == at_sign) (start.Code (code_at bytes)) _ (λ h. code-by-spelt (effect_in w.part w.comments (code_at bytes))
     (code_at bytes) w place all) (λ h. if-both P (byte == bar && (bar_ends && not (begins bar bytes))) start.EndOfInner
-    (sign_or_other (longest all_signs all)) (λ h. tt) (λ h. sign-spelt (longest all_signs all) w place all))))))))
+    (option_map_or start.Sign (longest all_signs all) start.OtherByte) (λ h. tt)
+    (λ h. sign-spelt (longest all_signs all) w place all))))))))
 
 code-text-spelt : (w : Where) (fresh : Bool) (last place byte : ℕ) (bytes : List ℕ)
     → Spelt (code_text_apart w fresh last place byte bytes)

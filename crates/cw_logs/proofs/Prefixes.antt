@@ -9,6 +9,8 @@ use Rattle.cw_table.specs.{declared.types.Row.Row, Productions.productions, Reac
 use Rattle.cw_table.specs.{Rewriting.rewrite}
 use Rattle.cw_table.specs.Normal.{Place, Nowhere, At, next_place, Production, steps, log_of, log, count, normal, weight}
 use Rattle.cw_table.proofs.Normals.{log-none-of, log-turn-of, steps-none, steps-turn}
+use Rattle.cw_rewrite.specs.Reduction.{IsReduced, ReducerState, seen_in}
+use Rattle.cw_rewrite.specs.declared.walk.Reduced.{Reduced}
 use Rattle.cw_rewrite.specs.Telling.{EndsWithin, StopsAt, WatchState, grown_by}
 use Rattle.cw_logs.specs.declared.checking.Verdict.{Verdict}
 use Rattle.cw_logs.specs.declared.checking.Verdict.TheVariants.{Accepted, Rejected}
@@ -162,6 +164,13 @@ items_in (Some told) = told.items
 
 told-items : {xs ys : List Production} → told_alone xs ≡ grown_by ys (told_alone []) → xs ≡ ys
 told-items e = ap items_in e
+
+-- a line that was reduced is in its normal form
+pub in-normal-form : (f : Flags) (old new : ReducerState) (o : Option Reduced)
+    → IfSome o (λ done. IsReduced f old new done.productions)
+    → IfSome o (λ done. seen_in new ≡ normal productions f (seen_in old))
+in-normal-form f old new None h = h
+in-normal-form f old new (Some done) h = h.normal_form
 
 pub found : {A : Type 0} (f : Flags) (start now : State) (ps : List Production) (at : ℕ) → at ≤ length ps
     → (o : Option A) → IfSome o (λ x. told_alone (take at ps) ≡ grown_by (log productions f start) (told_alone []))

@@ -2,7 +2,7 @@
 use Rattle.cw_mini.proofs.Terms.{◌≡◌, ℕ, suc, ◌+◌, ◌-◌, ◌<◌, ap, arith, ◌∙◌, List, [], ◌++◌, append_assoc, Result, Ok}
 use Rattle.cw_mini.proofs.Terms.{Err, IsErrAnd, IsTrue, ⊤, flat_map, range_with_len, append-nil, flat_map-cons, Tex}
 use Rattle.cw_mini.proofs.Terms.{byte_events, adds-events, adds-none, open-after, piece-stop, piece-then, piece-wanting}
-use Rattle.cw_desk.specs.{Meaning.is_open, Told.DeskState}
+use Rattle.cw_desk.specs.{Meaning.is_open, State.DeskState}
 use Rattle.cw_lines.specs.{Writes.Adds, Writes.HasAdded, declared.put_error.PutError.PutError}
 use Rattle.cw_lines.specs.{declared.put_error.PutError.TheVariants.Memory}
 

@@ -3,7 +3,7 @@ ghost use Rattle.std.specs.Prelude.{◌≡◌, ◌≤◌, None, []};
 ghost use Rattle.std.specs.FinMap.{get};
 ghost use Rattle.cw_desk.specs.Answer.{Agree};
 ghost use Rattle.cw_desk.specs.Meaning.{Files, Rose};
-ghost use Rattle.cw_desk.specs.Told.{OnlyPuts};
+ghost use Rattle.cw_desk.specs.State.{OnlyPuts};
 ghost use Rattle.cw_run.specs.Program.{Outcome, words_of};
 ghost use Rattle.cw_run.specs.Asked.{asked};
 ghost use Rattle.cw_mini.specs.MiniText.{mini_run};

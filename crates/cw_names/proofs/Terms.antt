@@ -14,13 +14,11 @@ pub use Rattle.cw_base.proofs.TestLaws.{both-left, both-right, both}
 pub use Rattle.cw_base.specs.{Category.is_end, declared.category.Cat.Cat}
 pub use Rattle.cw_base.specs.declared.category.Cat.TheVariants.{Exp, End, RawInt}
 pub use Rattle.cw_names.specs.{model.Inside.entry_of, model.Inside.is_wanted, model.Inside.has_no_end_entry}
-pub use Rattle.cw_names.specs.{model.Noted.sections_at}
-pub use Rattle.cw_names.specs.{model.Noted.with_mention, model.Table.with_word, model.Table.row, model.Table.with_table}
-pub use Rattle.cw_names.specs.{Words.built_in_words}
-pub use Rattle.cw_names.specs.{Words.words_of, Words.BeginsWithWords, declared.entry.EntryKind.EntryKind}
-pub use Rattle.cw_names.specs.{declared.entry.Key.Key, declared.xrefs.Occurrence.Occurrence}
-pub use Rattle.cw_names.specs.{declared.xrefs.SectionRef.SectionRef}
-pub use Rattle.cw_names.specs.Mentions.{AreAscending, above_all, any_in, any_underlined_in, is_of_section}
-pub use Rattle.cw_names.specs.Mentions.{is_underlined_in, mentions, sections_in}
+pub use Rattle.cw_names.specs.{model.Noted.sections_at, model.Noted.with_mention, model.Table.with_word}
+pub use Rattle.cw_names.specs.{model.Table.row, model.Table.with_table, Words.built_in_words, Words.words_of}
+pub use Rattle.cw_names.specs.{Words.BeginsWithWords, declared.entry.EntryKind.EntryKind, declared.entry.Key.Key}
+pub use Rattle.cw_names.specs.{declared.xrefs.Occurrence.Occurrence, declared.xrefs.SectionRef.SectionRef}
+pub use Rattle.cw_names.specs.Mentions.{AreAscending, above_all, any_in, any_underlined_in, is_of_section, mentions}
+pub use Rattle.cw_names.specs.Mentions.{sections_in}
 pub use Rattle.cw_names.specs.Names.{Entry, with_entry, with_category, is_entry, AreDistinct, place_of}
 pub use Rattle.indexmap.specs.IndexMap.{insert_entry, set_value_at}

@@ -8,19 +8,12 @@ use Rattle.cw_names.specs.declared.xrefs.SectionRef.{SectionRef}
 abbrev pub is_of_section : ℕ → Occurrence → Bool
 is_of_section section o = o.section == section
 
-abbrev pub is_underlined_in : ℕ → Occurrence → Bool
-is_underlined_in section o = is_of_section section o && o.underlined
-
 -- whether any of the occurrences is, and the section as they mention it: underlined where any of them is
 abbrev pub any_in : List Occurrence → ℕ → Bool
 any_in occurrences section = list_any (is_of_section section) occurrences
 
 abbrev pub any_underlined_in : List Occurrence → ℕ → Bool
-any_underlined_in occurrences section = list_any (is_underlined_in section) occurrences
-
-abbrev pub mention_of : List Occurrence → ℕ → SectionRef
-mention_of occurrences section =
-    record { section = section; underlined = any_underlined_in occurrences section }
+any_underlined_in occurrences section = list_any (λ o. is_of_section section o && o.underlined) occurrences
 
 -- The least number that is above the sections of all occurrences.
 abbrev pub above_all : List Occurrence → ℕ
@@ -29,7 +22,8 @@ above_all occurrences = fold (λ most o. max most (o.section + 1)) 0 occurrences
 -- The sections in which any of the occurrences is, ascending, each once.
 abbrev pub sections_in : List Occurrence → List SectionRef
 sections_in occurrences =
-    map (mention_of occurrences) (filter (any_in occurrences) (range_with_len 0 (above_all occurrences)))
+    map (λ section. record { section = section; underlined = any_underlined_in occurrences section })
+    (filter (any_in occurrences) (range_with_len 0 (above_all occurrences)))
 
 -- Those of one name.
 abbrev pub mentions : ℕ → List Occurrence → List SectionRef

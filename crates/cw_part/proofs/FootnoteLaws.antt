@@ -2,8 +2,8 @@
 use Rattle.cw_part.proofs.Terms.{arith, ◌≡◌, ℕ, suc, ◌-◌, ◌<◌, ◌≤◌, ◌==◌, Bool, true, false, refl, sym, ap, List, []}
 use Rattle.cw_part.proofs.Terms.{◌∷◌, ◌++◌, codes, drop, get_or, length, map, take, take_all, Option, Some, None}
 use Rattle.cw_part.proofs.Terms.{slice_get, footnote, footnote_numbers, later_numbers, name_footnotes, number_in}
-use Rattle.cw_part.proofs.Terms.{of_kept, of_name, separator, use_footnotes, list_if, Section, SecName}
-use Rattle.std.specs.Option.{option_map}
+use Rattle.cw_part.proofs.Terms.{of_name, separator, use_footnotes, list_if, Section, SecName}
+use Rattle.std.specs.Option.{option_map, option_map_or}
 use Rattle.cw_print.specs.Sources.{defines_first}
 use Rattle.cw_secnames.specs.declared.kinds.SecId.{SecId}
 
@@ -53,7 +53,7 @@ abbrev pub used_by : List Section → SecName → List ℕ
 used_by sections name = footnote sections (codes "\\U") name.used
 
 used-kept : (sections : List Section) (found : Option SecName) (used : List ℕ) → option_map (λ n. n.used) found
-    ≡ Some used → footnote sections (codes "\\U") used ≡ of_kept (used_by sections) found
+    ≡ Some used → footnote sections (codes "\\U") used ≡ option_map_or (used_by sections) found []
 used-kept sections found used is = grind (arith, part-is)
 
 pub used-last : (sections : List Section) (kept : List SecName) (id : SecId) (used : List ℕ)
@@ -63,7 +63,8 @@ used-last sections kept id used is = used-kept sections (slice_get kept id.index
 
 cited-kept : (sections : List Section) (found : Option SecName) (cited : List ℕ)
     → option_map (λ n. n.cited) found ≡ Some cited
-    → footnote sections (codes "\\Q") cited ++ of_kept (used_by sections) found ≡ of_kept (use_footnotes sections) found
+    → footnote sections (codes "\\Q") cited ++ option_map_or (used_by sections) found []
+    ≡ option_map_or (use_footnotes sections) found []
 cited-kept sections found cited is = grind (arith, part-is)
 
 pub cited-first : (sections : List Section) (kept : List SecName) (id : SecId) (cited : List ℕ)
@@ -73,7 +74,7 @@ cited-first sections kept id cited is = cited-kept sections (slice_get kept id.i
 
 defined-kept : (sections : List Section) (found : Option SecName) (defined others : List ℕ)
     → option_map (λ n. n.defined) found ≡ Some defined → others ≡ drop 1 defined → footnote sections (codes "\\A")
-    others ++ of_kept (use_footnotes sections) found ≡ of_kept (name_footnotes sections) found
+    others ++ option_map_or (use_footnotes sections) found [] ≡ option_map_or (name_footnotes sections) found []
 defined-kept sections found defined others is rest = grind (arith, part-is)
 
 pub defined-first : (sections : List Section) (kept : List SecName) (id : SecId) (defined others : List ℕ)
@@ -82,7 +83,7 @@ pub defined-first : (sections : List Section) (kept : List SecName) (id : SecId)
     ≡ of_name (name_footnotes sections) kept (Some id)
 defined-first sections kept id defined others is rest = grind (arith, defined-kept)
 
-not-kept : (notes : SecName → List ℕ) (found : Option SecName) → found ≡ None → [] ≡ of_kept notes found
+not-kept : (notes : SecName → List ℕ) (found : Option SecName) → found ≡ None → [] ≡ option_map_or notes found []
 not-kept notes found is = grind arith
 
 pub no-name : (notes : SecName → List ℕ) (kept : List SecName) (id : SecId) → slice_get kept id.index ≡ None

@@ -2,12 +2,12 @@
 use Rattle.cw_part.proofs.Terms.{◌≡◌, ℕ, ◌+◌, refl, List, arith, Result, Flags, PutError, Entry, part_setting}
 use Rattle.cw_part.proofs.Terms.{rest_done, IsWholeRest, Book, Section, Counts, Done, Lasting, Setting, setting, Press}
 use Rattle.cw_part.proofs.Terms.{Weaves}
-use Rattle.cw_part.specs.declared.paragraphs.Present.{Present}
+use Rattle.cw_texpart.specs.declared.section_at_hand.SectionAtHand.{SectionAtHand}
 use Rattle.cw_part.proofs.WovenLaws.{AreSums, Weaving}
 
 -- the same of what stays of a book
-pub moved : (p : Present) (d : Setting → Done ℕ) {l l' : Lasting} {old new : Press} {result : Result Counts PutError}
-    → l ≡ l' → Weaves (part_setting p l) (d (part_setting p l)) old new result
+pub moved : (p : SectionAtHand) (d : Setting → Done ℕ) {l l' : Lasting} {old new : Press}
+    {result : Result Counts PutError} → l ≡ l' → Weaves (part_setting p l) (d (part_setting p l)) old new result
     → Weaves (part_setting p l') (d (part_setting p l')) old new result
 moved p d {old = old} {new = new} {result = result} same woven = grind arith
 

@@ -8,7 +8,7 @@ pub use Rattle.std.proofs.lemmas.List.Elements.{All-nil, All-cons, All-weaker, A
 pub use Rattle.std.proofs.lemmas.List.Elements.{All-map, All-tail, All-rest, All-same}
 pub use Rattle.std.specs.Prelude.{Result, Ok, Err, IsErrAnd, Some, ⊤, nat_lt, ◌^◌, is_some, slice_get}
 pub use Rattle.cw_base.specs.{Conditions.list_if, declared.flags.Flags.Flags, declared.span.Span.Span}
-pub use Rattle.cw_desk.specs.Told.{DeskState}
+pub use Rattle.cw_desk.specs.State.{DeskState}
 pub use Rattle.cw_lex.specs.Lexing.{answers_at, tokens_of, beginning}
 pub use Rattle.cw_lines.specs.{Line.LineState, Sheets.Prints, Sheets.IsSameSheet, Writes.Puts}
 pub use Rattle.cw_lines.specs.{declared.put_error.PutError.PutError, declared.put_error.PutError.TheVariants.Memory}
@@ -17,11 +17,10 @@ pub use Rattle.cw_lines.specs.laws.SheetLaws.{same-then, prints-longer}
 pub use Rattle.cw_lines.specs.laws.WritesLaws.{puts-bytes, puts-none, puts-stop, puts-then, puts-nothing, can-after}
 pub use Rattle.cw_lines.specs.laws.WritesLaws.{puts-longer}
 pub use Rattle.cw_names.specs.Names.{Entry}
-pub use Rattle.cw_part.specs.Footnotes.{footnote, footnote_numbers, later_numbers, name_footnotes, number_in, of_kept}
-pub use Rattle.cw_part.specs.Footnotes.{of_name, separator, use_footnotes}
+pub use Rattle.cw_part.specs.Footnotes.{footnote, footnote_numbers, later_numbers, name_footnotes, number_in, of_name}
+pub use Rattle.cw_part.specs.Footnotes.{separator, use_footnotes}
 pub use Rattle.cw_part.specs.Parts.{paragraph_if, has_no_part, part_by, part_opening, definitions_done, first_opening}
-pub use Rattle.cw_part.specs.Parts.{definition_done, later_opening}
-pub use Rattle.cw_part.specs.model.PresentForms.{part_setting}
+pub use Rattle.cw_texpart.specs.model.PartForms.{part_setting}
 pub use Rattle.cw_part.specs.Sections.{rest_done, sections_done, rest_by, ending}
 pub use Rattle.cw_part.specs.model.WholeDefinitions.{DefinitionsAreWhole, RestsAreWhole}
 pub use Rattle.cw_part.specs.WholeTexts.{IsWholeRest, IsWholeDefinition, IsWholeIn}

@@ -1,5 +1,6 @@
 -- The footnotes of a section name: which other sections define it, and which cite and use it.
 use Rattle.std.specs.Prelude.{ℕ, List, [], ◌∷◌, ◌++◌, Option, Some, None, codes, drop, map, slice_get}
+use Rattle.std.specs.Option.{option_map_or}
 use Rattle.cw_base.specs.Conditions.{list_if}
 use Rattle.cw_phase1.specs.declared.sections.Section.{Section}
 use Rattle.cw_print.specs.Sources.{defines_first, is_changed}
@@ -42,13 +43,9 @@ abbrev pub name_footnotes : List Section → SecName → List ℕ
 name_footnotes sections name = footnote sections (codes "\\A") (drop 1 name.defined) ++ use_footnotes sections name
 
 -- Footnotes of the name with this id, if it is kept.
-abbrev pub of_kept : (SecName → List ℕ) → Option SecName → List ℕ
-of_kept notes None = []
-of_kept notes (Some name) = notes name
-
 abbrev pub of_name : (SecName → List ℕ) → List SecName → Option SecId → List ℕ
 of_name notes kept None = []
-of_name notes kept (Some id) = of_kept notes (slice_get kept id.index)
+of_name notes kept (Some id) = option_map_or notes (slice_get kept id.index) []
 
 -- All footnotes of a name stand in the first section that defines it, and in no other.
 abbrev pub footnotes : Setting → Section → List ℕ

@@ -25,17 +25,12 @@ abbrev pub first_opening : Beside → List ℕ
 first_opening besides.Definition = codes "\\B\\quad"
 first_opening other = codes "\\Y\\B"
 
-abbrev pub later_opening : List ℕ
-later_opening = codes "\\B"
-
-abbrev pub definition_done : Setting → List ℕ → Definition → List Entry → Done ℕ
-definition_done s opening d names = paragraph opening (text_done s modes.Definition false d.span names)
-
 -- Definitions one after another, the first behind this opening.
 abbrev pub definitions_done : Setting → List ℕ → List Definition → List Entry → Done ℕ
 definitions_done s opening [] names = as_it_is [] names
 definitions_done s opening (d ∷ ds) names =
-    done_then (definition_done s opening d names) (definitions_done s later_opening ds)
+    done_then (paragraph opening (text_done s modes.Definition false d.span names))
+    (definitions_done s (codes "\\B") ds)
 
 -- ## The C part
 
@@ -43,25 +38,19 @@ definitions_done s opening (d ∷ ds) names =
 abbrev pub paragraph_if : Bool → List ℕ → Done ℕ → Done ℕ
 paragraph_if printed front d = if printed then paragraph front d else reprinted (λ out. []) d
 
--- The C part is printed where it is named or has a scrap.
-abbrev pub prints_code : Section → Done ℕ → Bool
-prints_code section d = is_some section.name || nat_lt 0 (scraps_in d.ended)
-
 -- Nothing stands there, and it has no name. So it isn't printed.
 abbrev pub has_no_part : Section → Bool
 has_no_part section = not (is_some section.name) && section.c_part.start == section.c_part.«end»
 
--- With flag r a name at its head stands one step to the left, as definitions do.
-abbrev pub step_left : Bool → Section → List ℕ
-step_left ranged section = list_if (ranged && is_some section.name) (codes "\\4")
-
--- Space is before it, but where it stands beside the number of its section, and not to the left.
+-- Space is before it, but where it stands beside the number of its section. With flag r a name at its head stands one
+-- step to the left, as definitions do.
 abbrev pub part_opening : Beside → Bool → Section → List ℕ
 part_opening besides.CPart ranged section = codes "\\B"
-part_opening other ranged section = codes "\\Y\\B" ++ step_left ranged section
+part_opening other ranged section = codes "\\Y\\B" ++ list_if (ranged && is_some section.name) (codes "\\4")
 
+-- The C part is printed where it is named or has a scrap.
 abbrev pub part_from : List ℕ → Section → Done ℕ → Done ℕ
-part_from opening section d = paragraph_if (prints_code section d) opening d
+part_from opening section d = paragraph_if (is_some section.name || nat_lt 0 (scraps_in d.ended)) opening d
 
 -- the C part of a section that has this code beside its number
 abbrev pub part_by : Beside → Setting → Section → List Entry → Done ℕ

@@ -1,14 +1,13 @@
 //! The footnotes of section names.
 ghost use Rattle.std.specs.Prelude.{◌≡◌, ℕ, ◌<◌, ◌≤◌, ◌∷◌, ◌++◌, List, Some, codes, drop, length, map};
 ghost use Rattle.cw_lines.specs.Sheets.{CanPrint, Prints};
-ghost use Rattle.cw_lines.specs.Writes.{CanWrite, Puts};
 ghost use Rattle.cw_part.specs.Footnotes.{footnote, footnote_numbers, later_numbers, name_footnotes, number_in};
 ghost use Rattle.cw_part.specs.Footnotes.{of_name, separator, use_footnotes};
 ghost use Rattle.cw_base.specs.Conditions.{list_if};
 ghost use Rattle.cw_print.specs.Sources.{defines_first};
 
 use cw_desk::Desk;
-use cw_lines::{LineOut, PutError, Sheet};
+use cw_lines::{PutError, Sheet};
 use cw_phase1::Book;
 use cw_print::{defines_first, is_changed};
 use cw_secnames::SecId;
@@ -19,7 +18,7 @@ fn put_section<D: Desk>(book: &Book, number: u32, sheet: &mut Sheet<D>) -> Resul
     requires can { CanPrint D.told sheet.old }
     ensures { Prints D.told (number_in book.now.outline.sections number) sheet.old sheet.new result }
 {
-    put_number(number, is_changed(book, number), sheet.line, sheet.desk)
+    put_number(number, is_changed(book, number), sheet)
 }
 
 // What stands before a number that these follow.
@@ -108,8 +107,12 @@ fn put_footnote<D: Desk>(
     sheet.put_all(b".\n")
 }
 
-// Puts the footnotes with the sections that cite and use a section name, where the book keeps one.
-fn put_uses<D: Desk>(book: &Book, id: SecId, sheet: &mut Sheet<D>) -> Result<(), PutError>
+/// Puts the footnotes with the sections that cite and use the section name with this id, where the book keeps one.
+pub fn put_use_footnotes<D: Desk>(
+    book: &Book,
+    id: SecId,
+    sheet: &mut Sheet<D>,
+) -> Result<(), PutError>
     requires can { CanPrint D.told sheet.old }
     ensures { Prints D.told (of_name (use_footnotes book.now.outline.sections) book.now.sec_names (Some id))
         sheet.old sheet.new result }
@@ -119,21 +122,6 @@ fn put_uses<D: Desk>(book: &Book, id: SecId, sheet: &mut Sheet<D>) -> Result<(),
     }
     put_footnote(book, b"\\Q", book.sec_names.cited_in(id), sheet)?;
     put_footnote(book, b"\\U", book.sec_names.used_in(id), sheet)
-}
-
-/// Puts the footnotes with the sections that cite and use the section name with this id, where the book keeps one.
-pub fn put_use_footnotes<D: Desk>(
-    book: &Book,
-    id: SecId,
-    out: &mut LineOut,
-    desk: &mut D,
-) -> Result<(), PutError>
-    requires can { CanWrite (D.told desk.old) out.old }
-    ensures { Puts (of_name (use_footnotes book.now.outline.sections) book.now.sec_names (Some id)) out.old out.new
-        (D.told desk.old) (D.told desk.new) result }
-{
-    let mut sheet = Sheet { line: out, desk };
-    put_uses(book, id, &mut sheet)
 }
 
 // The sections of a list behind the first.
@@ -155,7 +143,7 @@ fn put_name_footnotes<D: Desk>(book: &Book, id: SecId, sheet: &mut Sheet<D>) -> 
 {
     let others = behind_first(book.sec_names.defined_in(id));
     put_footnote(book, b"\\A", others, sheet)?;
-    put_uses(book, id, sheet)
+    put_use_footnotes(book, id, sheet)
 }
 
 /// Puts the footnotes of a section that defines this name, or none: they stand in the first of those sections.

@@ -4,31 +4,19 @@ ghost use Rattle.cw_lex.specs.Lexing.{tokens_of};
 ghost use Rattle.cw_lex.specs.Nested.{begins_section_in, is_c_mode};
 ghost use Rattle.cw_lines.specs.Sheets.{CanPrint, IsSameSheet};
 ghost use Rattle.cw_part.specs.Parts.{paragraph_if};
-ghost use Rattle.cw_part.specs.model.PresentForms.{part_setting, text_of};
+ghost use Rattle.cw_part.specs.model.PresentForms.{text_of};
+ghost use Rattle.cw_texpart.specs.model.PartForms.{part_setting};
 ghost use Rattle.cw_translator.specs.Counting.{scraps_in};
 ghost use Rattle.cw_translator.specs.NameParts.{AreNamesOf};
 ghost use Rattle.cw_texpart.specs.Texts.{lasting};
 ghost use Rattle.cw_texpart.specs.Weaving.{Weaves, press};
 
-use cw_base::{Flags, Ledger, Span, Steps};
+use cw_base::{Ledger, Span, Steps};
 use cw_desk::Desk;
 use cw_lex::Mode;
 use cw_lines::{PutError, Sheet};
 use cw_phase1::Book;
-use cw_texpart::{Beside, CText, Counts, translate_text};
-use std::alloc::Global;
-
-/// What the present section is printed with: the web's text, the section's number and what stands beside it, and the
-/// flags.
-#[derive(Clone, Copy)]
-pub(crate) struct Present<'a> {
-    pub(crate) text: &'a [u8],
-    pub(crate) section: u32,
-    pub(crate) flags: &'a Flags,
-    pub(crate) alloc: Global,
-    /// The code that stands beside the section's number.
-    pub(crate) beside: Beside,
-}
+use cw_texpart::{CText, Counts, SectionAtHand, translate_text};
 
 /// A C text that is a paragraph.
 #[derive(Clone, Copy)]
@@ -50,7 +38,7 @@ fn is_printed(always: bool, scraps: u64) -> bool
 
 /// Translates a paragraph, and prints it where it is to be printed.
 pub(crate) fn print_paragraph<D: Desk, L: Ledger>(
-    p: Present,
+    p: SectionAtHand,
     paragraph: Paragraph,
     book: &mut Book,
     sheet: &mut Sheet<D>,
@@ -85,7 +73,7 @@ pub(crate) fn print_paragraph<D: Desk, L: Ledger>(
         return Ok(counts);
     }
     sheet.put_all(paragraph.front)?;
-    translated.print(p.alloc, book, sheet.line, sheet.desk)?;
+    translated.print(p.alloc, book, sheet)?;
     sheet.put_all(b"\\par\n")?;
     Ok(counts)
 }

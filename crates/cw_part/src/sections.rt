@@ -1,29 +1,25 @@
 //! What stands behind the TeX part of a section.
-ghost use Rattle.std.specs.Prelude.{◌≡◌, ◌^◌, ◌-◌, ◌<◌, ◌≤◌, false, All, Some, length, slice_get};
-ghost use Rattle.cw_base.specs.Web.{text_of};
+ghost use Rattle.std.specs.Prelude.{◌≡◌, ◌^◌, ◌≤◌, All, length};
 ghost use Rattle.cw_lines.specs.Sheets.{CanPrint, IsSameSheet, Prints};
-ghost use Rattle.cw_lines.specs.Writes.{CanWrite};
 ghost use Rattle.cw_texts.specs.Definitions.{definitions_in, printed_definitions};
 ghost use Rattle.cw_part.specs.Parts.{definitions_done, first_opening, has_no_part, part_by, part_opening};
-ghost use Rattle.cw_part.specs.model.PresentForms.{part_setting};
-ghost use Rattle.cw_part.specs.Sections.{ending, rest_by, rest_done};
+ghost use Rattle.cw_texpart.specs.model.PartForms.{part_setting};
+ghost use Rattle.cw_part.specs.Sections.{ending, rest_by};
 ghost use Rattle.cw_part.specs.WholeTexts.{IsWholeDefinition, IsWholeIn, IsWholeRest};
-ghost use Rattle.cw_phase1.specs.declared.sections.Section.{Section};
 ghost use Rattle.cw_rules.specs.declared.tokens.Mode.TheVariants.{CPart, Definition};
 ghost use Rattle.cw_translator.specs.NameParts.{AreNamesOf};
-ghost use Rattle.cw_texpart.specs.Texts.{lasting, setting};
+ghost use Rattle.cw_texpart.specs.Texts.{lasting};
 ghost use Rattle.cw_texpart.specs.Weaving.{Weaves, press};
 
 use crate::footnotes::put_footnotes;
-use crate::paragraphs::{Paragraph, Present, print_paragraph};
-use cw_base::{Flags, Ledger, Span, Steps, Web};
+use crate::paragraphs::{Paragraph, print_paragraph};
+use cw_base::{Ledger, Span, Steps};
 use cw_desk::Desk;
 use cw_lex::Mode;
-use cw_lines::{LineOut, PutError, Sheet};
+use cw_lines::{PutError, Sheet};
 use cw_phase1::{Book, Section};
-use cw_texpart::{Beside, Counts, code_beside};
+use cw_texpart::{Beside, Counts, SectionAtHand};
 use cw_texts::Definitions;
-use std::alloc::Global;
 
 // The bytes before the first definition of a section.
 fn first_opening(beside: Beside) -> &'static [u8]
@@ -48,7 +44,7 @@ fn part_opening(beside: Beside, ranged: bool, section: &Section) -> &'static [u8
 
 // Prints the definitions that stand at a span, but for the silent ones.
 fn print_definitions<D: Desk, L: Ledger>(
-    p: Present,
+    p: SectionAtHand,
     part: Span,
     book: &mut Book,
     sheet: &mut Sheet<D>,
@@ -101,7 +97,7 @@ fn has_no_part(section: &Section) -> bool
 
 // Prints the C part of a section, where there is one.
 fn print_c_part<D: Desk, L: Ledger>(
-    p: Present,
+    p: SectionAtHand,
     section: Section,
     book: &mut Book,
     sheet: &mut Sheet<D>,
@@ -130,7 +126,7 @@ fn print_c_part<D: Desk, L: Ledger>(
 
 // Puts what ends a section: its footnotes, a line `\fi` and an empty line.
 fn put_ending<D: Desk>(
-    p: Present,
+    p: SectionAtHand,
     section: Section,
     book: &Book,
     sheet: &mut Sheet<D>,
@@ -142,9 +138,10 @@ fn put_ending<D: Desk>(
     sheet.put_all(b"\\fi\n\n")
 }
 
-// Prints a section behind its TeX part.
-fn print_rest<D: Desk, L: Ledger>(
-    p: Present,
+/// Prints a section behind its TeX part: its definitions, its C part and its footnotes. The marks of its C texts go to
+/// the book's occurrences, and the book's names get the categories behind them.
+pub fn print_rest<D: Desk, L: Ledger>(
+    p: SectionAtHand,
     section: Section,
     book: &mut Book,
     sheet: &mut Sheet<D>,
@@ -164,42 +161,4 @@ fn print_rest<D: Desk, L: Ledger>(
     let counts = counts.plus(more)?;
     put_ending(p, section, book, sheet)?;
     Ok(counts)
-}
-
-/// Prints the section of this number behind its TeX part: its definitions, its C part and its footnotes. The marks of
-/// its C texts go to the book's occurrences, and the book's names get the categories behind them.
-pub fn weave_section<D: Desk, L: Ledger>(
-    alloc: Global,
-    web: &Web,
-    book: &mut Book,
-    section: u32,
-    flags: &Flags,
-    out: &mut LineOut,
-    desk: &mut D,
-    steps: &mut Steps<L>,
-) -> Result<Counts, PutError>
-    requires can { CanWrite (D.told desk.old) out.old }
-    requires first { 0 < section }
-    requires last { section ≤ length book.old.outline.sections }
-    requires kept { AreNamesOf book.old.sec_names book.old.name_uses }
-    requires whole { (s : Section) → slice_get book.old.outline.sections (section - 1) ≡ Some s
-        → IsWholeRest (text_of web.now.lines) s }
-    ensures { (s : Section) → slice_get book.old.outline.sections (section - 1) ≡ Some s
-        → Weaves (setting (text_of web.now.lines) flags.now section book.old)
-        (rest_done (setting (text_of web.now.lines) flags.now section book.old) s book.old.names)
-        (record { book = book.old; line = out.old; told = D.told desk.old; steps = steps.old })
-        (record { book = book.new; line = out.new; told = D.told desk.new; steps = steps.new }) result }
-{
-    let text = web.text();
-    let printed = book.section(section);
-    let beside = code_beside(text, flags, book, &printed)?;
-    let present = Present {
-        text,
-        section,
-        flags,
-        alloc,
-        beside,
-    };
-    let mut sheet = Sheet { line: out, desk };
-    print_rest(present, printed, book, &mut sheet, steps)
 }

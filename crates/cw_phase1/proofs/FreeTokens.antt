@@ -2,7 +2,7 @@
 use Rattle.cw_phase1.proofs.Terms.{◌≡◌, ap, false, true, List, None, arith, Span, MergedLine, head_behind, Seen}
 use Rattle.cw_phase1.proofs.Terms.{TokKind, Role, Standing, TokenLists, HeldState, held_of, is_silent, plain_held}
 use Rattle.cw_phase1.proofs.Terms.{remark_of, waiting_of, free_step, placed_by, stay, token_step, told_step}
-use Rattle.cw_phase1.specs.declared.held.PassState.{PassState}
+use Rattle.cw_phase1.specs.declared.pass_state.PassState.{PassState}
 use Rattle.cw_lex.specs.declared.heads.Expectation.TheVariants as wants
 use Rattle.cw_rules.specs.declared.tokens.TokKind.TheVariants as kinds
 use Rattle.cw_phase1.specs.declared.roles.Role.TheVariants as roles

@@ -2,9 +2,10 @@
 use Rattle.cw_phase1.proofs.Terms.{◌≡◌, ℕ, zero, suc, ◌+◌, ◌<◌, ◌||◌, Bool, false, List, [], ◌∷◌, ◌++◌, Option, Some}
 use Rattle.cw_phase1.proofs.Terms.{◌∙◌, refl, ap, sym, append_assoc, arith, drop, filter, length, at_drop_more}
 use Rattle.cw_phase1.proofs.Terms.{get_or_from_slice_get, slice_get_within, list_any, slice_get, common_steps}
-use Rattle.cw_phase1.proofs.Terms.{MergedLine, Span, SecName, NameUse, has_no_definition, is_undefined}
-use Rattle.cw_phase1.proofs.Terms.{is_undefined_name, lacks_equals, missing_equals, missing_in, Section}
+use Rattle.cw_phase1.proofs.Terms.{MergedLine, Span, SecName, NameUse, has_no_definition, is_undefined_name}
+use Rattle.cw_phase1.proofs.Terms.{lacks_equals, missing_equals, missing_in, Section}
 use Rattle.cw_base.specs.{Conditions.list_if, declared.notes.Note.Note}
+use Rattle.std.specs.Option.{option_map_or}
 
 -- one of two tests that fail together
 pub left-false : (a b : Bool) → (a || b) ≡ false → a ≡ false
@@ -14,7 +15,7 @@ pub right-false : (a b : Bool) → (a || b) ≡ false → b ≡ false
 right-false a b e = grind arith
 
 pub defined-at : (names : List SecName) (k : ℕ) → list_any has_no_definition names ≡ false
-    → is_undefined (slice_get names k) ≡ false
+    → option_map_or has_no_definition (slice_get names k) false ≡ false
 defined-at [] k e = refl
 defined-at (n ∷ names) zero e = left-false (has_no_definition n) (list_any has_no_definition names) e
 defined-at (n ∷ names) (suc k) e =

@@ -5,7 +5,7 @@ use Rattle.cw_phase1.proofs.Terms.{Answer, Token, Begin, Finish, Note, SecKind, 
 use Rattle.cw_phase1.proofs.Terms.{Reference, referred, referring_of, Naming, naming, entering, kept_by, kept_behind}
 use Rattle.cw_phase1.proofs.Terms.{kept_after, name_notes_from, notes_at_by, with_references}
 use Rattle.cw_secnames.specs.laws.ReferenceLaws.{referred-more}
-use Rattle.cw_phase1.specs.declared.named.Referring.{Referring}
+use Rattle.cw_phase1.specs.declared.name_lists.Referring.{Referring}
 
 -- ## Names without references
 

@@ -27,19 +27,17 @@ pub use Rattle.cw_phase1.specs.{Places.holds_changed, Places.nowhere, model.Refe
 pub use Rattle.cw_phase1.specs.{Sound.IsNamedBy, Sound.Ascend, Sound.RefersUpTo, declared.roles.Part.Part}
 pub use Rattle.cw_phase1.specs.{declared.roles.Role.Role, declared.roles.Standing.Standing, declared.sections.Open.Open}
 pub use Rattle.cw_phase1.specs.{declared.sections.Section.Section, declared.sections.Sections.Sections}
-pub use Rattle.cw_phase1.specs.{declared.told.TokenLists.TokenLists}
+pub use Rattle.cw_phase1.specs.{declared.token_lists.TokenLists.TokenLists}
 pub use Rattle.cw_phase1.specs.Changed.{has_changed, with_last_changed, with_last_marked}
 pub use Rattle.cw_phase1.specs.model.Ending.{notes_at_by, with_references, IsScanned, open_count, section_total}
 pub use Rattle.cw_phase1.specs.Entering.{kept_behind, entering, kept_by, kept_after, entered_name, enters, is_unended}
-pub use Rattle.cw_phase1.specs.Entering.{note_behind_end, noted_from, answer_of, kept_id, name_of_entering, note_by}
-pub use Rattle.cw_phase1.specs.Entering.{note_on_name}
+pub use Rattle.cw_phase1.specs.Entering.{note_behind_end, noted_from, answer_of, kept_id, note_on_name}
 pub use Rattle.cw_phase1.specs.model.Holding.{HeldState, held_of, is_silent, plain_held, remark_of, waiting_of, Waiting}
 pub use Rattle.cw_phase1.specs.model.Holding.{settled_placed, settled_standing, settled, remark_put, token_held_by}
 pub use Rattle.cw_phase1.specs.model.Holding.{ended_held, held_step}
-pub use Rattle.cw_phase1.specs.Missing.{has_no_definition, is_undefined, is_undefined_name, lacks_equals}
-pub use Rattle.cw_phase1.specs.Missing.{missing_equals, missing_in, begins_blank, missing_among, missing_of}
-pub use Rattle.cw_phase1.specs.Missing.{name_before, outer_names}
-pub use Rattle.cw_phase1.specs.Notes.{name_notes_from, scanned_note, scanned_notes, name_notes}
+pub use Rattle.cw_phase1.specs.Missing.{has_no_definition, is_undefined_name, lacks_equals, missing_equals, missing_in}
+pub use Rattle.cw_phase1.specs.Missing.{begins_blank, missing_among, missing_of, name_before, outer_names}
+pub use Rattle.cw_phase1.specs.Notes.{name_notes_from, scanned_note, name_notes}
 pub use Rattle.cw_phase1.specs.model.Outlining.{closing_by, open_with, closing, or_here, name_here, opened, with_token}
 pub use Rattle.cw_phase1.specs.model.Outlining.{closed_at}
 pub use Rattle.cw_phase1.specs.model.Ready.{IsToken, AreBefore, WaitsBehind, CanSettle, WaitingIsKept, held_start}
@@ -50,13 +48,12 @@ pub use Rattle.cw_phase1.specs.Sections.{is_section_code, sections_of, span, is_
 pub use Rattle.cw_phase1.specs.Sections.{ends_definitions, ends_tex, first_start, section_at, c_part_name}
 pub use Rattle.cw_phase1.specs.model.Telling.{told_step, word_told, word_occurrence, IsKnown, told_all, known_of}
 pub use Rattle.cw_phase1.specs.model.Telling.{told_start}
-pub use Rattle.cw_phase1.specs.Texts.{blank_before, name_text, naming, naming_by, reduced}
-pub use Rattle.cw_phase1.specs.model.Texts.{is_reduced_void}
-pub use Rattle.cw_phase1.specs.Texts.{single_blanks, without_first_blank, Naming, Void, Full, Prefix}
-pub use Rattle.cw_phase1.specs.model.Texts.{rest_of, is_begun}
+pub use Rattle.cw_phase1.specs.Texts.{blank_before, name_text, naming, naming_by, reduced, single_blanks}
+pub use Rattle.cw_phase1.specs.Texts.{without_first_blank, Naming, Void, Full, Prefix}
+pub use Rattle.cw_phase1.specs.model.Texts.{is_reduced_void, rest_of, is_begun}
 pub use Rattle.cw_phase1.specs.Uses.{references_of, use_by, reference_by, uses_of, use_of, section_names}
 pub use Rattle.cw_phase1.specs.Words.{with_format, name_id, KnownNames, known_behind, Mention, word, known_after}
-pub use Rattle.cw_phase1.specs.Words.{names_after, mention_by, mentions_from, occurrence, occurrences}
+pub use Rattle.cw_phase1.specs.Words.{mention_by, mentions_from, occurrence, occurrences}
 pub use Rattle.cw_rules.specs.{ControlTexts.text_behind_code, ControlTexts.text_to_end, Order.Covers, Order.AreWithin}
 pub use Rattle.cw_rules.specs.{Order.LiesWithin, declared.codes.Code.Code, declared.tokens.Mode.Mode}
 pub use Rattle.cw_rules.specs.{declared.tokens.TokKind.TokKind}

@@ -11,9 +11,9 @@ use Rattle.cw_phase1.proofs.Terms.{told_all, TokenLists, IsScanned, open_count, 
 use Rattle.cw_phase1.proofs.Terms.{tokens_of, Waiting, HeldState, waiting_of, settled_placed, settled_standing, settled}
 use Rattle.cw_phase1.proofs.Terms.{remark_put, token_held_by, ended_held, held_step, IsToken, AreBefore, WaitsBehind}
 use Rattle.cw_phase1.proofs.Terms.{CanSettle, WaitingIsKept, held_start}
-use Rattle.cw_phase1.specs.declared.held.Waiting.{Waiting as WaitingToken}
+use Rattle.cw_phase1.specs.declared.pass_state.Waiting.{Waiting as WaitingToken}
 use Rattle.cw_phase1.proofs.{NameLaws.category-length, WordLaws.entered-below, WordLaws.entry-grows}
-use Rattle.cw_phase1.proofs.Passing.{told_at_end, kept_at_end, notes_at_end, told-passes, kept-passes, notes-pass}
+use Rattle.cw_phase1.proofs.Passing.{lists_at_end, names_at_end, notes_at_end, told-passes, kept-passes, notes-pass}
 use Rattle.cw_names.specs.Names as names
 use Rattle.cw_phase1.specs.declared.roles.Role.TheVariants as roles
 use Rattle.cw_rules.specs.declared.tokens.Mode.TheVariants as modes
@@ -174,8 +174,8 @@ covers-end text from end (Note kind place ∷ answers) c = covers-end text from 
 pub record Underway (lines : List MergedLine) (text : List ℕ) (all : List Answer) (h : HeldState)
     (rest : List Answer) : Type 0 where
   pub from : ℕ
-  pub told : told_at_end lines h rest ≡ told_at_end lines held_start all
-  pub kept : kept_at_end h rest ≡ kept_at_end held_start all
+  pub told : lists_at_end lines h rest ≡ lists_at_end lines held_start all
+  pub kept : names_at_end h rest ≡ names_at_end held_start all
   pub notes : notes_at_end lines h rest ≡ notes_at_end lines held_start all
   pub covers : Covers text from (length text) rest
   pub limit : length text ≤ 16777216
@@ -183,7 +183,7 @@ pub record Underway (lines : List MergedLine) (text : List ℕ) (all : List Answ
 
 pub start : (lines : List MergedLine) (text : List ℕ) (all : List Answer) (h : HeldState) → h ≡ held_start
     → Covers text 0 (length text) all → length text ≤ 16777216 → Underway lines text all h all
-start lines text all h e c l = grind (arith, told_at_end, kept_at_end, notes_at_end)
+start lines text all h e c l = grind (arith, lists_at_end, names_at_end, notes_at_end)
 
 pub text-length : (text : List ℕ) (a b : ℕ) → length (slice_range text a b) ≤ b - a
 text-length text a b = omega (arith, length-take (b - a) (drop a text))
@@ -202,8 +202,8 @@ step-on : (lines : List MergedLine) (text : List ℕ) (all : List Answer) (h new
     → Covers text from (length text) rest → IsReady from (held_step lines a h) → Underway lines text all new rest
 step-on lines text all h new a rest from u e covers ready = record {
   from = from;
-  told = ap (λ h. told_at_end lines h rest) e ∙ (sym (told-passes lines a h rest) ∙ u.told);
-  kept = ap (λ h. kept_at_end h rest) e ∙ (sym (kept-passes lines a h rest) ∙ u.kept);
+  told = ap (λ h. lists_at_end lines h rest) e ∙ (sym (told-passes lines a h rest) ∙ u.told);
+  kept = ap (λ h. names_at_end h rest) e ∙ (sym (kept-passes lines a h rest) ∙ u.kept);
   notes = ap (λ h. notes_at_end lines h rest) e ∙ (sym (notes-pass lines a h rest) ∙ u.notes);
   covers = covers;
   limit = u.limit;

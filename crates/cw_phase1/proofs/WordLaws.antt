@@ -3,9 +3,9 @@ use Rattle.cw_phase1.proofs.Terms.{◌≡◌, ℕ, zero, suc, ◌+◌, ◌<◌, 
 use Rattle.cw_phase1.proofs.Terms.{length, map, cond, not, eqb, refl, sym, arith, length-append, append_assoc, add-zero}
 use Rattle.cw_phase1.proofs.Terms.{append-nil, map-append, bytes_decides, MergedLine, Cat, Exp, EntryKind, Ident}
 use Rattle.cw_phase1.proofs.Terms.{built_in_words, Role, TokenLists, Placement, text_behind_code, KnownNames, Mention}
-use Rattle.cw_phase1.proofs.Terms.{word, with_format, known_behind, known_after, names_after, mention_by, mentions_from}
-use Rattle.cw_phase1.proofs.Terms.{occurrence, occurrences, uses_of, references_of, known_of, told_step, told_all}
-use Rattle.cw_phase1.proofs.Terms.{told_start, NameId, Option}
+use Rattle.cw_phase1.proofs.Terms.{word, with_format, known_behind, known_after, mention_by, mentions_from, occurrence}
+use Rattle.cw_phase1.proofs.Terms.{occurrences, uses_of, references_of, known_of, told_step, told_all, told_start}
+use Rattle.cw_phase1.proofs.Terms.{NameId, Option}
 use Rattle.std.proofs.lemmas.List.Folds.{position_or_len_push}
 use Rattle.cw_phase1.proofs.NameLaws.{category-length}
 use Rattle.cw_names.specs.Names as names
@@ -100,7 +100,7 @@ names-told lines [] t = refl
 names-told lines (p ∷ ps) t = names-told lines ps (told_step lines p t)
 
 pub all-names : (lines : List MergedLine) (ps : List Placement) → (told_all lines ps told_start).words.names
-    ≡ names_after ps built_in_words
+    ≡ (known_after ps (record { first = None; names = built_in_words })).names
 all-names lines ps = names-told lines ps told_start
 
 xrefs-told : (lines : List MergedLine) (ps : List Placement) (t : TokenLists) → (told_all lines ps t).words.xrefs
@@ -111,7 +111,8 @@ xrefs-told lines (p ∷ ps) t =
     grind (arith, xrefs-told lines ps (told_step lines p t), mentioned, append_assoc, map-append)
 
 pub all-occurrences : (lines : List MergedLine) (ps : List Placement)
-    → (told_all lines ps told_start).words.xrefs ≡ occurrences (names_after ps built_in_words) ps
+    → (told_all lines ps told_start).words.xrefs
+    ≡ occurrences ((known_after ps (record { first = None; names = built_in_words })).names) ps
 all-occurrences lines ps = xrefs-told lines ps told_start
 
 uses-told : (lines : List MergedLine) (ps : List Placement) (t : TokenLists) → (told_all lines ps t).named.uses

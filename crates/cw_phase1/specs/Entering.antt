@@ -1,5 +1,6 @@
 -- Which section names are kept, and what is noted of them.
-use Rattle.std.specs.Prelude.{ℕ, Bool, true, false, List, [], ◌∷◌, Option, Some, None, if◌then◌else◌}
+use Rattle.std.specs.Prelude.{ℕ, Bool, true, false, List, [], ◌∷◌, Option, Some, None, if◌then◌else◌, option_map}
+use Rattle.std.specs.Option.{option_and_then}
 use Rattle.cw_base.specs.declared.notes.NoteKind.{NoteKind}
 use Rattle.cw_base.specs.declared.notes.NoteKind.TheVariants as notes
 use Rattle.cw_rules.specs.Answers.{Seen, Answer, Token, Begin, Finish, Note}
@@ -25,13 +26,9 @@ kept_id (New k) = k
 kept_id (Ambiguous k next) = k
 kept_id (Conflict k) = k
 
-abbrev pub name_of_entering : Option Entering → Option SecId
-name_of_entering None = None
-name_of_entering (Some e) = Some (kept_id e.answer)
-
 -- the name that is kept for a token
 abbrev pub entered_name : Seen → List SecName → Option SecId
-entered_name token kept = name_of_entering (enters token kept)
+entered_name token kept = option_map (λ e. kept_id e.answer) (enters token kept)
 
 -- the names that are kept behind a token
 abbrev pub kept_by : Option Entering → List SecName → List SecName
@@ -57,13 +54,9 @@ note_on_name (New k) place = None
 note_on_name (Ambiguous k next) place = Some (Note notes.AmbiguousPrefix place)
 note_on_name (Conflict k) place = Some (Note notes.NameConflict place)
 
-abbrev pub note_by : Option Entering → ℕ → Option Answer
-note_by None place = None
-note_by (Some e) place = note_on_name e.answer place
-
 -- the note on what a token stands for
 abbrev pub note_of : Seen → List SecName → Option Answer
-note_of token kept = note_by (enters token kept) token.span.start
+note_of token kept = option_and_then (λ e. note_on_name e.answer token.span.start) (enters token kept)
 
 -- A note on what a name stands for comes behind the note that it didn't end, and before those on its codes.
 abbrev pub is_unended : NoteKind → Bool
@@ -90,9 +83,6 @@ noted_from kept (Token token ∷ answers) =
 noted_from kept (Begin token ∷ answers) = Begin token ∷ noted_from kept answers
 noted_from kept (Finish token ∷ answers) = Finish token ∷ noted_from kept answers
 noted_from kept (Note kind place ∷ answers) = Note kind place ∷ noted_from kept answers
-
-abbrev pub with_notes : List Answer → List Answer
-with_notes answers = noted_from [] answers
 
 -- what entering a name answers
 abbrev pub answer_of : Option Entering → Option Entered

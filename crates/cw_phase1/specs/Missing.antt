@@ -2,6 +2,7 @@
 use Rattle.std.specs.Prelude.{ℕ, ◌+◌, ◌-◌, ◌==◌, ◌&&◌, ◌||◌, Bool, true, false, List, [], ◌∷◌, Option, Some, None, map}
 use Rattle.std.specs.Prelude.{◌++◌, filter, length, reverse, slice_get, slice_range, if◌then◌else◌}
 use Rattle.std.specs.List.{flat_map}
+use Rattle.std.specs.Option.{option_map_or}
 use Rattle.cw_base.specs.Conditions.{list_if}
 use Rattle.cw_base.specs.Bytes.{newline}
 use Rattle.cw_base.specs.Text.{is_blank}
@@ -37,13 +38,9 @@ stands_alone text tex name =
 abbrev pub has_no_definition : SecName → Bool
 has_no_definition n = length n.defined == 0
 
-abbrev pub is_undefined : Option SecName → Bool
-is_undefined None = false
-is_undefined (Some n) = has_no_definition n
-
 abbrev pub is_undefined_name : List SecName → Option ℕ → Bool
 is_undefined_name names None = false
-is_undefined_name names (Some k) = is_undefined (slice_get names k)
+is_undefined_name names (Some k) = option_map_or has_no_definition (slice_get names k) false
 
 -- ## The notes
 
@@ -76,13 +73,11 @@ abbrev pub lacks_equals : List ℕ → List NameUse → List SecName → Span �
 lacks_equals text uses names tex name =
     is_undefined_name names (name_at name.start uses) && stands_alone text tex name
 
-abbrev pub missing_note : List MergedLine → Span → Note
-missing_note lines name = record { kind = EqualsMissing; value = 0; place = place_in lines name.start }
-
 -- the notes on those of these names of a TeX part that lack a `=`
 abbrev pub missing_of : List MergedLine → List NameUse → List SecName → Span → List Span → List Note
 missing_of lines uses names tex spans =
-    map (missing_note lines) (filter (lacks_equals (text_of lines) uses names tex) spans)
+    map (λ name. record { kind = EqualsMissing; value = 0; place = place_in lines name.start })
+    (filter (lacks_equals (text_of lines) uses names tex) spans)
 
 -- the notes on such names among the answers of a TeX part
 abbrev pub missing_among : List MergedLine → List NameUse → List SecName → Span → ℕ → List Answer → List Note

@@ -1,6 +1,5 @@
 -- The notes of the first phase, in order.
 use Rattle.std.specs.Prelude.{ℕ, ◌+◌, List, [], ◌∷◌, ◌++◌, if◌then◌else◌}
-use Rattle.std.specs.List.{flat_map}
 use Rattle.cw_base.specs.declared.notes.Note.{Note}
 use Rattle.cw_base.specs.declared.notes.NoteKind.{NoteKind}
 use Rattle.cw_base.specs.declared.notes.NoteKind.TheVariants as kinds
@@ -15,9 +14,6 @@ use Rattle.cw_phase1.specs.Places.{place_in, nowhere}
 abbrev pub scanned_note : List MergedLine → lex.Answer → List Note
 scanned_note lines (lex.Note kind byte) = record { kind = kind; value = 0; place = place_in lines byte } ∷ []
 scanned_note lines answer = []
-
-abbrev pub scanned_notes : List MergedLine → List lex.Answer → List Note
-scanned_notes lines answers = flat_map (scanned_note lines) answers
 
 -- The notes on a kept name: it is incomplete; else it is never defined, or a name of `@<` that is never used, or both.
 abbrev pub name_note : NoteKind → ℕ → Note

@@ -99,6 +99,3 @@ sections_of lines size [] = []
 sections_of lines size (p ∷ ps) =
     if is_section_code p.role then section_at lines size p.token ps ∷ sections_of lines size ps
     else sections_of lines size ps
-
-abbrev pub limbo_of : ℕ → List Placement → Span
-limbo_of size ps = span 0 (first_start ends_section size ps)

@@ -1,6 +1,5 @@
 -- The texts of section names, as their tokens have them.
-use Rattle.std.specs.Prelude.{ℕ, ◌-◌, Bool, ◌==◌, List, [], ◌∷◌, length, drop}
-use Rattle.std.specs.Prelude.{take, codes, nat_eq, if◌then◌else◌}
+use Rattle.std.specs.Prelude.{ℕ, ◌-◌, Bool, ◌==◌, List, [], ◌∷◌, length, drop, take, codes, nat_eq, if◌then◌else◌}
 use Rattle.std.specs.List.{ends_with}
 use Rattle.cw_base.specs.Bytes.{space}
 use Rattle.cw_rules.specs.declared.codes.Code.TheVariants as at
@@ -38,11 +37,8 @@ pub data Naming : Type 0 where
 abbrev pub dots : List ℕ
 dots = codes "..."
 
-abbrev pub ends_in_dots : List ℕ → Bool
-ends_in_dots text = ends_with nat_eq text dots
-
 abbrev pub named_text : List ℕ → Naming
-named_text text = if ends_in_dots text then Prefix (take (length text - 3) text) else Full Named text
+named_text text = if ends_with nat_eq text dots then Prefix (take (length text - 3) text) else Full Named text
 
 abbrev pub unless_void : Bool → Naming → Naming
 unless_void void name = if void then Void else name

@@ -25,11 +25,8 @@ abbrev pub reference_by : Role → Option SecId → ℕ → List Reference
 reference_by (roles.Name how) (Some name) section = record { name = name.index; how = how; section = section } ∷ []
 reference_by role name section = []
 
-abbrev pub reference_of : Placement → List Reference
-reference_of p = reference_by p.role p.name p.section
-
 abbrev pub references_of : List Placement → List Reference
-references_of ps = flat_map reference_of ps
+references_of ps = flat_map (λ p. reference_by p.role p.name p.section) ps
 
 -- the kept names with their references
 abbrev pub section_names : List SecName → List Placement → List SecName

@@ -1,6 +1,6 @@
 -- The identifiers and index entries of a web: which are known after it, with their categories, and where they occur.
 use Rattle.std.specs.Prelude.{ℕ, Bool, true, false, List, [], ◌∷◌, ◌++◌, Option, Some, None, map, slice_get}
-use Rattle.cw_base.specs.declared.category.Cat.{Cat}
+use Rattle.std.specs.Option.{option_map_or}
 use Rattle.cw_base.specs.declared.category.Cat.TheVariants.{Exp}
 use Rattle.cw_names.specs.declared.entry.EntryKind.{EntryKind}
 use Rattle.cw_names.specs.declared.entry.EntryKind.TheVariants.{Ident}
@@ -22,15 +22,12 @@ pub record KnownNames : Type 0 where
 abbrev pub name_id : EntryKind → List ℕ → List names.Entry → NameId
 name_id kind text entries = record { index = names.place_of kind text entries }
 
-abbrev pub category_of : Option names.Entry → Cat
-category_of None = Exp
-category_of (Some entry) = entry.category
-
 -- The first name of a format definition gets the category of the second.
 abbrev pub with_format : Option NameId → NameId → List names.Entry → List names.Entry
 with_format None second entries = entries
 with_format (Some first) second entries =
-    names.with_category first.index (category_of (slice_get entries second.index)) entries
+    names.with_category first.index (option_map_or (λ entry. entry.category) (slice_get entries second.index) Exp)
+    entries
 
 abbrev pub with_word : List ℕ → KnownNames → KnownNames
 with_word text k = record k { names = names.with_entry Ident text k.names }
@@ -51,9 +48,6 @@ known_behind role text k = k
 abbrev pub known_after : List Placement → KnownNames → KnownNames
 known_after [] k = k
 known_after (p ∷ ps) k = known_after ps (known_behind p.role p.token.text k)
-
-abbrev pub names_after : List Placement → List names.Entry → List names.Entry
-names_after ps entries = (known_after ps (record { first = None; names = entries })).names
 
 -- ## Occurrences
 
@@ -89,19 +83,13 @@ waits_behind roles.SectionCode waits = waits
 waits_behind roles.Plain waits = waits
 waits_behind role waits = false
 
-abbrev pub mention_here : Bool → Placement → List Mention
-mention_here waits p = mention_by p.role p waits
-
 abbrev pub mentions_from : Bool → List Placement → List Mention
 mentions_from waits [] = []
-mentions_from waits (p ∷ ps) = mention_here waits p ++ mentions_from (waits_behind p.role waits) ps
-
-abbrev pub all_mentions : List Placement → List Mention
-all_mentions ps = mentions_from false ps
+mentions_from waits (p ∷ ps) = mention_by p.role p waits ++ mentions_from (waits_behind p.role waits) ps
 
 -- An occurrence of the name at its place among all names.
 abbrev pub occurrence : List names.Entry → Mention → Occurrence
 occurrence entries m = record { name = name_id m.kind m.text entries; section = m.section; underlined = m.underlined }
 
 abbrev pub occurrences : List names.Entry → List Placement → List Occurrence
-occurrences entries ps = map (occurrence entries) (all_mentions ps)
+occurrences entries ps = map (occurrence entries) (mentions_from false ps)

@@ -3,19 +3,19 @@
 
 mod book;
 mod entering;
-mod held;
 mod laws;
 mod missing;
-mod named;
+mod name_lists;
 mod note_list;
 mod packed;
+mod pass_state;
 mod phase;
 mod places;
 mod placing;
 mod roles;
 mod sections;
 mod texts;
-mod told;
+mod token_lists;
 mod words;
 
 pub use book::{Book, Outline};

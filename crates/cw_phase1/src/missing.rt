@@ -22,9 +22,9 @@ ghost use Rattle.cw_phase1.specs.Missing.{
 ghost use Rattle.cw_phase1.specs.Sound.{LiesIn};
 
 use crate::Section;
-use crate::held::is_unended;
 use crate::note_list::NoteList;
 use crate::packed::{SectionList, short};
+use crate::pass_state::is_unended;
 use cw_base::{Memory, NoteKind, Span, Web};
 use cw_lex::{Lexed, Lexer, Mode, Tok, is_section_name};
 use cw_rules::classes::is_blank;

@@ -1,23 +1,23 @@
 //! The first phase.
-ghost use Rattle.std.specs.Prelude.{◌≡◌, ◌<◌, ◌≤◌, ◌++◌, All, length, IfOk, IfSome, OnOk, unwrap_or};
+ghost use Rattle.std.specs.Prelude.{◌≡◌, ◌<◌, ◌≤◌, ◌++◌, All, length, IfOk, IfSome, OnOk};
 ghost use Rattle.cw_base.specs.Web.{text_of};
 ghost use Rattle.cw_phase1.specs.Book.{book};
-ghost use Rattle.cw_phase1.specs.model.Ending.{AreOfKept, IsScanned, notes_at, section_total, with_references};
+ghost use Rattle.cw_phase1.specs.model.Ending.{AreOfKept, IsMadeOf, IsScanned, notes_at, section_total};
+ghost use Rattle.cw_phase1.specs.model.Ending.{with_references};
 ghost use Rattle.cw_phase1.specs.model.Holding.{held_of};
 ghost use Rattle.cw_phase1.specs.Missing.{missing_equals};
 ghost use Rattle.cw_phase1.specs.Notes.{name_note as noted_name, name_notes};
 ghost use Rattle.cw_phase1.specs.model.Outlining.{closing};
 ghost use Rattle.cw_phase1.specs.model.Ready.{held_start};
-ghost use Rattle.cw_phase1.specs.Sections.{span};
 ghost use Rattle.cw_phase1.specs.Sound.{IsNamedBy, LiesIn, RefersUpTo};
 
 use crate::book::{Book, Outline};
-use crate::held::PassState;
 use crate::missing::Search;
-use crate::named::{NameLists, References};
+use crate::name_lists::{NameLists, References};
 use crate::note_list::NoteList;
+use crate::pass_state::PassState;
 use crate::sections::or_else;
-use crate::told::TokenLists;
+use crate::token_lists::TokenLists;
 use crate::words::Words;
 use cw_base::{Memory, Note, NoteKind, Place, Span, Web};
 use cw_lex::{Lexed, Lexer, Mode, limbo_law};
@@ -129,22 +129,7 @@ fn make_book(web: &Web, held: PassState) -> Result<Book, Memory>
     requires few { length held.kept ≤ 16777216 }
     requires lie { All (LiesIn (length (text_of web.now.lines)))
         (closing web.now.lines (length (text_of web.now.lines)) held.told.sections) }
-    ensures names { IfOk result (λ b. b.names ≡ held.entry.told.words.names) }
-    ensures xrefs { IfOk result (λ b. b.xrefs ≡ held.entry.told.words.xrefs) }
-    ensures sec_names { IfOk result
-        (λ b. b.sec_names ≡ with_references held.entry.told.named.references held.entry.kept) }
-    ensures count { IfOk result (λ b. length b.sec_names ≡ length held.entry.kept) }
-    ensures name_uses { IfOk result (λ b. b.name_uses ≡ held.entry.told.named.uses) }
-    ensures limbo { IfOk result
-        (λ b. b.outline.limbo
-        ≡ span 0 (unwrap_or held.entry.told.sections.limbo_end (length (text_of web.now.lines)))) }
-    ensures sections { IfOk result (λ b. b.outline.sections ≡
-        closing web.now.lines (length (text_of web.now.lines)) held.entry.told.sections) }
-    ensures notes { IfOk result (λ b. b.outline.notes ≡ held.entry.notes
-        ++ (missing_equals web.now.lines held.entry.told.named.uses
-        (with_references held.entry.told.named.references held.entry.kept)
-        (closing web.now.lines (length (text_of web.now.lines)) held.entry.told.sections)
-        ++ name_notes (with_references held.entry.told.named.references held.entry.kept))) }
+    ensures { IfOk result (λ b. IsMadeOf web.now.lines (held_of held.entry) b) }
 {
     let mut held = held;
     match complete(web, &mut held) {

@@ -5,7 +5,7 @@ ghost use Rattle.cw_base.specs.declared.event.Out.TheVariants.{Tex};
 ghost use Rattle.cw_desk.specs.Answer.{Agree};
 ghost use Rattle.cw_desk.specs.Journal.{byte_events};
 ghost use Rattle.cw_desk.specs.Meaning.{Files, Rose, is_open};
-ghost use Rattle.cw_desk.specs.Told.{OnlyPuts};
+ghost use Rattle.cw_desk.specs.State.{OnlyPuts};
 ghost use Rattle.cw_lines.specs.Writes.{Adds};
 ghost use Rattle.cw_run.specs.Program.{Outcome, words_of};
 ghost use Rattle.cw_run.specs.Asked.{asked};

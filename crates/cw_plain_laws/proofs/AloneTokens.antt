@@ -16,13 +16,14 @@ use Rattle.cw_plain_laws.proofs.CutConstants.{constant-cut, constant-last, run-c
 use Rattle.cw_rules.specs.{Codes.begins_section, Codes.code_at, Codes.code_of, declared.parts.Start.Start}
 use Rattle.cw_rules.specs.{declared.signs.Sign.Sign, Answers.cut_token}
 use Rattle.cw_rules.specs.Tokens.{code_by, code_token, effect_in, in_code, in_hash_line, is_space, moved, one, passed}
-use Rattle.cw_rules.specs.Tokens.{section, section_code, sign_or_other, skipped_byte, identifier, string, start_of}
+use Rattle.cw_rules.specs.Tokens.{section, section_code, skipped_byte, identifier, string, start_of}
 use Rattle.cw_rules.specs.declared.bodies.Body.TheVariants as bodies
 use Rattle.cw_rules.specs.declared.classes.Class.TheVariants as classes
 use Rattle.cw_rules.specs.declared.codes.Code.TheVariants as codes
 use Rattle.cw_rules.specs.declared.parts.Start.TheVariants as start
 use Rattle.cw_rules.specs.declared.tokens.Directive.TheVariants.{No}
 use Rattle.cw_rules.specs.declared.tokens.TokKind.TheVariants as kinds
+use Rattle.std.specs.Option.{option_map_or}
 
 -- ## What is cut is a token by itself
 
@@ -222,7 +223,7 @@ Says b bytes (start.Sign sign) = longest all_signs (b ∷ bytes) ≡ Some sign
 Says b bytes s = Unit {0}
 
 sign-says : (b : ℕ) (bytes : List ℕ) (o : Option Sign) → longest all_signs (b ∷ bytes) ≡ o
-    → Says b bytes (sign_or_other o)
+    → Says b bytes (option_map_or start.Sign o start.OtherByte)
 sign-says b bytes o e = grind arith
 
 start-says : (b : ℕ) (bytes : List ℕ) → Says b bytes (start_of false b bytes)

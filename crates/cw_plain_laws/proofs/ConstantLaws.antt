@@ -1,13 +1,15 @@
 -- A constant is the same whatever stands behind it that is no letter, digit, dot or mark.
 use Rattle.cw_plain_laws.proofs.Terms.{◌≡◌, ℕ, ◌+◌, ◌≤◌, Bool, true, false, ◌&&◌, ◌==◌, nat_lt, List, [], ◌∷◌, ◌++◌}
 use Rattle.cw_plain_laws.proofs.Terms.{length, drop, refl, sym, ap, ◌∙◌, arith, length-drop, if◌then◌else◌, nat_tests}
-use Rattle.cw_plain_laws.proofs.Terms.{drop-drop, Class, is_in, is_letter, is_letter_of, is_suffix, run, apostrophe}
-use Rattle.cw_plain_laws.proofs.Terms.{dot, digit_0, begins, begins_by, binary, constant, decimal, digits, exponent}
-use Rattle.cw_plain_laws.proofs.Terms.{exponent_sign, fraction, digits_go_on, hexadecimal, is_prefixed, mantissa}
-use Rattle.cw_plain_laws.proofs.Terms.{more_digits, number, scaled, drop-same, digits-le, mantissa-le, number-le}
-use Rattle.cw_plain_laws.proofs.Terms.{if-same, and-none, or-false, or-second}
+use Rattle.cw_plain_laws.proofs.Terms.{drop-drop, Class, is_in, is_letter, is_letter_of, run, apostrophe, dot, digit_0}
+use Rattle.cw_plain_laws.proofs.Terms.{begins, begins_by, binary, constant, decimal, digits, exponent, exponent_sign}
+use Rattle.cw_plain_laws.proofs.Terms.{fraction, digits_go_on, hexadecimal, is_prefixed, mantissa, more_digits, number}
+use Rattle.cw_plain_laws.proofs.Terms.{scaled, drop-same, digits-le, mantissa-le, number-le, if-same, and-none}
+use Rattle.cw_plain_laws.proofs.Terms.{or-false, or-second}
 use Rattle.cw_plain_laws.proofs.Tests.{differs}
 use Rattle.cw_rules.specs.declared.classes.Class.TheVariants as classes
+use Rattle.cw_base.specs.Bytes.{byte_of}
+use Rattle.std.specs.Prelude.{◌||◌}
 
 hex-none : (z : ℕ) → is_in classes.Word z ≡ false → is_in classes.HexDigit z ≡ false
 hex-none z e = grind (arith, nat_tests)
@@ -30,10 +32,12 @@ p-none z e = grind (arith, nat_tests)
 x-none : (z : ℕ) → is_in classes.Word z ≡ false → is_letter_of 120 z ≡ false
 x-none z e = grind (arith, nat_tests)
 
-e-suffix : (b : ℕ) → is_letter_of 101 b ≡ true → is_suffix b ≡ false
+e-suffix : (b : ℕ) → is_letter_of 101 b ≡ true
+    → (is_letter_of (byte_of "u") b || is_letter_of (byte_of "l") b || is_letter_of (byte_of "f") b) ≡ false
 e-suffix b e = grind (arith, nat_tests)
 
-p-suffix : (b : ℕ) → is_letter_of 112 b ≡ true → is_suffix b ≡ false
+p-suffix : (b : ℕ) → is_letter_of 112 b ≡ true
+    → (is_letter_of (byte_of "u") b || is_letter_of (byte_of "l") b || is_letter_of (byte_of "f") b) ≡ false
 p-suffix b e = grind (arith, nat_tests)
 
 -- Only an exponent's letter that ends the bytes would look at a sign behind them.
@@ -155,7 +159,8 @@ lone-exponent : (letter b : ℕ) → is_letter_of letter b ≡ true → exponent
 lone-exponent letter b e = ap (λ t. if t && nat_lt 0 (digits classes.Digit (drop (1 + 0) (b ∷ []))) then (1 + 0)
     + digits classes.Digit (drop (1 + 0) (b ∷ [])) else 0) e
 
-lone-suffix : (b : ℕ) → is_suffix b ≡ false → run classes.Suffix (b ∷ []) ≡ 0
+lone-suffix : (b : ℕ) → (is_letter_of (byte_of "u") b || is_letter_of (byte_of "l") b || is_letter_of (byte_of "f") b)
+    ≡ false → run classes.Suffix (b ∷ []) ≡ 0
 lone-suffix b e = ap (λ t. if t then 1 + 0 else 0) e
 
 -- no exponent is there
@@ -168,7 +173,8 @@ lone-scaled class letter bs b behind e = ap (λ n. if nat_lt 0 (mantissa class b
     (ap (exponent letter) behind ∙ lone-exponent letter b e) ∙ none-more (mantissa class bs)
 
 -- a byte behind the number that is no suffix letter
-lone-byte : (bs : List ℕ) (n b : ℕ) → number bs ≡ n → drop n bs ≡ b ∷ [] → is_suffix b ≡ false
+lone-byte : (bs : List ℕ) (n b : ℕ) → number bs ≡ n → drop n bs ≡ b ∷ []
+    → (is_letter_of (byte_of "u") b || is_letter_of (byte_of "l") b || is_letter_of (byte_of "f") b) ≡ false
     → constant bs ≡ length bs → ⊥
 lone-byte bs n b size behind none whole = grind (arith, lone-suffix b none, none-more n, length-drop n bs)
 

@@ -18,15 +18,16 @@ use Rattle.cw_reduce.proofs.HeadAnswers.{first-all, head-words-fit, later-all, w
 use Rattle.cw_scraps.specs.model.Words.{is_word}
 use Rattle.cw_tokens.specs.declared.token.Token.{Token}
 use Rattle.cw_translator.specs.Translating.{CommentItem, Piece, Known, Made, NameTexts, beside, dead, dollared, end_of}
-use Rattle.cw_translator.specs.Translating.{first_word, form_made, form_tokens, group_made, head_made, headed_made}
-use Rattle.cw_translator.specs.Translating.{later_words, leaf_of_name, leaf_scrap, is_macro, made, name_in_text}
-use Rattle.cw_translator.specs.Translating.{names_in_text, one_item, one_scrap, sign_behind, spelled, state_in}
-use Rattle.cw_translator.specs.Translating.{texts_named, token_made, with_names, word_tokens}
+use Rattle.cw_translator.specs.Translating.{first_word, form_made, group_made, head_made, headed_made, later_words}
+use Rattle.cw_translator.specs.Translating.{leaf_of_name, leaf_scrap, is_macro, made, name_in_text, names_in_text}
+use Rattle.cw_translator.specs.Translating.{one_item, one_scrap, sign_behind, spelled, state_in, texts_named}
+use Rattle.cw_translator.specs.Translating.{token_made, with_names, word_tokens}
 use Rattle.cw_trees.specs.Tree.{Source as SourceLeaf}
 use Rattle.cw_rules.specs.declared.codes.Code.TheVariants as code
 use Rattle.cw_rules.specs.declared.tokens.TokKind.TheVariants as kind
 use Rattle.cw_tokens.specs.declared.token.Token.TheVariants as token
 use Rattle.cw_trees.specs.declared.Control.TheVariants as control
+use Rattle.std.specs.Option.{option_map_or}
 
 -- ## Scraps and items
 
@@ -218,7 +219,8 @@ name-each s c name n owns = (word-walks s c name n owns, tt)
 
 word-each : (s : PlainSource) (k : TokKind) (text : List ℕ) (hash_line : Bool) (d : Directive) (n : ℕ)
     (names : List Entry)
-    → is_word k ≡ true → Owns s n → EachWalks s (form_tokens (token_form k text hash_line d n names))
+    → is_word k ≡ true → Owns s n → EachWalks s (option_map_or (λ form. form.tokens)
+    (token_form k text hash_line d n names) [])
 word-each s k text hash_line d n names is owns = grind (arith, name-each, form-walks)
 
 spelled-each : (s : PlainSource) (words : List Seen) (names : List Entry) → list_all word_kind words ≡ true

@@ -49,12 +49,12 @@ pub use Rattle.cw_rules.specs.Answers.{is_head_sign, note_answers}
 pub use Rattle.cw_rules.specs.Bodies.{at_start, ended, goes_on, note_here, noted, stepped, takes_next, with_note}
 pub use Rattle.cw_rules.specs.Bodies.{is_single, stops, extent, all_notes, and_last, note_unless}
 pub use Rattle.cw_rules.specs.Bytes.{apostrophe, at_sign, begins_with, is_in, is_letter, is_mark, run, hash, begins_by}
-pub use Rattle.cw_rules.specs.Bytes.{begins, digit_0, dot, is_letter_of, less, slash, star, is_suffix}
+pub use Rattle.cw_rules.specs.Bytes.{begins, digit_0, dot, is_letter_of, less, slash, star}
 pub use Rattle.cw_rules.specs.Constants.{constant, binary, decimal, digits, exponent, exponent_sign, fraction}
 pub use Rattle.cw_rules.specs.Constants.{digits_go_on, hexadecimal, is_prefixed, mantissa, more_digits, number, scaled}
 pub use Rattle.cw_scraps.specs.Leaves.{LeafForm, names_with, token_form, word_form, code_form, sign_mode}
 pub use Rattle.cw_tokens.specs.Shapes.{tree_in}
-pub use Rattle.cw_translator.specs.NameParts.{name_texts, texts_kept}
+pub use Rattle.cw_translator.specs.NameParts.{name_texts}
 pub use Rattle.cw_trees.specs.Flat.{flat, trimmed_items, Item, SignItem, begins_after, is_break, is_inserted, trim_back}
 pub use Rattle.cw_trees.specs.Flat.{trim_front, without_inserted, Open, Close, leaf_item, struck, IdentItem}
 pub use Rattle.cw_trees.specs.Flat.{ReservedItem, continues_name, SourceItem}

@@ -2,7 +2,7 @@
 use Rattle.cw_plain_laws.proofs.Terms.{◌≡◌, ℕ, true, false, List, Option, is_some, subst, arith, Flags, c-texts-nested}
 use Rattle.cw_plain_laws.proofs.Terms.{headed, without_head, tokens_of, IsWell, nest, IsNested, begins_section_in}
 use Rattle.cw_plain_laws.proofs.Terms.{is_c_mode, Entry, PlainSource, PlainHasEachToken, own_ink, text_source}
-use Rattle.cw_plain_laws.proofs.Terms.{text_tree, translated-shown, Answer, Mode, texts_kept}
+use Rattle.cw_plain_laws.proofs.Terms.{text_tree, translated-shown, Answer, Mode}
 use Rattle.cw_base.specs.declared.span.Span.{Span}
 use Rattle.cw_lex.proofs.{HeadNests.head-leaves, Nests.nest-well}
 use Rattle.cw_plain.specs.Titles.{text_kept}
@@ -10,9 +10,13 @@ use Rattle.cw_plain_laws.proofs.{MadeWalks.AreTitled, MadeWalks.headed-walks, Ow
 use Rattle.cw_plain_laws.proofs.FoundTokens.{AllTokens, IsFound, nest-all, tokens-found}
 use Rattle.cw_secnames.specs.{Kept.SecName, Uses.NameUse}
 use Rattle.cw_translator.specs.Translating.{NameTexts, begin, translated}
+use Rattle.cw_translator.specs.NameParts.{parts_by_kind}
+use Rattle.std.specs.List.{slice_get}
+use Rattle.std.specs.Option.{option_and_then, option_map}
 
 -- the names of a book have titles where they stand for something
-kept-titled : (kept : List SecName) (o : Option ℕ) → is_some (text_kept kept o) ≡ is_some (texts_kept kept o)
+kept-titled : (kept : List SecName) (o : Option ℕ) → is_some (text_kept kept o)
+    ≡ is_some (option_and_then (λ k. option_map (λ name. parts_by_kind name.kind name.text) (slice_get kept k)) o)
 kept-titled kept o = grind (arith, is_some)
 
 pub translated-walks : (s : PlainSource) (flags : Flags) (named : NameTexts) (answers : List Answer)

@@ -11,7 +11,7 @@ use Rattle.cw_print.proofs.Terms.{title_in, behind}
 use Rattle.std.specs.Prelude.{Result, IsErrAnd, ⊤, option_map}
 use Rattle.std.proofs.lemmas.List.Sums.{fold_push}
 use Rattle.std.proofs.lemmas.Option.{get_or_from_slice_get, slice_get-get_or, slice_get-map, slice_get_within}
-use Rattle.cw_desk.specs.Told.{DeskState}
+use Rattle.cw_desk.specs.State.{DeskState}
 use Rattle.cw_lines.specs.{Sheets.Prints, declared.put_error.PutError.PutError}
 use Rattle.cw_lines.specs.{declared.put_error.PutError.TheVariants.Memory, declared.sheet.Sheet.Sheet}
 use Rattle.cw_join.proofs.EarlyLaws.{added-behind, early-added, printed-is}

@@ -24,7 +24,7 @@ pub use Rattle.cw_print.specs.model.Printing.{source_of}
 pub use Rattle.cw_print.specs.Texts.{string_bytes, divided, divided_units, division, units, include_bytes}
 pub use Rattle.cw_print.specs.Walk.{PrintSource, Title, items_shown, outside, own_bytes, placed_shown, stand_after}
 pub use Rattle.cw_print.specs.Walk.{title_in, Fixed, Stand, control_shown, item_shown, own_sign, later_number}
-pub use Rattle.cw_print.specs.Walk.{PrintsSign, ItemPrint, bracket, wrapped}
+pub use Rattle.cw_print.specs.Walk.{PrintsSign, ItemPrint, wrapped}
 pub use Rattle.cw_rules.specs.ControlTexts.{text_to_end}
 pub use Rattle.cw_tokens.specs.{FlatItems.items_are, FlatItems.item_is, declared.flat.FlatItem.FlatItem}
 pub use Rattle.cw_trees.specs.Flat.{IdentItem, Item, Close, leaf_item, flat, begins_after, ends_text, is_break}

@@ -34,19 +34,15 @@ byte_piece byte braces =
     else if byte == right_brace then closed braces
     else piece_of (blank_for byte ∷ []) braces
 
--- A backslash that is the last byte takes nothing along: a blank keeps it from the brace that closes the comment.
-abbrev pub last_byte_piece : ℕ → ℕ → CommentPiece
-last_byte_piece byte braces =
-    if byte == backslash then piece_of (byte ∷ space ∷ []) braces
-    else byte_piece byte braces
-
 -- A backslash takes the next byte along, unless it is `@`; and `@@` is one `@`.
 abbrev pub takes_along : ℕ → ℕ → Bool
 takes_along byte next = byte == backslash && not (next == at_sign)
 
+-- A backslash that is the last byte takes nothing along: a blank keeps it from the brace that closes the comment.
 abbrev pub comment_piece : List ℕ → ℕ → CommentPiece
 comment_piece [] braces = piece_of [] braces
-comment_piece (byte ∷ []) braces = last_byte_piece byte braces
+comment_piece (byte ∷ []) braces =
+    if byte == backslash then piece_of (byte ∷ space ∷ []) braces else byte_piece byte braces
 comment_piece (byte ∷ next ∷ bytes) braces =
     if takes_along byte next then piece_then (piece_of (byte ∷ blank_for next ∷ []) braces) (comment_piece bytes)
     else if is_at_pair byte next then piece_then (piece_of (byte ∷ []) braces) (comment_piece bytes)

@@ -1,6 +1,7 @@
 -- What a C text of a book is printed from.
 use Rattle.std.specs.Prelude.{ℕ, ◌-◌, ◌==◌, ◌&&◌, Bool, true, false, List, [], ◌∷◌, Option, Some, None, option_map}
 use Rattle.std.specs.Prelude.{if◌then◌else◌, drop, map, slice_get, unwrap_or}
+use Rattle.std.specs.Option.{option_map_or}
 use Rattle.cw_base.specs.declared.flags.Flags.{Flags}
 use Rattle.cw_base.specs.declared.span.Span.{Span}
 use Rattle.cw_rules.specs.Answers.{Answer}
@@ -62,13 +63,10 @@ defines_first kept None number = false
 defines_first kept (Some id) number =
     unwrap_or (option_map (λ name. first_section name.defined == number) (slice_get kept id.index)) false
 
-abbrev pub defines_its_name : List SecName → Option Section → ℕ → Bool
-defines_its_name kept None number = false
-defines_its_name kept (Some section) number = defines_first kept section.name number
-
 -- Whether the present section is the first that defines its name. The section list has none.
 abbrev pub is_first : Book → ℕ → Bool
-is_first book number = defines_its_name book.sec_names (section_of book.outline.sections number) number
+is_first book number = option_map_or (λ section. defines_first book.sec_names section.name number) (section_of
+    book.outline.sections number) false
 
 -- ## The source
 

@@ -2,6 +2,7 @@
 use Rattle.std.specs.Prelude.{◌≡◌, ℕ, ◌+◌, ◌-◌, ◌&&◌, Bool, false, List, [], ◌∷◌, ◌++◌, Option, Some, None, codes}
 use Rattle.std.specs.Prelude.{decimal, drop, slice_range, if◌then◌else◌}
 use Rattle.std.specs.List.{flat_map}
+use Rattle.std.specs.Option.{option_map_or}
 use Rattle.cw_base.specs.declared.span.Span.{Span}
 use Rattle.cw_base.specs.Conditions.{list_if}
 use Rattle.cw_names.specs.Names.{Entry}
@@ -75,12 +76,9 @@ pieces_between text place (span ∷ spans) =
     } ∷ pieces_between text (span.«end» + 1) spans
 
 -- The text of a file's name has no inner texts, and is escaped.
-abbrev pub text_pieces : Bool → List ℕ → List NamePiece
-text_pieces typewritten text =
-    if typewritten then last_piece (typewriter text) else pieces_between text 0 (inner_parts text)
-
 abbrev pub name_pieces : Title → List NamePiece
-name_pieces title = text_pieces title.is_file title.text
+name_pieces title =
+    if title.is_file then last_piece (typewriter title.text) else pieces_between title.text 0 (inner_parts title.text)
 
 -- ## Where the printing stands
 
@@ -123,13 +121,6 @@ behind_next (p ∷ pieces) = record { answers = p.answers; pieces = pieces }
 abbrev pub piece_shown : List ℕ → List NamePiece → Stand → ItemPrint
 piece_shown before pieces stand = shown_as (before ++ next_bytes pieces) (with_name (Some (behind_next pieces)) stand)
 
-abbrev pub name_begins : Bool → Title → Stand → ItemPrint
-name_begins lists title stand = piece_shown (front lists title) (name_pieces title) stand
-
-abbrev pub name_goes_on : Option InName → Stand → ItemPrint
-name_goes_on None stand = shown_as [] stand
-name_goes_on (Some name) stand = piece_shown [] name.pieces stand
-
 -- ## Comments and tokens
 
 abbrev pub in_stand : Stand → TokenShown → ItemPrint
@@ -137,9 +128,6 @@ in_stand stand shown = shown_as shown.bytes (with_braces shown.braces stand)
 
 abbrev pub found_shown : Bool → Option Seen → Stand → ItemPrint
 found_shown first token stand = in_stand stand (number_shown first token stand.braces)
-
-abbrev pub comment_ends : Stand → ItemPrint
-comment_ends stand = shown_as (closing_braces (innermost stand.braces)) (with_braces (others stand.braces) stand)
 
 -- ## Items
 
@@ -154,15 +142,11 @@ pub record Fixed : Type 0 where
 -- A section name prints its title, where it has one.
 abbrev pub named_shown : Bool → Option Title → Stand → ItemPrint
 named_shown lists None stand = shown_as [] stand
-named_shown lists (Some title) stand = name_begins lists title stand
-
-abbrev pub is_name_token : Option Seen → Bool
-is_name_token None = false
-is_name_token (Some token) = is_name_kind token.kind
+named_shown lists (Some title) stand = piece_shown (front lists title) (name_pieces title) stand
 
 abbrev pub seen_shown : Bool → Bool → Option Title → Option Seen → Stand → ItemPrint
 seen_shown first lists title token stand =
-    if is_name_token token then named_shown lists title stand
+    if option_map_or (λ token. is_name_kind token.kind) token false then named_shown lists title stand
     else found_shown first token stand
 
 -- A token prints as a sign, wherever it stands.
@@ -180,12 +164,10 @@ abbrev pub source_shown : Fixed → Option Title → Option InName → ℕ → S
 source_shown f title None number stand = outer_shown f title number stand
 source_shown f title (Some name) number stand = found_shown f.first (numbered number name.answers) stand
 
-abbrev pub bracket : Bool → List ℕ → List ℕ
-bracket wraps bytes = list_if wraps bytes
-
 abbrev pub control_shown : Control → Stand → ItemPrint
-control_shown CommentEnd stand = comment_ends stand
-control_shown NameText stand = name_goes_on stand.name stand
+control_shown CommentEnd stand =
+    shown_as (closing_braces (innermost stand.braces)) (with_braces (others stand.braces) stand)
+control_shown NameText stand = option_map_or (λ name. piece_shown [] name.pieces stand) stand.name (shown_as [] stand)
 control_shown NameEnd stand = shown_as (codes "\\X") (with_name None stand)
 control_shown control stand = shown_as [] stand
 
@@ -193,8 +175,8 @@ control_shown control stand = shown_as [] stand
 abbrev pub placed_shown : Fixed → Option Title → Item → Stand → ItemPrint
 placed_shown f title (SourceItem number) stand = source_shown f title stand.name number stand
 placed_shown f title (SignItem control) stand = control_shown control stand
-placed_shown f title Open stand = shown_as (bracket f.wraps (codes "\\PB{")) stand
-placed_shown f title Close stand = shown_as (bracket f.wraps (codes "}")) stand
+placed_shown f title Open stand = shown_as (list_if f.wraps (codes "\\PB{")) stand
+placed_shown f title Close stand = shown_as (list_if f.wraps (codes "}")) stand
 placed_shown f title item stand = shown_as [] stand
 
 -- What an item prints wherever it stands: names, and all other signs.
@@ -238,13 +220,11 @@ stand_after s (item ∷ items) stand = stand_after s items (item_shown s item st
 
 -- ## The whole list
 
--- a flat list, as the C text of a part or a definition, or as inner C text
-abbrev pub flat_bytes : Bool → PrintSource → List Item → List ℕ
-flat_bytes inner s items = printed inner (items_shown s (trimmed_items items) outside)
-
 -- Inner C text is wrapped, also where it is the text itself.
 abbrev pub wrapped : Bool → List ℕ → List ℕ
-wrapped wraps bytes = bracket wraps (codes "\\PB{") ++ (bytes ++ bracket wraps (codes "}"))
+wrapped wraps bytes = list_if wraps (codes "\\PB{") ++ (bytes ++ list_if wraps (codes "}"))
 
+-- a flat list, as the C text of a part or a definition, or as inner C text
 abbrev pub tree_bytes : Bool → PrintSource → Tree → List ℕ
-tree_bytes inner s tree = wrapped (inner && s.fixed.wraps) (flat_bytes inner s (flat tree))
+tree_bytes inner s tree =
+    wrapped (inner && s.fixed.wraps) (printed inner (items_shown s (trimmed_items (flat tree)) outside))

@@ -17,7 +17,8 @@ ghost use Rattle.cw_print.specs.model.Coming.{AllMay, MayCome};
 ghost use Rattle.cw_print.specs.model.Printing.{IsBehind, IsMidway, IsOnlyName, Midway, PrintsOn, shown};
 ghost use Rattle.cw_print.specs.model.Printing.{shown_next, source_of};
 ghost use Rattle.cw_print.specs.Sources.{lists_all, source_by};
-ghost use Rattle.cw_print.specs.Walk.{PrintSource, bracket, tree_bytes, wrapped};
+ghost use Rattle.cw_print.specs.Walk.{PrintSource, tree_bytes, wrapped};
+ghost use Rattle.cw_base.specs.Conditions.{list_if};
 
 use crate::book_titles::is_first;
 use crate::walk::{Manner, TextWalk, is_placed};
@@ -280,7 +281,7 @@ impl<'s, 'a> KeptText<'s, 'a> {
 
 fn put_bracket<D: Desk>(wraps: bool, bytes: &[u8], sheet: &mut Sheet<D>) -> Result<(), PutError>
     requires can { CanPrint D.told sheet.old }
-    ensures { Prints D.told (bracket wraps bytes.now) sheet.old sheet.new result }
+    ensures { Prints D.told (list_if wraps bytes.now) sheet.old sheet.new result }
 {
     if wraps {
         return sheet.put_all(bytes);
@@ -345,19 +346,17 @@ pub fn print_answers<D: Desk>(
     c: KeptText,
     store: &TokenStore,
     id: ListId,
-    out: &mut LineOut,
-    desk: &mut D,
+    sheet: &mut Sheet<D>,
 ) -> Result<(), PutError>
-    requires can { CanWrite (D.told desk.old) out.old }
+    requires can { CanPrint D.told sheet.old }
     requires uncut { begins_section_in c.answers.now ≡ false }
     requires list { id.index < length store.now.lists }
     requires named { IsNamedBelow (length c.book.now.names) (unfolded store.now.lists id.index) }
-    ensures puts { Puts (tree_bytes c.entry.inner
+    ensures { Prints D.told (tree_bytes c.entry.inner
         (source_by c.entry.answers.now c.entry.book.now c.entry.section c.entry.flags.now)
         (unfolded store.now.lists id.index))
-        out.old out.new (D.told desk.old) (D.told desk.new) result }
+        sheet.old sheet.new result }
 {
     let items = store.flat_trimmed(alloc, id)?;
-    let mut sheet = Sheet { line: out, desk };
-    print_flat(alloc, c, &items, &mut sheet)
+    print_flat(alloc, c, &items, sheet)
 }

@@ -14,7 +14,7 @@ use crate::scan::scanned;
 use cw_base::{Flags, Span};
 use cw_desk::Desk;
 use cw_lex::Mode;
-use cw_lines::{LineOut, PutError};
+use cw_lines::{LineOut, PutError, Sheet};
 use cw_phase1::Book;
 use cw_tokens::{ListId, TokenStore};
 use std::alloc::Global;
@@ -53,5 +53,6 @@ pub fn print_list<D: Desk>(
         flags,
         inner,
     };
-    print_answers(alloc, c, store, id, out, desk)
+    let mut sheet = Sheet { line: out, desk };
+    print_answers(alloc, c, store, id, &mut sheet)
 }

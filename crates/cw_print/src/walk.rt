@@ -1,12 +1,16 @@
 //! The walk over the items of a C text, which makes the bytes that they print by where they stand.
 ghost use Rattle.std.specs.Prelude.{◌≡◌, ◌++◌, [], Bool, None, Option, IfSome, OnOk, option_map};
+ghost use Rattle.std.specs.Prelude.{false};
 ghost use Rattle.std.specs.Bool.{OnFalse};
+ghost use Rattle.std.specs.Option.{option_map_or};
 ghost use Rattle.cw_rules.specs.Answers.{seen};
+ghost use Rattle.cw_base.specs.Conditions.{list_if};
+ghost use Rattle.cw_lex.specs.Limbo.{is_name_kind};
 ghost use Rattle.cw_print.specs.Found.{numbered};
 ghost use Rattle.cw_print.specs.Showing.{number_shown};
 ghost use Rattle.cw_print.specs.Sources.{titles};
 ghost use Rattle.cw_print.specs.Tokens.{sign_macro};
-ghost use Rattle.cw_print.specs.Walk.{Stand, Title, bracket, control_shown, is_name_token};
+ghost use Rattle.cw_print.specs.Walk.{Stand, Title, control_shown};
 ghost use Rattle.cw_print.specs.Walk.{named_shown, outer_shown, outside};
 ghost use Rattle.cw_print.specs.Walk.{shown_as, seen_shown, source_shown};
 ghost use Rattle.cw_print.specs.model.Walked.{behind};
@@ -184,7 +188,7 @@ impl<'s, 'a> TextWalk<'s, 'a> {
 
     /// Appends the bytes that stand before or behind an inner text, where these are wrapped.
     pub(crate) fn put_bracket(&self, out: &mut Bytes, bytes: &[u8]) -> Result<(), Memory>
-        ensures { OnOk result (out.new ≡ out.old ++ bracket self.now.fixed.wraps bytes.now) }
+        ensures { OnOk result (out.new ≡ out.old ++ list_if self.now.fixed.wraps bytes.now) }
     {
         if self.manner.wraps {
             out.append(bytes)?;
@@ -205,7 +209,7 @@ pub(crate) fn is_placed(control: Control) -> bool
 
 // Whether a token was found and is a section name.
 fn is_name(token: Option<Tok>) -> bool
-    ensures { result ≡ is_name_token (option_map seen token.entry) }
+    ensures { result ≡ option_map_or (λ token. is_name_kind token.kind) (option_map seen token.entry) false }
 {
     match token {
         Some(token) => is_section_name(token.kind),

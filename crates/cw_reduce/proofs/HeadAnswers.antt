@@ -5,10 +5,11 @@ use Rattle.cw_reduce.proofs.Terms.{both-right, Span, Answer, Token, Begin, Note,
 use Rattle.cw_reduce.proofs.Terms.{Tok, TokKind, Nest, End, Leaf, Group, group, nests, first_nest, nest, IsNested}
 use Rattle.cw_reduce.proofs.Terms.{nested-behind, nest-token, Entry, StoredToken, LeafForm, token_form, names_with}
 use Rattle.cw_reduce.proofs.Terms.{is_word, NamesWithin, without_notes, answer_words, StartsBelow, answers_in}
-use Rattle.cw_reduce.proofs.Terms.{append_assoc, first_word, form_tokens, later_words, spelled, word_tokens}
+use Rattle.cw_reduce.proofs.Terms.{append_assoc, first_word, later_words, spelled, word_tokens}
 use Rattle.cw_rules.specs.declared.tokens.Lexed.TheVariants as lexed
 use Rattle.cw_reduce.proofs.ReadSteps.{gives-is}
 use Rattle.cw_lex.specs.Heads.{Words, no_word, word_before, head_behind, head_words, without_words}
+use Rattle.std.specs.Option.{option_map_or}
 
 -- ## Notes
 
@@ -55,7 +56,7 @@ spelled-behind (w ∷ first) word names =
     )
 
 form-is : (o : Option LeafForm) (token : StoredToken) → option_map (λ form. form.tokens) o ≡ Some (token ∷ [])
-    → form_tokens o ≡ token ∷ []
+    → option_map_or (λ form. form.tokens) o [] ≡ token ∷ []
 form-is o token h = grind arith
 
 -- how far the words have been read

@@ -21,8 +21,8 @@ use Rattle.cw_reduce.proofs.HeadsShown.{sign_headed}
 use Rattle.cw_translator.proofs.OpenLaws.{plain-keeps}
 use Rattle.cw_rules.specs.declared.tokens.Lexed.TheVariants as lexed
 use Rattle.cw_reduce.proofs.ReadSteps.{gives-is}
-use Rattle.cw_translator.specs.Translating.{spelled, form_tokens, word_tokens, first_word, later_words, dollared, dead}
-use Rattle.cw_translator.specs.Translating.{NameTexts, head_made}
+use Rattle.cw_translator.specs.Translating.{spelled, word_tokens, first_word, later_words, dollared, dead, NameTexts}
+use Rattle.cw_translator.specs.Translating.{head_made}
 use Rattle.std.proofs.lemmas.List.Sums.{prefix_len-le-length}
 use Rattle.cw_translator.proofs.Terms.{◌≡◌, ℕ, ◌<◌, Option, Some, None, List, [], ◌∷◌, ◌++◌, length, get_or, refl, sym}
 use Rattle.cw_translator.proofs.Terms.{◌∙◌, arith, Token as StoredToken, shape, ref_of, StoredLists, MayBePushed}
@@ -33,9 +33,10 @@ use Rattle.cw_translator.proofs.Terms.{name_in_text, names_in_text, Flags, Answe
 use Rattle.cw_translator.proofs.Terms.{Keeps, scraps_of, roots_of, AreRoots, IsSoundLine, Known, with_names, IsErrAnd}
 use Rattle.cw_translator.proofs.Terms.{Memory, subst, Begin, Note, answers_in}
 use Rattle.std.proofs.Common.{Bool, false, Ok, Result, ◌^◌}
+use Rattle.std.specs.Option.{option_map_or}
 use Rattle.cw_reduce.specs.model.HeadReading.{macro_tokens, format_tokens, with_break, IsLast, HasTokens, answer_words}
-use Rattle.cw_reduce.specs.HeadReading.{head_line, read_made, words_in, NamesWithin}
 use Rattle.cw_reduce.specs.model.HeadReading.{is_definition, words_tokens, answers_ahead, head_named, without_notes}
+use Rattle.cw_reduce.specs.HeadReading.{head_line, read_made, words_in, NamesWithin}
 use Rattle.cw_lex.specs.Heads.{Head, Macro, Format, Silent, headed_by, head_words, wanted_by, Named, Headed, headed}
 use Rattle.cw_lex.specs.Heads.{headless, named_headed, without_words}
 use Rattle.cw_scraps.proofs.LeafForms.{leaf-sound}
@@ -105,7 +106,7 @@ place-there text names = grind (arith, place_of, ident_kind, ltb-true, prefix_le
 
 kind-named : (k : TokKind) (text : List ℕ) (hash_line : Bool) (d : Directive) (n : ℕ) (names : List Entry)
     → is_word k ≡ true → AreNamed (length (names_with k text names))
-    (form_tokens (token_form k text hash_line d n names))
+    (option_map_or (λ form. form.tokens) (token_form k text hash_line d n names) [])
 kind-named k text hash_line d n names h = grind (arith, form-named, place_of, ident_kind, place-there)
 
 pub spelled-grow : (words : List Seen) (names : List Entry) → length names ≤ length (spelled words names).names
@@ -133,7 +134,7 @@ form-one : (c : Cat) (name : NameId) (number : ℕ) → IsOne (word_form c name 
 form-one c name number = grind arith
 
 kind-one : (k : TokKind) (text : List ℕ) (hash_line : Bool) (d : Directive) (n : ℕ) (names : List Entry)
-    → is_word k ≡ true → IsOne (form_tokens (token_form k text hash_line d n names))
+    → is_word k ≡ true → IsOne (option_map_or (λ form. form.tokens) (token_form k text hash_line d n names) [])
 kind-one k text hash_line d n names h = grind (arith, form-one)
 
 -- the first of them, the break, and the others

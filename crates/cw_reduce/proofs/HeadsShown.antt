@@ -3,6 +3,7 @@
 use Rattle.std.proofs.Common.{if◌then◌else◌}
 use Rattle.std.proofs.lemmas.Bool.Decides.{nat_tests}
 use Rattle.std.proofs.lemmas.Grind.{common_steps}
+use Rattle.std.specs.Option.{option_map_or}
 use Rattle.cw_rules.specs.declared.tokens.Directive.{Directive}
 use Rattle.cw_reduce.proofs.Terms.{◌≡◌, ℕ, Bool, true, false, Option, Some, List, [], ◌∷◌, ◌++◌, refl, ap, ◌∙◌}
 use Rattle.cw_reduce.proofs.Terms.{list_all, append-nil, Cat, Flags, MathMode, Text, Math, Span, Answer, Seen}
@@ -19,9 +20,8 @@ use Rattle.cw_rules.specs.declared.signs.Sign.{Sign}
 use Rattle.cw_rules.specs.declared.tokens.TokKind.TheVariants as kind
 use Rattle.cw_trees.specs.declared.Control.TheVariants as control
 use Rattle.cw_tokens.specs.declared.token.Token.TheVariants as token
-use Rattle.cw_translator.specs.Translating.{translated, spelled, form_tokens, word_tokens, first_word, later_words}
-use Rattle.cw_translator.specs.Translating.{dollared, dead, head_made, headed_made, leaf_of_name, made, begin, end_of}
-use Rattle.cw_translator.specs.Translating.{texts_named}
+use Rattle.cw_translator.specs.Translating.{translated, spelled, word_tokens, first_word, later_words, dollared, dead}
+use Rattle.cw_translator.specs.Translating.{head_made, headed_made, leaf_of_name, made, begin, end_of, texts_named}
 use Rattle.cw_reduce.proofs.HeadAnswers.{first-all, head-words-by, head-words-fit, later-all, word_kind}
 use Rattle.cw_reduce.proofs.ShownLaws.{IsFineKnown, IsSoundMade, reads-nothing, reads-scrap, reads-beside, reads-end}
 use Rattle.cw_reduce.proofs.ShownLaws.{reads-made, reads-leaf, reads-headed-name, fine-end, fine_state, Shows}
@@ -59,7 +59,8 @@ sign-spells s n = grind (arith, reads, tree_in, sign-math)
 
 -- identifiers and signs in math
 kind-spells : (k : TokKind) (text : List ℕ) (hash_line : Bool) (d : Directive) (n : ℕ) (names : List Entry)
-    → is_word k ≡ true → Spells Math Math (form_tokens (token_form k text hash_line d n names)) (n ∷ [])
+    → is_word k ≡ true → Spells Math Math (option_map_or (λ form. form.tokens) (token_form k text hash_line d n names)
+    []) (n ∷ [])
 kind-spells k text hash_line d n names h = grind (arith, word-spells, sign-spells)
 
 spelled-spells : (words : List Seen) (names : List Entry) → list_all word_kind words ≡ true
@@ -90,7 +91,8 @@ word-in-text : (c : Cat) (name : NameId) (n : ℕ) → Spells Text Text (names_i
 word-in-text c name n = grind arith
 
 name-in-text : (k : TokKind) (text : List ℕ) (hash_line : Bool) (d : Directive) (n : ℕ) (names : List Entry)
-    → is_name k ≡ true → Spells Text Text (names_in_text (form_tokens (token_form k text hash_line d n names))) (n ∷ [])
+    → is_name k ≡ true → Spells Text Text (names_in_text
+    (option_map_or (λ form. form.tokens) (token_form k text hash_line d n names) [])) (n ∷ [])
 name-in-text k text hash_line d n names h = grind (arith, word-in-text)
 
 names-spell : (words : List Seen) (names : List Entry) → list_all name_kind words ≡ true

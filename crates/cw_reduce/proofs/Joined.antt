@@ -1,6 +1,8 @@
 -- A translation on its way comes to the translation that is defined over the nest, also with section names.
 use Rattle.std.proofs.lemmas.Bool.Decides.{nat_tests}
 use Rattle.std.proofs.lemmas.Grind.{common_steps}
+use Rattle.std.specs.Prelude.{option_map}
+use Rattle.std.specs.Option.{option_and_then}
 use Rattle.cw_reduce.proofs.Terms.{◌≡◌, ℕ, Option, Some, None, List, [], ◌∷◌, refl, sym, ◌∙◌, ap, append-nil, Flags}
 use Rattle.cw_reduce.proofs.Terms.{Answer, Token, Begin, Finish, Note, Seen, TokKind, Nest, End, leaf, group, nests}
 use Rattle.cw_reduce.proofs.Terms.{Level, InCode, after_token as level_token, after_begin as level_begin}
@@ -10,16 +12,14 @@ use Rattle.cw_reduce.proofs.Terms.{Progress, after_answers, CommentItem, Piece, 
 use Rattle.cw_reduce.proofs.Terms.{Known, with_names, get_or, All-map, append_assoc, ◌++◌, map, arith, All, slice_get}
 use Rattle.cw_reduce.proofs.Terms.{IfSome, All-head, All-tail, SectionScrap, Maybe, Span, tokens_of, inner_mode, nest}
 use Rattle.cw_reduce.proofs.Terms.{IsNested, until_section, inner_parts, NameUse, name_at, SecKind, Tree, Empty, Then}
-use Rattle.cw_reduce.proofs.Terms.{Sign, Holder, name_texts, parts_by_kind, texts_kept, texts_of_name, held_answers}
-use Rattle.cw_reduce.proofs.Terms.{name_answers, text_answers, text_token, texts_answers, token_answers, with_texts}
-use Rattle.cw_reduce.proofs.Terms.{all_ended, after-append}
+use Rattle.cw_reduce.proofs.Terms.{Sign, Holder, name_texts, parts_by_kind, held_answers, name_answers, text_answers}
+use Rattle.cw_reduce.proofs.Terms.{text_token, texts_answers, token_answers, with_texts, all_ended, after-append}
 use Rattle.cw_lex.proofs.Nests.{SameSize, some-levels, first-levels, nests-size, nests-nested}
 use Rattle.cw_rules.specs.declared.codes.Code.TheVariants as code
 use Rattle.cw_rules.specs.declared.tokens.TokKind.TheVariants as kind
 use Rattle.cw_translator.specs.declared.holders.Holder.TheVariants as holder
-use Rattle.cw_translator.specs.Reading.{ended_in, with_held, after_token, after_begin}
+use Rattle.cw_translator.specs.Reading.{ended_in, with_held, after_token, after_begin, after_finish}
 use Rattle.cw_translator.specs.model.Reading.{extended, with_made}
-use Rattle.cw_translator.specs.Reading.{after_finish}
 use Rattle.cw_trees.specs.declared.Control.TheVariants as control
 use Rattle.cw_translator.specs.Holders.{held_cat, held_mode, held_tree, name_rest, name_tree}
 use Rattle.cw_secnames.specs.Kept.{SecName}
@@ -256,10 +256,12 @@ parts-nested text spans = All-map IsNested (λ s. until_section (tokens_of text 
 kind-nested : (k : SecKind) (text : List ℕ) → All IsNested (parts_by_kind k text)
 kind-nested k text = grind (arith, parts-nested, inner_parts)
 
-name-nested : (o : Option SecName) → IfSome (texts_of_name o) (All IsNested)
+name-nested : (o : Option SecName) → IfSome (option_map (λ name. parts_by_kind name.kind name.text) o) (All IsNested)
 name-nested o = grind (arith, kind-nested)
 
-kept-nested : (kept : List SecName) (o : Option ℕ) → IfSome (texts_kept kept o) (All IsNested)
+kept-nested : (kept : List SecName) (o : Option ℕ)
+    → IfSome (option_and_then (λ k. option_map (λ name. parts_by_kind name.kind name.text) (slice_get kept k)) o)
+    (All IsNested)
 kept-nested kept o = grind (arith, name-nested, slice_get)
 
 pub texts-nested : (kept : List SecName) (uses : List NameUse) → AllNested (name_texts kept uses)

@@ -8,6 +8,7 @@ use Rattle.cw_reduce.proofs.Terms.{unchanged, recorded-none, Advancing, advancin
 use Rattle.cw_reduce.proofs.Terms.{advances-done, advances-none, keeps-itself, ListId, Dead, headed, nest, IsNested}
 use Rattle.cw_reduce.proofs.Terms.{HeadRead, Translated, read_made, StartsBelow, ends-as, same-names, LineEntry}
 use Rattle.std.proofs.lemmas.Option.{get_or_from_slice_get, slice_get_within}
+use Rattle.std.specs.Option.{option_and_then}
 use Rattle.cw_secnames.specs.Kept.{shown, SecName, id as id_of}
 use Rattle.cw_translator.specs.declared.holders.Holder.TheVariants as holder
 use Rattle.cw_translator.specs.declared.nesting.Open.TheVariants.{Comment, CText as OpenCText}
@@ -28,7 +29,7 @@ use Rattle.cw_translator.proofs.Terms.{inl, inr, IfSome, Token as StoredToken, S
 use Rattle.cw_translator.proofs.Terms.{scraps_of, marked_names, CText, all_ended, here, Known, sign_behind, with_names}
 use Rattle.cw_translator.proofs.Terms.{EndsIn}
 use Rattle.cw_secnames.specs.declared.kinds.SecId.{SecId}
-use Rattle.cw_translator.specs.NameParts.{AreNamesOf, name_texts, parts_by_kind, texts_kept, texts_of_name}
+use Rattle.cw_translator.specs.NameParts.{AreNamesOf, name_texts, parts_by_kind}
 
 -- An inner text has begun.
 pub text-begun : {L R : Type 0} {told : R → Option WatchState} (flags : Flags) (text : List Answer) {t t1 : Translator}
@@ -76,7 +77,8 @@ some-at : (o : Option ℕ) (id : SecId) → option_map id_of o ≡ Some id → o
 some-at o id h = grind arith
 
 texts-shown : (o : Option SecName) (k : SecKind) (text : List ℕ) → option_map (λ (n : SecName). n.kind) o ≡ Some k
-    → option_map (λ (n : SecName). n.text) o ≡ Some text → texts_of_name o ≡ Some (parts_by_kind k text)
+    → option_map (λ (n : SecName). n.text) o ≡ Some text → option_map (λ name. parts_by_kind name.kind name.text) o
+    ≡ Some (parts_by_kind k text)
 texts-shown o k text a b = grind arith
 
 pub among-at : (count : ℕ) (uses : List NameUse) (place k : ℕ) → All (λ (u : NameUse). u.name < count) uses
@@ -114,11 +116,15 @@ module _ {kept : List SecName} {uses : List NameUse} {id : SecId} (names : AreNa
 
     pub texts-paired : {k : SecKind} → shown (λ (n : SecName). n.kind) id.index kept ≡ Some k
         → name_texts kept uses number ≡ Some (parts_by_kind k text)
-    texts-paired {k = k} kinds = ap (texts_kept kept) paired ∙ texts-shown (slice_get kept id.index) k text kinds texts
+    texts-paired {k = k} kinds =
+        ap (λ o. option_and_then (λ k. option_map (λ name. parts_by_kind name.kind name.text) (slice_get kept k)) o)
+        paired ∙ texts-shown (slice_get kept id.index) k text kinds texts
 
 pub texts-unpaired : (kept : List SecName) (uses : List NameUse) (number : ℕ) → option_map id_of (name_at number uses)
     ≡ None → name_texts kept uses number ≡ None
-texts-unpaired kept uses number found = ap (texts_kept kept) (none-at (name_at number uses) found)
+texts-unpaired kept uses number found =
+    ap (λ o. option_and_then (λ k. option_map (λ name. parts_by_kind name.kind name.text) (slice_get kept k)) o)
+    (none-at (name_at number uses) found)
 
 -- Without a pair it is passed over.
 pub unpaired-advances : {L R T : Type 0} {told : R → Option WatchState} (flags : Flags) (kept : List SecName)

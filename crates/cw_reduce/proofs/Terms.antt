@@ -35,10 +35,8 @@ pub use Rattle.cw_names.specs.Names.{is_entry, with_entry}
 pub use Rattle.cw_names.specs.Words.{built_in_words}
 pub use Rattle.cw_names.specs.declared.NameId.{NameId}
 pub use Rattle.cw_names.specs.declared.entry.EntryKind.TheVariants.{Ident}
-pub use Rattle.cw_reduce.specs.HeadReading.{NamesWithin, read_made}
-pub use Rattle.cw_reduce.specs.model.HeadReading.{answers_ahead, is_definition, name_ahead}
-pub use Rattle.cw_reduce.specs.HeadReading.{head_line}
-pub use Rattle.cw_reduce.specs.model.HeadReading.{without_notes, answer_words}
+pub use Rattle.cw_reduce.specs.HeadReading.{NamesWithin, read_made, head_line}
+pub use Rattle.cw_reduce.specs.model.HeadReading.{answers_ahead, is_definition, name_ahead, without_notes, answer_words}
 pub use Rattle.cw_reduce.specs.Naming.{with_texts, held_answers, is_name_answer, name_answers, text_answers, text_token}
 pub use Rattle.cw_reduce.specs.Naming.{texts_answers, token_answers, ends_text}
 pub use Rattle.cw_reduce.specs.TranslationLaws.{InnersRead, ReadsInText}
@@ -74,10 +72,10 @@ pub use Rattle.cw_translator.proofs.Routes.{advancing-stopped, advances-stopped,
 pub use Rattle.cw_translator.proofs.Routes.{ends-behind, advances-unread, advancing-ended}
 pub use Rattle.cw_translator.proofs.Sums.{limit-one, limits-more, productions-one, scraps-one, ticks-more, ticks-one}
 pub use Rattle.cw_translator.specs.Counting.{logs_in}
-pub use Rattle.cw_translator.specs.NameParts.{name_texts, parts_by_kind, texts_kept, texts_of_name, parts_of_name}
+pub use Rattle.cw_translator.specs.NameParts.{name_texts, parts_by_kind, parts_of_name}
 pub use Rattle.cw_translator.specs.Opening.{HasEnded, StartsBelow, of_nothing}
 pub use Rattle.cw_translator.specs.model.Opening.{of_leaf}
-pub use Rattle.cw_translator.specs.Translating.{begin, first_word, form_tokens, later_words, spelled, word_tokens}
+pub use Rattle.cw_translator.specs.Translating.{begin, first_word, later_words, spelled, word_tokens}
 pub use Rattle.cw_translator.specs.Working.{texts_in}
 pub use Rattle.cw_translator.specs.declared.holders.Holder.{Holder}
 pub use Rattle.cw_translator.specs.declared.translator.Translated.{Translated}

@@ -1,21 +1,19 @@
 //! The reducer: a pointer goes along a line of scraps, and back after each production.
-ghost use Rattle.std.specs.Prelude.{◌≡◌, ◌+◌, ◌*◌, ◌<◌, ◌≤◌, true, drop, length, IfOk, OnOk, OnErr, MatchOption};
+ghost use Rattle.std.specs.Prelude.{◌≡◌, ◌+◌, ◌<◌, ◌≤◌, true, drop, length, IfOk, OnOk, OnErr, MatchOption};
 ghost use Rattle.std.specs.Prelude.{MatchResult, IfSome, None};
 ghost use Rattle.cw_table.specs.Fitting.{first_of, row_fits};
-ghost use Rattle.cw_table.specs.Normal.{count, log, normal, weight};
+ghost use Rattle.cw_table.specs.Normal.{log};
 ghost use Rattle.cw_table.specs.Productions.{productions};
-ghost use Rattle.cw_table.specs.Reaching.{IsAfter};
 ghost use Rattle.cw_table.specs.Rewriting.{cats_of, rewrite};
 ghost use Rattle.cw_table.specs.Safe.{least};
-ghost use Rattle.cw_table.specs.SourceNumbers.{numbers_of};
-ghost use Rattle.cw_table.specs.WalkCounts.{reservings, right_of_new, ticks};
+ghost use Rattle.cw_table.specs.WalkCounts.{right_of_new};
 ghost use Rattle.cw_table.specs.Rows.{row_of};
 ghost use Rattle.cw_tokens.specs.Counting.{token_count};
 ghost use Rattle.cw_scraps.specs.Applying.{state_of};
 ghost use Rattle.cw_scraps.specs.Changing.{Keeps};
 ghost use Rattle.cw_scraps.specs.model.Inserting.{entry_cats};
 ghost use Rattle.cw_scraps.specs.Lines.{IsSoundLine, roots_of, scraps_of};
-ghost use Rattle.cw_rewrite.specs.Reduction.{GrowsByProductions};
+ghost use Rattle.cw_rewrite.specs.Reduction.{IsReduced, Reaches, reducer};
 ghost use Rattle.cw_rewrite.specs.model.Reduction.{HasNoMore, IsFirst, IsNext, IsPairAt};
 ghost use Rattle.cw_rewrite.specs.Telling.{EndsWithin, StopsAt, grown_by};
 ghost use Rattle.cw_names.specs.Words.{words_of};
@@ -51,13 +49,9 @@ pub fn reduce_watched<L: Ledger, W: Watch>(
     steps: &mut Steps<L>,
 ) -> Result<Option<Reduced>, Memory>
     requires sound { IsSoundLine store.old names.old line.old }
-    ensures normal { IfOk result (λ o. IfSome o (λ done. state_of store.new.lists line.new marks.new names.new ≡
-        normal productions flags.now (state_of store.old.lists line.old marks.old names.old))) }
-    ensures productions { IfOk result (λ o. IfSome o (λ done. done.productions ≡
-        count productions flags.now (state_of store.old.lists line.old marks.old names.old))) }
-    ensures light { IfOk result (λ o. IfSome o (λ done. done.productions ≤
-        weight (scraps_of store.old.lists line.old))) }
-    ensures few { IfOk result (λ o. IfSome o (λ done. done.productions ≤ 8 * length line.old)) }
+    ensures reduced { IfOk result (λ o. IfSome o (λ done. IsReduced flags.now
+        (reducer store.old line.old names.old marks.old steps.old)
+        (reducer store.new line.new names.new marks.new steps.new) done.productions)) }
     ensures told { IfOk result (λ o. IfSome o (λ done. W.told watch.new ≡ grown_by (log productions flags.now
         (state_of store.old.lists line.old marks.old names.old)) (W.told watch.old))) }
     ensures stopped { IfOk result (λ o. o ≡ None → StopsAt flags.now
@@ -67,22 +61,9 @@ pub fn reduce_watched<L: Ledger, W: Watch>(
     ensures memory { OnErr result (EndsWithin flags.now (state_of store.old.lists line.old marks.old names.old)
         (state_of store.new.lists line.new marks.new names.new) (W.told watch.old) (W.told watch.new)) }
     ensures basis { W.basis watch.new ≡ W.basis watch.old }
-    ensures after { IsAfter productions flags.now (state_of store.old.lists line.old marks.old names.old)
-        (state_of store.new.lists line.new marks.new names.new) }
-    ensures words { words_of names.new ≡ words_of names.old }
-    ensures numbers { numbers_of (scraps_of store.new.lists line.new) ≡
-        numbers_of (scraps_of store.old.lists line.old) }
-    ensures sound { IsSoundLine store.new names.new line.new }
-    ensures others { Keeps store.old.lists store.new.lists (roots_of line.old) (roots_of line.new) }
-    ensures tokens { GrowsByProductions flags.now
-        (state_of store.old.lists line.old marks.old names.old) store.old.lists
-        (state_of store.new.lists line.new marks.new names.new) store.new.lists }
-    ensures steps { IfOk result (λ o. IfSome o (λ done. steps.new ≡ steps.old + ticks productions flags.now
-        (state_of store.old.lists line.old marks.old names.old))) }
-    ensures no_more { steps.new ≤ steps.old + ticks productions flags.now (state_of store.old.lists line.old marks.old
-        names.old) }
-    ensures bound { steps.new ≤ steps.old + (132 * length line.old + length line.old * reservings productions flags.now
-        (state_of store.old.lists line.old marks.old names.old)) }
+    ensures reaches { Reaches flags.now
+        (reducer store.old line.old names.old marks.old steps.old)
+        (reducer store.new line.new names.new marks.new steps.new) }
 {
     let _length = line.len(); // (for the proof)
     let mut place = 0;

@@ -12,14 +12,14 @@ use Rattle.cw_base.specs.Text.{bar}
 use Rattle.cw_rules.specs.{Signs.all_signs, Signs.spelling, Signs.longer, Signs.longest, Prefixes.prefix_size}
 use Rattle.cw_rules.specs.{Codes.code_at, Codes.begins_section, Tokens.parameter_follows, Tokens.depth_size}
 use Rattle.cw_rules.specs.{Tokens.is_include}
-use Rattle.cw_rules.specs.Tokens.{behind_space, is_define, begins_parameters, has_parameters}
-use Rattle.cw_rules.specs.Tokens.{defines_macro, directive_at}
+use Rattle.cw_rules.specs.Tokens.{behind_space, is_define, begins_parameters, has_parameters, defines_macro}
+use Rattle.cw_rules.specs.Tokens.{directive_at, start_of, is_signed, behind_white, name_follows, is_parameter}
 use Rattle.cw_rules.specs.Constants.{more_digits, digits, fraction, exponent_sign, exponent, mantissa, scaled}
 use Rattle.cw_rules.specs.Constants.{is_prefixed, hexadecimal, binary, decimal, number, constant}
-use Rattle.cw_rules.specs.Tokens.{start_of, sign_or_other, is_signed, behind_white, name_follows, is_parameter}
 use Rattle.cw_rules.proofs.{Sizes.run-le, Sizes.digits-le, Sizes.mantissa-le, Sizes.number-le, Choices.if-same}
 use Rattle.cw_rules.proofs.{Choices.and-none, Choices.or-first, Choices.or-second, StringPrefixes.prefix-below}
 use Rattle.std.proofs.{lemmas.List.get_or_append_left, lemmas.Bool.Decides.nat_tests}
+use Rattle.std.specs.Option.{option_map_or}
 
 pub drop-same : (n : ℕ) (bs more : List ℕ) → n ≤ length bs → drop n (bs ++ more) ≡ drop n bs ++ more
 drop-same zero bs more h = refl
@@ -212,7 +212,7 @@ module _ (s : Stop) (more : List ℕ) where
       (begins-same slash bs refl refl)) (λ e. refl) (λ e. if-same (byte == at_sign) (byte == at_sign) _ _ _ _ refl
       (λ e. ap start.Code (code e)) (λ e. if-same (byte == bar && (ends && not (begins bar (bs ++ byte_of s ∷ more))))
       (byte == bar && (ends && not (begins bar bs))) _ _ _ _ (bar-same s more ends byte bs apart) (λ e. refl)
-      (λ e. ap sign_or_other (longest-same s more all_signs byte bs apart)))))))))
+      (λ e. ap (λ o. option_map_or start.Sign o start.OtherByte) (longest-same s more all_signs byte bs apart)))))))))
 
   -- ## Heads and sections
 

@@ -5,6 +5,7 @@ use Rattle.std.proofs.Common.{◌∷◌, ◌++◌, Option, Some, None, length, t
 use Rattle.std.proofs.Common.{inl, inr, slice_index, length-drop}
 use Rattle.std.specs.Prelude.{if◌then◌else◌}
 use Rattle.std.proofs.{lemmas.Bool.eqb-true, lemmas.List.drop_all, lemmas.Bool.Decides.nat_tests}
+use Rattle.std.specs.Option.{option_map_or}
 use Rattle.cw_base.proofs.TestLaws.{both-right}
 use Rattle.cw_base.specs.{declared.notes.NoteKind.NoteKind, Text.bar}
 use Rattle.cw_rules.specs.declared.{bodies.Inside.Inside, codes.Code.Code, codes.Effect.Effect, parts.Part.Part}
@@ -15,10 +16,10 @@ use Rattle.cw_rules.specs.Bytes.{quote, apostrophe, star, slash, less, greater, 
 use Rattle.cw_rules.proofs.StringPrefixes.{prefix-below, prefix-mark}
 use Rattle.cw_rules.specs.Bodies.{at_start, stops, extent, ended, noted, one_note, note_unless}
 use Rattle.cw_rules.specs.Answers.{Answer, Where, Cut, ScanStep, before, plain, dropped}
-use Rattle.cw_rules.specs.Tokens.{sign_or_other, word, directive_at, string, string_of, closes_on_line, include_name}
-use Rattle.cw_rules.specs.Tokens.{section_name, is_name, is_quote, control_or_plain, code_token, dropped_code}
-use Rattle.cw_rules.specs.Tokens.{is_signed, is_head, in_hash_line, passed, moved, one, comment_begin, comment_closed}
-use Rattle.cw_rules.specs.Tokens.{piece_start, piece, effect_in, may_head, code_by, in_code, start_of}
+use Rattle.cw_rules.specs.Tokens.{word, directive_at, string, string_of, closes_on_line, include_name, section_name}
+use Rattle.cw_rules.specs.Tokens.{is_name, is_quote, control_or_plain, code_token, dropped_code, is_signed, is_head}
+use Rattle.cw_rules.specs.Tokens.{in_hash_line, passed, moved, one, comment_begin, comment_closed, piece_start, piece}
+use Rattle.cw_rules.specs.Tokens.{effect_in, may_head, code_by, in_code, start_of}
 use Rattle.cw_rules.specs.model.Apart.{comment_text_apart, code_text_apart, in_text_apart}
 use Rattle.cw_rules.proofs.{Choices.if-both, Sizes.run-le, IncludeEnds.greater-stops}
 use Rattle.cw_rules.proofs.Ahead.{Stop, At, Bar, byte_of, of-both, IsApart, apart-on, drop-same, take-same, begins-same}
@@ -77,7 +78,7 @@ is_code_start _ = false
 record NoCode (s : Start) : Type 0 where
   is : is_code_start s ≡ false
 
-sign-no-code : (o : Option Sign) → is_code_start (sign_or_other o) ≡ false
+sign-no-code : (o : Option Sign) → is_code_start (option_map_or start.Sign o start.OtherByte) ≡ false
 sign-no-code None = refl
 sign-no-code (Some sign) = refl
 
@@ -362,7 +363,7 @@ module _ (s : Stop) (more : List ℕ) (free : IsFree s more) where
       marked : (b : ℕ) → is_mark b ≡ true → (byte_of s == b) ≡ false
       marked b h = quoted b (b == quote) refl h
 
-      sign-quote : (o : Option Sign) → QuoteIs s (sign_or_other o)
+      sign-quote : (o : Option Sign) → QuoteIs s (option_map_or start.Sign o start.OtherByte)
       sign-quote None = tt
       sign-quote (Some sign) = tt
 

@@ -3,13 +3,14 @@ use Rattle.std.proofs.Common.{arith, ◌≡◌, ℕ, ◌≤◌, Bool, true, fals
 use Rattle.std.proofs.Common.{length, refl, ap, ◌⊎◌, inl, inr}
 use Rattle.std.specs.Prelude.{if◌then◌else◌}
 use Rattle.std.proofs.lemmas.Bool.Decides.{nat_tests}
+use Rattle.std.specs.Option.{option_map_or}
 use Rattle.cw_rules.specs.declared.{codes.Code.Code, codes.Effect.Effect, parts.Opened.Opened, parts.Start.Start}
 use Rattle.cw_base.specs.{Bytes.newline, Text.bar}
 use Rattle.cw_rules.specs.Bytes.{hash, star, slash, less, at_sign, is_in, is_letter, begins, is_mark}
 use Rattle.cw_rules.specs.{Constants.constant, Prefixes.prefix_size, Signs.all_signs, Signs.longest}
 use Rattle.cw_rules.specs.Answers.{Answer, Where, ScanStep, before}
-use Rattle.cw_rules.specs.Tokens.{sign_or_other, line_end, inner_cut, comment_end, is_deep, code_by, in_code, start_of}
-use Rattle.cw_rules.specs.Tokens.{skipped_byte, is_tex_inner}
+use Rattle.cw_rules.specs.Tokens.{line_end, inner_cut, comment_end, is_deep, code_by, in_code, start_of, skipped_byte}
+use Rattle.cw_rules.specs.Tokens.{is_tex_inner}
 use Rattle.cw_rules.specs.model.Apart.{comment_text_apart, code_text_apart, in_text_apart, found_apart}
 use Rattle.cw_rules.proofs.{Choices.and-none, Ahead.Bar, CodeAhead.inner-local}
 use Rattle.cw_rules.specs.declared.classes.Class.TheVariants as classes
@@ -69,9 +70,10 @@ starts byte bs = if-starts (nat_lt 0 (prefix_size (byte ∷ bs))) _ _ _
     (if-starts (byte == slash && begins star bs) _ _ _ (if-starts (byte == slash && begins slash bs) _ _ _
     (if-starts (byte == at_sign) _ _ _ (ends (byte == bar) (begins bar bs))))))))
   where
-    ends : (a b : Bool) → Starts (if a && (true && not b) then start.EndOfInner else sign_or_other
-        (longest all_signs (byte ∷ bs))) (if a && (false && not b) then start.EndOfInner else sign_or_other
-        (longest all_signs (byte ∷ bs)))
+    ends : (a b : Bool) → Starts (if a && (true && not b) then start.EndOfInner
+        else option_map_or start.Sign (longest all_signs (byte ∷ bs)) start.OtherByte)
+        (if a && (false && not b) then start.EndOfInner
+        else option_map_or start.Sign (longest all_signs (byte ∷ bs)) start.OtherByte)
     ends a b = grind (arith, nat_tests)
 
 begun-twin : (cs : List Opened) (place byte : ℕ) (bs : List ℕ) (ends : Bool)

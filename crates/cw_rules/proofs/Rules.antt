@@ -3,6 +3,7 @@ use Rattle.std.proofs.Common.{◌≡◌, ℕ, ◌+◌, Bool, true, false, ◌&&�
 use Rattle.std.proofs.Common.{Some, None, drop, slice_index, refl, sym, ap, ◌∙◌, arith}
 use Rattle.std.specs.Prelude.{if◌then◌else◌}
 use Rattle.std.proofs.lemmas.Bool.Decides.{nat_tests}
+use Rattle.std.specs.Option.{option_map_or}
 use Rattle.cw_base.proofs.TestLaws.{both-left, both-right, not-true}
 use Rattle.cw_base.specs.{declared.notes.NoteKind.NoteKind, Bytes.newline, Text.bar}
 use Rattle.cw_rules.specs.declared.{codes.Code.Code, codes.Effect.Effect, parts.Part.Part, parts.Opened.Opened}
@@ -18,8 +19,7 @@ use Rattle.cw_rules.specs.Tokens.{code_by, code_token, comment_begin, comment_cl
 use Rattle.cw_rules.specs.Tokens.{directive_at, effect_in, ends_at_bar, format_name, identifier, in_code, in_hash_line}
 use Rattle.cw_rules.specs.Tokens.{include_name, inner_begin, inner_end, is_code_part, is_deep, is_head, is_name}
 use Rattle.cw_rules.specs.Tokens.{is_space, limbo_by, limbo_text, line_end, macro_name, may_head, moved, name_follows}
-use Rattle.cw_rules.specs.Tokens.{one, parameter, parameter_follows, passed, piece, sign_or_other, skipped_byte, string}
-use Rattle.cw_rules.specs.Tokens.{word}
+use Rattle.cw_rules.specs.Tokens.{one, parameter, parameter_follows, passed, piece, skipped_byte, string, word}
 use Rattle.cw_rules.{specs.Tokens.takes_hash_line, specs.Tokens.tex_by, specs.Tokens.with_inner, proofs.Choices.if-both}
 use Rattle.cw_base.specs.declared.notes.NoteKind.TheVariants as notes
 use Rattle.cw_rules.specs.declared.classes.Class.TheVariants as classes
@@ -121,7 +121,7 @@ module _ (w : Where) (fresh : Bool) (last place byte : ℕ) (bytes : List ℕ) w
   code-by-rule effects.BeginsC at e = Beginning effects.BeginsC _ at e CPart
 
   sign-rule : (o : Option Sign) → longest all_signs (byte ∷ bytes) ≡ o → IsAlone w fresh byte bytes
-      → Ruled (in_code (sign_or_other o) w place (byte ∷ bytes))
+      → Ruled (in_code (option_map_or start.Sign o start.OtherByte) w place (byte ∷ bytes))
   sign-rule None e h = Passed _ (Other e h)
   sign-rule (Some sign) e h = Passed _ (OfSign sign e h)
 
@@ -146,7 +146,7 @@ module _ (w : Where) (fresh : Bool) (last place byte : ℕ) (bytes : List ℕ) w
       (λ long. if-both P (byte == slash && begins slash bytes) start.ShortComment _ (Comment false) (λ short. if-both P
       (byte == at_sign) (start.Code (code_at bytes)) _ (λ h. code-by-rule (effect_in w.part w.comments (code_at bytes))
       h refl) (λ code. if-both P (byte == bar && (ends && not (begins bar bytes))) start.EndOfInner
-      (sign_or_other (longest all_signs all)) (λ h. InnerEnd (both-left (byte == bar) _ h)
+      (option_map_or start.Sign (longest all_signs all) start.OtherByte) (λ h. InnerEnd (both-left (byte == bar) _ h)
       (both-left ends _ (both-right (byte == bar) _ h))) (λ h. sign-rule (longest all_signs all) refl (record {
         line = line;
         space = space;

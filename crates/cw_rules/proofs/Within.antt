@@ -2,6 +2,7 @@
 use Rattle.std.proofs.Common.{◌≡◌, ℕ, suc, ◌+◌, ◌<◌, ◌≤◌, Bool, true, false, ◌&&◌, ◌||◌, not, ◌==◌, List, [], ◌∷◌, ◌++◌}
 use Rattle.std.proofs.Common.{length, sym, ap, ◌∙◌, arith, Option, codes, if◌then◌else◌}
 use Rattle.std.proofs.{lemmas.Bool.Decides.nat_tests, lemmas.Grind.common_steps}
+use Rattle.std.specs.Option.{option_map_or}
 use Rattle.cw_base.proofs.TestLaws.{both-right}
 use Rattle.cw_base.specs.{declared.notes.NoteKind.NoteKind, Bytes.newline, Text.bar}
 use Rattle.cw_base.specs.declared.notes.NoteKind.TheVariants.{UnknownCode, MissingBrace, ImproperMacro, ImproperFormat}
@@ -16,10 +17,10 @@ use Rattle.cw_rules.specs.Bodies.{extent, noted, one_note, note_unless}
 use Rattle.cw_rules.specs.Answers.{Answer, Note, Where, Cut, ScanStep, before, note_answers}
 use Rattle.cw_rules.specs.Tokens.{in_hash_line, behind_include, takes_hash_line, is_space, is_deep, ends_at_bar}
 use Rattle.cw_rules.specs.Tokens.{closes_on_line, moved, one, skipped_byte, comment_end, inner_cut, part_cut, all_cut}
-use Rattle.cw_rules.specs.Tokens.{section, passed, line_end, sign_or_other, start_of, effect_in, code_by, in_code}
-use Rattle.cw_rules.specs.Tokens.{string, code_token, dropped_code, include_name, piece_start, piece, comment_closed}
-use Rattle.cw_rules.specs.Tokens.{limbo_by, limbo_text, tex_by, tex_text, head_text, behind_white, name_follows}
-use Rattle.cw_rules.specs.Tokens.{macro_name, is_parameter, parameter_follows, parameter, format_name}
+use Rattle.cw_rules.specs.Tokens.{section, passed, line_end, start_of, effect_in, code_by, in_code, string, code_token}
+use Rattle.cw_rules.specs.Tokens.{dropped_code, include_name, piece_start, piece, comment_closed, limbo_by, limbo_text}
+use Rattle.cw_rules.specs.Tokens.{tex_by, tex_text, head_text, behind_white, name_follows, macro_name, is_parameter}
+use Rattle.cw_rules.specs.Tokens.{parameter_follows, parameter, format_name}
 use Rattle.cw_rules.specs.model.Apart.{code_text_apart, comment_text_apart, behind_head_apart, part_text_apart}
 use Rattle.cw_rules.specs.model.Apart.{in_text_apart}
 use Rattle.cw_rules.proofs.Sizes.{begins-some, begins_with-le, run-le, constant-le, AllFit, longest-fits, extent-le}
@@ -121,10 +122,12 @@ either-start : (t : Bool) (a b : Start) (bytes : List ℕ) → (t ≡ true → S
     → (t ≡ false → StartFits b bytes) → StartFits (if t then a else b) bytes
 either-start t a b bytes f g = grind arith
 
-sign-fits : (byte : ℕ) (bytes : List ℕ) → StartFits (sign_or_other (longest all_signs (byte ∷ bytes))) bytes
+sign-fits : (byte : ℕ) (bytes : List ℕ) → StartFits (option_map_or start.Sign (longest all_signs (byte ∷ bytes))
+    start.OtherByte) bytes
 sign-fits byte bytes = by (longest all_signs (byte ∷ bytes)) (longest-fits all_signs (byte ∷ bytes))
   where
-    by : (s : Option Sign) → AllFit s (suc (length bytes)) → StartFits (sign_or_other s) bytes
+    by : (s : Option Sign) → AllFit s (suc (length bytes))
+        → StartFits (option_map_or start.Sign s start.OtherByte) bytes
     by s h = grind (arith, nat_tests)
 
 start_of-fits : (bar_ends : Bool) (byte : ℕ) (bytes : List ℕ) → StartFits (start_of bar_ends byte bytes) bytes

@@ -77,10 +77,6 @@ is_letter byte =
     is_between (byte_of "a") (byte_of "z") byte || is_between (byte_of "A") (byte_of "Z") byte ||
     byte == byte_of "_" || byte == byte_of "$" || nat_le 128 byte
 
--- `u`, `l` and `f` may stand behind a constant
-abbrev pub is_suffix : ℕ → Bool
-is_suffix byte = is_letter_of (byte_of "u") byte || is_letter_of (byte_of "l") byte || is_letter_of (byte_of "f") byte
-
 -- A string goes from a mark to the same one.
 abbrev pub is_mark : ℕ → Bool
 is_mark byte = byte == quote || byte == apostrophe
@@ -89,6 +85,7 @@ abbrev pub is_hex_digit : ℕ → Bool
 is_hex_digit byte =
     is_digit byte || is_between (byte_of "a") (byte_of "f") byte || is_between (byte_of "A") (byte_of "F") byte
 
+-- `u`, `l` and `f` may stand behind a constant
 abbrev pub is_in : Class → ℕ → Bool
 is_in Blank byte = is_blank byte
 is_in White byte = byte == newline || is_blank byte
@@ -96,7 +93,8 @@ is_in Word byte = is_letter byte || is_digit byte
 is_in Digit byte = is_digit byte
 is_in HexDigit byte = is_hex_digit byte
 is_in BinaryDigit byte = is_between (byte_of "0") (byte_of "1") byte
-is_in Suffix byte = is_suffix byte
+is_in Suffix byte =
+    is_letter_of (byte_of "u") byte || is_letter_of (byte_of "l") byte || is_letter_of (byte_of "f") byte
 is_in LimboText byte = not (byte == at_sign)
 is_in TexText byte = not (byte == at_sign || byte == bar)
 is_in IncludeName byte = not (byte == greater || byte == newline)

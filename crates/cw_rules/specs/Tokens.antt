@@ -3,8 +3,9 @@
 -- Each rule says what begins at a place: which answers it gives, how many bytes belong to it, and where the text goes
 -- on. `place` is the number of the byte, `byte` the byte itself, and `bytes` are the bytes behind it. `here` is the
 -- place with what is known of it.
-use Rattle.std.specs.Prelude.{ℕ, ◌+◌, ◌-◌, Bool, true, false, ◌&&◌, ◌||◌, not, ◌==◌, nat_lt, List, [], ◌∷◌, ◌++◌}
-use Rattle.std.specs.Prelude.{Option, Some, None, codes, drop, take, length, slice_index, if◌then◌else◌}
+use Rattle.std.specs.Prelude.{ℕ, ◌+◌, ◌-◌, Bool, true, false, ◌&&◌, ◌||◌, not, ◌==◌, nat_lt, List, [], ◌∷◌, ◌++◌, codes}
+use Rattle.std.specs.Prelude.{drop, take, length, slice_index, if◌then◌else◌}
+use Rattle.std.specs.Option.{option_map_or}
 use Rattle.cw_base.specs.declared.notes.NoteKind.{NoteKind}
 use Rattle.cw_base.specs.declared.notes.NoteKind.TheVariants as notes
 use Rattle.cw_rules.specs.declared.bodies.Body.TheVariants as bodies
@@ -29,10 +30,9 @@ use Rattle.cw_rules.specs.declared.tokens.TokKind.{TokKind}
 use Rattle.cw_rules.specs.declared.tokens.TokKind.TheVariants as kinds
 use Rattle.cw_base.specs.Bytes.{newline, backslash}
 use Rattle.cw_rules.specs.Bytes.{hash, apostrophe, left_paren, right_paren, star, comma, slash, less, greater, equals}
-use Rattle.cw_rules.specs.Bytes.{at_sign, run, begins, begins_by, begins_with}
+use Rattle.cw_rules.specs.Bytes.{at_sign, run, begins, begins_by, begins_with, is_letter, is_mark, is_in}
 use Rattle.cw_base.specs.Conditions.{list_if}
 use Rattle.cw_base.specs.Text.{bar}
-use Rattle.cw_rules.specs.Bytes.{is_letter, is_mark, is_in}
 use Rattle.cw_rules.specs.Signs.{all_signs, longest, spelling}
 use Rattle.cw_rules.specs.Constants.{constant}
 use Rattle.cw_rules.specs.Prefixes.{prefix_size}
@@ -300,10 +300,6 @@ line_end part (c ∷ comments) last place =
 -- ## C text
 
 -- What begins at a byte of C text, by the order of the manual's list. A string with a prefix begins with a letter.
-abbrev pub sign_or_other : Option Sign → Start
-sign_or_other None = start.OtherByte
-sign_or_other (Some sign) = start.Sign sign
-
 abbrev pub start_of : Bool → ℕ → List ℕ → Start
 start_of bar_ends byte bytes =
     if nat_lt 0 (prefix_size (byte ∷ bytes))
@@ -315,7 +311,7 @@ start_of bar_ends byte bytes =
     else if byte == slash && begins slash bytes then start.ShortComment
     else if byte == at_sign then start.Code (code_at bytes)
     else if byte == bar && (bar_ends && not (begins bar bytes)) then start.EndOfInner
-    else sign_or_other (longest all_signs (byte ∷ bytes))
+    else option_map_or start.Sign (longest all_signs (byte ∷ bytes)) start.OtherByte
 
 -- In a `#` line the word `include` lets an include name follow.
 abbrev pub is_include : List ℕ → Bool

@@ -4,7 +4,7 @@ ghost use Rattle.std.specs.FinMap.{get};
 ghost use Rattle.cw_desk.specs.Batch.{tell};
 ghost use Rattle.cw_desk.specs.Journal.{GrownByPart, byte_events};
 ghost use Rattle.cw_desk.specs.Meaning.{Files, NamedFiles, Rose};
-ghost use Rattle.cw_desk.specs.Told.{Narrows, OnlyPuts};
+ghost use Rattle.cw_desk.specs.State.{Narrows, OnlyPuts};
 ghost use Rattle.cw_run.specs.Emits.{Run};
 ghost use Rattle.cw_run.specs.Program.{Outcome, words_of};
 

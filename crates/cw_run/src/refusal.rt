@@ -3,7 +3,7 @@ ghost use Rattle.std.specs.Prelude.{◌++◌, [], ◌∷◌};
 ghost use Rattle.cw_base.specs.declared.event.Out.TheVariants.{Term};
 ghost use Rattle.cw_base.specs.declared.exit.Exit.TheVariants.{Errors};
 ghost use Rattle.cw_desk.specs.Journal.{byte_events};
-ghost use Rattle.cw_desk.specs.Told.{OnlyPuts};
+ghost use Rattle.cw_desk.specs.State.{OnlyPuts};
 ghost use Rattle.cw_run.specs.Emits.{Runs};
 ghost use Rattle.cw_run.specs.Tool.{refused};
 

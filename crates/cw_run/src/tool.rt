@@ -5,7 +5,7 @@ ghost use Rattle.cw_base.specs.Web.{WebState};
 ghost use Rattle.cw_base.specs.declared.event.Out.TheVariants.{Tex};
 ghost use Rattle.cw_desk.specs.Journal.{byte_events};
 ghost use Rattle.cw_desk.specs.Meaning.{Files, Rose, is_open};
-ghost use Rattle.cw_desk.specs.Told.{OnlyPuts};
+ghost use Rattle.cw_desk.specs.State.{OnlyPuts};
 ghost use Rattle.cw_input.specs.Merged.{merged};
 ghost use Rattle.cw_input.specs.Overwriting.{first_overwriting};
 ghost use Rattle.cw_lines.specs.Writes.{Adds};

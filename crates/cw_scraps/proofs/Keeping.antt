@@ -8,10 +8,11 @@ use Rattle.cw_scraps.proofs.Terms.{first_ident, reserve_first, Scrap, no_scrap, 
 use Rattle.cw_scraps.proofs.Terms.{needs, after, toggled, joined_tree, join, Agrees, Action, Piece, Row, result_at}
 use Rattle.cw_scraps.proofs.Terms.{is_exp, cats_of, row_pieces, math_piece, joined_of, alone, with_cat, new_from}
 use Rattle.cw_scraps.proofs.Terms.{new_scrap, search_in, reserved_in, reserved_at, bolded, bolded_at, worded_at}
-use Rattle.cw_scraps.proofs.Terms.{is_bare_name, named_scrap, named_right, rewrite_from, leaf_named_below, IsNamedBelow}
-use Rattle.cw_scraps.proofs.Terms.{piece_agrees}
+use Rattle.cw_scraps.proofs.Terms.{named_scrap, named_right, rewrite_from, leaf_named_below, IsNamedBelow, piece_agrees}
 use Rattle.cw_scraps.proofs.ModeLaw.{join-agrees, agrees-same, reserve-reads}
 use Rattle.cw_table.specs.declared.types.Piece.TheVariants as piece
+use Rattle.std.specs.Prelude.{nat_eq}
+use Rattle.std.specs.Option.{option_map_or}
 
 module _ (P : Scrap → Type 0) (none : P no_scrap) (reserves : (s : Scrap) → P s → P (reserved_in s))
     (recats : (cat : Cat) (s : Scrap) → P s → P (with_cat cat s))
@@ -46,14 +47,16 @@ module _ (P : Scrap → Type 0) (none : P no_scrap) (reserves : (s : Scrap) → 
     | None ↦ join cat (map (joined_of scraps) pieces)
   ]) e)) (joins cat scraps pieces all)
 
-  in_scrap : (b : Bool) (name : ℕ) (s : Scrap) → (is_exp s.cat && is_bare_name name (bare_name s.tree)) ≡ b → P s
+  in_scrap : (b : Bool) (name : ℕ) (s : Scrap)
+      → (is_exp s.cat && option_map_or (λ bare. nat_eq bare name) (bare_name s.tree) false) ≡ b → P s
       → P (named_scrap name s)
   in_scrap true name s e h = rw (e, named_scrap) (recats RawInt (reserved_in s) (reserves s h))
   in_scrap false name s e h = rw (e, named_scrap) h
 
   in_right : (found : Search) (scraps : List Scrap) → All P scraps → All P (named_right found scraps)
   in_right (Found name) scraps all = All-map P (named_scrap name) scraps (λ k d h. in_scrap (is_exp (get_or scraps k
-      d).cat && is_bare_name name (bare_name (get_or scraps k d).tree)) name (get_or scraps k d) refl (all k d h))
+      d).cat && option_map_or (λ bare. nat_eq bare name) (bare_name (get_or scraps k d).tree) false) name
+      (get_or scraps k d) refl (all k d h))
   in_right _ _ all = all
 
   pub keeps-all : (flags : Flags) (row : Row) (place : ℕ) (scraps : List Scrap) → All P scraps

@@ -36,12 +36,12 @@ pub use Rattle.cw_table.proofs.Falling.{hold-at, room, alone-at, pieces-whole, f
 pub use Rattle.cw_table.proofs.FirstLaws.{length-tests_of, first-window}
 pub use Rattle.cw_table.specs.{Fitting.row_fits, Fitting.first_of, Fitting.window_of, Normal.fine_with, Normal.is_fine}
 pub use Rattle.cw_table.specs.{Productions.productions, declared.types.Piece.Piece, declared.types.Row.Row}
-pub use Rattle.cw_table.specs.declared.types.Action.{Action}
 pub use Rattle.cw_table.specs.{declared.types.RowResult.TheVariants.SameAs}
+pub use Rattle.cw_table.specs.declared.types.Action.{Action}
 pub use Rattle.cw_table.specs.Rewriting.{alone, takes_other, reserved_in, reserved_at, cats_of, row_pieces, math_piece}
 pub use Rattle.cw_table.specs.Rewriting.{bolded, bolded_at, worded_at, joined_of, with_cat, new_from, new_scrap}
-pub use Rattle.cw_table.specs.Rewriting.{search_in, is_bare_name, named_scrap, named_right, rewrite_from, found_names}
-pub use Rattle.cw_table.specs.Rewriting.{with_type, rewrite, is_stmt}
+pub use Rattle.cw_table.specs.Rewriting.{search_in, named_scrap, named_right, rewrite_from, found_names, with_type}
+pub use Rattle.cw_table.specs.Rewriting.{rewrite, is_stmt}
 pub use Rattle.cw_table.specs.Rows.{pieces_for, test, tests_of, result_at, no_row, row_numbered, row_of}
 pub use Rattle.cw_table.specs.Sound.{scraps_in, numbers_from, IsSound, row_is_sound, is_exp}
 pub use Rattle.cw_tokens.proofs.Linking.{refers-more, pushed-ref, refers-within, refers-old}

@@ -1,7 +1,9 @@
 //! Reserving: identifiers of one name become reserved words.
 ghost use Rattle.std.specs.Prelude.{◌≡◌, ℕ, ◌+◌, ◌-◌, ◌<◌, ◌≤◌, ◌++◌, [], ◌∷◌, ◌&&◌, length, take, drop, map};
 ghost use Rattle.std.specs.Prelude.{option_map};
-ghost use Rattle.cw_table.specs.Rewriting.{search_in, reserved_at, bolded_at, is_bare_name};
+ghost use Rattle.std.specs.Prelude.{nat_eq, false};
+ghost use Rattle.std.specs.Option.{option_map_or};
+ghost use Rattle.cw_table.specs.Rewriting.{search_in, reserved_at, bolded_at};
 ghost use Rattle.cw_tokens.specs.References.{IsTied};
 ghost use Rattle.cw_tokens.specs.Walking.{found_name};
 ghost use Rattle.cw_scraps.specs.Lines.{seen, scraps_of, roots_of, AreRoots};
@@ -119,7 +121,7 @@ pub fn reserve_words(
 }
 
 fn has_name(bare: Option<NameId>, name: NameId) -> bool
-    ensures { result ≡ is_bare_name name.index (option_map (λ id. id.index) bare) }
+    ensures { result ≡ option_map_or (λ bare. nat_eq bare name.index) (option_map (λ id. id.index) bare) false }
 {
     match bare {
         Some(bare) => bare.index == name.index,

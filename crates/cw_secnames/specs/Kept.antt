@@ -1,7 +1,6 @@
 -- The section names that are kept: a list, in order of entry.
 use Rattle.std.specs.Prelude.{ℕ, zero, suc, ◌+◌, ◌<◌, Bool, true, false, not, ◌&&◌, ◌||◌, nat_lt, List, [], ◌∷◌, ◌++◌}
-use Rattle.std.specs.Prelude.{if◌then◌else◌}
-use Rattle.std.specs.Prelude.{Option, Some, None, length, nat_eq}
+use Rattle.std.specs.Prelude.{if◌then◌else◌, Option, Some, None, length, nat_eq}
 use Rattle.std.specs.Cmp.Lexicographic.{pointwise}
 use Rattle.std.specs.List.{position, starts_with, slice_get}
 use Rattle.std.specs.Option.{option_map}
@@ -87,13 +86,10 @@ is_candidate prefix n = same_name_kind Named n.kind
     && (is_beginning_of prefix n.text || (not n.complete && is_beginning_of n.text prefix))
 
 -- A name that may grow to the prefix: an incomplete and shorter one.
-abbrev pub is_shorter : List ℕ → SecName → Bool
-is_shorter prefix n = not n.complete && nat_lt (length n.text) (length prefix)
-
 abbrev pub grown : List ℕ → ℕ → List SecName → List SecName
 grown prefix k [] = []
 grown prefix zero (n ∷ names) =
-    if is_shorter prefix n then record n { text = prefix } ∷ names else n ∷ names
+    if not n.complete && nat_lt (length n.text) (length prefix) then record n { text = prefix } ∷ names else n ∷ names
 grown prefix (suc k) (n ∷ names) = n ∷ grown prefix k names
 
 -- the positions of the names that pass a test, from this one on

@@ -5,8 +5,9 @@ use Rattle.cw_table.proofs.Terms.{zero-add, take-append-drop, list_all, nat_test
 use Rattle.cw_table.proofs.Terms.{End, rank, MathMode, Source, Ident, Reserved, Sign, Tree, Empty, Then, Sub, Inner}
 use Rattle.cw_table.proofs.Terms.{bare_name, Search, reserve_first, Scrap, no_scrap, JoinPiece, Whole, Mark, toggled}
 use Rattle.cw_table.proofs.Terms.{joined_tree, needs, Action, is_exp, cats_of, reserved_in, bolded, worded_at}
-use Rattle.cw_table.proofs.Terms.{is_bare_name, named_scrap, named_right, rank_with, weight_of, weight, fine_with}
-use Rattle.cw_table.proofs.Terms.{is_fine}
+use Rattle.cw_table.proofs.Terms.{named_scrap, named_right, rank_with, weight_of, weight, fine_with, is_fine}
+use Rattle.std.specs.Prelude.{nat_eq, false}
+use Rattle.std.specs.Option.{option_map_or}
 
 -- tests of lists
 
@@ -175,7 +176,8 @@ pub at-length : (action : Action) (xs : List Scrap) → length (worded_at action
 at-length action xs = sym (cats-length (worded_at action xs)) ∙ ap length (at-cats action xs) ∙ cats-length xs
 
 -- the scraps to the right
-exp-named : (c : Cat) (b : Option ℕ) (name : ℕ) → (is_exp c && is_bare_name name b) ≡ true → rank_with c b ≡ 4
+exp-named : (c : Cat) (b : Option ℕ) (name : ℕ) → (is_exp c && option_map_or (λ bare. nat_eq bare name) b false) ≡ true
+    → rank_with c b ≡ 4
 exp-named x1 b name h = grind (arith, nat_tests)
 
 named-weight : (name : ℕ) (s : Scrap) → weight_of (named_scrap name s) ≤ weight_of s

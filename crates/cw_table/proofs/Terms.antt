@@ -39,7 +39,7 @@ pub use Rattle.cw_table.specs.Normal.{least_place, next_place, steps, log_of, no
 pub use Rattle.cw_table.specs.NormalWalk.{walk_left, Position, positions_of, turns, walk_of, walked_of}
 pub use Rattle.cw_table.specs.Rewriting.{State, cats_of, row_pieces, joined_of, alone, with_cat, new_scrap, worded_at}
 pub use Rattle.cw_table.specs.Rewriting.{rewrite_from, rewrite, math_piece, new_from, search_in, reserved_in, bolded}
-pub use Rattle.cw_table.specs.Rewriting.{named_scrap, named_right, is_bare_name}
+pub use Rattle.cw_table.specs.Rewriting.{named_scrap, named_right}
 pub use Rattle.cw_table.specs.Rows.{tests_of, empty, test, result_at, no_row, pieces_for, row_numbered, row_of, joins}
 pub use Rattle.cw_table.specs.Rows.{replaces_all, only}
 pub use Rattle.cw_table.specs.Safe.{Pair, SafeIsSound, brings, is_hazard, least, members, pairs_by, pairs_of, reserves}

@@ -12,7 +12,7 @@ pub use Rattle.std.specs.List.{take-map, list_any}
 pub use Rattle.std.specs.Prelude.{Option, Some, Result, Ok, Err, IsErrAnd, min, nat_lt, slice_range, is_some, slice_get}
 pub use Rattle.std.specs.Prelude.{IfOk, decimal}
 pub use Rattle.cw_base.specs.{declared.flags.Flags.Flags, declared.span.Span.Span}
-pub use Rattle.cw_desk.specs.Told.{DeskState}
+pub use Rattle.cw_desk.specs.State.{DeskState}
 pub use Rattle.cw_lex.specs.Lexing.{answers, answers_at, beginning, fresh_at, last_at, tokens_of}
 pub use Rattle.cw_lex.specs.Nest.{is_text_kind}
 pub use Rattle.cw_lines.specs.{Sheets.IsSameSheet, Writes.HasPut, Writes.Puts, declared.put_error.PutError.PutError}
@@ -39,7 +39,7 @@ pub use Rattle.cw_texpart.specs.Inks.{token_inks, token_inks_by, inks, answer_in
 pub use Rattle.cw_texpart.specs.model.Laying.{held, held_behind, holds_bytes, inked}
 pub use Rattle.cw_texpart.specs.TexParts.{IsWholePiece, tex_done, IsWhole, piece_done, pieces_done, head_and_tex}
 pub use Rattle.cw_texpart.specs.TexParts.{beside_in}
-pub use Rattle.cw_texpart.specs.Texts.{setting, Setting, lasting, name_done_by, text_done, Lasting}
+pub use Rattle.cw_texpart.specs.Texts.{setting, Setting, lasting, text_done, Lasting}
 pub use Rattle.cw_texpart.specs.Weaving.{Press, Weaves, NotesFirst, mark, marked, underlined, press}
 pub use Rattle.cw_texts.proofs.PieceLaws.{ended, gave}
 pub use Rattle.cw_texts.specs.{PieceForms.piece_is, Scans.scanned}

@@ -7,8 +7,8 @@ use Rattle.cw_texpart.proofs.Terms.{puts-nothing, PutError, Memory, Entry, Occur
 use Rattle.cw_texpart.proofs.Terms.{done_behind, joined_done, as_it_is, reprinted, section_number, head, head_by}
 use Rattle.cw_texpart.proofs.Terms.{printed_depth, Ink, end_if, laid, prints, held, held_behind, holds_bytes, inked}
 use Rattle.cw_texpart.proofs.Terms.{piece_is, piece_done, pieces_done, head_and_tex, TexPiece, Setting, lasting}
-use Rattle.cw_texpart.proofs.Terms.{name_done_by, text_done, Press, Weaves, underlined}
-use Rattle.std.specs.Option.{option_map}
+use Rattle.cw_texpart.proofs.Terms.{text_done, Press, Weaves, underlined}
+use Rattle.std.specs.Option.{option_map, option_map_or}
 use Rattle.std.proofs.lemmas.List.Sums.{sum_by-append}
 use Rattle.cw_translator.specs.Counting.{limit_in, productions_in, scraps_in, text_limit, ticks_in}
 use Rattle.cw_table.specs.{Normal.count, Productions.productions, Rewriting.State, WalkCounts.ticks}
@@ -269,12 +269,14 @@ weaves-nothing {s = s} {old = old} {counts = counts} scraps prods =
 
 -- a section name that is ignored, and one that isn't
 pub ignored : {X : Type 0} (f : ℕ → X) (s : Setting) (inner : Bool) (part : Span) (names : List Entry) (name : Option ℕ)
-    → None ≡ option_map f name → name_done_by s inner part name names ≡ as_it_is [] names
+    → None ≡ option_map f name → option_map_or (λ _. text_done s Inner inner part names) name (as_it_is [] names)
+    ≡ as_it_is [] names
 ignored f s inner part names name is = grind arith
 
 pub cited : {X : Type 0} (f : ℕ → X) (id : X) (s : Setting) (inner : Bool) (part : Span) (names : List Entry)
     (name : Option ℕ) → Some id ≡ option_map f name
-    → text_done s Inner inner part names ≡ name_done_by s inner part name names
+    → text_done s Inner inner part names ≡ option_map_or (λ _. text_done s Inner inner part names) name (as_it_is []
+    names)
 cited f id s inner part names name is = grind arith
 
 -- ## Heads

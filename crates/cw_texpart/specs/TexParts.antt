@@ -34,9 +34,13 @@ head_and_tex goes_on front s section names =
 abbrev pub beside_in : Setting → Section → Beside
 beside_in s section = code_beside s.text s.flags s.book.name_uses section
 
+-- the same of a section that has this code beside its number
+abbrev pub tex_by : Beside → Setting → Section → List Entry → Done ℕ
+tex_by code s section names =
+    head_and_tex (is_nothing code) (head s.flags.ranged s.text s.section section) s section names
+
 abbrev pub tex_done : Setting → Section → List Entry → Done ℕ
-tex_done s section names =
-    head_and_tex (is_nothing (beside_in s section)) (head s.flags.ranged s.text s.section section) s section names
+tex_done s section names = tex_by (beside_in s section) s section names
 
 -- ## C texts in it
 

@@ -1,5 +1,6 @@
 -- The C texts of a book: where they stand, and what they print.
-use Rattle.std.specs.Prelude.{ℕ, Bool, List, [], Option, Some, None}
+use Rattle.std.specs.Prelude.{ℕ, Bool, List, []}
+use Rattle.std.specs.Option.{option_map_or}
 use Rattle.cw_base.specs.declared.flags.Flags.{Flags}
 use Rattle.cw_base.specs.declared.span.Span.{Span}
 use Rattle.cw_lex.specs.Lexing.{tokens_of}
@@ -57,9 +58,6 @@ text_done s mode inner span names =
     (tokens_of s.text span.start span.«end» mode) names [])
 
 -- The section name that stands at a span, as a C text of its own; one that is ignored is none.
-abbrev pub name_done_by : Setting → Bool → Span → Option ℕ → List Entry → Done ℕ
-name_done_by s inner span None names = as_it_is [] names
-name_done_by s inner span (Some name) names = text_done s Inner inner span names
-
 abbrev pub name_done : Setting → Bool → Span → List Entry → Done ℕ
-name_done s inner span names = name_done_by s inner span (name_at span.start s.book.name_uses) names
+name_done s inner span names =
+    option_map_or (λ _. text_done s Inner inner span names) (name_at span.start s.book.name_uses) (as_it_is [] names)

@@ -1,7 +1,7 @@
 -- What a call that prints pieces of a book has done.
 use Rattle.std.specs.Prelude.{◌≡◌, ℕ, ◌+◌, ◌≤◌, ◌==◌, true, List, [], ◌++◌, Result, IfOk, OnOk, map, take}
 use Rattle.std.specs.Prelude.{if◌then◌else◌}
-use Rattle.cw_desk.specs.Told.{DeskState}
+use Rattle.cw_desk.specs.State.{DeskState}
 use Rattle.cw_lines.specs.Line.{LineState}
 use Rattle.cw_lines.specs.Writes.{Puts}
 use Rattle.cw_lines.specs.declared.put_error.PutError.{PutError}
@@ -30,11 +30,8 @@ press told book sheet steps =
 abbrev pub mark : ℕ → NameId → Occurrence
 mark section name = record { name = name; section = section; underlined = true }
 
-abbrev pub mark_at : ℕ → ℕ → Occurrence
-mark_at section name = mark section (record { index = name })
-
 abbrev pub marked : ℕ → List ℕ → List Occurrence
-marked section marks = map (mark_at section) marks
+marked section marks = map (λ name. mark section (record { index = name })) marks
 
 abbrev pub underlined : ℕ → List ℕ → List Occurrence
 underlined section marks = if section == 0 then [] else marked section marks

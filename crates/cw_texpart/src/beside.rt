@@ -84,7 +84,7 @@ fn ranged_code(text: &[u8], book: &Book, section: &Section) -> Result<Beside, Me
 
 /// What stands beside the number of a section: with flag r, where it has no prose, the first code that it prints.
 #[inline(always)]
-pub fn code_beside(
+pub(crate) fn code_beside(
     text: &[u8],
     flags: &Flags,
     book: &Book,

@@ -1,7 +1,6 @@
 //! The heads of sections.
 ghost use Rattle.std.specs.Prelude.{◌≡◌, ◌++◌, true, IfOk, codes};
 ghost use Rattle.cw_lines.specs.Sheets.{CanPrint, Prints};
-ghost use Rattle.cw_lines.specs.Writes.{CanWrite, Puts};
 ghost use Rattle.cw_print.specs.Walk.{changed_mark, section_number};
 ghost use Rattle.cw_texpart.specs.Heads.{depth_bytes, drop_zeros, head, head_by, printed_depth};
 ghost use Rattle.cw_texpart.specs.Heads.{raised_depth, successor};
@@ -9,7 +8,7 @@ ghost use Rattle.cw_texpart.specs.Heads.{raised_depth, successor};
 use crate::spans::part_of;
 use cw_base::{Bytes, Memory};
 use cw_desk::Desk;
-use cw_lines::{LineOut, PutError, Sheet};
+use cw_lines::{PutError, Sheet};
 use cw_phase1::{Depth, Section};
 use itoa::Buffer;
 use std::alloc::Global;
@@ -88,7 +87,7 @@ fn put_plain<D: Desk>(number: u32, changed: bool, sheet: &mut Sheet<D>) -> Resul
         sheet.old sheet.new result }
 {
     sheet.put_all(b"\\M{")?;
-    put_digits(number, changed, sheet)?;
+    put_number(number, changed, sheet)?;
     sheet.put_all(b"}")
 }
 
@@ -106,26 +105,12 @@ fn put_starred<D: Desk>(
     sheet.put_all(b"\\N{")?;
     sheet.put_all(depth)?;
     sheet.put_all(b"}{")?;
-    put_digits(number, changed, sheet)?;
+    put_number(number, changed, sheet)?;
     sheet.put_all(b"}")
 }
 
 /// Puts the number of a section, with `\*` behind it where the section holds a changed line.
-pub fn put_number<D: Desk>(
-    number: u32,
-    changed: bool,
-    out: &mut LineOut,
-    desk: &mut D,
-) -> Result<(), PutError>
-    requires can { CanWrite (D.told desk.old) out.old }
-    ensures { Puts (section_number number changed) out.old out.new (D.told desk.old) (D.told desk.new) result }
-{
-    let mut sheet = Sheet { line: out, desk };
-    put_digits(number, changed, &mut sheet)
-}
-
-// Puts the digits of a section's number, and what stands behind them.
-fn put_digits<D: Desk>(number: u32, changed: bool, sheet: &mut Sheet<D>) -> Result<(), PutError>
+pub fn put_number<D: Desk>(number: u32, changed: bool, sheet: &mut Sheet<D>) -> Result<(), PutError>
     requires can { CanPrint D.told sheet.old }
     ensures { Prints D.told (section_number number changed) sheet.old sheet.new result }
 {

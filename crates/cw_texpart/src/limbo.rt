@@ -2,7 +2,6 @@
 ghost use Rattle.std.specs.Prelude.{◌≡◌, false, IfOk};
 ghost use Rattle.cw_base.specs.Web.{text_of};
 ghost use Rattle.cw_lines.specs.Sheets.{CanPrint, Prints};
-ghost use Rattle.cw_lines.specs.Writes.{CanWrite, Puts};
 ghost use Rattle.cw_texpart.specs.model.Laying.{holds_bytes};
 ghost use Rattle.cw_texpart.specs.Limbo.{limbo_bytes, printed_limbo};
 
@@ -12,10 +11,9 @@ use crate::inks::put_token;
 use cw_base::{Span, Web};
 use cw_desk::Desk;
 use cw_lex::{Lexed, Mode};
-use cw_lines::{LineOut, PutError, Sheet};
+use cw_lines::{PutError, Sheet};
 use cw_phase1::Book;
 use cw_texts::scan;
-use std::alloc::Global;
 
 // Puts limbo, at the beginning of a line.
 fn put_limbo<D: Desk>(text: &[u8], span: Span, sheet: &mut Sheet<D>) -> Result<(), PutError>
@@ -39,26 +37,11 @@ fn put_limbo<D: Desk>(text: &[u8], span: Span, sheet: &mut Sheet<D>) -> Result<(
 }
 
 /// Prints the first line of the TeX file and limbo. It translates nothing.
-pub fn copy_limbo<D: Desk>(
-    alloc: Global,
+pub fn print_limbo<D: Desk>(
     web: &Web,
     book: &Book,
-    out: &mut LineOut,
-    desk: &mut D,
+    sheet: &mut Sheet<D>,
 ) -> Result<Counts, PutError>
-    requires can { CanWrite (D.told desk.old) out.old }
-    ensures puts { Puts (limbo_bytes (text_of web.now.lines) book.now.outline.limbo) out.old out.new
-        (D.told desk.old) (D.told desk.new) result }
-    ensures scraps { IfOk result (λ counts. counts.scraps ≡ 0) }
-    ensures productions { IfOk result (λ counts. counts.productions ≡ 0) }
-{
-    let _ = alloc;
-    let mut sheet = Sheet { line: out, desk };
-    print_limbo(web, book, &mut sheet)
-}
-
-// Prints the same on a sheet.
-fn print_limbo<D: Desk>(web: &Web, book: &Book, sheet: &mut Sheet<D>) -> Result<Counts, PutError>
     requires can { CanPrint D.told sheet.old }
     ensures prints { Prints D.told (limbo_bytes (text_of web.now.lines) book.now.outline.limbo)
         sheet.old sheet.new result }

@@ -1,32 +1,29 @@
 //! The head and the TeX part of a section.
-ghost use Rattle.std.specs.Prelude.{◌≡◌, ◌^◌, ◌-◌, ◌<◌, ◌≤◌, true, All, IfOk, Some, length, slice_get};
-ghost use Rattle.cw_base.specs.Web.{text_of};
+ghost use Rattle.std.specs.Prelude.{◌≡◌, ◌^◌, ◌≤◌, true, All, IfOk, length};
 ghost use Rattle.cw_rules.specs.Answers.{seen};
 ghost use Rattle.cw_rules.specs.declared.tokens.Mode.TheVariants.{Inner};
 ghost use Rattle.cw_lines.specs.Sheets.{CanPrint, IsSameSheet, Prints};
-ghost use Rattle.cw_lines.specs.Writes.{CanWrite};
-ghost use Rattle.cw_phase1.specs.declared.sections.Section.{Section};
 ghost use Rattle.cw_translator.specs.NameParts.{AreNamesOf};
 ghost use Rattle.cw_texpart.specs.Done.{reprinted};
 ghost use Rattle.cw_texpart.specs.Inks.{laid, token_inks};
 ghost use Rattle.cw_texpart.specs.model.Laying.{holds_bytes, inked};
-ghost use Rattle.cw_texpart.specs.model.PartForms.{tex_setting};
+ghost use Rattle.cw_texpart.specs.model.PartForms.{part_setting, tex_setting};
 ghost use Rattle.cw_texts.specs.PieceForms.{piece_is};
-ghost use Rattle.cw_texpart.specs.TexParts.{IsWhole, IsWholePiece, piece_done, pieces_done, tex_done};
+ghost use Rattle.cw_texpart.specs.TexParts.{IsWhole, IsWholePiece, piece_done, pieces_done, tex_by};
 ghost use Rattle.cw_texts.specs.TexPieces.{tex_pieces_of};
-ghost use Rattle.cw_texpart.specs.Texts.{lasting, name_done, setting, text_done};
+ghost use Rattle.cw_texpart.specs.Texts.{lasting, name_done, text_done};
 ghost use Rattle.cw_texpart.specs.Weaving.{Weaves, press};
 
-use crate::beside::code_beside;
 use crate::copying::{end_line_if, holds_bytes};
 use crate::heads::{Head, put_head};
 use crate::inks::put_token;
+use crate::section_at_hand::SectionAtHand;
 use crate::texts::{Rooms, StoredTree, translate_into};
 use crate::{CText, Counts};
-use cw_base::{Flags, Ledger, Span, Steps, Web};
+use cw_base::{Flags, Ledger, Span, Steps};
 use cw_desk::Desk;
 use cw_lex::{Mode, Tok};
-use cw_lines::{LineOut, PutError, Sheet};
+use cw_lines::{PutError, Sheet};
 use cw_phase1::{Book, Section};
 use cw_texts::{Piece, Pieces};
 use std::alloc::Global;
@@ -188,71 +185,41 @@ fn put_pieces<D: Desk, L: Ledger>(
     }
 }
 
-// Puts the head of a section, and directly behind it its TeX part, where no code stands beside the number.
-fn put_section<D: Desk, L: Ledger>(
-    t: &mut TexPart,
+/// Prints the head of a section, and directly behind it its TeX part, where no code stands beside its number. The marks
+/// of the C texts in it go to the book's occurrences, and the book's names get the categories behind them.
+pub fn print_tex<D: Desk, L: Ledger>(
+    p: SectionAtHand,
     section: Section,
     book: &mut Book,
     sheet: &mut Sheet<D>,
     steps: &mut Steps<L>,
 ) -> Result<Counts, PutError>
     requires can { CanPrint D.told sheet.old }
-    requires short { length t.old.text ≤ 2 ^ 24 }
-    requires whole { All (IsWholePiece t.old.text) (tex_pieces_of t.old.text section.tex) }
+    requires short { length p.text.now ≤ 2 ^ 24 }
+    requires whole { All (IsWholePiece p.text.now) (tex_pieces_of p.text.now section.tex) }
     requires kept { AreNamesOf book.old.sec_names book.old.name_uses }
-    ensures weaves { Weaves (tex_setting t.old (lasting book.old))
-        (tex_done (tex_setting t.old (lasting book.old)) section book.old.names)
+    ensures weaves { Weaves (part_setting p.entry (lasting book.old))
+        (tex_by p.entry.beside (part_setting p.entry (lasting book.old)) section book.old.names)
         (press D.told book.old sheet.old steps.old) (press D.told book.new sheet.new steps.new) result }
     ensures same { IsSameSheet sheet.old sheet.new }
 {
-    let code = code_beside(t.text, t.flags, book, &section)?;
     let head = Head {
-        alloc: t.alloc,
-        text: t.text,
+        alloc: p.alloc,
+        text: p.text,
         section: &section,
-        number: t.section,
-        ranged: t.flags.ranged,
+        number: p.section,
+        ranged: p.flags.ranged,
     };
     put_head(head, sheet)?;
-    if code.is_nothing() {
-        return put_pieces(t, section.tex, book, sheet, steps);
+    if p.beside.is_nothing() {
+        let mut t = TexPart {
+            text: p.text,
+            section: p.section,
+            flags: p.flags,
+            alloc: p.alloc,
+            rooms: Rooms::new_in(p.alloc),
+        };
+        return put_pieces(&mut t, section.tex, book, sheet, steps);
     }
     Ok(Counts::none())
-}
-
-/// Prints the head of the section of this number, and directly behind it its TeX part. The marks of the C texts in it
-/// go to the book's occurrences, and the book's names get the categories behind them.
-pub fn copy_tex<D: Desk, L: Ledger>(
-    alloc: Global,
-    web: &Web,
-    book: &mut Book,
-    section: u32,
-    flags: &Flags,
-    out: &mut LineOut,
-    desk: &mut D,
-    steps: &mut Steps<L>,
-) -> Result<Counts, PutError>
-    requires can { CanWrite (D.told desk.old) out.old }
-    requires first { 0 < section }
-    requires last { section ≤ length book.old.outline.sections }
-    requires kept { AreNamesOf book.old.sec_names book.old.name_uses }
-    requires whole { (s : Section) → slice_get book.old.outline.sections (section - 1) ≡ Some s
-        → All (IsWholePiece (text_of web.now.lines)) (tex_pieces_of (text_of web.now.lines) s.tex) }
-    ensures { (s : Section) → slice_get book.old.outline.sections (section - 1) ≡ Some s
-        → Weaves (setting (text_of web.now.lines) flags.now section book.old)
-        (tex_done (setting (text_of web.now.lines) flags.now section book.old) s book.old.names)
-        (record { book = book.old; line = out.old; told = D.told desk.old; steps = steps.old })
-        (record { book = book.new; line = out.new; told = D.told desk.new; steps = steps.new }) result }
-{
-    let text = web.text();
-    let head = book.section(section);
-    let mut t = TexPart {
-        text,
-        section,
-        flags,
-        alloc,
-        rooms: Rooms::new_in(alloc),
-    };
-    let mut sheet = Sheet { line: out, desk };
-    put_section(&mut t, head, book, &mut sheet, steps)
 }

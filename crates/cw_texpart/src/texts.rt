@@ -2,15 +2,14 @@
 ghost use Rattle.std.specs.Prelude.{◌≡◌, ◌^◌, ◌<◌, ◌≤◌, ◌++◌, false, length, true, IfOk, OnErr, OnOk};
 ghost use Rattle.cw_lex.specs.Lexing.{tokens_of};
 ghost use Rattle.cw_lex.specs.Nested.{begins_section_in, is_c_mode};
-ghost use Rattle.cw_lines.specs.Sheets.{CanPrint, Prints};
-ghost use Rattle.cw_lines.specs.Writes.{CanWrite, Puts};
+ghost use Rattle.cw_lines.specs.Sheets.{CanPrint, IsSameSheet, Prints};
 ghost use Rattle.cw_translator.specs.NameParts.{AreNamesOf};
 ghost use Rattle.cw_scraps.specs.Marking.{marked_names};
 ghost use Rattle.cw_scraps.specs.Lines.{IsNamedBelow};
 ghost use Rattle.cw_texpart.specs.model.Printing.{setting_of, text_bytes, text_printed};
 ghost use Rattle.cw_texpart.specs.Texts.{lasting};
 ghost use Rattle.cw_texpart.specs.model.Translation.{IsKept, Translates, in_store, stored, tree_of};
-ghost use Rattle.cw_texpart.specs.Weaving.{NotesFirst, Weaves, underlined};
+ghost use Rattle.cw_texpart.specs.Weaving.{NotesFirst, Weaves, press, underlined};
 ghost use Rattle.cw_tokens.specs.Shapes.{unfolded};
 
 use crate::Counts;
@@ -18,7 +17,7 @@ use cw_answers::{Answers, Reader};
 use cw_base::{Flags, Ledger, Memory, Span, Steps};
 use cw_desk::Desk;
 use cw_lex::Mode;
-use cw_lines::{LineOut, PutError, Sheet};
+use cw_lines::{PutError, Sheet};
 use cw_names::Xrefs;
 use cw_phase1::Book;
 use cw_print::{KeptText, print_answers};
@@ -109,7 +108,7 @@ impl StoredTree<'_, '_> {
             flags: self.text.flags,
             inner: self.text.inner,
         };
-        print_answers(alloc, text, self.store, self.list, sheet.line, sheet.desk)
+        print_answers(alloc, text, self.store, self.list, sheet)
     }
 }
 
@@ -137,13 +136,11 @@ impl<'a> TranslatedText<'a> {
         &self,
         alloc: Global,
         book: &Book,
-        out: &mut LineOut,
-        desk: &mut D,
+        sheet: &mut Sheet<D>,
     ) -> Result<(), PutError>
-        requires can { CanWrite (D.told desk.old) out.old }
+        requires can { CanPrint D.told sheet.old }
         requires named { IsNamedBelow (length book.now.names) (tree_of self.now) }
-        ensures { Puts (text_bytes self.now.text book.now (tree_of self.now)) out.old out.new
-            (D.told desk.old) (D.told desk.new) result }
+        ensures { Prints D.told (text_bytes self.now.text book.now (tree_of self.now)) sheet.old sheet.new result }
     {
         let tree = StoredTree {
             text: self.text,
@@ -151,8 +148,7 @@ impl<'a> TranslatedText<'a> {
             store: &self.store,
             list: self.list,
         };
-        let mut sheet = Sheet { line: out, desk };
-        tree.print(alloc, book, &mut sheet)
+        tree.print(alloc, book, sheet)
     }
 }
 
@@ -272,23 +268,23 @@ pub fn print_text<D: Desk, L: Ledger>(
     alloc: Global,
     c: CText,
     book: &mut Book,
-    out: &mut LineOut,
-    desk: &mut D,
+    sheet: &mut Sheet<D>,
     steps: &mut Steps<L>,
 ) -> Result<Counts, PutError>
-    requires can { CanWrite (D.told desk.old) out.old }
+    requires can { CanPrint D.told sheet.old }
     requires order { c.span.start ≤ c.span.end }
     requires within { c.span.end ≤ length c.text.now }
     requires short { length c.text.now ≤ 2 ^ 24 }
     requires c_text { is_c_mode c.mode ≡ true }
     requires uncut { begins_section_in (tokens_of c.text.now c.span.start c.span.end c.mode) ≡ false }
     requires kept { AreNamesOf book.old.sec_names book.old.name_uses }
-    ensures { Weaves (setting_of c.entry (lasting book.old)) (text_printed c.entry (lasting book.old) book.old.names)
-        (record { book = book.old; line = out.old; told = D.told desk.old; steps = steps.old })
-        (record { book = book.new; line = out.new; told = D.told desk.new; steps = steps.new }) result }
+    ensures weaves { Weaves (setting_of c.entry (lasting book.old))
+        (text_printed c.entry (lasting book.old) book.old.names)
+        (press D.told book.old sheet.old steps.old) (press D.told book.new sheet.new steps.new) result }
+    ensures same { IsSameSheet sheet.old sheet.new }
 {
     let translated = translate_text(alloc, c, book, steps)?;
-    translated.print(alloc, book, out, desk)?;
+    translated.print(alloc, book, sheet)?;
     Ok(translated.counts())
 }
 

@@ -17,16 +17,12 @@ use Rattle.cw_texts.specs.Scans.{scanned}
 abbrev pub is_kept : List NameUse → ℕ → Bool
 is_kept uses place = is_some (name_at place uses)
 
--- a token other than a section name has a form of its own
-abbrev pub has_form : TokKind → Bool
-has_form kind = is_some (token_form kind [] false No 0 [])
-
 -- A section name makes a scrap where the book has a name for it, and another token where it has a form. Codes of
 -- definitions don't stand in a C part; they would begin a head.
 abbrev pub token_makes : List NameUse → TokKind → ℕ → Bool
 token_makes uses kind place =
     if is_name_kind kind then is_kept uses place
-    else is_some (begun_by kind place) || has_form kind
+    else is_some (begun_by kind place) || is_some (token_form kind [] false No 0 [])
 
 -- A comment makes one, whatever stands in it.
 abbrev pub group_makes : TokKind → Bool

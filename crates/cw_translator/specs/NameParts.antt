@@ -1,6 +1,7 @@
 -- The inner texts of a section name, as the scanner answers them.
-use Rattle.std.specs.Prelude.{ℕ, ◌<◌, ◌≤◌, ◌^◌, List, [], Option, Some, None, All, length, map}
+use Rattle.std.specs.Prelude.{ℕ, ◌<◌, ◌≤◌, ◌^◌, List, [], All, length, map, option_map}
 use Rattle.std.specs.List.{slice_get}
+use Rattle.std.specs.Option.{option_and_then}
 use Rattle.cw_rules.specs.Answers.{Answer}
 use Rattle.cw_rules.specs.declared.tokens.Mode.TheVariants.{Inner}
 use Rattle.cw_lex.specs.Lexing.{tokens_of}
@@ -21,17 +22,10 @@ abbrev pub parts_by_kind : SecKind → List ℕ → List (List Answer)
 parts_by_kind Named text = parts_of_name text
 parts_by_kind File text = []
 
-abbrev pub texts_of_name : Option SecName → Option (List (List Answer))
-texts_of_name None = None
-texts_of_name (Some name) = Some (parts_by_kind name.kind name.text)
-
-abbrev pub texts_kept : List SecName → Option ℕ → Option (List (List Answer))
-texts_kept kept None = None
-texts_kept kept (Some k) = texts_of_name (slice_get kept k)
-
 -- A section name stands for the name that is paired with its place. Without a pair it stands for nothing.
 abbrev pub name_texts : List SecName → List NameUse → NameTexts
-name_texts kept uses number = texts_kept kept (name_at number uses)
+name_texts kept uses number = option_and_then (λ k. option_map (λ name. parts_by_kind name.kind name.text)
+    (slice_get kept k)) (name_at number uses)
 
 -- Each name in a web is one of those that are kept, and none of these is too long to be scanned.
 pub record AreNamesOf (kept : List SecName) (uses : List NameUse) : Type 0 where

@@ -1,6 +1,7 @@
 -- The translation of a C text, over the nest of its tokens: a token makes a leaf; the inner texts of a comment are
 -- translated when its leaf is made; a text that ends is reduced and put together.
 use Rattle.std.specs.Prelude.{ℕ, Bool, true, false, List, [], ◌∷◌, ◌++◌, Option, Some, None, if◌then◌else◌}
+use Rattle.std.specs.Option.{option_map_or}
 use Rattle.cw_base.specs.declared.category.Cat.{Cat}
 use Rattle.cw_base.specs.declared.category.Cat.TheVariants as cat
 use Rattle.cw_base.specs.declared.flags.Flags.{Flags}
@@ -200,13 +201,10 @@ pub record Spelled : Type 0 where
 abbrev pub spelled_behind : List Token → Spelled → Spelled
 spelled_behind tokens rest = record { tokens = tokens ++ rest.tokens; names = rest.names }
 
-abbrev pub form_tokens : Option LeafForm → List Token
-form_tokens None = []
-form_tokens (Some form) = form.tokens
-
 abbrev pub word_tokens : Seen → List Entry → List Token
 word_tokens word names =
-    form_tokens (token_form word.kind word.text word.hash_line word.directive word.span.start names)
+    option_map_or (λ form. form.tokens) (token_form word.kind word.text word.hash_line word.directive word.span.start
+    names) []
 
 abbrev pub spelled : List Seen → List Entry → Spelled
 spelled [] names = record { tokens = []; names = names }

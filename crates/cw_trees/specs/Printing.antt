@@ -1,9 +1,7 @@
 -- The bytes that a flat list prints. Breaks, blanks, indents and the like that follow one another are a run,
 -- and print as one; every other item prints its own bytes.
 use Rattle.std.specs.Prelude.{ℕ, zero, suc, pred, max, Bool, true, false, ◌&&◌, ◌||◌, nat_eq, nat_lt, nat_le, Option}
-use Rattle.std.specs.Prelude.{Some, None}
-use Rattle.std.specs.Prelude.{if◌then◌else◌}
-use Rattle.std.specs.Prelude.{List, [], ◌∷◌, ◌++◌, length, codes}
+use Rattle.std.specs.Prelude.{Some, None, if◌then◌else◌, List, [], ◌∷◌, ◌++◌, length, codes}
 use Rattle.std.specs.List.{list_any}
 use Rattle.cw_base.specs.Conditions.{list_if}
 use Rattle.cw_base.specs.Bytes.{byte_of, backslash}
@@ -34,12 +32,10 @@ sign_bytes CommentEnd = codes "}"
 sign_bytes _ = []
 
 -- Names. In a name `_` and `$` have a backslash.
-abbrev pub name_byte : ℕ → List ℕ
-name_byte byte = if nat_eq byte (byte_of "_") || nat_eq byte (byte_of "$") then backslash ∷ byte ∷ [] else byte ∷ []
-
 abbrev pub name_bytes : List ℕ → List ℕ
 name_bytes [] = []
-name_bytes (byte ∷ bytes) = name_byte byte ++ name_bytes bytes
+name_bytes (byte ∷ bytes) = (if nat_eq byte (byte_of "_") || nat_eq byte (byte_of "$") then backslash ∷ byte ∷ []
+    else byte ∷ []) ++ name_bytes bytes
 
 -- a lower case letter of ASCII, or a byte of 128 and above
 abbrev pub is_lower : ℕ → Bool
@@ -93,21 +89,14 @@ abbrev pub is_backup : Control → Bool
 is_backup Backup = true
 is_backup _ = false
 
-abbrev pub backup_bytes : List Control → List ℕ
-backup_bytes run = list_if (list_any is_backup run) (codes "\\4")
-
 -- a run in the C text of a part or a definition: its indents, and without a Cancel its break and its backup
 abbrev pub part_run : List Control → List ℕ
-part_run run = indents run ++ (if list_any is_cancel run then [] else break_bytes (strongest run) ++ backup_bytes run)
+part_run run = indents run ++ (if list_any is_cancel run then [] else break_bytes (strongest run)
+    ++ list_if (list_any is_backup run) (codes "\\4"))
 
 -- a run in inner C text: a blank if it has a break or blank, and no Cancel
-abbrev pub inner_run : List Control → List ℕ
-inner_run run =
-    if list_any is_cancel run then []
-    else list_if (nat_lt 0 (strongest run)) (codes " ")
-
 abbrev pub run_bytes : Bool → List Control → List ℕ
-run_bytes true run = inner_run run
+run_bytes true run = if list_any is_cancel run then [] else list_if (nat_lt 0 (strongest run)) (codes " ")
 run_bytes false run = part_run run
 
 -- an item that goes into a run

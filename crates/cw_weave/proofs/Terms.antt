@@ -11,7 +11,7 @@ pub use Rattle.cw_base.specs.{declared.exit.Exit.Exit, declared.flags.Flags.Flag
 pub use Rattle.cw_base.specs.declared.event.Event.TheVariants.{Made, Drafted, Kept, Replaced}
 pub use Rattle.cw_base.specs.declared.event.Out.TheVariants.{Tex, Idx, Scn}
 pub use Rattle.cw_base.specs.declared.exit.Exit.TheVariants.{Fault, Clean, Errors}
-pub use Rattle.cw_desk.specs.{Journal.byte_events, Meaning.NamedFiles, Meaning.has_draft, Told.DeskState}
+pub use Rattle.cw_desk.specs.{Journal.byte_events, Meaning.NamedFiles, Meaning.has_draft, State.DeskState}
 pub use Rattle.cw_desk.specs.{declared.outputs.Outputs.Outputs}
 pub use Rattle.cw_lines.specs.{Line.Line, Line.LineState, Line.as_count, Line.new_line, Writes.Puts}
 pub use Rattle.cw_lines.specs.laws.WritesLaws.{puts-new_line, is_err, puts-bytes, puts-none, puts-stop, puts-then}
@@ -19,7 +19,7 @@ pub use Rattle.cw_lines.specs.laws.WritesLaws.{puts-nothing, can-after, adds-the
 pub use Rattle.cw_names.specs.declared.xrefs.Occurrence.{Occurrence}
 pub use Rattle.cw_phase1.specs.{Book.book, declared.book.Book.Book, declared.sections.Section.Section}
 pub use Rattle.cw_run.specs.{Emits.Run, Emits.Runs, Stops.stopped, declared.statistics.Totals.Totals}
-pub use Rattle.cw_run.specs.Closing.{exit_by, closing_run, has_error, has_note}
+pub use Rattle.cw_run.specs.Closing.{closing_run, has_error, has_note}
 pub use Rattle.cw_run.specs.laws.EmitsLaws.{adds-emits, emits-by, emits_by-fail, emits_by-file, emits_by-stop}
 pub use Rattle.cw_run.specs.laws.EmitsLaws.{emits_by-then, emits_by-value, file-not_begun, file-refused, runs-known}
 pub use Rattle.cw_run.specs.laws.EmitsLaws.{runs-stop, runs-then, emits_by-events, runs_by-exit, runs_by-nothing}

@@ -1,5 +1,6 @@
 //! A whole run: the words of a command line are read, and what they ask for is done.
 ghost use Rattle.std.specs.Prelude.{◌≡◌, ◌+◌, ◌<◌, ◌≤◌, ◌≢◌, ◌++◌, Some, length, option_copied, IfOk};
+ghost use Rattle.std.specs.Prelude.{[], unwrap_or};
 ghost use Rattle.std.specs.FinMap.{get};
 ghost use Rattle.cw_desk.specs.Meaning.{Files, Rose};
 ghost use Rattle.cw_input.specs.Merged.{merged};
@@ -12,7 +13,7 @@ ghost use Rattle.cw_weave.specs.Looks.{book_looks, command_looks, looks_of, web_
 ghost use Rattle.cw_run.specs.Notes.{note_events};
 ghost use Rattle.cw_weave.specs.model.Pressing.{IsPrintable, flags_in, text_in};
 ghost use Rattle.cw_weave.specs.laws.Proper.{IsProper};
-ghost use Rattle.cw_weave.specs.Woven.{book_of, change_text, weave_book, weave_command_of};
+ghost use Rattle.cw_weave.specs.Woven.{book_of, weave_book, weave_command_of};
 ghost use Rattle.cw_weave.specs.Woven.{weave_unless, weave_web, woven};
 ghost use Rattle.cw_weave.specs.model.Written.{AreWritten, events_of};
 
@@ -141,7 +142,7 @@ fn change_word(line: &CommandLine) -> Option<&[u8]>
 
 // The change word of a command line, empty where there is none.
 fn change_text(line: &CommandLine) -> &[u8]
-    ensures { result.now ≡ change_text line.now.change }
+    ensures { result.now ≡ unwrap_or line.now.change [] }
 {
     match &line.change {
         Some(word) => word.as_slice(),

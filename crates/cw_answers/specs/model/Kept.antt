@@ -1,9 +1,9 @@
 -- The answers of a scan as they are kept: each token by where its bytes lie in the text.
 use Rattle.std.specs.Prelude.{◌≡◌, ℕ, ◌≤◌, List, ◌++◌, map, length, slice_range}
 use Rattle.cw_rules.specs.Answers.{Answer, Token, Begin, Finish, Note, Seen}
-use Rattle.cw_answers.specs.declared.kept.Stretch.{Stretch}
-use Rattle.cw_answers.specs.declared.kept.KeptAnswer.{KeptAnswer}
-use Rattle.cw_answers.specs.declared.kept.KeptAnswer.TheVariants as kept
+use Rattle.cw_answers.specs.declared.kept_answer.Stretch.{Stretch}
+use Rattle.cw_answers.specs.declared.kept_answer.KeptAnswer.{KeptAnswer}
+use Rattle.cw_answers.specs.declared.kept_answer.KeptAnswer.TheVariants as kept
 
 abbrev pub seen_at : List ℕ → Stretch → Seen
 seen_at text s = record {

@@ -4,7 +4,7 @@ use Rattle.std.specs.Prelude.{if◌then◌else◌}
 use Rattle.std.specs.List.{All}
 use Rattle.cw_base.specs.declared.notes.NoteKind.{NoteKind}
 use Rattle.cw_rules.specs.Answers.{Answer, Token, Begin, Finish, Note}
-use Rattle.cw_answers.specs.declared.kept.KeptAnswer.{KeptAnswer}
+use Rattle.cw_answers.specs.declared.kept_answer.KeptAnswer.{KeptAnswer}
 use Rattle.cw_answers.specs.declared.reader.Room.{Room}
 use Rattle.cw_answers.specs.model.Kept.{IsWithin, StandsIn, answers_at}
 

@@ -6,7 +6,7 @@ use Rattle.cw_base.specs.declared.event.Out.{Out}
 use Rattle.cw_desk.specs.Batch.{HandsOn, PutsFirst}
 use Rattle.cw_desk.specs.Journal.{byte_events, grown}
 use Rattle.cw_desk.specs.laws.JournalLaws.{grown-rest, longer-part, part-bytes}
-use Rattle.cw_desk.specs.Told.{DeskState}
+use Rattle.cw_desk.specs.State.{DeskState}
 use Rattle.cw_desk.specs.declared.flushed.Flushed.{Flushed}
 
 pub hands-rest : {out : Out} {bytes left : List ℕ} {count : ℕ} {answer : Flushed} {old new : DeskState}

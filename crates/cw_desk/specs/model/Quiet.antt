@@ -2,7 +2,7 @@
 use Rattle.std.specs.Prelude.{[]}
 use Rattle.cw_desk.specs.Mem.{MemState}
 use Rattle.cw_desk.specs.model.Mem.{tell as tell_mem}
-use Rattle.cw_desk.specs.Told.{DeskState}
+use Rattle.cw_desk.specs.State.{DeskState}
 use Rattle.cw_desk.specs.Quiet.{QuietState}
 
 -- the desk in memory that it is

@@ -1,11 +1,11 @@
 -- What begins at a byte of C text, and that it fits in the bytes that are left.
 use Rattle.std.specs.Prelude.{◌≡◌, ℕ, ◌+◌, ◌<◌, ◌≤◌, ◌==◌, ◌&&◌, Bool, true, not, List, ◌∷◌, length, if◌then◌else◌}
+use Rattle.std.specs.Option.{option_map_or}
 use Rattle.cw_base.specs.Text.{bar}
 use Rattle.cw_rules.specs.Bytes.{at_sign, begins, is_letter, is_mark, slash, star}
 use Rattle.cw_rules.specs.Codes.{code_at}
 use Rattle.cw_rules.specs.Constants.{constant}
 use Rattle.cw_rules.specs.Signs.{all_signs, longest, spelling}
-use Rattle.cw_rules.specs.Tokens.{sign_or_other}
 use Rattle.cw_rules.specs.declared.parts.Start.{Start}
 use Rattle.cw_rules.specs.declared.parts.Start.TheVariants as start
 
@@ -17,7 +17,7 @@ start_by_byte bar_ends byte bytes =
     else if byte == slash && begins slash bytes then start.ShortComment
     else if byte == at_sign then start.Code (code_at bytes)
     else if byte == bar && (bar_ends && not (begins bar bytes)) then start.EndOfInner
-    else sign_or_other (longest all_signs (byte ∷ bytes))
+    else option_map_or start.Sign (longest all_signs (byte ∷ bytes)) start.OtherByte
 
 -- what it needs of its first byte and of those behind it
 abbrev pub StartFits : Start → ℕ → List ℕ → Type 0

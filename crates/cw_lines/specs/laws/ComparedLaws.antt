@@ -8,7 +8,7 @@ use Rattle.std.proofs.Common.{inr}
 use Rattle.std.proofs.lemmas.Bool.Decides.{eqb_tells}
 use Rattle.std.proofs.lemmas.List.{drop_all, length-take, length-take-le, take-append-drop, take-append-le, take_all}
 use Rattle.cw_desk.specs.Meaning.{Files}
-use Rattle.cw_desk.specs.Told.{DeskState, Narrows}
+use Rattle.cw_desk.specs.State.{DeskState, Narrows}
 use Rattle.cw_lines.specs.Compared.{OldFile, Compares, Shortens, behind, left, left_behind, left_by}
 
 -- the text that is there, or another

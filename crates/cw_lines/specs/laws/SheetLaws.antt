@@ -2,7 +2,7 @@
 use Rattle.std.specs.Prelude.{◌≡◌, ℕ, List, [], ◌++◌, Result, Ok, Err, IsErrAnd}
 use Rattle.std.proofs.Common.{refl, ◌∙◌}
 use Rattle.std.proofs.lemmas.List.{append-nil}
-use Rattle.cw_desk.specs.Told.{DeskState}
+use Rattle.cw_desk.specs.State.{DeskState}
 use Rattle.cw_lines.specs.Sheets.{CanPrint, IsSameSheet, Prints}
 use Rattle.cw_lines.specs.laws.WritesLaws.{can-after, puts-bytes, puts-none, puts-nothing, puts-stop, puts-then}
 use Rattle.cw_lines.specs.declared.put_error.PutError.{PutError}

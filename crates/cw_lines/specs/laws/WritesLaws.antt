@@ -10,7 +10,7 @@ use Rattle.cw_desk.specs.Journal.{byte_events}
 use Rattle.cw_desk.specs.laws.JournalLaws.{grown-none, grown-after, byte_events-append, part-first, part-second}
 use Rattle.cw_desk.specs.laws.JournalLaws.{part-same}
 use Rattle.cw_desk.specs.Meaning.{Rose, is_open}
-use Rattle.cw_desk.specs.Told.{DeskState, OnlyPuts}
+use Rattle.cw_desk.specs.State.{DeskState, OnlyPuts}
 use Rattle.cw_desk.specs.declared.outputs.Outputs.{Outputs}
 use Rattle.cw_lines.specs.Compared.{Compares, came_without, id_of, rests_without}
 use Rattle.cw_lines.specs.laws.ComparedLaws.{compares-bytes, compares-none, compares-then, shortens-none, shortens-then}

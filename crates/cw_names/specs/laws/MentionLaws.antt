@@ -1,8 +1,6 @@
 -- Laws of the sections of occurrences: which are there, and that they ascend.
-use Rattle.std.proofs.Common.{◌≡◌, ℕ, zero, suc, ◌+◌, max, ◌<◌, ◌≤◌, ◌==◌, ◌&&◌, ◌||◌, Bool, true, false}
-use Rattle.std.proofs.Common.{List, [], ◌∷◌, length, slice_index_or, fold, map, cond, refl, sym, ap, subst, ◌∙◌, inl}
-use Rattle.std.proofs.Common.{inr}
-use Rattle.std.proofs.Common.{arith}
+use Rattle.std.proofs.Common.{◌≡◌, ℕ, zero, suc, ◌+◌, max, ◌<◌, ◌≤◌, ◌==◌, ◌&&◌, ◌||◌, Bool, true, false, List, [], ◌∷◌}
+use Rattle.std.proofs.Common.{length, slice_index_or, fold, map, cond, refl, sym, ap, subst, ◌∙◌, inl, inr, arith}
 use Rattle.std.specs.List.{filter, list_any, range_with_len}
 use Rattle.std.proofs.lemmas.Bool.{eq-eqb}
 use Rattle.std.proofs.lemmas.List.Kept.{AllPairs-cons}
@@ -10,8 +8,7 @@ use Rattle.cw_base.proofs.NumberLaws.{three, apart}
 use Rattle.cw_base.proofs.TestLaws.{or-false}
 use Rattle.cw_names.specs.declared.xrefs.Occurrence.{Occurrence}
 use Rattle.cw_names.specs.declared.xrefs.SectionRef.{SectionRef}
-use Rattle.cw_names.specs.Mentions.{AreAscending, above_all, any_in, any_underlined_in, is_of_section}
-use Rattle.cw_names.specs.Mentions.{mention_of, sections_in}
+use Rattle.cw_names.specs.Mentions.{AreAscending, above_all, any_in, any_underlined_in, is_of_section, sections_in}
 
 -- ## Sections that pass a test, from one number on, so many numbers
 
@@ -162,7 +159,8 @@ none-above section occurrences h = none-from 0 section occurrences h
 -- A section is there, and shown, exactly where an occurrence is in it, and it is shown as the occurrences mention it.
 pub sections-at : (section : ℕ) (shown : SectionRef → Bool) (occurrences : List Occurrence)
     → list_any (λ (m : SectionRef). m.section == section && shown m) (sections_in occurrences)
-    ≡ (any_in occurrences section && shown (mention_of occurrences section))
+    ≡ (any_in occurrences section && shown (record
+    { section = section; underlined = any_underlined_in occurrences section }))
 sections-at section shown occurrences =
     ap (list_any (λ (m : SectionRef). m.section == section && shown m))
     (sections-picked occurrences

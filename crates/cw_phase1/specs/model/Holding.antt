@@ -11,10 +11,10 @@ use Rattle.cw_rules.specs.declared.tokens.TokKind.TheVariants as kinds
 use Rattle.cw_secnames.specs.Kept.{SecName}
 use Rattle.cw_secnames.specs.declared.kinds.SecId.{SecId}
 use Rattle.cw_phase1.specs.declared.roles.Standing.{Standing}
-use Rattle.cw_phase1.specs.declared.held.PassState.{PassState}
-use Rattle.cw_phase1.specs.declared.held.Waiting.{Waiting as WaitingToken}
-use Rattle.cw_phase1.specs.declared.held.Remark.{Remark}
-use Rattle.cw_phase1.specs.declared.told.TokenLists.{TokenLists}
+use Rattle.cw_phase1.specs.declared.pass_state.PassState.{PassState}
+use Rattle.cw_phase1.specs.declared.pass_state.Waiting.{Waiting as WaitingToken}
+use Rattle.cw_phase1.specs.declared.pass_state.Remark.{Remark}
+use Rattle.cw_phase1.specs.declared.token_lists.TokenLists.{TokenLists}
 use Rattle.cw_phase1.specs.Roles.{Placement, Step, name_step, token_step, behind_begin, placed_by}
 use Rattle.cw_phase1.specs.Entering.{entered_name, kept_behind, note_of, is_unended}
 use Rattle.cw_phase1.specs.Notes.{scanned_note}

@@ -2,7 +2,7 @@
 use Rattle.std.specs.Prelude.{ℕ, ◌<◌, ◌^◌, List, [], Option, Some, None, All, IfSome, length}
 use Rattle.cw_rules.specs.Answers.{Seen}
 use Rattle.cw_secnames.specs.Uses.{NameUse}
-use Rattle.cw_phase1.specs.declared.held.Waiting.{Waiting as WaitingToken}
+use Rattle.cw_phase1.specs.declared.pass_state.Waiting.{Waiting as WaitingToken}
 use Rattle.cw_phase1.specs.Roles.{at_limbo}
 use Rattle.cw_phase1.specs.model.Telling.{IsKnown, told_start}
 use Rattle.cw_phase1.specs.model.Holding.{HeldState, Waiting}

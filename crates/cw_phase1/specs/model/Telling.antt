@@ -2,15 +2,15 @@
 use Rattle.std.specs.Prelude.{◌<◌, ◌++◌, Bool, false, List, [], ◌∷◌, None, map, length, IfSome, if◌then◌else◌}
 use Rattle.cw_base.specs.Web.{MergedLine}
 use Rattle.cw_names.specs.Names.{Entry}
-use Rattle.cw_phase1.specs.declared.told.TokenLists.{TokenLists}
-use Rattle.cw_phase1.specs.declared.named.NameLists.{NameLists}
+use Rattle.cw_phase1.specs.declared.token_lists.TokenLists.{TokenLists}
+use Rattle.cw_phase1.specs.declared.name_lists.NameLists.{NameLists}
 use Rattle.cw_phase1.specs.declared.words.Words.{Words}
 use Rattle.cw_phase1.specs.Roles.{Placement}
 use Rattle.cw_names.specs.Words.{built_in_words}
 use Rattle.cw_phase1.specs.declared.roles.Role.{Role}
 use Rattle.cw_names.specs.declared.xrefs.Occurrence.{Occurrence}
 use Rattle.cw_phase1.specs.Words.{KnownNames, known_behind, mention_by, waits_behind, occurrence, word}
-use Rattle.cw_phase1.specs.Uses.{use_of, reference_of}
+use Rattle.cw_phase1.specs.Uses.{use_of, reference_by}
 use Rattle.cw_phase1.specs.model.Outlining.{section_told}
 
 abbrev pub known_of : Words → KnownNames
@@ -33,7 +33,7 @@ abbrev pub IsKnown : Words → Type 0
 IsKnown w = IfSome w.first (λ id. id.index < length w.names)
 
 abbrev pub named_told : Placement → NameLists → NameLists
-named_told p n = record { uses = n.uses ++ use_of p; references = n.references ++ reference_of p }
+named_told p n = record { uses = n.uses ++ use_of p; references = n.references ++ reference_by p.role p.name p.section }
 
 abbrev pub told_step : List MergedLine → Placement → TokenLists → TokenLists
 told_step lines p t = record {

@@ -5,6 +5,7 @@ use Rattle.std.proofs.Common.{◌≡◌, ℕ, ◌≤◌, List, [], ◌∷◌, �
 use Rattle.std.proofs.Common.{subst, arith}
 use Rattle.std.proofs.lemmas.List.{append-nil}
 use Rattle.std.proofs.lemmas.Result.{IfOk-weaker, on_ok_weaker, on_err_weaker}
+use Rattle.std.specs.Option.{option_map_or}
 use Rattle.cw_base.specs.declared.event.Event.{Event}
 use Rattle.cw_base.specs.declared.event.Out.{Out}
 use Rattle.cw_base.specs.declared.exit.Exit.{Exit}
@@ -13,7 +14,7 @@ use Rattle.cw_desk.specs.laws.JournalLaws.{grown-none, grown-after, part-first, 
 use Rattle.cw_base.specs.declared.event.Out.TheVariants.{Term, Tex, Idx, Scn}
 use Rattle.cw_desk.specs.Meaning.{Files, NamedFiles, has_draft, is_open, with_draft, with_output}
 use Rattle.cw_desk.specs.laws.MeaningLaws.{drafted-is_open, made-is_open}
-use Rattle.cw_desk.specs.Told.{DeskState, OnlyReads, Turns}
+use Rattle.cw_desk.specs.State.{DeskState, OnlyReads, Turns}
 use Rattle.cw_desk.specs.declared.desk.MadeOut.{MadeOut}
 use Rattle.cw_desk.specs.declared.desk.MadeOut.TheVariants.{Done, Failed, Memory as no_memory}
 use Rattle.cw_desk.specs.declared.outputs.Outputs.{Outputs}
@@ -25,7 +26,7 @@ use Rattle.cw_lines.specs.laws.WritesLaws.{adds-nothing, is_err, rose-later, put
 use Rattle.cw_lines.specs.declared.put_error.PutError.{PutError}
 use Rattle.cw_lines.specs.declared.put_error.PutError.TheVariants.{Memory}
 use Rattle.cw_run.specs.Emits.{Emits, EmitsBy, Faults, Run, Runs, RunsBy}
-use Rattle.cw_run.specs.Files.{IsBegun, OutFile, answered, begun, file_events, none_left, is_same, settled, settled_if}
+use Rattle.cw_run.specs.Files.{IsBegun, OutFile, answered, begun, file_events, none_left, settled, settled_if}
 
 -- a call that only prints
 pub adds-emits : {T : Type 0} {events : List Event} {a b : DeskState} {result : Result T PutError}
@@ -253,13 +254,15 @@ behind-same (x ∷ xs) [] = refl
 behind-same (x ∷ xs) (y ∷ ys) = stripped-same (x == y) xs ys (behind-same xs ys)
 
 -- nothing is left behind the bytes of a file, exactly where it has just these
-pub end-same : (bytes : List ℕ) (old : Option (List ℕ)) → none_left (left_behind bytes old) ≡ is_same old bytes
+pub end-same : (bytes : List ℕ) (old : Option (List ℕ)) → none_left (left_behind bytes old)
+    ≡ option_map_or (bytes_eq bytes) old false
 end-same bytes None = refl
 end-same bytes (Some text) = behind-same bytes text
 
+-- whether a file is there, with just these bytes
 settled-same : (keep : Bool) (out : Out) (bytes : List ℕ) {rest : Option (List ℕ)} (old : Option (List ℕ))
     → (IsTrue keep → rest ≡ left_behind bytes old)
-    → settled_if keep (none_left rest) out ≡ settled_if keep (is_same old bytes) out
+    → settled_if keep (none_left rest) out ≡ settled_if keep (option_map_or (bytes_eq bytes) old false) out
 settled-same false out bytes old is = refl
 settled-same true out bytes old is = ap (λ (same : Bool). settled same out ∷ []) (ap none_left (is refl)
     ∙ end-same bytes old)

@@ -5,7 +5,7 @@ use Rattle.cw_base.specs.declared.exit.Exit.{Exit}
 use Rattle.cw_base.specs.declared.exit.Exit.TheVariants as exits
 use Rattle.cw_desk.specs.laws.JournalLaws.{part-all}
 use Rattle.cw_desk.specs.Meaning.{Rose}
-use Rattle.cw_desk.specs.Told.{DeskState}
+use Rattle.cw_desk.specs.State.{DeskState}
 use Rattle.cw_lines.specs.declared.put_error.PutError.{PutError}
 use Rattle.cw_lines.specs.declared.put_error.PutError.TheVariants.{Fault, Memory}
 use Rattle.cw_run.specs.Emits.{Faults, Run, Runs}

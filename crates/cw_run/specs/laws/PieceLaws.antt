@@ -6,7 +6,7 @@ use Rattle.cw_base.specs.declared.event.Out.{Out}
 use Rattle.cw_desk.specs.Journal.{byte_events}
 use Rattle.cw_desk.specs.laws.JournalLaws.{byte_events-append}
 use Rattle.cw_desk.specs.Meaning.{is_open}
-use Rattle.cw_desk.specs.Told.{DeskState}
+use Rattle.cw_desk.specs.State.{DeskState}
 use Rattle.cw_desk.specs.declared.outputs.Outputs.{Outputs}
 use Rattle.cw_lines.specs.Writes.{Adds}
 use Rattle.cw_lines.specs.laws.WritesLaws.{adds-events, adds-nothing, adds-stop, adds-then}

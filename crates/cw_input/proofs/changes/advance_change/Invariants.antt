@@ -3,7 +3,7 @@
 use Rattle.std.proofs.Common.{◌≡◌, ◌+◌, ◌-◌, ◌*◌, ◌<◌, ◌≤◌, length}
 use Rattle.std.specs.FinMap.{get}
 use Rattle.cw_base.specs.{declared.limits.TheConstants.INPUT_LIMIT, Web.text_of}
-use Rattle.cw_desk.specs.{Meaning.Files, Told.OnlyReads}
+use Rattle.cw_desk.specs.{Meaning.Files, State.OnlyReads}
 use Rattle.cw_input.specs.{model.Fold.advance, Reading.ReadsOn}
 use Rattle.cw_input.specs.model.State.{IsPhase, lines_from, rest_of, state_of}
 use Rattle.cw_input.proofs.changes.advance_change.Given as goal

@@ -12,4 +12,4 @@ returns-in_err-put_footnote g c = prints-bytes (defined-first c.args.book.now.ou
 pub returns : goal.returns
 returns g c = prints-bytes (defined-first c.args.book.now.outline.sections c.args.book.now.sec_names c.args.id
     c.defined_in.result.now c.behind_first-others.result.now c.defined_in.ensures.value c.behind_first-others.ensures)
-    (prints-then c.in_ok-put_footnote.ensures c.put_uses.ensures)
+    (prints-then c.in_ok-put_footnote.ensures c.put_use_footnotes.ensures)

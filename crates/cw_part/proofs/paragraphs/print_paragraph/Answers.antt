@@ -44,7 +44,7 @@ returns-in_err-print-clause-weaves g c =
     ∙ c.if-not-printed.false in
     paragraph-cut c.args.paragraph.front.now (c.args.paragraph.always || nat_lt 0 (scraps_in d.ended)) is
     c.in_ok-translated.ensures.translates (puts-longer (codes "\\par\n") (puts-then c.in_ok-put_all.ensures.puts
-    (puts-bytes c.in_ok-translated.ensures.printed c.in_err-print.ensures))) c.from_residual-in_err-print.ensures.1
+    (puts-bytes c.in_ok-translated.ensures.printed c.in_err-print.ensures.puts))) c.from_residual-in_err-print.ensures.1
 
 pub returns-in_err-put_all-2-clause-weaves : goal.returns-in_err-put_all-2-clause-weaves
 returns-in_err-put_all-2-clause-weaves g c =
@@ -55,7 +55,7 @@ returns-in_err-put_all-2-clause-weaves g c =
     ∙ c.if-not-printed.false in
     paragraph-cut c.args.paragraph.front.now
     (c.args.paragraph.always || nat_lt 0 (scraps_in d.ended)) is c.in_ok-translated.ensures.translates (puts-then
-    (puts-then c.in_ok-put_all.ensures.puts (puts-bytes c.in_ok-translated.ensures.printed c.in_ok-print.ensures))
+    (puts-then c.in_ok-put_all.ensures.puts (puts-bytes c.in_ok-translated.ensures.printed c.in_ok-print.ensures.puts))
     c.in_err-put_all-2.ensures.puts) c.from_residual-in_err-put_all-2.ensures.1
 
 pub returns-clause-weaves : goal.returns-clause-weaves
@@ -67,4 +67,4 @@ returns-clause-weaves g c =
     ∙ c.if-not-printed.false in
     counted c.counts-counts.ensures (paragraph-put c.args.paragraph.front.now (c.args.paragraph.always || nat_lt 0
     (scraps_in d.ended)) is c.in_ok-translated.ensures.translates (puts-then (puts-then c.in_ok-put_all.ensures.puts
-    (puts-bytes c.in_ok-translated.ensures.printed c.in_ok-print.ensures)) c.in_ok-put_all-2.ensures.puts))
+    (puts-bytes c.in_ok-translated.ensures.printed c.in_ok-print.ensures.puts)) c.in_ok-put_all-2.ensures.puts))

@@ -1,13 +1,17 @@
 -- One definition goes behind another. Where no bytes stand, there is none.
 use Rattle.cw_part.proofs.Terms.{◌≡◌, ℕ, not, refl, sym, ap, subst, All, List, length, arith, All-filter, All-head}
 use Rattle.cw_part.proofs.Terms.{All-tail, same-sheet, same-then, can-after, Definition, definitions_in, not_silent}
-use Rattle.cw_part.proofs.Terms.{definition_done, definitions_done, first_opening, later_opening, part_setting}
-use Rattle.cw_part.proofs.Terms.{IsWholeDefinition, AreNamesOf, Lasting, Setting, lasting, weaves-as, weaves-nothing}
+use Rattle.cw_part.proofs.Terms.{definitions_done, first_opening, part_setting, IsWholeDefinition, AreNamesOf, Lasting}
+use Rattle.cw_part.proofs.Terms.{Setting, lasting, weaves-as, weaves-nothing}
 use Rattle.cw_texts.specs.model.DefinitionForms.{loud}
 use Rattle.cw_part.proofs.BareParts.{no-definitions}
 use Rattle.cw_part.proofs.SectionLaws.{moved, sums-are, weaving-as}
 use Rattle.cw_part.proofs.WovenLaws.{weaving-begun, weaving-ended, weaving-next, weaving-stopped, weaving-wanting}
 use Rattle.cw_part.proofs.sections.print_definitions.Goals as goal
+use Rattle.cw_rules.specs.declared.tokens.Mode.TheVariants as modes
+use Rattle.std.specs.Prelude.{codes, false}
+use Rattle.cw_texpart.specs.Texts.{text_done}
+use Rattle.cw_part.specs.Parts.{paragraph}
 
 pub returns-then-part-clause-weaves : goal.returns-then-part-clause-weaves
 returns-then-part-clause-weaves g c = weaves-as (ap (λ (ds : List Definition). definitions_done (part_setting c.args.p
@@ -48,19 +52,23 @@ print_paragraph-requires g c =
 pub returns-in_err-more-in-Some-clause-weaves : goal.returns-in_err-more-in-Some-clause-weaves
 returns-in_err-more-in-Some-clause-weaves g c =
     let s : Setting = part_setting c.args.p (lasting c.args.book.now) in
-    weaving-stopped (definition_done s c.printed.front.now (loud c.in-Some.span))
-    (definitions_done s later_opening (not_silent c.next_printed.new.self))
+    weaving-stopped (λ names. paragraph c.printed.front.now (text_done s modes.Definition false
+    (loud c.in-Some.span).span names))
+    (definitions_done s (codes "\\B") (not_silent c.next_printed.new.self))
     (weaving-as (ap (definitions_done s c.printed.front.now) c.in-Some.ensures) c.printed.invariant.woven)
-    (moved c.args.p (λ (t : Setting). definition_done t c.printed.front.now (loud c.in-Some.span) c.printed.book.names)
+    (moved c.args.p (λ (t : Setting). (paragraph c.printed.front.now
+    (text_done t modes.Definition false (loud c.in-Some.span).span c.printed.book.names)))
     c.printed.invariant.woven.woven.same c.in_err-more-in-Some.ensures.weaves) c.from_residual.ensures.1
 
 pub returns-in_err-counts-in-Some-clause-weaves : goal.returns-in_err-counts-in-Some-clause-weaves
 returns-in_err-counts-in-Some-clause-weaves g c =
     let s : Setting = part_setting c.args.p (lasting c.args.book.now) in
-    weaving-wanting (weaving-next (definition_done s c.printed.front.now (loud c.in-Some.span))
-    (definitions_done s later_opening (not_silent c.next_printed.new.self))
+    weaving-wanting (weaving-next (λ names. paragraph c.printed.front.now (text_done s modes.Definition false
+    (loud c.in-Some.span).span names))
+    (definitions_done s (codes "\\B") (not_silent c.next_printed.new.self))
     (weaving-as (ap (definitions_done s c.printed.front.now) c.in-Some.ensures) c.printed.invariant.woven)
-    (moved c.args.p (λ (t : Setting). definition_done t c.printed.front.now (loud c.in-Some.span) c.printed.book.names)
+    (moved c.args.p (λ (t : Setting). (paragraph c.printed.front.now
+    (text_done t modes.Definition false (loud c.in-Some.span).span c.printed.book.names)))
     c.printed.invariant.woven.woven.same c.in_ok-more-in-Some.ensures.weaves)
     (sums-are c.printed.counts c.in_ok-more-in-Some.more)) c.from_residual-in_err-counts-in-Some.ensures.1
 
@@ -68,11 +76,13 @@ pub printed-preserved : goal.printed-preserved
 printed-preserved g c =
     let s : Setting = part_setting c.args.p (lasting c.args.book.now) in
     record {
-      woven = weaving-next (definition_done s c.printed.front.now (loud c.in-Some.span))
-          (definitions_done s later_opening (not_silent c.next_printed.new.self))
+      woven = weaving-next (λ names. paragraph c.printed.front.now (text_done s modes.Definition false
+          (loud c.in-Some.span).span names))
+          (definitions_done s (codes "\\B") (not_silent c.next_printed.new.self))
           (weaving-as (ap (definitions_done s c.printed.front.now) c.in-Some.ensures) c.printed.invariant.woven)
-          (moved c.args.p (λ (t : Setting). definition_done t c.printed.front.now (loud c.in-Some.span)
-          c.printed.book.names) c.printed.invariant.woven.woven.same c.in_ok-more-in-Some.ensures.weaves) (record
+          (moved c.args.p (λ (t : Setting). (paragraph c.printed.front.now
+          (text_done t modes.Definition false (loud c.in-Some.span).span c.printed.book.names)))
+          c.printed.invariant.woven.woven.same c.in_ok-more-in-Some.ensures.weaves) (record
           { scraps = c.in_ok-counts-in-Some.ensures.scraps; productions = c.in_ok-counts-in-Some.ensures.productions });
       whole = All-tail (IsWholeDefinition c.args.p.text.now) _ _
           (subst (All (IsWholeDefinition c.args.p.text.now)) c.in-Some.ensures c.printed.invariant.whole);

@@ -2,7 +2,8 @@
 use Rattle.cw_phase1.proofs.Terms.{◌≡◌, ◌<◌, ◌≤◌, ◌∙◌, ap, sym, subst, List, [], All, length, arith, text_of, Span}
 use Rattle.cw_phase1.proofs.Terms.{All-nil, SecName, NameUse, Section, answers_of, book, kept_after, Placement}
 use Rattle.cw_phase1.proofs.Terms.{at_limbo, placed, span, sections_of, IsNamedBy, LiesIn, RefersUpTo, unwrap_or}
-use Rattle.cw_phase1.proofs.Terms.{with_references, references_of, section_names, TokenLists}
+use Rattle.cw_phase1.proofs.Terms.{with_references, references_of, section_names, TokenLists, ◌++◌}
+use Rattle.cw_phase1.specs.{Missing.missing_equals, Notes.name_notes}
 use Rattle.cw_phase1.proofs.{Outlines.all-sections, Outlines.all-limbo, Referred.all-referred, LimboRoles.all-rise}
 use Rattle.cw_phase1.proofs.{LimboRoles.unnamed, NameSizes.all-short}
 use Rattle.cw_phase1.proofs.WordLaws.{all-names, all-occurrences, all-uses, all-references}
@@ -30,7 +31,8 @@ sections-are : (c : goal.In_ok-book) → c.in_ok-book.book.outline.sections ≡ 
 sections-are c = c.in_ok-book.ensures.sections ∙ (grind (arith, all-sections))
 
 notes-are : (c : goal.In_ok-book) → c.in_ok-book.book.outline.notes ≡ (book c.args.web.now.lines).outline.notes
-notes-are c = c.in_ok-book.ensures.notes ∙ (grind (arith, all-uses, kept, all-sections))
+notes-are c = c.in_ok-book.ensures.notes ∙ (λ i. c.in_ok-held.ensures.notes i ++ (missing_equals c.args.web.now.lines
+    (name_uses-are c i) (sec_names-are c i) (sections-are c i) ++ name_notes (sec_names-are c i)))
 
 pub make_book-requires-clause-lie : goal.make_book-requires-clause-lie
 make_book-requires-clause-lie c = subst (λ (sections : List Section). All (LiesIn

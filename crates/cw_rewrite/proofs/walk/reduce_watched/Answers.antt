@@ -14,55 +14,26 @@ produce-requires-clause-fits g c =
     let t = turn-next c.loop-found.invariant.0 next in
     rw c.next_row.ensures.same t.fits
 
-pub returns-in_err-produce-clause-after : goal.returns-in_err-produce-clause-after
-returns-in_err-produce-clause-after g c =
+pub returns-in_err-produce-clause-reaches : goal.returns-in_err-produce-clause-reaches
+returns-in_err-produce-clause-reaches g c =
+    let i = c.loop-found.invariant.0 in
     let next = c.in-Some.ensures.next in
-    let t = turn-next c.loop-found.invariant.0 next in
+    let t = turn-next i next in
     let s = t.refused c.produce.new.line c.produce.new.store c.produce.new.names c.produce.new.marks
     c.produce.new.steps (rw c.next_row.ensures.same at c.in_err-produce.ensures.state) c.in_err-produce.ensures.refused
     (omega (arith, c.in_err-produce.ensures.steps, next.counted)) in
-    s.after
-
-pub returns-in_err-produce-clause-numbers : goal.returns-in_err-produce-clause-numbers
-returns-in_err-produce-clause-numbers g c =
-    let next = c.in-Some.ensures.next in
-    let t = turn-next c.loop-found.invariant.0 next in
-    let s = t.refused c.produce.new.line c.produce.new.store c.produce.new.names c.produce.new.marks
-    c.produce.new.steps (rw c.next_row.ensures.same at c.in_err-produce.ensures.state) c.in_err-produce.ensures.refused
-    (omega (arith, c.in_err-produce.ensures.steps, next.counted)) in
-    s.numbers
-
-pub returns-in_err-produce-clause-no_more : goal.returns-in_err-produce-clause-no_more
-returns-in_err-produce-clause-no_more g c =
-    let next = c.in-Some.ensures.next in
-    let t = turn-next c.loop-found.invariant.0 next in
-    let s = t.refused c.produce.new.line c.produce.new.store c.produce.new.names c.produce.new.marks
-    c.produce.new.steps (rw c.next_row.ensures.same at c.in_err-produce.ensures.state) c.in_err-produce.ensures.refused
-    (omega (arith, c.in_err-produce.ensures.steps, next.counted)) in
-    s.no_more
-
-pub returns-in_err-produce-clause-bound : goal.returns-in_err-produce-clause-bound
-returns-in_err-produce-clause-bound g c =
-    let next = c.in-Some.ensures.next in
-    let t = turn-next c.loop-found.invariant.0 next in
-    let s = t.refused c.produce.new.line c.produce.new.store c.produce.new.names c.produce.new.marks
-    c.produce.new.steps (rw c.next_row.ensures.same at c.in_err-produce.ensures.state) c.in_err-produce.ensures.refused
-    (omega (arith, c.in_err-produce.ensures.steps, next.counted)) in
-    s.bound
-
-pub returns-in_err-produce-clause-tokens : goal.returns-in_err-produce-clause-tokens
-returns-in_err-produce-clause-tokens g c =
-    let next = c.in-Some.ensures.next in
-    let t = turn-next c.loop-found.invariant.0 next in
-    let s = t.refused c.produce.new.line c.produce.new.store c.produce.new.names c.produce.new.marks
-    c.produce.new.steps (rw c.next_row.ensures.same at c.in_err-produce.ensures.state) c.in_err-produce.ensures.refused
-    (omega (arith, c.in_err-produce.ensures.steps, next.counted)) in
-    s.tokens
-
-pub returns-in_err-produce-clause-others : goal.returns-in_err-produce-clause-others
-returns-in_err-produce-clause-others g c = keeps-trans c.args.store.now.lists c.loop-found.store.lists
-    c.produce.new.store.lists (roots_of c.args.line.now) (roots_of c.loop-found.line) (roots_of c.produce.new.line)
-    c.loop-found.invariant.0.keeps (rw c.next_row.ensures.same at c.in_err-produce.ensures.others)
+    record {
+      after = s.after;
+      words = c.in_err-produce.ensures.words ∙ i.words;
+      numbers = s.numbers;
+      sound = c.in_err-produce.ensures.sound;
+      others = keeps-trans c.args.store.now.lists c.loop-found.store.lists c.produce.new.store.lists
+          (roots_of c.args.line.now) (roots_of c.loop-found.line) (roots_of c.produce.new.line) i.keeps
+          (rw c.next_row.ensures.same at c.in_err-produce.ensures.others);
+      tokens = s.tokens;
+      no_more = s.no_more;
+      bound = s.bound;
+    }
 
 pub overflow_add-productions : goal.overflow_add-productions
 overflow_add-productions g c =
@@ -102,105 +73,64 @@ loop-found-preserved g c =
       ),
     )
 
-pub returns-clause-normal : goal.returns-clause-normal
-returns-clause-normal g c =
+pub returns-clause-reaches : goal.returns-clause-reaches
+returns-clause-reaches g c =
     let more = c.in_default.ensures.next in
     let h = at-end c.loop-found.invariant.0 more in
-    rw c.next_row.ensures.same ((ends _ _ _ _ _ _ _ _ _ _ _ _ _ h more.past).normal)
+    let s = stops _ _ _ _ _ _ _ _ _ _ _ _ _ h more.past in
+    rw c.next_row.ensures.same (record {
+      after = s.after;
+      words = h.words;
+      numbers = s.numbers;
+      sound = h.sound;
+      others = h.keeps;
+      tokens = s.tokens;
+      no_more = s.no_more;
+      bound = s.bound;
+    })
 
-pub returns-clause-productions : goal.returns-clause-productions
-returns-clause-productions g c =
+pub returns-clause-reduced : goal.returns-clause-reduced
+returns-clause-reduced g c =
     let more = c.in_default.ensures.next in
     let h = at-end c.loop-found.invariant.0 more in
-    (ends _ _ _ _ _ _ _ _ _ _ _ _ _ h more.past).number
+    let e = ends _ _ _ _ _ _ _ _ _ _ _ _ _ h more.past in
+    rw c.next_row.ensures.same (record {
+      normal_form = e.normal;
+      productions_are = e.number;
+      light = light _ _ _ _ _ _ _ _ _ _ _ _ _ h more.past;
+      few = few _ _ _ _ _ _ _ _ _ _ _ _ _ h more.past;
+      steps_are = e.ticked;
+    })
 
-pub returns-clause-light : goal.returns-clause-light
-returns-clause-light g c =
-    let more = c.in_default.ensures.next in
-    let h = at-end c.loop-found.invariant.0 more in
-    light _ _ _ _ _ _ _ _ _ _ _ _ _ h more.past
+pub returns-in_err-hear-clause-reaches : goal.returns-in_err-hear-clause-reaches
+returns-in_err-hear-clause-reaches g c =
+    let i = c.loop-found.invariant.0 in
+    let s = not-done i c.in-Some.ensures.next c.next_row.new.line c.next_row.ensures.same in
+    record {
+      after = s.after;
+      words = i.words;
+      numbers = s.numbers;
+      sound = rw c.next_row.ensures.same i.sound;
+      others = rw c.next_row.ensures.same i.keeps;
+      tokens = s.tokens;
+      no_more = s.no_more;
+      bound = s.bound;
+    }
 
-pub returns-clause-few : goal.returns-clause-few
-returns-clause-few g c =
-    let more = c.in_default.ensures.next in
-    let h = at-end c.loop-found.invariant.0 more in
-    few _ _ _ _ _ _ _ _ _ _ _ _ _ h more.past
-
-pub returns-clause-after : goal.returns-clause-after
-returns-clause-after g c =
-    let more = c.in_default.ensures.next in
-    let h = at-end c.loop-found.invariant.0 more in
-    rw c.next_row.ensures.same ((stops _ _ _ _ _ _ _ _ _ _ _ _ _ h more.past).after)
-
-pub returns-clause-numbers : goal.returns-clause-numbers
-returns-clause-numbers g c =
-    let more = c.in_default.ensures.next in
-    let h = at-end c.loop-found.invariant.0 more in
-    rw c.next_row.ensures.same ((stops _ _ _ _ _ _ _ _ _ _ _ _ _ h more.past).numbers)
-
-pub returns-clause-steps : goal.returns-clause-steps
-returns-clause-steps g c =
-    let more = c.in_default.ensures.next in
-    let h = at-end c.loop-found.invariant.0 more in
-    (ends _ _ _ _ _ _ _ _ _ _ _ _ _ h more.past).ticked
-
-pub returns-clause-no_more : goal.returns-clause-no_more
-returns-clause-no_more g c =
-    let more = c.in_default.ensures.next in
-    let h = at-end c.loop-found.invariant.0 more in
-    (stops _ _ _ _ _ _ _ _ _ _ _ _ _ h more.past).no_more
-
-pub returns-clause-bound : goal.returns-clause-bound
-returns-clause-bound g c =
-    let more = c.in_default.ensures.next in
-    let h = at-end c.loop-found.invariant.0 more in
-    (stops _ _ _ _ _ _ _ _ _ _ _ _ _ h more.past).bound
-
-pub returns-clause-tokens : goal.returns-clause-tokens
-returns-clause-tokens g c =
-    let more = c.in_default.ensures.next in
-    let h = at-end c.loop-found.invariant.0 more in
-    rw c.next_row.ensures.same ((stops _ _ _ _ _ _ _ _ _ _ _ _ _ h more.past).tokens)
-
-pub returns-in_err-hear-clause-after : goal.returns-in_err-hear-clause-after
-returns-in_err-hear-clause-after g c =
-    (not-done c.loop-found.invariant.0 c.in-Some.ensures.next c.next_row.new.line c.next_row.ensures.same).after
-
-pub returns-in_err-hear-clause-numbers : goal.returns-in_err-hear-clause-numbers
-returns-in_err-hear-clause-numbers g c =
-    (not-done c.loop-found.invariant.0 c.in-Some.ensures.next c.next_row.new.line c.next_row.ensures.same).numbers
-
-pub returns-in_err-hear-clause-no_more : goal.returns-in_err-hear-clause-no_more
-returns-in_err-hear-clause-no_more g c =
-    (not-done c.loop-found.invariant.0 c.in-Some.ensures.next c.next_row.new.line c.next_row.ensures.same).no_more
-
-pub returns-in_err-hear-clause-bound : goal.returns-in_err-hear-clause-bound
-returns-in_err-hear-clause-bound g c =
-    (not-done c.loop-found.invariant.0 c.in-Some.ensures.next c.next_row.new.line c.next_row.ensures.same).bound
-
-pub returns-in_err-hear-clause-tokens : goal.returns-in_err-hear-clause-tokens
-returns-in_err-hear-clause-tokens g c =
-    (not-done c.loop-found.invariant.0 c.in-Some.ensures.next c.next_row.new.line c.next_row.ensures.same).tokens
-
-pub returns-then-not-branch-clause-after : goal.returns-then-not-branch-clause-after
-returns-then-not-branch-clause-after g c =
-    (not-done c.loop-found.invariant.0 c.in-Some.ensures.next c.next_row.new.line c.next_row.ensures.same).after
-
-pub returns-then-not-branch-clause-numbers : goal.returns-then-not-branch-clause-numbers
-returns-then-not-branch-clause-numbers g c =
-    (not-done c.loop-found.invariant.0 c.in-Some.ensures.next c.next_row.new.line c.next_row.ensures.same).numbers
-
-pub returns-then-not-branch-clause-no_more : goal.returns-then-not-branch-clause-no_more
-returns-then-not-branch-clause-no_more g c =
-    (not-done c.loop-found.invariant.0 c.in-Some.ensures.next c.next_row.new.line c.next_row.ensures.same).no_more
-
-pub returns-then-not-branch-clause-bound : goal.returns-then-not-branch-clause-bound
-returns-then-not-branch-clause-bound g c =
-    (not-done c.loop-found.invariant.0 c.in-Some.ensures.next c.next_row.new.line c.next_row.ensures.same).bound
-
-pub returns-then-not-branch-clause-tokens : goal.returns-then-not-branch-clause-tokens
-returns-then-not-branch-clause-tokens g c =
-    (not-done c.loop-found.invariant.0 c.in-Some.ensures.next c.next_row.new.line c.next_row.ensures.same).tokens
+pub returns-then-not-branch-clause-reaches : goal.returns-then-not-branch-clause-reaches
+returns-then-not-branch-clause-reaches g c =
+    let i = c.loop-found.invariant.0 in
+    let s = not-done i c.in-Some.ensures.next c.next_row.new.line c.next_row.ensures.same in
+    record {
+      after = s.after;
+      words = i.words;
+      numbers = s.numbers;
+      sound = rw c.next_row.ensures.same i.sound;
+      others = rw c.next_row.ensures.same i.keeps;
+      tokens = s.tokens;
+      no_more = s.no_more;
+      bound = s.bound;
+    }
 
 pub returns-then-not-branch-clause-stopped : goal.returns-then-not-branch-clause-stopped
 returns-then-not-branch-clause-stopped g c =

@@ -15,11 +15,11 @@ returns-in_err-put_all-3 g c = prints-stop (codes "}") (prints-longer (section_n
     (prints-then (prints-then c.in_ok-put_all.ensures c.in_ok-put_all-2.ensures) c.in_err-put_all-3.ensures))
     c.from_residual-in_err-put_all-3.ensures.1
 
-pub returns-in_err-put_digits : goal.returns-in_err-put_digits
-returns-in_err-put_digits g c = prints-stop (codes "}")
+pub returns-in_err-put_number : goal.returns-in_err-put_number
+returns-in_err-put_number g c = prints-stop (codes "}")
     (prints-then (prints-then (prints-then c.in_ok-put_all.ensures c.in_ok-put_all-2.ensures) c.in_ok-put_all-3.ensures)
-    c.in_err-put_digits.ensures) c.from_residual-in_err-put_digits.ensures.1
+    c.in_err-put_number.ensures) c.from_residual-in_err-put_number.ensures.1
 
 pub returns : goal.returns
 returns g c = prints-then (prints-then (prints-then (prints-then c.in_ok-put_all.ensures c.in_ok-put_all-2.ensures)
-    c.in_ok-put_all-3.ensures) c.in_ok-put_digits.ensures) c.put_all-4.ensures
+    c.in_ok-put_all-3.ensures) c.in_ok-put_number.ensures) c.put_all-4.ensures

@@ -3,13 +3,14 @@ use Rattle.cw_texpart.proofs.Terms.{puts-bytes}
 use Rattle.cw_texpart.proofs.TextLaws.{translated-woven, unprinted-woven, untranslated-woven}
 use Rattle.cw_texpart.proofs.texts.print_text.Goals as goal
 
-pub returns-in_err-translated : goal.returns-in_err-translated
-returns-in_err-translated g c = untranslated-woven c.in_err-translated.ensures.translates c.from_residual.ensures.1
+pub returns-in_err-translated-clause-weaves : goal.returns-in_err-translated-clause-weaves
+returns-in_err-translated-clause-weaves g c =
+    untranslated-woven c.in_err-translated.ensures.translates c.from_residual.ensures.1
 
-pub returns-in_err-print : goal.returns-in_err-print
-returns-in_err-print g c = unprinted-woven c.in_ok-translated.ensures.translates
-    (puts-bytes c.in_ok-translated.ensures.printed c.in_err-print.ensures) c.from_residual-in_err-print.ensures.1
+pub returns-in_err-print-clause-weaves : goal.returns-in_err-print-clause-weaves
+returns-in_err-print-clause-weaves g c = unprinted-woven c.in_ok-translated.ensures.translates
+    (puts-bytes c.in_ok-translated.ensures.printed c.in_err-print.ensures.puts) c.from_residual-in_err-print.ensures.1
 
-pub returns : goal.returns
-returns g c = translated-woven c.counts.ensures c.in_ok-translated.ensures.translates
-    (puts-bytes c.in_ok-translated.ensures.printed c.in_ok-print.ensures)
+pub returns-clause-weaves : goal.returns-clause-weaves
+returns-clause-weaves g c = translated-woven c.counts.ensures c.in_ok-translated.ensures.translates
+    (puts-bytes c.in_ok-translated.ensures.printed c.in_ok-print.ensures.puts)

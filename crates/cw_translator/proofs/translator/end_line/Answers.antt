@@ -9,15 +9,16 @@ use Rattle.cw_translator.proofs.Retypings.{retypes, retyped-names}
 use Rattle.cw_translator.proofs.translator.end_line.Goals as goal
 
 pub returns-in_err-reduced-clause-retypes : goal.returns-in_err-reduced-clause-retypes
-returns-in_err-reduced-clause-retypes g c = retypes _ _ _ _ _ c.in_err-reduced.ensures.after refl
-    c.in_err-reduced.ensures.words
+returns-in_err-reduced-clause-retypes g c = retypes _ _ _ _ _ c.in_err-reduced.ensures.reaches.after refl
+    c.in_err-reduced.ensures.reaches.words
 
 pub returns-in_err-list-clause-retypes : goal.returns-in_err-list-clause-retypes
-returns-in_err-list-clause-retypes g c = retypes _ _ _ _ _ c.in_ok-reduced.ensures.after refl
-    c.in_ok-reduced.ensures.words
+returns-in_err-list-clause-retypes g c = retypes _ _ _ _ _ c.in_ok-reduced.ensures.reaches.after refl
+    c.in_ok-reduced.ensures.reaches.words
 
 pub returns-clause-retypes : goal.returns-clause-retypes
-returns-clause-retypes g c = retypes _ _ _ _ _ c.in_ok-reduced.ensures.after refl c.in_ok-reduced.ensures.words
+returns-clause-retypes g c =
+    retypes _ _ _ _ _ c.in_ok-reduced.ensures.reaches.after refl c.in_ok-reduced.ensures.reaches.words
 
 -- nothing was done yet, or the line was reduced
 pub returns-in_err-begin-clause-retypes : goal.returns-in_err-begin-clause-retypes
@@ -27,8 +28,8 @@ returns-in_err-begin-clause-retypes g c = retypes _ _ (state_of c.args.work.now.
     productions-sound c.requires.sound.fine (omega arith)) refl refl
 
 pub returns-in_err-end-clause-retypes : goal.returns-in_err-end-clause-retypes
-returns-in_err-end-clause-retypes g c = retypes _ _ _ _ _ c.in_ok-reduced.ensures.after refl
-    c.in_ok-reduced.ensures.words
+returns-in_err-end-clause-retypes g c = retypes _ _ _ _ _ c.in_ok-reduced.ensures.reaches.after refl
+    c.in_ok-reduced.ensures.reaches.words
 
 -- The text is told when it is reduced.
 pub returns-in_err-begin-clause-recorded : goal.returns-in_err-begin-clause-recorded
@@ -55,23 +56,24 @@ returns-clause-recorded g c = recorded-one c.args.context.now.flags.now
 
 pub returns-clause-done : goal.returns-clause-done
 returns-clause-done g c =
-    let tied = tied-idle c.reduce_watched.new.store c.in_ok-reduced.ensures.sound.idle c.tied_law.ensures in
+    let tied = tied-idle c.reduce_watched.new.store c.in_ok-reduced.ensures.reaches.sound.idle c.tied_law.ensures in
     record {
       tree = c.in_ok-list.ensures.tree ∙ ap (λ (s : State). whole s.scraps)
-          (rw c.in-Some.is at c.in_ok-reduced.ensures.normal);
+          (rw c.in-Some.is at c.in_ok-reduced.ensures.reduced).normal_form;
       scraps = c.len-scraps.ensures.length;
-      productions_are = (rw c.in-Some.is at c.in_ok-reduced.ensures.productions);
-      few = omega (arith, c.len-scraps.ensures.length, rw c.in-Some.is at c.in_ok-reduced.ensures.few);
-      names_are = retyped-names _ _ _ _ _ (rw c.in-Some.is at c.in_ok-reduced.ensures.normal) refl
-          c.in_ok-reduced.ensures.words;
-      marks_are = ap (λ (s : State). s.marks) (rw c.in-Some.is at c.in_ok-reduced.ensures.normal);
-      steps_are = (rw c.in-Some.is at c.in_ok-reduced.ensures.steps);
-      words = c.in_ok-reduced.ensures.words;
+      productions_are = (rw c.in-Some.is at c.in_ok-reduced.ensures.reduced).productions_are;
+      few = omega (arith, c.len-scraps.ensures.length, (rw c.in-Some.is at c.in_ok-reduced.ensures.reduced).few);
+      names_are = retyped-names _ _ _ _ _ (rw c.in-Some.is at c.in_ok-reduced.ensures.reduced).normal_form refl
+          c.in_ok-reduced.ensures.reaches.words;
+      marks_are = ap (λ (s : State). s.marks) (rw c.in-Some.is at c.in_ok-reduced.ensures.reduced).normal_form;
+      steps_are = (rw c.in-Some.is at c.in_ok-reduced.ensures.reduced).steps_are;
+      words = c.in_ok-reduced.ensures.reaches.words;
       named = subst (IsNamedBelow (length c.reduce_watched.new.names)) (sym c.in_ok-list.ensures.tree)
           (whole-named (length c.reduce_watched.new.names)
-          (scraps_of c.reduce_watched.new.store.lists c.reduce_watched.new.line) c.in_ok-reduced.ensures.sound.named);
-      root = gathers-root _ _ _ _ c.in_ok-list.ensures.gathers tied c.in_ok-reduced.ensures.sound.roots;
-      keeps = keeps-trans _ _ _ _ _ _ c.in_ok-reduced.ensures.others (gathers-keeps _ _ _ _
-          c.in_ok-list.ensures.gathers tied c.in_ok-reduced.ensures.sound.roots);
+          (scraps_of c.reduce_watched.new.store.lists c.reduce_watched.new.line)
+          c.in_ok-reduced.ensures.reaches.sound.named);
+      root = gathers-root _ _ _ _ c.in_ok-list.ensures.gathers tied c.in_ok-reduced.ensures.reaches.sound.roots;
+      keeps = keeps-trans _ _ _ _ _ _ c.in_ok-reduced.ensures.reaches.others (gathers-keeps _ _ _ _
+          c.in_ok-list.ensures.gathers tied c.in_ok-reduced.ensures.reaches.sound.roots);
       idle = c.in_ok-list.ensures.idle;
     }
