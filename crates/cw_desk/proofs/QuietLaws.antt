@@ -1,9 +1,9 @@
 -- What a quiet desk tells is what the desk in memory that it holds tells.
 use Rattle.cw_desk.proofs.Terms.{◌≡◌, ℕ, ◌==◌, List, [], if◌then◌else◌, sym, ap, subst, ◌∙◌, MemState, called, counted}
-use Rattle.cw_desk.proofs.Terms.{tell as tell_mem, DeskState}
+use Rattle.cw_desk.proofs.Terms.{tell_mem, DeskState}
 use Rattle.std.specs.List.{list_any}
 use Rattle.cw_desk.specs.Quiet.{QuietState, as_quiet}
-use Rattle.cw_desk.specs.model.Quiet.{as_mem, tell}
+use Rattle.cw_desk.specs.model.Quiet.{as_mem, tell_quiet}
 
 -- No call on it is to fail, and none has failed.
 pub record IsQuiet (d : MemState) : Type 0 where
@@ -30,7 +30,7 @@ quiet-after {d = d} quiet failing faults = let still = called-quiet d quiet in r
 
 pub tells-quiet : (R : DeskState → DeskState → Type 0) (d e : MemState) (q : QuietState) → as_quiet d
     ≡ q → IsQuiet d → IsQuiet e
-    → R (tell_mem d) (tell_mem e) → R (tell q) (tell (as_quiet e))
-tells-quiet R d e q is before after done = subst (λ (s : QuietState). R (tell s) (tell (as_quiet e))) is
+    → R (tell_mem d) (tell_mem e) → R (tell_quiet q) (tell_quiet (as_quiet e))
+tells-quiet R d e q is before after done = subst (λ (s : QuietState). R (tell_quiet s) (tell_quiet (as_quiet e))) is
     (subst (λ (m : MemState). R (tell_mem m) (tell_mem (as_mem (as_quiet e)))) (sym (as_mem-quiet d before))
     (subst (λ (m : MemState). R (tell_mem d) (tell_mem m)) (sym (as_mem-quiet e after)) done))

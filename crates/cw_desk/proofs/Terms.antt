@@ -9,5 +9,5 @@ pub use Rattle.std.specs.Cmp.Lexicographic.{slice_cmp, nat_list_cmp_total}
 pub use Rattle.std.specs.FinMap.{find, get, from_entries, get-from_entries}
 pub use Rattle.std.specs.Ordering.{nat_cmp}
 pub use Rattle.cw_desk.specs.{Journal.byte_events, Journal.grown, Mem.MemState, model.Mem.called, model.Mem.counted}
-pub use Rattle.cw_desk.specs.{model.Mem.tell, State.DeskState, State.Opens, State.Reads, State.OnlyPuts}
+pub use Rattle.cw_desk.specs.{model.Mem.tell_mem, State.DeskState, State.Opens, State.Reads, State.OnlyPuts}
 pub use Rattle.cw_desk.specs.{model.Trail.nothing, Trail.noted_after}

@@ -3,20 +3,19 @@ ghost use Rattle.std.specs.Prelude.{◌≡◌, ◌∷◌, ◌++◌, [], List, On
 ghost use Rattle.cw_trees.specs.Printing.{Printable, opened};
 ghost use Rattle.cw_tokens.specs.FlatItems.{item_is};
 ghost use Rattle.cw_lines.specs.Sheets.{CanPrint, Prints};
-ghost use Rattle.cw_lines.specs.Writes.{CanWrite, Puts};
-ghost use Rattle.cw_join.specs.Early.{added, late, run_front};
+ghost use Rattle.cw_join.specs.Early.{late, run_front};
 ghost use Rattle.cw_join.specs.Runs.{run_state};
 ghost use Rattle.cw_join.specs.model.Runs.{run_more, state_back, state_of, step_bytes};
 ghost use Rattle.cw_join.specs.Standing.{Stands};
 ghost use Rattle.cw_join.specs.Stretches.{is_inner};
-ghost use Rattle.cw_join.specs.Tokens.{CanCome, HasRoom, IsNamed, item_bytes, printable};
+ghost use Rattle.cw_join.specs.Tokens.{CanCome, HasRoom, IsNamed, item_bytes};
 
 use crate::naming::{put_ident_of, put_reserved_of};
 use crate::pieces::{put_some, sign};
-use crate::run::{ControlRun, indent, run_control};
+use crate::run::{ControlRun, indent};
 use crate::token::FlatToken;
 use cw_desk::Desk;
-use cw_lines::{LineOut, PutError, Sheet};
+use cw_lines::{PutError, Sheet};
 use cw_names::Names;
 use cw_tokens::FlatItem;
 use cw_trees::Control;
@@ -54,46 +53,8 @@ impl Joiner {
         }
     }
 
-    /// Prints one item more. The break or blank of a run is printed when the run has ended, its indents at once. After
-    /// an `Err` the joiner is not to be used again.
-    pub fn push<D: Desk>(
-        &mut self,
-        token: FlatToken,
-        names: &Names,
-        out: &mut LineOut,
-        desk: &mut D,
-    ) -> Result<(), PutError>
-        requires can { CanWrite (D.told desk.old) out.old }
-        requires come { CanCome (length names.now) self.old.depth token.item }
-        ensures puts { (ps : List Printable) → Stands self.old ps
-            → Puts (added self.old.inner ps (printable names.now token.entry)) out.old out.new
-            (D.told desk.old) (D.told desk.new) result }
-        ensures stands { (ps : List Printable) → Stands self.old ps
-            → OnOk result (Stands self.new (ps ++ printable names.now token.entry ∷ [])) }
-        ensures inner { OnOk result (self.new.inner ≡ self.old.inner) }
-    {
-        let mut sheet = Sheet { line: out, desk };
-        match run_control(token.item) {
-            Some(control) => self.push_control(control, &mut sheet),
-            None => self.push_other(token, names, &mut sheet),
-        }
-    }
-
-    /// Prints what a run at the end has still to print. The joiner is then as new.
-    pub fn finish<D: Desk>(&mut self, out: &mut LineOut, desk: &mut D) -> Result<(), PutError>
-        requires can { CanWrite (D.told desk.old) out.old }
-        requires closed { self.old.depth ≡ 0 }
-        ensures puts { (ps : List Printable) → Stands self.old ps
-            → Puts (late self.old.inner ps) out.old out.new (D.told desk.old) (D.told desk.new) result }
-        ensures stands { OnOk result (Stands self.new []) }
-        ensures inner { OnOk result (self.new.inner ≡ self.old.inner) }
-    {
-        let mut sheet = Sheet { line: out, desk };
-        self.end(&mut sheet)
-    }
-
-    // The run ends on a sheet.
-    fn end<D: Desk>(&mut self, sheet: &mut Sheet<D>) -> Result<(), PutError>
+    /// The run ends on a sheet.
+    pub(crate) fn end<D: Desk>(&mut self, sheet: &mut Sheet<D>) -> Result<(), PutError>
         requires can { CanPrint D.told sheet.old }
         requires closed { self.old.depth ≡ 0 }
         ensures prints { (ps : List Printable) → Stands self.old ps
@@ -113,8 +74,8 @@ impl Joiner {
         self.inner || self.depth > 0
     }
 
-    // A control goes into the run.
-    fn push_control<D: Desk>(
+    /// A control goes into the run.
+    pub(crate) fn push_control<D: Desk>(
         &mut self,
         control: Control,
         sheet: &mut Sheet<D>,
@@ -134,8 +95,8 @@ impl Joiner {
         Ok(())
     }
 
-    // Any other item ends the run and prints its own bytes.
-    fn push_other<D: Desk>(
+    /// Any other item ends the run and prints its own bytes.
+    pub(crate) fn push_other<D: Desk>(
         &mut self,
         token: FlatToken,
         names: &Names,

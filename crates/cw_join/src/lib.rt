@@ -7,6 +7,7 @@ mod joiner;
 mod names_behind;
 mod naming;
 mod pieces;
+mod published;
 mod run;
 mod short_names;
 mod token;

@@ -25,7 +25,7 @@ use Rattle.cw_phase1.specs.Sound.{LiesIn}
 use Rattle.cw_phase1.specs.declared.roles.Part.TheVariants as parts
 use Rattle.cw_phase1.proofs.PartEnds.{plain-role, section-part}
 use Rattle.cw_phase1.proofs.SpanLaws.{Follow, follows, all-lie}
-use Rattle.cw_laws.specs.Pieces.{pieces_from, book_pieces, EndToEnd, BeginsAt, AreBegun, piece_bytes, has_byte}
+use Rattle.cw_laws.specs.Pieces.{pieces_from, book_pieces, EndToEnd, SectionBeginsAt, AreBegun, piece_bytes, has_byte}
 use Rattle.cw_laws.specs.Pieces.{pieces_with, IsAllOf, BooksAreWhole}
 use Rattle.cw_laws.proofs.Openers.{AreOpeners, openers}
 use Rattle.cw_laws.proofs.PartCodes.{definitions-begin, c-part-begins}
@@ -48,7 +48,7 @@ lie lines from size (p ∷ ps) f = lie-by (is_section_code p.role) p.token.span.
 -- ## Each section begins with its code
 
 begun-by : (text : List ℕ) (b : Bool) (start later : ℕ) (s : Section) (rest : List Section)
-    → (b ≡ true → BeginsAt text start s) → s.c_part.end ≡ later → AreBegun text later rest
+    → (b ≡ true → SectionBeginsAt text start s) → s.c_part.end ≡ later → AreBegun text later rest
     → AreBegun text (if b then start else later) (if b then s ∷ rest else rest)
 begun-by text b start later s rest h e k = grind (arith, nat_tests)
 
@@ -60,7 +60,7 @@ kind-of-role s t answers h = grind (arith, nat_tests, not-both, plain-role)
 -- a section begins with its code, and its parts with codes of theirs
 section-begins : (text : List ℕ) (lines : List MergedLine) (size : ℕ) (t : Seen) (next : Standing)
     (kept : List SecName) (answers : List Answer) → next.part ≡ parts.Tex → IsCodeAt text t → AreOpeners text answers
-    → BeginsAt text t.span.start (section_at lines size t (placed_from next kept answers))
+    → SectionBeginsAt text t.span.start (section_at lines size t (placed_from next kept answers))
 section-begins text lines size t next kept answers e c o = grind (arith, nat_tests, definitions-begin, c-part-begins)
 
 begun : (text : List ℕ) (lines : List MergedLine) (size : ℕ) (s : Standing) (kept : List SecName)

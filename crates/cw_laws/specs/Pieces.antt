@@ -55,7 +55,7 @@ BeginsBy text opens part =
 
 -- A section begins at a place: its code stands there, and its TeX part begins right behind the code. Its definitions
 -- and its C part begin with codes of theirs.
-pub record BeginsAt (text : List ℕ) (place : ℕ) (s : Section) : Type 0 where
+pub record SectionBeginsAt (text : List ℕ) (place : ℕ) (s : Section) : Type 0 where
   pub code : is_section_at text place ≡ true
   pub behind : s.tex.start ≡ place + (section_code (drop place text)).size
   pub starred : s.starred ≡ is_starred (section_code (drop place text)).kind
@@ -64,7 +64,7 @@ pub record BeginsAt (text : List ℕ) (place : ℕ) (s : Section) : Type 0 where
 
 abbrev pub AreBegun : List ℕ → ℕ → List Section → Type 0
 AreBegun text place [] = Unit {0}
-AreBegun text place (s ∷ sections) = BeginsAt text place s × AreBegun text s.c_part.end sections
+AreBegun text place (s ∷ sections) = SectionBeginsAt text place s × AreBegun text s.c_part.end sections
 
 -- the bytes of pieces, one behind another
 abbrev pub piece_bytes : List ℕ → List Span → List ℕ

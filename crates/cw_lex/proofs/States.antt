@@ -3,7 +3,7 @@ use Rattle.std.proofs.Common.{◌≡◌, ℕ, ◌+◌, ◌≤◌, Bool, true, fa
 use Rattle.std.proofs.Common.{arith}
 use Rattle.std.proofs.lemmas.Bool.Decides.{nat_tests}
 use Rattle.cw_rules.specs.declared.{parts.Part.Part, parts.Opened.Opened, pending.Pending.Pending}
-use Rattle.cw_lex.specs.{declared.state.State.State, model.Coming.IsNested, model.Coming.AllWithin}
+use Rattle.cw_lex.specs.{declared.state.State.State, model.Coming.AreOpenInCode, model.Coming.AllWithin}
 use Rattle.cw_lex.specs.{model.Coming.IsReady}
 use Rattle.cw_rules.specs.{Pending.IsInside, Tokens.is_code, Tokens.is_code_part}
 use Rattle.cw_base.specs.model.Conditions.{one_if}
@@ -21,8 +21,8 @@ pub is_code-part : (p q : Part) (comments : List Opened) → is_code_part q ≡ 
     ≡ is_code p comments
 is_code-part p q comments e = grind arith
 
-pub nested-part : (p q : Part) (comments : List Opened) → is_code_part q ≡ is_code_part p → IsNested p comments
-    → IsNested q comments
+pub nested-part : (p q : Part) (comments : List Opened) → is_code_part q ≡ is_code_part p → AreOpenInCode p comments
+    → AreOpenInCode q comments
 nested-part p q [] e n = tt
 nested-part p q (c ∷ comments) e n = (is_code-part p q comments e ∙ n.0, nested-part p q comments e n.1)
 
@@ -45,7 +45,7 @@ ready-top text s q c d comments p next ready top part braces depth e from within
     let P : List Opened → Type 0 = λ cs. IsReady text
     (record { at = next; part = q; comments = cs; pending = p; clear = s.clear }) in
     let all : AllWithin s.at (c ∷ rest) = subst (AllWithin s.at) top ready.braces in
-    let nested : IsNested s.part (c ∷ rest) = subst (IsNested s.part) top ready.nested in
+    let nested : AreOpenInCode s.part (c ∷ rest) = subst (AreOpenInCode s.part) top ready.nested in
     subst P (sym e) (record {
       within = within;
       depth = omega (arith, depth, ap length top);
@@ -67,6 +67,6 @@ pub top-within : (n : ℕ) (comments : List Opened) (c : Opened) (rest : List Op
 top-within n comments c rest all e = (subst (AllWithin n) e all).0
 
 -- behind the innermost comment C text goes on
-pub top-nested : (part : Part) (comments : List Opened) (c : Opened) (rest : List Opened) → IsNested part comments
+pub top-nested : (part : Part) (comments : List Opened) (c : Opened) (rest : List Opened) → AreOpenInCode part comments
     → comments ≡ c ∷ rest → is_code part rest ≡ true
-top-nested part comments c rest nested e = (subst (IsNested part) e nested).0
+top-nested part comments c rest nested e = (subst (AreOpenInCode part) e nested).0

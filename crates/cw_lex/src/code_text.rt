@@ -10,7 +10,7 @@ ghost use Rattle.cw_rules.specs.Tokens.{comment_end, inner_cut, takes_hash_line,
 ghost use Rattle.cw_rules.specs.Tokens.{in_hash_line};
 ghost use Rattle.cw_rules.specs.Tokens.{ends_at_bar, one, moved, closes_on_line, is_include, behind_word, word};
 ghost use Rattle.cw_rules.specs.Tokens.{passed};
-ghost use Rattle.cw_lex.specs.model.Coming.{where_of, coming, found_at, ends_line, IsNested};
+ghost use Rattle.cw_lex.specs.model.Coming.{where_of, coming, found_at, ends_line, AreOpenInCode};
 ghost use Rattle.cw_rules.specs.model.Cuttings.{bytes_at, cut_of};
 ghost use Rattle.cw_rules.specs.Tokens.{is_code, is_code_part};
 ghost use Rattle.cw_lex.specs.model.Coming.{is_white_here, IsClear, IsReady, CanStep};
@@ -388,7 +388,7 @@ fn give_word<'a>(
     size: usize,
 ) -> Lexed<'a>
     requires step { CanStep text.now state.old }
-    requires nested { IsNested part state.old.comments }
+    requires nested { AreOpenInCode part state.old.comments }
     requires some { 0 < size }
     requires within { state.old.at + size ≤ length text.now }
     requires size { size ≡ run Class.Word (bytes_at text.now state.old.at) }

@@ -4,7 +4,7 @@ ghost use Rattle.cw_rules.specs.Answers.{Gives, Note, before, seen, token_of};
 ghost use Rattle.cw_rules.specs.Tokens.{one, moved, inner_begin};
 ghost use Rattle.cw_lex.specs.model.Short.{BeginsString};
 ghost use Rattle.cw_rules.specs.Pending.{no_notes};
-ghost use Rattle.cw_lex.specs.model.Coming.{where_of, coming, found_at, IsNested, IsReady, CanStep};
+ghost use Rattle.cw_lex.specs.model.Coming.{where_of, coming, found_at, AreOpenInCode, IsReady, CanStep};
 ghost use Rattle.cw_rules.specs.model.Cuttings.{bytes_at, cut_of, IsCut};
 
 use crate::state::State;
@@ -48,7 +48,7 @@ pub(crate) fn give<'a>(
 ) -> Lexed<'a>
     requires step { CanStep text.now state.old }
     requires cut { IsCut text.now state.old.at cut }
-    requires nested { IsNested part state.old.comments }
+    requires nested { AreOpenInCode part state.old.comments }
     requires found { found_at text.now (where_of state.old) state.old.at ≡
         one hash_line (moved (where_of state.old) part) state.old.at (bytes_at text.now state.old.at)
         (cut_of text.now cut) }

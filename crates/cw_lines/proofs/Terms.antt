@@ -18,7 +18,7 @@ pub use Rattle.cw_desk.specs.{State.OnlyPuts}
 pub use Rattle.cw_desk.specs.laws.JournalLaws.{byte_events-append, grown-none, grown-after, part-first, part-all}
 pub use Rattle.cw_lines.specs.{laws.CutLaws.divide-short, model.Whole.WholeLines, model.Whole.behind_lines}
 pub use Rattle.cw_lines.specs.{model.Whole.counted, Writes.HasPut, Writes.HasWritten, Writes.Puts, Writes.Writes}
-pub use Rattle.cw_lines.specs.Compared.{OldFile, id_of, behind, Compares, left_by}
+pub use Rattle.cw_lines.specs.Compared.{OldFile, id_of, behind_beginning, Compares, left_by}
 pub use Rattle.cw_lines.specs.laws.ComparedLaws.{compares-as, compares-none, compares-bytes, compares-then, ahead-none}
 pub use Rattle.cw_lines.specs.laws.ComparedLaws.{left-ended, ahead-some, left-lost, left-more, left-read, compares-more}
 pub use Rattle.cw_lines.specs.laws.ComparedLaws.{left-checked}

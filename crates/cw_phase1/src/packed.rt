@@ -1,7 +1,7 @@
 //! Sections in a row, as they lie in memory: with places of 32 bits.
 ghost use Rattle.std.specs.Prelude.{◌≡◌, ◌<◌, [], ◌∷◌, ◌++◌, Some, IfOk, OnOk, length, slice_get};
 ghost use Rattle.cw_phase1.specs.Changed.{has_changed, with_last_marked};
-ghost use Rattle.cw_phase1.specs.model.Packed.{depth_of, name_of, span_of, unpacked, whole_section};
+ghost use Rattle.cw_phase1.specs.model.Packed.{unpacked_depth, name_of, span_of, unpacked, whole_section};
 
 use crate::{Depth, Section};
 use cw_base::{Memory, Span};
@@ -104,7 +104,7 @@ fn span(start: u32, end: u32) -> Span
 
 impl RowDepth {
     fn of(depth: Depth) -> Result<RowDepth, Memory>
-        ensures { IfOk result (λ d. depth_of d ≡ depth) }
+        ensures { IfOk result (λ d. unpacked_depth d ≡ depth) }
     {
         match depth {
             Depth::Minus => Ok(RowDepth::Minus),
@@ -117,7 +117,7 @@ impl RowDepth {
     }
 
     fn depth(self) -> Depth
-        ensures { result ≡ depth_of self }
+        ensures { result ≡ unpacked_depth self }
     {
         match self {
             RowDepth::Minus => Depth::Minus,

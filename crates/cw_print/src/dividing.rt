@@ -1,6 +1,6 @@
 //! The division of long texts in typewriter type.
 ghost use Rattle.std.specs.Prelude.{◌≡◌, ◌++◌, OnOk};
-ghost use Rattle.cw_print.specs.model.Dividing.{has_room, is_full, is_special, next_byte, portion_behind};
+ghost use Rattle.cw_print.specs.model.Dividing.{has_room, is_full, is_special_in_string, next_byte, portion_behind};
 ghost use Rattle.cw_print.specs.model.Dividing.{portion_for_next};
 ghost use Rattle.cw_print.specs.model.Dividing.{with_byte};
 
@@ -65,7 +65,7 @@ impl Portion {
 /// Whether a byte of a string doesn't print itself, or not whatever stands beside it. Most bytes are letters.
 #[inline(always)]
 pub(crate) fn is_special(byte: u8) -> bool
-    ensures { result ≡ is_special byte }
+    ensures { result ≡ is_special_in_string byte }
 {
     !byte.is_ascii_alphanumeric() && (is_escaped(byte) || byte == b'@')
 }

@@ -3,7 +3,7 @@ ghost use Rattle.std.specs.Prelude.{ℕ, List, IsTrue, OnOk};
 ghost use Rattle.std.specs.Bool.{OnTrue};
 ghost use Rattle.cw_base.specs.declared.event.Out.TheVariants.{Tex};
 ghost use Rattle.cw_desk.specs.Meaning.{is_open};
-ghost use Rattle.cw_desk.specs.model.Mem.{tell};
+ghost use Rattle.cw_desk.specs.model.Mem.{tell_mem};
 ghost use Rattle.cw_lines.specs.Writes.{CanWrite};
 ghost use Rattle.cw_trees.specs.Printing.{Printable};
 ghost use Rattle.cw_join.specs.Standing.{Stands};
@@ -41,9 +41,9 @@ fn push_one(
     out: &mut LineOut,
     desk: &mut MemDesk,
 ) -> Result<(), PutError>
-    requires can { CanWrite (tell desk.old) out.old }
+    requires can { CanWrite (tell_mem desk.old) out.old }
     requires stands { (ps : List Printable) × Stands joiner.old ps }
-    ensures can { OnOk result (CanWrite (tell desk.new) out.new) }
+    ensures can { OnOk result (CanWrite (tell_mem desk.new) out.new) }
     ensures stands { OnOk result ((ps : List Printable) × Stands joiner.new ps) }
 {
     if !is_plain(token.item, names.len()) {
@@ -61,8 +61,8 @@ fn push_each(
     out: &mut LineOut,
     desk: &mut MemDesk,
 ) -> Result<(), PutError>
-    requires can { CanWrite (tell desk.old) out.old }
-    ensures can { OnOk result (CanWrite (tell desk.new) out.new) }
+    requires can { CanWrite (tell_mem desk.old) out.old }
+    ensures can { OnOk result (CanWrite (tell_mem desk.new) out.new) }
 {
     let mut joiner = Joiner::new(inner);
     for (item, bytes) in items {
@@ -74,8 +74,8 @@ fn push_each(
 
 /// Finishes a text without items.
 fn finish_none(out: &mut LineOut, desk: &mut MemDesk) -> Result<(), PutError>
-    requires can { CanWrite (tell desk.old) out.old }
-    ensures can { OnOk result (CanWrite (tell desk.new) out.new) }
+    requires can { CanWrite (tell_mem desk.old) out.old }
+    ensures can { OnOk result (CanWrite (tell_mem desk.new) out.new) }
 {
     let mut joiner = Joiner::new(false);
     joiner.finish(out, desk)?;
@@ -90,8 +90,8 @@ fn push_text(
     out: &mut LineOut,
     desk: &mut MemDesk,
 ) -> Result<(), PutError>
-    requires can { CanWrite (tell desk.old) out.old }
-    ensures can { OnOk result (CanWrite (tell desk.new) out.new) }
+    requires can { CanWrite (tell_mem desk.old) out.old }
+    ensures can { OnOk result (CanWrite (tell_mem desk.new) out.new) }
 {
     push_each(inner, items, names, out, desk)?;
     if inner {

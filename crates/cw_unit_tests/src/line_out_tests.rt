@@ -2,7 +2,7 @@
 ghost use Rattle.std.specs.Prelude.{IsTrue, OnOk};
 ghost use Rattle.cw_base.specs.declared.event.Out.TheVariants.{Tex};
 ghost use Rattle.cw_desk.specs.Meaning.{is_open};
-ghost use Rattle.cw_desk.specs.model.Mem.{tell};
+ghost use Rattle.cw_desk.specs.model.Mem.{tell_mem};
 ghost use Rattle.cw_lines.specs.Writes.{CanWrite};
 
 use crate::told::expect;
@@ -15,8 +15,8 @@ use std::test::Fail;
 
 /// Puts bytes on a line, which can be written on afterwards.
 fn put_bytes(line: &mut LineOut, bytes: &[u8], desk: &mut MemDesk) -> Result<(), PutError>
-    requires can { CanWrite (tell desk.old) line.old }
-    ensures again { OnOk result (CanWrite (tell desk.new) line.new) }
+    requires can { CanWrite (tell_mem desk.old) line.old }
+    ensures again { OnOk result (CanWrite (tell_mem desk.new) line.new) }
 {
     line.put_all(bytes, desk)?;
     Ok(())
@@ -24,7 +24,7 @@ fn put_bytes(line: &mut LineOut, bytes: &[u8], desk: &mut MemDesk) -> Result<(),
 
 /// Puts a long name on a line, ends the line, and tells whether it had begun before.
 fn put_long_name(line: &mut LineOut, desk: &mut MemDesk) -> Result<bool, PutError>
-    requires can { CanWrite (tell desk.old) line.old }
+    requires can { CanWrite (tell_mem desk.old) line.old }
 {
     put_bytes(line, b"\\M{1}\n\\Y\\B\\\\{", desk)?;
     put_bytes(line, &[b'a'; 200], desk)?;
@@ -38,7 +38,7 @@ fn put_long_name(line: &mut LineOut, desk: &mut MemDesk) -> Result<bool, PutErro
 /// Whether the third and the fourth line are broken then, and whether the line was begun and is ended; and the number
 /// of lines.
 fn shape_of_long_name(line: &mut LineOut, desk: &mut MemDesk) -> Result<([bool; 3], u64), PutError>
-    requires can { CanWrite (tell desk.old) line.old }
+    requires can { CanWrite (tell_mem desk.old) line.old }
 {
     let begun = put_long_name(line, desk)?;
     let broken = line.broken() == [3, 4].as_slice();

@@ -3,7 +3,7 @@ ghost use Rattle.std.specs.Prelude.{◌≡◌, IfOk, IfSome, IsTrue, None, OnOk,
 ghost use Rattle.cw_base.specs.Web.{text_of};
 ghost use Rattle.cw_base.specs.declared.event.Out.TheVariants.{Tex};
 ghost use Rattle.cw_desk.specs.Meaning.{is_open};
-ghost use Rattle.cw_desk.specs.model.Mem.{tell};
+ghost use Rattle.cw_desk.specs.model.Mem.{tell_mem};
 ghost use Rattle.cw_lines.specs.Writes.{CanWrite};
 ghost use Rattle.cw_plain.specs.Conditions.{IsPartTree};
 ghost use Rattle.cw_reduce.specs.WholeTexts.{IsCText};
@@ -87,11 +87,11 @@ fn put_part(
     out: &mut LineOut,
     desk: &mut MemDesk,
 ) -> Result<(), PutError>
-    requires can { CanWrite (tell desk.old) out.old }
+    requires can { CanWrite (tell_mem desk.old) out.old }
     requires named { IsNamedBelow (length book.now.names) (unfolded store.now.lists id.index) }
     requires part { IsPartTree (text_of web.now.lines) span book.now.sec_names book.now.name_uses store.now.lists
         id.index }
-    ensures again { OnOk result (CanWrite (tell desk.new) out.new) }
+    ensures again { OnOk result (CanWrite (tell_mem desk.new) out.new) }
 {
     let text = web.text();
     print_list(

@@ -12,8 +12,8 @@ abbrev pub files_of : MemState → Files
 files_of d = from_entries d.files
 
 -- what it tells: its own files alone agree with it
-abbrev pub tell : MemState → DeskState
-tell d = record {
+abbrev pub tell_mem : MemState → DeskState
+tell_mem d = record {
   opened = length d.rests;
   outputs = d.outputs;
   agrees = λ files. files ≡ files_of d;

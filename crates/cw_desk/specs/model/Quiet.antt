@@ -1,7 +1,7 @@
 -- The models beside `specs/Quiet`.
 use Rattle.std.specs.Prelude.{[]}
 use Rattle.cw_desk.specs.Mem.{MemState}
-use Rattle.cw_desk.specs.model.Mem.{tell as tell_mem}
+use Rattle.cw_desk.specs.model.Mem.{tell_mem}
 use Rattle.cw_desk.specs.State.{DeskState}
 use Rattle.cw_desk.specs.Quiet.{QuietState}
 
@@ -21,5 +21,5 @@ as_mem d = record {
 }
 
 -- what it tells: its own files alone agree with it, and there is no fault
-abbrev pub tell : QuietState → DeskState
-tell d = tell_mem (as_mem d)
+abbrev pub tell_quiet : QuietState → DeskState
+tell_quiet d = tell_mem (as_mem d)

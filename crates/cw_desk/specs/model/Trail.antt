@@ -42,37 +42,37 @@ coded_out = code_by Four (coded⊎ (coded⊎ coded_unit coded_unit) (coded⊎ co
 abbrev pub Named : Type 0
 Named = Out × List ℕ
 
-abbrev pub Cases : Type 0
-Cases = (Named ⊎ Named) ⊎ ((Out × ℕ) ⊎ (Out ⊎ Out))
+abbrev pub TrailCases : Type 0
+TrailCases = (Named ⊎ Named) ⊎ ((Out × ℕ) ⊎ (Out ⊎ Out))
 
-abbrev pub cases : Event → Cases
-cases (Made out name) = inl (inl (out, name))
-cases (Drafted out name) = inl (inr (out, name))
-cases (Byte out byte) = inr (inl (out, byte))
-cases (Kept out) = inr (inr (inl out))
-cases (Replaced out) = inr (inr (inr out))
+abbrev pub trail_cases : Event → TrailCases
+trail_cases (Made out name) = inl (inl (out, name))
+trail_cases (Drafted out name) = inl (inr (out, name))
+trail_cases (Byte out byte) = inr (inl (out, byte))
+trail_cases (Kept out) = inr (inr (inl out))
+trail_cases (Replaced out) = inr (inr (inr out))
 
-abbrev pub from_cases : Cases → Event
-from_cases (inl (inl p)) = Made p.0 p.1
-from_cases (inl (inr p)) = Drafted p.0 p.1
-from_cases (inr (inl p)) = Byte p.0 p.1
-from_cases (inr (inr (inl out))) = Kept out
-from_cases (inr (inr (inr out))) = Replaced out
+abbrev pub from_trail_cases : TrailCases → Event
+from_trail_cases (inl (inl p)) = Made p.0 p.1
+from_trail_cases (inl (inr p)) = Drafted p.0 p.1
+from_trail_cases (inr (inl p)) = Byte p.0 p.1
+from_trail_cases (inr (inr (inl out))) = Kept out
+from_trail_cases (inr (inr (inr out))) = Replaced out
 
-pub from-cases : (event : Event) → from_cases (cases event) ≡ event
-from-cases (Made out name) = refl
-from-cases (Drafted out name) = refl
-from-cases (Byte out byte) = refl
-from-cases (Kept out) = refl
-from-cases (Replaced out) = refl
+pub from-trail-cases : (event : Event) → from_trail_cases (trail_cases event) ≡ event
+from-trail-cases (Made out name) = refl
+from-trail-cases (Drafted out name) = refl
+from-trail-cases (Byte out byte) = refl
+from-trail-cases (Kept out) = refl
+from-trail-cases (Replaced out) = refl
 
 abbrev pub coded_named : Coded Named
 coded_named = coded× coded_out (coded_list coded_ℕ)
 
 abbrev pub coded_event : Coded Event
-coded_event = code_by Cases
+coded_event = code_by TrailCases
     (coded⊎ (coded⊎ coded_named coded_named) (coded⊎ (coded× coded_out coded_ℕ) (coded⊎ coded_out coded_out)))
-    cases from_cases from-cases
+    trail_cases from_trail_cases from-trail-cases
 
 abbrev pub coded_noted : Coded TrailState
 coded_noted = code_by (List Answer × List Event) (coded× (coded_list coded_answer) (coded_list coded_event))

@@ -2,7 +2,7 @@
 use Rattle.std.specs.Prelude.{ℕ, false, List, Option, Some, None, option_and_then}
 use Rattle.cw_base.specs.Web.{empty_web}
 use Rattle.cw_desk.specs.Meaning.{NamedFiles}
-use Rattle.cw_input.specs.model.Fold.{Over, MergeState, read, advance, web_lines, drained, unmatched}
+use Rattle.cw_input.specs.model.Fold.{Over, MergeState, read, advance, fold_web_lines, fold_drained, fold_unmatched}
 use Rattle.cw_input.specs.Lines.{file_lines}
 use Rattle.cw_input.specs.Merged.{Merged, NoWeb, NoChange, TooLong, Whole, change_word, found_file, web_file}
 use Rattle.cw_input.specs.Names.{change_name}
@@ -14,11 +14,12 @@ start_state = record { web = empty_web; sum = 0; mark = false; group = Over }
 
 abbrev pub whole : Option MergeState → Merged
 whole None = TooLong
-whole (Some m) = Whole (unmatched m).web
+whole (Some m) = Whole (fold_unmatched m).web
 
 -- The lines of the web are taken, whatever the change file waits for; then what waits is handled. The web is file 0.
 abbrev pub taken : NamedFiles → List ℕ → Option MergeState → Merged
-taken named web m = whole (option_and_then (drained named) (option_and_then (web_lines named 10 (file_lines 0 web)) m))
+taken named web m =
+    whole (option_and_then (fold_drained named) (option_and_then (fold_web_lines named 10 (file_lines 0 web)) m))
 
 -- The change file is file 1. It is handled up to its first match line before a line of the web is taken.
 abbrev pub merge_change : NamedFiles → List ℕ → Option InputFile → MergeState → Merged

@@ -7,7 +7,7 @@ use Rattle.cw_base.specs.Web.{text_of}
 use Rattle.cw_base.specs.declared.notes.NoteKind.{NoteKind}
 use Rattle.cw_base.specs.declared.notes.Place.{Place}
 use Rattle.cw_input.specs.Lines.{FileLine, numbered_lines}
-use Rattle.cw_input.specs.model.Fold.{Into, MergeState, Group, Over, Pending, Waiting}
+use Rattle.cw_input.specs.model.Fold.{FoldInto, MergeState, Group, Over, Pending, Waiting}
 use Rattle.cw_input.specs.declared.merger.Merger.{Merger}
 use Rattle.cw_input.specs.declared.phase.Cursor.{Cursor}
 use Rattle.cw_input.specs.declared.phase.Meets.{Meets}
@@ -41,7 +41,7 @@ abbrev pub state_of : List ℕ → Merger → MergeState
 state_of change m = record { web = m.web; sum = m.sum; mark = m.mark; group = group_of change m.meets }
 
 -- what is done with the lines of an included file, when so many files deep may still be included
-abbrev pub into_at : ℕ → (List FileLine → MergeState → Option MergeState) → Into
+abbrev pub into_at : ℕ → (List FileLine → MergeState → Option MergeState) → FoldInto
 into_at zero next = None
 into_at (suc left) next = Some next
 

@@ -35,9 +35,9 @@ AllWithin n [] = Unit {0}
 AllWithin n (c ∷ comments) = (c.braces ≤ n) × AllWithin n comments
 
 -- each comment was opened in C text
-abbrev pub IsNested : Part → List Opened → Type 0
-IsNested part [] = Unit {0}
-IsNested part (c ∷ comments) = (is_code part comments ≡ true) × IsNested part comments
+abbrev pub AreOpenInCode : Part → List Opened → Type 0
+AreOpenInCode part [] = Unit {0}
+AreOpenInCode part (c ∷ comments) = (is_code part comments ≡ true) × AreOpenInCode part comments
 
 -- White space of C text stands here, which gives no answer.
 abbrev pub ends_line : Part → List Opened → ℕ → Bool
@@ -57,7 +57,7 @@ pub record IsClear (text : List ℕ) (c : Clear) : Type 0 where
 pub record IsReady (text : List ℕ) (s : State) : Type 0 where
   pub within : s.at ≤ length text
   pub depth : length s.comments + one_if (is_code s.part s.comments) ≤ 21
-  pub nested : IsNested s.part s.comments
+  pub nested : AreOpenInCode s.part s.comments
   pub braces : AllWithin s.at s.comments
   pub notes : IsInside (length text) s.pending.body
   pub clear : IsClear text s.clear

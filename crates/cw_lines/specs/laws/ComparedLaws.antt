@@ -9,7 +9,7 @@ use Rattle.std.proofs.lemmas.Bool.Decides.{eqb_tells}
 use Rattle.std.proofs.lemmas.List.{drop_all, length-take, length-take-le, take-append-drop, take-append-le, take_all}
 use Rattle.cw_desk.specs.Meaning.{Files}
 use Rattle.cw_desk.specs.State.{DeskState, Narrows}
-use Rattle.cw_lines.specs.Compared.{OldFile, Compares, Shortens, behind, left, left_behind, left_by}
+use Rattle.cw_lines.specs.Compared.{OldFile, Compares, Shortens, behind_beginning, left, left_behind, left_by}
 
 -- the text that is there, or another
 abbrev option_or : List ℕ → Option (List ℕ) → List ℕ
@@ -20,12 +20,13 @@ pub left_behind-none : (rest : Option (List ℕ)) → left_behind [] rest ≡ re
 left_behind-none None = refl
 left_behind-none (Some text) = refl
 
-stripped-append : (same : Bool) (xs ys rest : List ℕ) → behind (xs ++ ys) rest ≡ left_behind ys (behind xs rest)
-    → cond same (behind (xs ++ ys) rest) None ≡ left_behind ys (cond same (behind xs rest) None)
+stripped-append : (same : Bool) (xs ys rest : List ℕ) → behind_beginning (xs ++ ys) rest
+    ≡ left_behind ys (behind_beginning xs rest)
+    → cond same (behind_beginning (xs ++ ys) rest) None ≡ left_behind ys (cond same (behind_beginning xs rest) None)
 stripped-append true xs ys rest is = is
 stripped-append false xs ys rest is = refl
 
-behind-append : (xs ys text : List ℕ) → behind (xs ++ ys) text ≡ left_behind ys (behind xs text)
+behind-append : (xs ys text : List ℕ) → behind_beginning (xs ++ ys) text ≡ left_behind ys (behind_beginning xs text)
 behind-append [] ys text = refl
 behind-append (x ∷ xs) ys [] = refl
 behind-append (x ∷ xs) ys (first ∷ rest) = stripped-append (x == first) xs ys rest (behind-append xs ys rest)
@@ -36,21 +37,22 @@ left_behind-append xs ys None = refl
 left_behind-append xs ys (Some text) = behind-append xs ys text
 
 -- behind the bytes with which it begins
-pub behind-begun : (xs rest : List ℕ) → behind xs (xs ++ rest) ≡ Some rest
+pub behind-begun : (xs rest : List ℕ) → behind_beginning xs (xs ++ rest) ≡ Some rest
 behind-begun [] rest = refl
-behind-begun (x ∷ xs) rest = ap (λ (same : Bool). cond same (behind xs (xs ++ rest)) None) (eq-eqb x x refl)
+behind-begun (x ∷ xs) rest = ap (λ (same : Bool). cond same (behind_beginning xs (xs ++ rest)) None) (eq-eqb x x refl)
     ∙ behind-begun xs rest
 
 -- a text that doesn't begin with them
-stripped-other : (x y : ℕ) (xs ys : List ℕ) → (x ≡ y → behind xs ys ≡ None) → cond (x == y) (behind xs ys) None ≡ None
+stripped-other : (x y : ℕ) (xs ys : List ℕ) → (x ≡ y → behind_beginning xs ys ≡ None)
+    → cond (x == y) (behind_beginning xs ys) None ≡ None
 stripped-other x y xs ys same =
     elim (eqb_tells x y) [
-      | inl is ↦ ap (λ (b : Bool). cond b (behind xs ys) None) is.0 ∙ same is.1
-      | inr is ↦ ap (λ (b : Bool). cond b (behind xs ys) None) is.0
+      | inl is ↦ ap (λ (b : Bool). cond b (behind_beginning xs ys) None) is.0 ∙ same is.1
+      | inr is ↦ ap (λ (b : Bool). cond b (behind_beginning xs ys) None) is.0
     ]
 
 pub behind-other : (xs ys : List ℕ) (count : ℕ) → count ≤ length xs → count ≤ length ys
-    → (take count ys ≡ take count xs → ⊥) → behind xs ys ≡ None
+    → (take count ys ≡ take count xs → ⊥) → behind_beginning xs ys ≡ None
 behind-other xs ys zero within inside other = absurd (other refl)
 behind-other [] ys (suc count) within inside other = absurd (omega arith)
 behind-other (x ∷ xs) [] (suc count) within inside other = refl
@@ -59,19 +61,21 @@ behind-other (x ∷ xs) (y ∷ ys) (suc count) within inside other =
     (λ rest. other (λ i. sym same i ∷ rest i)))
 
 -- a text that has ended begins with no byte
-pub behind-ended : (xs : List ℕ) → 0 < length xs → behind xs [] ≡ None
+pub behind-ended : (xs : List ℕ) → 0 < length xs → behind_beginning xs [] ≡ None
 behind-ended [] some = absurd (omega arith)
 behind-ended (x ∷ xs) some = refl
 
 -- where nothing is behind the bytes, the text is just these
-pub same-text : (xs text : List ℕ) → behind xs text ≡ Some [] → text ≡ xs
+pub same-text : (xs text : List ℕ) → behind_beginning xs text ≡ Some [] → text ≡ xs
 same-text [] text is = ap (option_or text) is
 same-text (x ∷ xs) [] is = absurd cc
 same-text (x ∷ xs) (first ∷ rest) is =
     elim (eqb_tells x first) [
-      | inl same ↦ λ i. sym same.1 i ∷ same-text xs rest (sym (ap (λ (b : Bool). cond b (behind xs rest) None) same.0)
+      | inl same ↦ λ i. sym same.1 i ∷ same-text xs rest (sym
+      (ap (λ (b : Bool). cond b (behind_beginning xs rest) None) same.0)
           ∙ is) i
-      | inr other ↦ absurd (let none = sym (ap (λ (b : Bool). cond b (behind xs rest) None) other.0) ∙ is in cc)
+      | inr other ↦ absurd (let none = sym (ap (λ (b : Bool). cond b (behind_beginning xs rest) None) other.0) ∙ is in
+      cc)
     ]
 
 -- ## What is ahead
@@ -84,9 +88,9 @@ pub left-checked : (same agrees : Bool) (bytes ahead rest : List ℕ) (count : �
 left-checked true agrees bytes ahead rest count agreed within inside test =
     let is : take count ahead ≡ take count bytes = (bytes_decides (take count ahead) (take count bytes)).0 (sym test) in
     sym (ap (λ (b : Bool). left_behind (take count bytes) (left_by b (ahead ++ rest))) agreed
-    ∙ ap (λ (text : List ℕ). behind (take count bytes) (text ++ rest)) (sym (take-append-drop count ahead))
-    ∙ ap (behind (take count bytes)) (append_assoc (take count ahead) (drop count ahead) rest)
-    ∙ ap (λ (begun : List ℕ). behind (take count bytes) (begun ++ (drop count ahead ++ rest))) is
+    ∙ ap (λ (text : List ℕ). behind_beginning (take count bytes) (text ++ rest)) (sym (take-append-drop count ahead))
+    ∙ ap (behind_beginning (take count bytes)) (append_assoc (take count ahead) (drop count ahead) rest)
+    ∙ ap (λ (begun : List ℕ). behind_beginning (take count bytes) (begun ++ (drop count ahead ++ rest))) is
     ∙ behind-begun (take count bytes) (drop count ahead ++ rest))
 left-checked false agrees bytes ahead rest count agreed within inside test =
     let differ : take count ahead ≡ take count bytes
@@ -103,8 +107,8 @@ left-checked false agrees bytes ahead rest count agreed within inside test =
 -- a file that has ended agrees with no byte more
 pub left-ended : (bytes : List ℕ) (agrees : Bool) (ahead rest : List ℕ) → 0 < length bytes → ahead ≡ [] → rest ≡ []
     → left_behind bytes (left_by agrees (ahead ++ rest)) ≡ None
-left-ended bytes true ahead rest some none ended = ap (λ (text : List ℕ). behind bytes (text ++ rest)) none
-    ∙ ap (behind bytes) ended ∙ behind-ended bytes some
+left-ended bytes true ahead rest some none ended = ap (λ (text : List ℕ). behind_beginning bytes (text ++ rest)) none
+    ∙ ap (behind_beginning bytes) ended ∙ behind-ended bytes some
 left-ended bytes false ahead rest some none ended = refl
 
 -- what is ahead, between where it begins and where it ends

@@ -16,10 +16,10 @@ use Rattle.cw_phase1.specs.declared.sections.Section.{Section}
 abbrev pub span_of : ShortSpan → Span
 span_of s = record { start = s.start; «end» = s.«end» }
 
-abbrev pub depth_of : RowDepth → Depth
-depth_of rows.Minus = Minus
-depth_of rows.Zero = Zero
-depth_of (rows.Digits s) = Digits (span_of s)
+abbrev pub unpacked_depth : RowDepth → Depth
+unpacked_depth rows.Minus = Minus
+unpacked_depth rows.Zero = Zero
+unpacked_depth (rows.Digits s) = Digits (span_of s)
 
 abbrev pub name_of : Option ℕ → Option SecId
 name_of name = option_map id name
@@ -27,7 +27,7 @@ name_of name = option_map id name
 abbrev pub unpacked : PackedSection → Section
 unpacked r = record {
   starred = r.starred;
-  depth = depth_of r.depth;
+  depth = unpacked_depth r.depth;
   tex = record { start = r.start; «end» = r.tex_end };
   definitions = record { start = r.tex_end; «end» = r.definitions_end };
   c_part = record { start = r.definitions_end; «end» = r.«end» };

@@ -38,5 +38,5 @@ rest_bytes portion (byte ∷ bytes) =
     next_byte portion byte ++ rest_bytes (with_byte (portion_for_next portion) byte) bytes
 
 -- a byte of a string that does not print itself, or not whatever stands beside it
-abbrev pub is_special : ℕ → Bool
-is_special byte = is_escaped byte || byte == at_sign
+abbrev pub is_special_in_string : ℕ → Bool
+is_special_in_string byte = is_escaped byte || byte == at_sign

@@ -18,7 +18,7 @@ use Rattle.cw_desk.specs.State.{DeskState, OnlyReads, Turns}
 use Rattle.cw_desk.specs.declared.desk.MadeOut.{MadeOut}
 use Rattle.cw_desk.specs.declared.desk.MadeOut.TheVariants.{Done, Failed, Memory as no_memory}
 use Rattle.cw_desk.specs.declared.outputs.Outputs.{Outputs}
-use Rattle.cw_lines.specs.Compared.{behind, left, left_behind}
+use Rattle.cw_lines.specs.Compared.{behind_beginning, left, left_behind}
 use Rattle.cw_lines.specs.Cut.{cut, written}
 use Rattle.cw_lines.specs.Line.{LineState}
 use Rattle.cw_lines.specs.Writes.{Adds, Puts, Writes}
@@ -242,12 +242,12 @@ draft-drafts out {a = a} Done file turns = subst (λ (outputs : Outputs). IsTrue
 draft-drafts out Failed file turns = tt
 draft-drafts out no_memory file turns = tt
 
-stripped-same : (same : Bool) (xs ys : List ℕ) → none_left (behind xs ys) ≡ bytes_eq xs ys
-    → none_left (cond same (behind xs ys) None) ≡ (same && bytes_eq xs ys)
+stripped-same : (same : Bool) (xs ys : List ℕ) → none_left (behind_beginning xs ys) ≡ bytes_eq xs ys
+    → none_left (cond same (behind_beginning xs ys) None) ≡ (same && bytes_eq xs ys)
 stripped-same true xs ys is = is
 stripped-same false xs ys is = refl
 
-behind-same : (xs ys : List ℕ) → none_left (behind xs ys) ≡ bytes_eq xs ys
+behind-same : (xs ys : List ℕ) → none_left (behind_beginning xs ys) ≡ bytes_eq xs ys
 behind-same [] [] = refl
 behind-same [] (y ∷ ys) = refl
 behind-same (x ∷ xs) [] = refl
