@@ -10,7 +10,6 @@ ghost use Rattle.cw_tokens.specs.declared.flat.FlatItem.TheVariants.{Control as 
 ghost use Rattle.cw_tokens.specs.Shapes.{unfolded};
 ghost use Rattle.cw_scraps.specs.Lines.{IsNamedBelow};
 ghost use Rattle.cw_lines.specs.Sheets.{CanPrint, Prints};
-ghost use Rattle.cw_lines.specs.Writes.{CanWrite, Puts};
 ghost use Rattle.cw_join.specs.Early.{added};
 ghost use Rattle.cw_join.specs.Tokens.{CanCome, word_at};
 ghost use Rattle.cw_print.specs.model.Coming.{AllMay, MayCome};
@@ -26,7 +25,7 @@ use cw_answers::Answers;
 use cw_base::{Bytes, Flags, Memory};
 use cw_desk::Desk;
 use cw_join::{Joiner, put_ident_of};
-use cw_lines::{LineOut, PutError, Sheet};
+use cw_lines::{PutError, Sheet};
 use cw_names::{NameId, Names};
 use cw_phase1::Book;
 use cw_tokens::{FlatItem, FlatTokens, ListId, TokenStore};

@@ -1,5 +1,5 @@
 //! The section at hand: what all that is printed of a section is printed with.
-ghost use Rattle.std.specs.Prelude.{◌≡◌, IfOk};
+ghost use Rattle.std.specs.Prelude.{IfOk};
 ghost use Rattle.cw_texpart.specs.model.PartForms.{IsAtHand};
 
 use crate::beside::{Beside, code_beside};
