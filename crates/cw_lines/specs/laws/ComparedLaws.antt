@@ -72,10 +72,10 @@ same-text (x ∷ xs) [] is = absurd cc
 same-text (x ∷ xs) (first ∷ rest) is =
     elim (eqb_tells x first) [
       | inl same ↦ λ i. sym same.1 i ∷ same-text xs rest (sym
-      (ap (λ (b : Bool). cond b (behind_beginning xs rest) None) same.0)
+          (ap (λ (b : Bool). cond b (behind_beginning xs rest) None) same.0)
           ∙ is) i
       | inr other ↦ absurd (let none = sym (ap (λ (b : Bool). cond b (behind_beginning xs rest) None) other.0) ∙ is in
-      cc)
+          cc)
     ]
 
 -- ## What is ahead
