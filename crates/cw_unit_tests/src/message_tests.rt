@@ -177,7 +177,7 @@ fn said(alloc: Global, part: &Part) -> Result<Said, Fail> {
 }
 
 /// Each part, how its runs have to end, and what it has to say.
-static PARTS: [(Part, Option<[Exit; 3]>, &[u8]); 4] = [
+const PARTS: [(Part, Option<[Exit; 3]>, &[u8]); 4] = [
     (
         Part::Lines,
         None,
