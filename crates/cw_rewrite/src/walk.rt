@@ -77,7 +77,7 @@ pub fn reduce_watched<L: Ledger, W: Watch>(
             place: found.place,
             flags,
         };
-        produce(&production, line, names, marks, store, steps)?;
+        rewrite_at(&production, line, names, marks, store, steps)?;
         productions += 1;
         place = found.place.saturating_sub(distance(found.row));
     }
@@ -184,7 +184,7 @@ fn distance(row: RowNo) -> usize
 }
 
 // One production at a place, where its row fits, with the capacity that it needs.
-fn produce<L: Ledger>(
+fn rewrite_at<L: Ledger>(
     production: &Production,
     line: &mut ScrapLine,
     names: &mut Names,

@@ -3,14 +3,16 @@ ghost use Rattle.std.specs.Prelude.{◌≡◌, ℕ, ◌+◌, ◌<◌, [], ◌∷
 ghost use Rattle.cw_base.specs.declared.mode.MathMode.TheVariants.{Maybe};
 ghost use Rattle.cw_trees.specs.Joining.{first_mode};
 ghost use Rattle.cw_table.specs.declared.types.Insertion.TheVariants.{Scrap};
+ghost use Rattle.cw_table.specs.declared.types.Piece.{Piece};
 ghost use Rattle.cw_table.specs.declared.types.RowResult.TheVariants.{SameAs};
+ghost use Rattle.cw_table.specs.Insertions.{insertion_of};
 ghost use Rattle.cw_table.specs.Rows.{pieces_for, result_at};
 ghost use Rattle.cw_table.specs.Rewriting.{alone, is_stmt, takes_other};
 ghost use Rattle.cw_scraps.specs.model.Inserting.{entry_cats, insert_in, inserted_by};
 
 use crate::line::ScrapLine;
 use cw_base::{Cat, Flags, MathMode};
-use cw_table::{Choice, Piece, RowAtHand, RowResult};
+use cw_table::{Choice, Insertion, RowAtHand, RowResult};
 use cw_tokens::Token;
 
 /// A token of a new list, and the modes in which it begins and ends.
@@ -75,17 +77,18 @@ pub fn alone(row: &RowAtHand, other: bool) -> Option<u8>
     ensures { result ≡ alone row.now.replaced (pieces_for other row.now) }
 {
     if row.replaced() == 1 && row.piece_count(other) == 1 {
-        only_scrap(row.piece(other, 0))
+        only_scrap(row.insertion(other, 0))
     } else {
         None
     }
 }
 
-fn only_scrap(piece: Piece) -> Option<u8>
-    ensures { result ≡ alone 1 (piece ∷ []) }
+// The scrap that is put in, where it is one as it stands.
+fn only_scrap(insertion: Insertion) -> Option<u8>
+    ensures { (piece : Piece) → insertion_of piece ≡ insertion → result ≡ alone 1 (piece ∷ []) }
 {
-    match piece {
-        Piece::Scrap(k) => Some(k),
+    match insertion {
+        Insertion::Scrap(k, MathMode::Maybe) => Some(k),
         _ => None,
     }
 }

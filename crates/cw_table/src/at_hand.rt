@@ -5,8 +5,8 @@ ghost use Rattle.cw_table.specs.Productions.{productions};
 ghost use Rattle.cw_table.specs.Rows.{pieces_for, row_of};
 ghost use Rattle.cw_table.specs.Sound.{row_is_sound};
 
-use crate::productions::{HEADS, OTHER, OTHER_INSERTIONS, ROW_COUNT, USUAL, USUAL_INSERTIONS};
-use crate::types::{Choice, Insertion, Piece, RowNo, RowResult};
+use crate::productions::{HEADS, OTHER_INSERTIONS, ROW_COUNT, USUAL_INSERTIONS};
+use crate::types::{Choice, Insertion, RowNo, RowResult};
 use std::marker::Model;
 
 /// A production of the table. Its parts are read where they stand in the program's data.
@@ -109,19 +109,6 @@ impl RowAtHand {
             HEADS[self.index].other_count as usize
         } else {
             HEADS[self.index].usual_count as usize
-        }
-    }
-
-    /// A piece of its usual translation, or of the other one.
-    #[inline(always)]
-    pub fn piece(&self, other: bool, i: usize) -> Piece
-        requires { i < length (pieces_for other self.now) }
-        ensures { slice_get (pieces_for other self.now) i ≡ Some result }
-    {
-        if other {
-            OTHER[self.index][i]
-        } else {
-            USUAL[self.index][i]
         }
     }
 

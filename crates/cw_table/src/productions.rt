@@ -383,9 +383,9 @@ pub const ROW_COUNT: usize = 148;
 
 static TESTS: [[CatSet; 4]; ROW_COUNT] = productions!(tests_of);
 
-pub(crate) static USUAL: [[Piece; 12]; ROW_COUNT] = productions!(usual_of);
+static USUAL: [[Piece; 12]; ROW_COUNT] = productions!(usual_of);
 
-pub(crate) static OTHER: [[Piece; 12]; ROW_COUNT] = productions!(other_of);
+static OTHER: [[Piece; 12]; ROW_COUNT] = productions!(other_of);
 
 pub(crate) static USUAL_INSERTIONS: [[Insertion; 12]; ROW_COUNT] = productions!(
     usual_insertions_of

@@ -3,7 +3,6 @@ use Rattle.std.specs.Prelude.{◌≡◌, ℕ, ◌+◌, ◌-◌, ◌*◌, ◌<◌
 use Rattle.cw_base.specs.declared.category.Cat.{Cat}
 use Rattle.cw_table.specs.Fitting.{first_of}
 use Rattle.cw_table.specs.Productions.{productions}
-use Rattle.cw_table.specs.Normal.{steps}
 use Rattle.cw_table.specs.Rows.{row_numbered, row_of}
 use Rattle.cw_table.specs.declared.productions.TheConstants.{ROW_COUNT}
 use Rattle.cw_scraps.specs.declared.line.LineEntry.{LineEntry}

@@ -8,28 +8,29 @@ use Rattle.cw_rewrite.proofs.LogSteps.{ends-before, ends-behind, stops-before, t
 use Rattle.cw_rewrite.proofs.WalkLoop.{turn-next, at-end, not-done, stops, ends, light, few}
 use Rattle.cw_rewrite.proofs.walk.reduce_watched.Goals as goal
 
-pub produce-requires-clause-fits : goal.produce-requires-clause-fits
-produce-requires-clause-fits g c =
+pub rewrite_at-requires-clause-fits : goal.rewrite_at-requires-clause-fits
+rewrite_at-requires-clause-fits g c =
     let next = c.in-Some.ensures.next in
     let t = turn-next c.loop-found.invariant.0 next in
     rw c.next_row.ensures.same t.fits
 
-pub returns-in_err-produce-clause-reaches : goal.returns-in_err-produce-clause-reaches
-returns-in_err-produce-clause-reaches g c =
+pub returns-in_err-rewrite_at-clause-reaches : goal.returns-in_err-rewrite_at-clause-reaches
+returns-in_err-rewrite_at-clause-reaches g c =
     let i = c.loop-found.invariant.0 in
     let next = c.in-Some.ensures.next in
     let t = turn-next i next in
-    let s = t.refused c.produce.new.line c.produce.new.store c.produce.new.names c.produce.new.marks
-    c.produce.new.steps (rw c.next_row.ensures.same at c.in_err-produce.ensures.state) c.in_err-produce.ensures.refused
-    (omega (arith, c.in_err-produce.ensures.steps, next.counted)) in
+    let s = t.refused c.rewrite_at.new.line c.rewrite_at.new.store c.rewrite_at.new.names c.rewrite_at.new.marks
+    c.rewrite_at.new.steps (rw c.next_row.ensures.same at c.in_err-rewrite_at.ensures.state)
+    c.in_err-rewrite_at.ensures.refused
+    (omega (arith, c.in_err-rewrite_at.ensures.steps, next.counted)) in
     record {
       after = s.after;
-      words = c.in_err-produce.ensures.words ∙ i.words;
+      words = c.in_err-rewrite_at.ensures.words ∙ i.words;
       numbers = s.numbers;
-      sound = c.in_err-produce.ensures.sound;
-      others = keeps-trans c.args.store.now.lists c.loop-found.store.lists c.produce.new.store.lists
-          (roots_of c.args.line.now) (roots_of c.loop-found.line) (roots_of c.produce.new.line) i.keeps
-          (rw c.next_row.ensures.same at c.in_err-produce.ensures.others);
+      sound = c.in_err-rewrite_at.ensures.sound;
+      others = keeps-trans c.args.store.now.lists c.loop-found.store.lists c.rewrite_at.new.store.lists
+          (roots_of c.args.line.now) (roots_of c.loop-found.line) (roots_of c.rewrite_at.new.line) i.keeps
+          (rw c.next_row.ensures.same at c.in_err-rewrite_at.ensures.others);
       tokens = s.tokens;
       no_more = s.no_more;
       bound = s.bound;
@@ -48,8 +49,9 @@ loop-found-smaller g c =
     omega (
       arith,
       next.passed.on,
-      t.less (state_of c.produce.new.store.lists c.produce.new.line c.produce.new.marks c.produce.new.names)
-          c.distance.result c.saturating_sub-place.result (rw c.next_row.ensures.same at c.in_ok-produce.ensures.state)
+      t.less (state_of c.rewrite_at.new.store.lists c.rewrite_at.new.line c.rewrite_at.new.marks c.rewrite_at.new.names)
+          c.distance.result c.saturating_sub-place.result
+          (rw c.next_row.ensures.same at c.in_ok-rewrite_at.ensures.state)
           c.distance.ensures c.saturating_sub-place.ensures,
     )
 
@@ -58,14 +60,15 @@ loop-found-preserved g c =
     let next = c.in-Some.ensures.next in
     let t = turn-next c.loop-found.invariant.0 next in (
       t.next c.distance.result c.saturating_sub-place.result c.distance.ensures c.saturating_sub-place.ensures
-          c.produce.new.line c.produce.new.store c.produce.new.names c.produce.new.marks c.produce.new.steps
-          (rw c.next_row.ensures.same at c.in_ok-produce.ensures.state) (omega (
+          c.rewrite_at.new.line c.rewrite_at.new.store c.rewrite_at.new.names c.rewrite_at.new.marks
+          c.rewrite_at.new.steps
+          (rw c.next_row.ensures.same at c.in_ok-rewrite_at.ensures.state) (omega (
             arith,
             (rw c.next_row.ensures.same at
-                c.in_ok-produce.ensures.steps),
+                c.in_ok-rewrite_at.ensures.steps),
             next.counted,
-          )) c.in_ok-produce.ensures.sound (rw c.next_row.ensures.same at
-          c.in_ok-produce.ensures.others) c.in_ok-produce.ensures.words c.in_ok-produce.ensures.tokens,
+          )) c.in_ok-rewrite_at.ensures.sound (rw c.next_row.ensures.same at
+          c.in_ok-rewrite_at.ensures.others) c.in_ok-rewrite_at.ensures.words c.in_ok-rewrite_at.ensures.tokens,
       (
         told-next _ _ _ (g.W.Watch.told c.args.watch.now) t.heard c.loop-found.invariant.1.0
             (c.in_ok-hear.ensures.goes c.if-not-branch.false),
@@ -150,12 +153,12 @@ returns-in_err-hear-clause-memory g c =
     (ap (λ l. state_of c.loop-found.store.lists l c.loop-found.marks c.loop-found.names) c.next_row.ensures.same)
     c.from_residual.result c.in_err-hear.ensures.unheard c.loop-found.invariant.1.0
 
-pub returns-in_err-produce-clause-memory : goal.returns-in_err-produce-clause-memory
-returns-in_err-produce-clause-memory g c =
+pub returns-in_err-rewrite_at-clause-memory : goal.returns-in_err-rewrite_at-clause-memory
+returns-in_err-rewrite_at-clause-memory g c =
     let next = c.in-Some.ensures.next in
     let t = turn-next c.loop-found.invariant.0 next in
     ends-behind c.args.flags.now _ _ _ (g.W.Watch.told c.args.watch.now) _ c.loop-found.productions t.inside t.reached
-    (rw c.next_row.ensures.same at c.in_err-produce.ensures.state) c.from_residual-in_err-produce.result
+    (rw c.next_row.ensures.same at c.in_err-rewrite_at.ensures.state) c.from_residual-in_err-rewrite_at.result
     (told-next _ _ _ (g.W.Watch.told c.args.watch.now) t.heard c.loop-found.invariant.1.0
     (c.in_ok-hear.ensures.goes c.if-not-branch.false))
 
