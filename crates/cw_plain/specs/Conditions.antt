@@ -1,5 +1,5 @@
 -- Which lists of a store are made plain.
-use Rattle.std.specs.Prelude.{◌≡◌, ◌<◌, ℕ, List, [], length}
+use Rattle.std.specs.Prelude.{◌≡◌, ◌<◌, ℕ, List, length}
 use Rattle.cw_base.specs.declared.flags.Flags.{Flags}
 use Rattle.cw_base.specs.declared.span.Span.{Span}
 use Rattle.cw_names.specs.Names.{Entry}

@@ -1,6 +1,6 @@
 -- The models beside `specs/Sights`.
 use Rattle.std.specs.Prelude.{Option, Some, None, map}
-use Rattle.cw_leaves.specs.Sights.{Utterance, Sight, heard}
+use Rattle.cw_leaves.specs.Sights.{Utterance, Sight}
 
 -- ## Other names
 

@@ -1,5 +1,5 @@
 -- Each line is short and has no byte 10.
-use Rattle.std.proofs.Common.{◌+◌, length, sym, ap, ◌∙◌, subst, arith}
+use Rattle.std.proofs.Common.{◌+◌, length, sym, ap, subst, arith}
 use Rattle.std.specs.Prelude.{All}
 use Rattle.std.proofs.lemmas.Result.{on_ok_weaker}
 use Rattle.cw_weave.proofs.SampleWebLaws.{NotTen, first-short, first-whole, head-short, head-whole, section-added}
