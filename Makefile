@@ -1,4 +1,5 @@
 # make try      weaves examples/hello.w without any proof, in about half a minute
+#               (into build/, since a trial run keeps no file of its own)
 # make hello    proves and builds cweave, and weaves examples/hello.w
 # make programs proves and builds all programs: $(PROGRAMS)
 #               (both prove crates side by side, as many as processors and memory allow; JOBS=1 proves one after another)
