@@ -47,10 +47,10 @@ pub use Rattle.cw_names.specs.{declared.xrefs.Occurrence.Occurrence, declared.xr
 pub use Rattle.cw_names.specs.Mentions.{any_in, mentions, AreAscending, above_all}
 pub use Rattle.cw_names.specs.Names.{Entry, AreDistinct, is_entry, same_kind}
 pub use Rattle.cw_names.specs.declared.entry.EntryKind.TheVariants.{Ident, Roman, Typewriter, User}
-pub use Rattle.cw_part.proofs.PrintLaws.{Printing, printing-as, printing-begun}
-pub use Rattle.cw_part.proofs.WovenLaws.{AreSums, Weaving, bytes-refused, no_counts, nothing-more, weaves-bytes}
-pub use Rattle.cw_part.proofs.WovenLaws.{weaves-stopped, weaving-begun, weaving-last, weaving-last-stopped}
-pub use Rattle.cw_part.proofs.WovenLaws.{weaving-next, weaving-ended, weaving-stopped, weaving-wanting}
+pub use Rattle.cw_press.proofs.PrintLaws.{Printing, printing-as, printing-begun}
+pub use Rattle.cw_press.proofs.WovenLaws.{AreSums, Weaving, bytes-refused, no_counts, nothing-more, weaves-bytes}
+pub use Rattle.cw_press.proofs.WovenLaws.{weaves-stopped, weaving-begun, weaving-last, weaving-last-stopped}
+pub use Rattle.cw_press.proofs.WovenLaws.{weaving-next, weaving-ended, weaving-stopped, weaving-wanting}
 pub use Rattle.cw_phase1.specs.declared.sections.Section.{Section}
 pub use Rattle.cw_print.specs.Walk.{section_number}
 pub use Rattle.cw_rules.specs.{model.Apart.found_apart, model.Apart.in_text_apart, declared.codes.Code.Code}
@@ -60,8 +60,9 @@ pub use Rattle.cw_rules.specs.Answers.{note_answers}
 pub use Rattle.cw_rules.specs.Codes.{code_of, code_at, is_section, begins_section}
 pub use Rattle.cw_rules.specs.Tokens.{all_cut, is_name, section, section_code, one, effect_in, section_name, code_by}
 pub use Rattle.cw_secnames.specs.{Kept.SecName, Kept.id, Uses.NameUse}
-pub use Rattle.cw_texpart.proofs.WeavingLaws.{weaves-behind, weaves-refused, weaves-as}
-pub use Rattle.cw_texpart.specs.{Done.Done, Done.done_behind, Done.as_it_is, Done.done_then, TexParts.IsWhole}
-pub use Rattle.cw_texpart.specs.{Texts.Setting, Texts.Lasting, Texts.lasting, Texts.text_done, Weaving.Press}
-pub use Rattle.cw_texpart.specs.{Weaving.Weaves, Weaving.press, declared.counts.Counts.Counts}
+pub use Rattle.cw_press.proofs.WeavingLaws.{weaves-behind, weaves-refused, weaves-as}
+pub use Rattle.cw_press.specs.Done.{Done, done_behind, as_it_is, done_then}
+pub use Rattle.cw_texts.specs.WholeTexts.{IsWhole}
+pub use Rattle.cw_press.specs.Texts.{Setting, Lasting, lasting, text_done}
+pub use Rattle.cw_press.specs.{Weaving.Press, Weaving.Weaves, Weaving.press, declared.counts.Counts.Counts}
 pub use Rattle.cw_trees.specs.Printing.{reserved_bytes}

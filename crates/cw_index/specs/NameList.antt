@@ -5,10 +5,10 @@ use Rattle.cw_rules.specs.Answers.{Answer, Token}
 use Rattle.cw_lex.specs.Lexing.{tokens_of}
 use Rattle.cw_rules.specs.declared.tokens.Mode.TheVariants.{Inner}
 use Rattle.cw_names.specs.Names.{Entry}
-use Rattle.cw_part.specs.Footnotes.{of_name, use_footnotes}
-use Rattle.cw_texpart.specs.Done.{Done, done_behind, as_it_is, done_then}
-use Rattle.cw_texpart.specs.TexParts.{IsWhole}
-use Rattle.cw_texpart.specs.Texts.{Lasting, Setting, text_done}
+use Rattle.cw_press.specs.Footnotes.{of_name, use_footnotes}
+use Rattle.cw_press.specs.Done.{Done, done_behind, as_it_is, done_then}
+use Rattle.cw_texts.specs.WholeTexts.{IsWhole}
+use Rattle.cw_press.specs.Texts.{Lasting, Setting, text_done}
 use Rattle.cw_index.specs.Standing.{listed_names}
 use Rattle.cw_index.specs.declared.standing.Listed.{Listed}
 

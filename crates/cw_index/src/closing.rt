@@ -2,15 +2,14 @@
 ghost use Rattle.std.specs.Prelude.{◌≡◌, ◌&&◌, [], IfOk, codes, if◌then◌else◌};
 ghost use Rattle.std.specs.List.{list_any};
 ghost use Rattle.cw_lines.specs.Sheets.{CanPrint, Prints};
-ghost use Rattle.cw_index.specs.Closing.{before_change, change, changed_from, changes_line};
-ghost use Rattle.cw_index.specs.Closing.{printed_changes, closing_lines};
-ghost use Rattle.cw_index.specs.Closing.{last_lines};
+ghost use Rattle.cw_index.specs.Closing.{before_change, change, changed_from, changes_line, printed_changes};
+ghost use Rattle.cw_index.specs.Closing.{closing_lines, last_lines};
 
 use cw_base::Flags;
 use cw_desk::Desk;
 use cw_lines::{PutError, Sheet};
 use cw_phase1::Book;
-use cw_texpart::{Counts, put_number};
+use cw_press::{Counts, put_number};
 
 // Whether a section is starred.
 fn has_starred(book: &Book) -> bool

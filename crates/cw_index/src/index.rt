@@ -22,8 +22,8 @@ use cw_join::{put_ident_of, put_reserved_of};
 use cw_lines::{LineOut, PutError, Sheet};
 use cw_names::{EntryKind, NameId, Names, SectionRef};
 use cw_phase1::Book;
+use cw_press::{Counts, put_number};
 use cw_print::is_changed;
-use cw_texpart::{Counts, put_number};
 use std::alloc::Global;
 use std::collections::BTreeSet;
 

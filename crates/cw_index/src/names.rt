@@ -4,8 +4,8 @@ ghost use Rattle.cw_base.specs.Web.{text_of};
 ghost use Rattle.cw_lines.specs.Sheets.{CanPrint, IsSameSheet};
 ghost use Rattle.cw_lines.specs.Writes.{CanWrite};
 ghost use Rattle.cw_translator.specs.NameParts.{AreNamesOf};
-ghost use Rattle.cw_texpart.specs.Texts.{lasting, setting};
-ghost use Rattle.cw_texpart.specs.Weaving.{Weaves, press};
+ghost use Rattle.cw_press.specs.Texts.{lasting, setting};
+ghost use Rattle.cw_press.specs.Weaving.{Weaves, press};
 ghost use Rattle.cw_index.specs.model.ListForms.{list_setting};
 ghost use Rattle.cw_index.specs.NameList.{IsWholeName, all_listed, listed_done, name_span, names_done};
 ghost use Rattle.cw_index.specs.Standing.{listed_names};
@@ -15,9 +15,8 @@ use cw_base::{Flags, Ledger, Span, Steps, Web};
 use cw_desk::Desk;
 use cw_lex::{Lexed, Lexer, Mode};
 use cw_lines::{LineOut, PutError, Sheet};
-use cw_part::put_use_footnotes;
 use cw_phase1::Book;
-use cw_texpart::{CText, Counts, print_text};
+use cw_press::{CText, Counts, print_text, put_use_footnotes};
 use std::alloc::Global;
 
 // What the section list is printed with: the web's text, and the flags.

@@ -13,7 +13,7 @@ use cw_desk::Desk;
 use cw_lines::{LineOut, PutError, Sheet};
 use cw_names::{NameId, Names};
 use cw_phase1::Book;
-use cw_texpart::Counts;
+use cw_press::Counts;
 use std::cmp::Ordering;
 
 /// The order of two entries in the index. It takes no memory.

@@ -10,7 +10,7 @@ use Rattle.cw_lex.specs.NestLaws.{NestsAreWell}
 use Rattle.cw_lex.specs.Nested.{CTextsAreNested}
 use Rattle.cw_names.specs.Names.{Entry}
 use Rattle.cw_names.specs.declared.xrefs.Occurrence.{Occurrence}
-use Rattle.cw_part.specs.Sections.{at_section, section_done}
+use Rattle.cw_weave.specs.Sections.{at_section, section_done}
 use Rattle.cw_phase1.specs.Book.{book}
 use Rattle.cw_phase1.specs.Changed.{has_changed, marked_book, with_last_changed, with_last_marked}
 use Rattle.cw_phase1.specs.Whole.{IsWholeSection, SectionsAreWhole}
@@ -19,9 +19,9 @@ use Rattle.cw_phase1.specs.declared.sections.Section.{Section}
 use Rattle.cw_rules.specs.declared.tokens.Mode.TheVariants as modes
 use Rattle.cw_secnames.specs.Uses.{NameUse}
 use Rattle.cw_table.specs.Rewriting.{State}
-use Rattle.cw_texpart.specs.Done.{Done}
-use Rattle.cw_texpart.specs.Texts.{Setting, setting}
-use Rattle.cw_texpart.specs.Weaving.{marked, underlined, mark}
+use Rattle.cw_press.specs.Done.{Done}
+use Rattle.cw_press.specs.Texts.{Setting, setting}
+use Rattle.cw_press.specs.Weaving.{marked, underlined, mark}
 use Rattle.cw_texts.specs.declared.definitions.Definition.{Definition}
 use Rattle.cw_texts.specs.declared.text_list.TextRef.{TextRef}
 use Rattle.cw_texts.specs.Definitions.{printed_definitions}

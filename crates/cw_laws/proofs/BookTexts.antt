@@ -13,19 +13,20 @@ use Rattle.cw_lex.specs.NestLaws.{NestsAreWell}
 use Rattle.cw_lex.specs.Nested.{CTextsAreNested}
 use Rattle.cw_names.specs.Names.{Entry}
 use Rattle.cw_part.specs.Parts.{definitions_done, first_opening, paragraph_if, part_done, paragraph}
-use Rattle.cw_part.specs.Sections.{at_section, ending, rest_done, section_done, sections_done}
+use Rattle.cw_weave.specs.Sections.{at_section, section_done, sections_done}
+use Rattle.cw_part.specs.Sections.{ending, rest_done}
 use Rattle.cw_phase1.specs.declared.sections.Section.{Section}
 use Rattle.cw_phase1.specs.Book.{book}
 use Rattle.cw_phase1.specs.Whole.{IsWholeSection, SectionsAreWhole}
 use Rattle.cw_rules.specs.declared.tokens.Mode.TheVariants as modes
 use Rattle.cw_secnames.specs.Uses.{name_at}
 use Rattle.cw_table.specs.Rewriting.{State}
-use Rattle.cw_texpart.specs.Beside.{first_code, has_definition, has_prose, is_nothing}
-use Rattle.cw_texpart.specs.Done.{Done, as_it_is, reprinted, done_then}
+use Rattle.cw_press.specs.Beside.{first_code, has_definition, has_prose, is_nothing, beside_in}
+use Rattle.cw_press.specs.Done.{Done, as_it_is, reprinted, done_then}
 use Rattle.cw_texpart.specs.Heads.{head}
-use Rattle.cw_texpart.specs.Inks.{prints}
-use Rattle.cw_texpart.specs.TexParts.{beside_in, piece_done, pieces_done, head_and_tex, tex_done}
-use Rattle.cw_texpart.specs.Texts.{Setting, setting, text_done}
+use Rattle.cw_press.specs.Inks.{prints}
+use Rattle.cw_texpart.specs.TexParts.{piece_done, pieces_done, head_and_tex, tex_done}
+use Rattle.cw_press.specs.Texts.{Setting, setting, text_done}
 use Rattle.cw_texts.specs.declared.definitions.Definition.{Definition}
 use Rattle.cw_texts.specs.declared.text_list.TextRef.{TextRef}
 use Rattle.cw_texts.specs.Definitions.{printed_definitions}

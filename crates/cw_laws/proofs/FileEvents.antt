@@ -32,7 +32,7 @@ use Rattle.cw_run.specs.Statistics.{statistics_if}
 use Rattle.cw_run.specs.declared.statistics.Totals.{Totals}
 use Rattle.cw_secnames.specs.Kept.{SecName}
 use Rattle.cw_run.specs.Terminal.{banner_text, index_text, output_text}
-use Rattle.cw_texpart.specs.Done.{Done}
+use Rattle.cw_press.specs.Done.{Done}
 use Rattle.cw_weave.specs.Statistics.{totals_of}
 use Rattle.cw_weave.specs.TexFile.{left_by, tex_file}
 use Rattle.cw_weave.specs.Woven.{end_of_run, index_events, index_files, index_of, index_out, list_out, book_of}

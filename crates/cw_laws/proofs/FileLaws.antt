@@ -10,9 +10,9 @@ use Rattle.cw_phase1.specs.declared.book.Book.{Book}
 use Rattle.cw_phase1.specs.declared.sections.Section.{Section}
 use Rattle.cw_secnames.specs.Kept.{SecName}
 use Rattle.cw_rules.specs.declared.tokens.Mode.TheVariants.{Inner}
-use Rattle.cw_part.specs.Footnotes.{footnote, footnote_numbers, number_in, use_footnotes}
+use Rattle.cw_press.specs.Footnotes.{footnote, footnote_numbers, number_in, use_footnotes}
 use Rattle.cw_texpart.specs.Limbo.{limbo_bytes}
-use Rattle.cw_texpart.specs.Texts.{Setting, setting, text_done}
+use Rattle.cw_press.specs.Texts.{Setting, setting, text_done}
 use Rattle.cw_index.specs.Closing.{changes_line, closing_lines, last_line, last_lines}
 use Rattle.cw_index.specs.Index.{entry_bytes, row_bytes, section_bytes}
 use Rattle.cw_index.specs.Mentions.{IndexRow}

@@ -9,15 +9,15 @@ use Rattle.cw_names.specs.declared.xrefs.Occurrence.{Occurrence}
 use Rattle.cw_phase1.specs.Book.{book}
 use Rattle.cw_phase1.specs.Changed.{marked_book, ranged_book}
 use Rattle.cw_phase1.specs.declared.book.Book.{Book}
-use Rattle.cw_texpart.specs.Done.{Done}
-use Rattle.cw_texpart.specs.Texts.{Setting, setting}
-use Rattle.cw_texpart.specs.Weaving.{underlined}
+use Rattle.cw_press.specs.Done.{Done}
+use Rattle.cw_press.specs.Texts.{Setting, setting}
+use Rattle.cw_press.specs.Weaving.{underlined}
 use Rattle.cw_texts.specs.Scans.{scanned}
 use Rattle.cw_texts.specs.Texts.{texts_of}
 use Rattle.cw_texts.specs.declared.text_list.TextRef.{TextRef}
 use Rattle.cw_translator.specs.NameParts.{name_texts}
 use Rattle.cw_translator.specs.Translating.{Ended}
-use Rattle.cw_texts.specs.EachText.{book_source, each_text}
+use Rattle.cw_each.specs.EachText.{book_source, each_text}
 use Rattle.cw_index.specs.Mentions.{index_rows}
 use Rattle.cw_laws.specs.BookTexts.{MarkTheSame, OccurrencesAreWoven, ref_done, refs_done, refs_marks}
 use Rattle.cw_mini.specs.Left.{left_book, left_by_texts}

@@ -1,5 +1,6 @@
 -- The laws of the book, of its C texts and what they leave, of the scanner's answers and of TeX text.
 mod Rows
+mod SectionRows
 pub mod SectionCodes
 pub mod Openers
 pub mod PartCodes

@@ -25,16 +25,16 @@ use Rattle.cw_lex.specs.Lexing.{answers, beginning, fresh_at, joined, last_after
 use Rattle.cw_names.specs.Names.{Entry}
 use Rattle.cw_phase1.specs.Book.{book}
 use Rattle.cw_phase1.specs.declared.sections.Section.{Section}
-use Rattle.cw_texpart.specs.Done.{Done, done_behind, as_it_is, reprinted}
+use Rattle.cw_press.specs.Done.{Done, done_behind, as_it_is, reprinted}
 use Rattle.cw_texpart.specs.Heads.{head, head_by, printed_depth}
 use Rattle.cw_print.specs.Walk.{section_number}
-use Rattle.cw_texpart.specs.Inks.{Ink, bytes_of, copied, end_if, ends_empty_line, ink_by, inks, laid}
+use Rattle.cw_press.specs.Inks.{Ink, bytes_of, copied, end_if, ends_empty_line, ink_by, inks, laid}
 use Rattle.cw_texpart.specs.Limbo.{printed_limbo}
 use Rattle.cw_texts.specs.Scans.{scanned}
 use Rattle.cw_texpart.specs.TexParts.{pieces_done, head_and_tex, tex_done}
 use Rattle.cw_texts.specs.TexPieces.{Copied, tex_pieces_of, tex_pieces}
 use Rattle.cw_phase1.specs.Sections.{span as span_of}
-use Rattle.cw_texpart.specs.Texts.{Setting}
+use Rattle.cw_press.specs.Texts.{Setting}
 use Rattle.cw_laws.specs.TexText.{HasNo, IsPlain, behind_line_end, is_copied, kept_bytes, last_line_ended, plain_tex}
 use Rattle.cw_lex.proofs.Covering.{drop-on}
 

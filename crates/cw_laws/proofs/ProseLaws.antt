@@ -5,9 +5,9 @@ use Rattle.std.specs.List.{list_any}
 use Rattle.std.proofs.lemmas.Bool.Decides.{nat_tests}
 use Rattle.cw_secnames.specs.Uses.{NameUse}
 use Rattle.cw_phase1.proofs.MissingLaws.{right-false}
-use Rattle.cw_texpart.specs.Beside.{is_nothing, is_prose}
-use Rattle.cw_texpart.specs.declared.beside.Beside.{Beside}
-use Rattle.cw_texpart.specs.declared.beside.Beside.TheVariants as besides
+use Rattle.cw_press.specs.Beside.{is_nothing, is_prose}
+use Rattle.cw_press.specs.declared.beside.Beside.{Beside}
+use Rattle.cw_press.specs.declared.beside.Beside.TheVariants as besides
 use Rattle.cw_texts.specs.TexPieces.{TexPiece, Copied, InnerText, Cited}
 use Rattle.cw_texts.specs.Texts.{tex_refs}
 

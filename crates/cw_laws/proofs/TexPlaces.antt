@@ -11,19 +11,21 @@ use Rattle.cw_index.specs.Closing.{closing_lines}
 use Rattle.cw_lex.specs.Lexing.{last_after}
 use Rattle.cw_lines.specs.Cut.{cut_behind}
 use Rattle.cw_names.specs.Names.{Entry}
-use Rattle.cw_part.specs.Footnotes.{footnotes}
+use Rattle.cw_press.specs.Footnotes.{footnotes}
 use Rattle.cw_part.specs.Parts.{definitions_done, first_opening, part_by}
-use Rattle.cw_part.specs.Sections.{at_section, ending, rest_done, section_done, sections_done}
+use Rattle.cw_weave.specs.Sections.{at_section, section_done, sections_done}
+use Rattle.cw_part.specs.Sections.{ending, rest_done}
 use Rattle.cw_phase1.specs.declared.book.Book.{Book}
 use Rattle.cw_phase1.specs.declared.sections.Section.{Section}
 use Rattle.cw_rules.specs.Bytes.{at_sign}
 use Rattle.cw_rules.specs.declared.tokens.Mode.TheVariants as modes
-use Rattle.cw_texpart.specs.Done.{Done}
+use Rattle.cw_press.specs.Done.{Done}
 use Rattle.cw_texpart.specs.Heads.{head}
-use Rattle.cw_texpart.specs.Inks.{Ink, Print, LineEnd, bytes_of, end_if, inks, laid}
+use Rattle.cw_press.specs.Inks.{Ink, Print, LineEnd, bytes_of, end_if, inks, laid}
 use Rattle.cw_texpart.specs.Limbo.{limbo_bytes, printed_limbo}
-use Rattle.cw_texpart.specs.TexParts.{beside_in, tex_done}
-use Rattle.cw_texpart.specs.Texts.{Setting, setting}
+use Rattle.cw_press.specs.Beside.{beside_in}
+use Rattle.cw_texpart.specs.TexParts.{tex_done}
+use Rattle.cw_press.specs.Texts.{Setting, setting}
 use Rattle.cw_texts.specs.Definitions.{printed_definitions}
 use Rattle.cw_texts.specs.Scans.{scanned}
 use Rattle.cw_weave.specs.TexFile.{all_sections, tex_file}

@@ -5,15 +5,15 @@ use Rattle.cw_base.specs.Web.{MergedLine, text_of}
 use Rattle.cw_base.specs.declared.flags.Flags.{Flags}
 use Rattle.cw_names.specs.Names.{Entry}
 use Rattle.cw_names.specs.declared.xrefs.Occurrence.{Occurrence}
-use Rattle.cw_part.specs.Sections.{at_section}
+use Rattle.cw_weave.specs.Sections.{at_section}
 use Rattle.cw_phase1.specs.Book.{book}
 use Rattle.cw_phase1.specs.Changed.{ranged_book}
 use Rattle.cw_phase1.specs.declared.book.Book.{Book}
 use Rattle.cw_rules.specs.declared.tokens.Mode.{Mode}
 use Rattle.cw_rules.specs.declared.tokens.Mode.TheVariants as modes
 use Rattle.cw_table.specs.Rewriting.{State}
-use Rattle.cw_texpart.specs.Done.{Done, as_it_is, done_then}
-use Rattle.cw_texpart.specs.Texts.{Setting, setting, text_done}
+use Rattle.cw_press.specs.Done.{Done, as_it_is, done_then}
+use Rattle.cw_press.specs.Texts.{Setting, setting, text_done}
 use Rattle.cw_texts.specs.declared.text_list.TextRef.{TextRef}
 use Rattle.cw_texts.specs.Texts.{refs_from, texts_of}
 use Rattle.cw_trees.specs.Joining.{Scrap}

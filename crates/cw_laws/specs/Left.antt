@@ -5,9 +5,9 @@ use Rattle.cw_base.specs.Web.{MergedLine, WebState, text_of}
 use Rattle.cw_base.specs.declared.flags.Flags.{Flags}
 use Rattle.cw_phase1.specs.Book.{book}
 use Rattle.cw_phase1.specs.declared.book.Book.{Book}
-use Rattle.cw_texpart.specs.Weaving.{underlined}
+use Rattle.cw_press.specs.Weaving.{underlined}
 use Rattle.cw_texts.specs.Texts.{texts_of}
-use Rattle.cw_texts.specs.EachText.{EndedText, book_source, each_text}
+use Rattle.cw_each.specs.EachText.{EndedText, book_source, each_text}
 use Rattle.cw_mini.specs.Left.{left_book}
 use Rattle.cw_weave.specs.TexFile.{left_by, tex_file}
 use Rattle.cw_weave.specs.Woven.{book_of}

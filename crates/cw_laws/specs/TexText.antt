@@ -12,17 +12,17 @@ use Rattle.cw_rules.specs.Bytes.{at_sign}
 use Rattle.cw_base.specs.Text.{bar}
 use Rattle.cw_lex.specs.Lexing.{last_after}
 use Rattle.cw_names.specs.Names.{Entry}
-use Rattle.cw_part.specs.Sections.{sections_done}
+use Rattle.cw_weave.specs.Sections.{sections_done}
 use Rattle.cw_phase1.specs.Book.{book}
 use Rattle.cw_phase1.specs.declared.book.Book.{Book}
 use Rattle.cw_phase1.specs.declared.sections.Section.{Section}
-use Rattle.cw_texpart.specs.Done.{as_it_is}
-use Rattle.cw_texpart.specs.Beside.{is_nothing}
+use Rattle.cw_press.specs.Done.{as_it_is}
+use Rattle.cw_press.specs.Beside.{is_nothing, beside_in}
 use Rattle.cw_texpart.specs.Heads.{head}
-use Rattle.cw_texpart.specs.Inks.{bytes_of, end_if, ends_empty_line}
+use Rattle.cw_press.specs.Inks.{bytes_of, end_if, ends_empty_line}
 use Rattle.cw_texpart.specs.Limbo.{limbo_bytes, printed_limbo}
-use Rattle.cw_texpart.specs.Texts.{Setting, setting}
-use Rattle.cw_texpart.specs.TexParts.{beside_in, tex_done}
+use Rattle.cw_press.specs.Texts.{Setting, setting}
+use Rattle.cw_texpart.specs.TexParts.{tex_done}
 use Rattle.cw_texts.specs.TexPieces.{TexPiece, Copied, InnerText, Cited, tex_pieces_of}
 use Rattle.cw_weave.specs.TexFile.{tex_file}
 use Rattle.cw_laws.specs.Files.{HaveShortLines, written_of}

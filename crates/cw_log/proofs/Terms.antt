@@ -10,7 +10,7 @@ pub use Rattle.std.specs.{FinMap.get, List.flat_map, Result.IfOk}
 pub use Rattle.cw_base.proofs.TestLaws.{both-left, both-right}
 pub use Rattle.cw_base.specs.{Text.pieces_of, Text.pieces_by, declared.category.Cat.Cat, declared.flags.Flags.Flags}
 pub use Rattle.cw_logs.specs.Judging.{Judges, same_item}
-pub use Rattle.cw_texts.specs.EachText.{EndedText, TextSource, text_ended}
+pub use Rattle.cw_each.specs.EachText.{EndedText, TextSource, text_ended}
 pub use Rattle.cw_leaves.specs.{Sights.Utterance, Sights.followed, Sights.silence, Sights.told_by}
 pub use Rattle.cw_leaves.specs.{declared.kinds.LeafKind.LeafKind, declared.lines.LeafLine.LeafLine}
 pub use Rattle.cw_leaves.specs.{declared.lines.LogItem.LogItem, declared.lines.TextLog.TextLog}

@@ -9,7 +9,7 @@ use Rattle.cw_log.proofs.Terms.{ended_by, recorded_of}
 use Rattle.std.proofs.lemmas.List.Elements.{All-head, All-tail}
 use Rattle.cw_base.specs.declared.event.Out.TheVariants.{Tex}
 use Rattle.cw_desk.specs.{Journal.byte_events, State.DeskState}
-use Rattle.cw_texts.specs.EachForms.{IsWholeRef}
+use Rattle.cw_each.specs.EachForms.{IsWholeRef}
 use Rattle.cw_lines.specs.{declared.put_error.PutError.TheVariants.Memory as no_memory, Writes.Adds, Writes.HasAdded}
 use Rattle.cw_lines.specs.{laws.WritesLaws.adds-events, laws.WritesLaws.adds-none}
 use Rattle.cw_run.specs.laws.PieceLaws.{piece-stop, piece-then, piece-wanting}

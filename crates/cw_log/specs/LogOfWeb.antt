@@ -3,7 +3,7 @@ use Rattle.std.specs.Prelude.{ℕ, List, map}
 use Rattle.std.specs.List.{flat_map}
 use Rattle.cw_base.specs.declared.flags.Flags.{Flags}
 use Rattle.cw_base.specs.Web.{MergedLine, text_of}
-use Rattle.cw_texts.specs.EachText.{EndedText, TextSource, book_source, each_text}
+use Rattle.cw_each.specs.EachText.{EndedText, TextSource, book_source, each_text}
 use Rattle.cw_leaves.specs.LeafLines.{leaf_line}
 use Rattle.cw_logs.specs.LogText.{Block, log_text}
 use Rattle.cw_names.specs.Names.{Entry}

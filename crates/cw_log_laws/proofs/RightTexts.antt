@@ -8,7 +8,7 @@ use Rattle.cw_log_laws.proofs.Terms.{IsInside, IsLater, IsRightBlock, TextsAreLo
 use Rattle.cw_rules.specs.declared.tokens.Mode.TheVariants.{Inner}
 use Rattle.cw_secnames.specs.Parts.{begins_with_bar, one_more, part_here, parts_from, size_to_bar}
 use Rattle.cw_secnames.specs.declared.kinds.SecKind.{SecKind}
-use Rattle.cw_texts.specs.EachText.{TextSource}
+use Rattle.cw_each.specs.EachText.{TextSource}
 use Rattle.cw_translator.specs.NameParts.{name_texts, parts_by_kind}
 use Rattle.cw_translator.specs.Translating.{begin}
 use Rattle.cw_log_laws.proofs.{LaterNames.HaveCats, MadeTexts.AreFine, MadeTexts.Grows, MadeTexts.fine-later}

@@ -15,7 +15,7 @@ pub use Rattle.cw_base.specs.{Category.may_be_bare, Category.is_end, Flags.start
 pub use Rattle.cw_base.specs.{Web.MergedLine, Web.text_of, declared.category.Cat.Cat}
 pub use Rattle.cw_base.specs.{declared.category.Cat.TheVariants.End, declared.flags.Flags.Flags}
 pub use Rattle.cw_base.specs.{declared.span.Span.Span}
-pub use Rattle.cw_texts.specs.EachText.{EndedText, each_text, text_ended}
+pub use Rattle.cw_each.specs.EachText.{EndedText, each_text, text_ended}
 pub use Rattle.cw_lex.proofs.Covering.{tokens-cover}
 pub use Rattle.cw_lex.specs.Lexing.{tokens_of, still_fresh, answers}
 pub use Rattle.cw_lex.specs.Nest.{Nest, Leaf, Group, group, leaf, nests, first_nest, nest}

@@ -3,7 +3,7 @@ use Rattle.cw_log_laws.proofs.Terms.{◌≤◌, ◌^◌, List, [], ◌∷◌, le
 use Rattle.cw_log_laws.proofs.Terms.{All-append, All-head, All-map, All-nil, All-tail, All-weaker, start_flags}
 use Rattle.cw_log_laws.proofs.Terms.{MergedLine, text_of, Entry, book, texts_of, TextRef, EndedText, each_text}
 use Rattle.cw_log_laws.proofs.Terms.{text_ended, check_file, AreNames, HasShortNames, IsInside, IsRightBlock}
-use Rattle.cw_texts.specs.EachText.{TextSource}
+use Rattle.cw_each.specs.EachText.{TextSource}
 use Rattle.cw_log.specs.LogOfWeb.{blocks_from, log_blocks, state_block, text_blocks}
 use Rattle.cw_log_laws.specs.WrittenLogs.{CommandsAccept, WrittenLogsAreAccepted}
 use Rattle.cw_log_laws.proofs.{AcceptedLogs.right-accepted, BookNames.book-names, BookNames.book-short}

@@ -10,7 +10,7 @@ use Rattle.cw_logs.specs.Appending.{block_of}
 use Rattle.cw_logs.specs.LogText.{Block, IsFineBlock}
 use Rattle.cw_texts.specs.declared.text_list.TextRef.{TextRef}
 use Rattle.cw_translator.specs.Recording.{logged}
-use Rattle.cw_texts.specs.EachText.{TextSource, text_ended}
+use Rattle.cw_each.specs.EachText.{TextSource, text_ended}
 
 -- ## Names
 

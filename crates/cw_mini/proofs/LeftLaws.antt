@@ -4,7 +4,7 @@ use Rattle.cw_mini.proofs.Terms.{subst, sym, ◌∙◌, slice_get, drop_more, Al
 use Rattle.cw_mini.proofs.Terms.{slice_get_within, Book, Done, lasting, setting, text_done, underlined, AreNamesOf}
 use Rattle.cw_mini.proofs.Terms.{is_inner, left_book, left_by_text, left_by_texts, left_with, ref_done}
 use Rattle.cw_base.specs.{Flags.start_flags, Web.MergedLine, Web.text_of, declared.flags.Flags.Flags}
-use Rattle.cw_part.specs.WholeRefs.{TextsAreWhole}
+use Rattle.cw_each.specs.WholeRefs.{TextsAreWhole}
 use Rattle.cw_phase1.specs.Book.{book}
 use Rattle.cw_reduce.specs.WholeTexts.{IsCText}
 use Rattle.cw_secnames.specs.Kept.{SecName}

@@ -26,7 +26,7 @@ pub use Rattle.cw_names.specs.{declared.entry.EntryKind.EntryKind, declared.entr
 pub use Rattle.cw_names.specs.{declared.xrefs.Occurrence.Occurrence, declared.xrefs.SectionRef.SectionRef}
 pub use Rattle.cw_names.specs.declared.entry.EntryKind.TheVariants.{Ident, Roman}
 pub use Rattle.cw_phase1.specs.declared.book.Book.{Book}
-pub use Rattle.cw_texpart.specs.{Done.Done, Texts.lasting, Texts.setting, Texts.text_done, Texts.Lasting}
-pub use Rattle.cw_texpart.specs.{Weaving.underlined}
+pub use Rattle.cw_press.specs.Texts.{lasting, setting, text_done, Lasting}
+pub use Rattle.cw_press.specs.{Done.Done, Weaving.underlined}
 pub use Rattle.cw_run.specs.laws.PieceLaws.{open-after, piece-stop, piece-then, piece-wanting}
 pub use Rattle.cw_translator.specs.NameParts.{AreNamesOf}

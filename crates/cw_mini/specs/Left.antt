@@ -6,9 +6,9 @@ use Rattle.cw_phase1.specs.Book.{book}
 use Rattle.cw_phase1.specs.declared.book.Book.{Book}
 use Rattle.cw_rules.specs.declared.tokens.Mode.{Mode}
 use Rattle.cw_rules.specs.declared.tokens.Mode.TheVariants as modes
-use Rattle.cw_texpart.specs.Done.{Done}
-use Rattle.cw_texpart.specs.Texts.{setting, text_done}
-use Rattle.cw_texpart.specs.Weaving.{underlined}
+use Rattle.cw_press.specs.Done.{Done}
+use Rattle.cw_press.specs.Texts.{setting, text_done}
+use Rattle.cw_press.specs.Weaving.{underlined}
 use Rattle.cw_texts.specs.Texts.{texts_of}
 use Rattle.cw_texts.specs.declared.text_list.TextRef.{TextRef}
 

@@ -1,16 +1,16 @@
 //! The C texts of a book, translated one after another for what they leave: categories and marks.
 ghost use Rattle.std.specs.Prelude.{◌≡◌, All, OnOk};
 ghost use Rattle.cw_reduce.specs.WholeTexts.{IsCText};
-ghost use Rattle.cw_texpart.specs.Texts.{lasting};
+ghost use Rattle.cw_press.specs.Texts.{lasting};
 ghost use Rattle.cw_run.specs.Given.{IsBookOf};
 ghost use Rattle.cw_translator.specs.NameParts.{AreNamesOf};
 ghost use Rattle.cw_mini.specs.Left.{is_inner, left_book, left_by_text, left_by_texts};
 
 use cw_base::{Flags, Ledger, Memory, Steps, Web};
+use cw_each::whole_texts_law;
 use cw_lex::Mode;
-use cw_part::whole_texts_law;
 use cw_phase1::Book;
-use cw_texpart::{CText, translate_text};
+use cw_press::{CText, translate_text};
 use cw_texts::{TextList, TextRef, texts};
 use std::alloc::Global;
 

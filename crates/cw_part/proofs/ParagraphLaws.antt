@@ -4,7 +4,7 @@ use Rattle.cw_part.proofs.Terms.{Err, IsErrAnd, nat_lt, append-nil, DeskState, L
 use Rattle.cw_part.proofs.Terms.{puts-stop, puts-then, puts-nothing, PutError, paragraph_if, Book, Counts, Done}
 use Rattle.cw_part.proofs.Terms.{reprinted, Setting, Press, Weaves, weaves-refused}
 use Rattle.cw_base.specs.declared.memory.Memory.{Memory}
-use Rattle.cw_texpart.specs.model.Translation.{TranslatedState, Translates}
+use Rattle.cw_press.specs.model.Translation.{TranslatedState, Translates}
 use Rattle.cw_lines.specs.declared.put_error.PutError.TheVariants as puts
 
 abbrev reprint : List ℕ → Done ℕ → Done ℕ

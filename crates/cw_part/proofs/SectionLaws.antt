@@ -2,8 +2,8 @@
 use Rattle.cw_part.proofs.Terms.{◌≡◌, ℕ, ◌+◌, refl, List, arith, Result, Flags, PutError, Entry, part_setting}
 use Rattle.cw_part.proofs.Terms.{rest_done, IsWholeRest, Book, Section, Counts, Done, Lasting, Setting, setting, Press}
 use Rattle.cw_part.proofs.Terms.{Weaves}
-use Rattle.cw_texpart.specs.declared.section_at_hand.SectionAtHand.{SectionAtHand}
-use Rattle.cw_part.proofs.WovenLaws.{AreSums, Weaving}
+use Rattle.cw_press.specs.declared.section_at_hand.SectionAtHand.{SectionAtHand}
+use Rattle.cw_press.proofs.WovenLaws.{AreSums, Weaving}
 
 -- the same of what stays of a book
 pub moved : (p : SectionAtHand) (d : Setting → Done ℕ) {l l' : Lasting} {old new : Press}

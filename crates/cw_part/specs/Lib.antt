@@ -1,7 +1,4 @@
--- The definitions of sections behind their TeX parts: definitions, C parts, footnotes, and whole sections.
+-- The definitions of sections behind their TeX parts: definitions, C parts, and how a section ends.
 pub mod Parts
-pub mod Footnotes
 pub mod Sections
-pub mod WholeTexts
-pub mod WholeRefs
 pub mod model

@@ -7,11 +7,11 @@ use Rattle.cw_names.specs.Names.{Entry}
 use Rattle.cw_texts.specs.declared.definitions.Definition.{Definition}
 use Rattle.cw_phase1.specs.declared.sections.Section.{Section}
 use Rattle.cw_translator.specs.Counting.{scraps_in}
-use Rattle.cw_texpart.specs.Done.{Done, as_it_is, reprinted, done_then}
-use Rattle.cw_texpart.specs.TexParts.{beside_in}
-use Rattle.cw_texpart.specs.Texts.{Setting, text_done}
-use Rattle.cw_texpart.specs.declared.beside.Beside.{Beside}
-use Rattle.cw_texpart.specs.declared.beside.Beside.TheVariants as besides
+use Rattle.cw_press.specs.Done.{Done, as_it_is, reprinted, done_then}
+use Rattle.cw_press.specs.Beside.{beside_in}
+use Rattle.cw_press.specs.Texts.{Setting, text_done}
+use Rattle.cw_press.specs.declared.beside.Beside.{Beside}
+use Rattle.cw_press.specs.declared.beside.Beside.TheVariants as besides
 
 -- a C text that is a paragraph, behind these bytes
 abbrev pub paragraph : List ℕ → Done ℕ → Done ℕ

@@ -1,3 +1,2 @@
 -- How the code holds its state: models that inner contracts cite.
 pub mod PresentForms
-pub mod WholeDefinitions

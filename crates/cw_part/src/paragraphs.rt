@@ -5,18 +5,18 @@ ghost use Rattle.cw_lex.specs.Nested.{begins_section_in, is_c_mode};
 ghost use Rattle.cw_lines.specs.Sheets.{CanPrint, IsSameSheet};
 ghost use Rattle.cw_part.specs.Parts.{paragraph_if};
 ghost use Rattle.cw_part.specs.model.PresentForms.{text_of};
-ghost use Rattle.cw_texpart.specs.model.PartForms.{part_setting};
+ghost use Rattle.cw_press.specs.model.PartForms.{part_setting};
 ghost use Rattle.cw_translator.specs.Counting.{scraps_in};
 ghost use Rattle.cw_translator.specs.NameParts.{AreNamesOf};
-ghost use Rattle.cw_texpart.specs.Texts.{lasting};
-ghost use Rattle.cw_texpart.specs.Weaving.{Weaves, press};
+ghost use Rattle.cw_press.specs.Texts.{lasting};
+ghost use Rattle.cw_press.specs.Weaving.{Weaves, press};
 
 use cw_base::{Ledger, Span, Steps};
 use cw_desk::Desk;
 use cw_lex::Mode;
 use cw_lines::{PutError, Sheet};
 use cw_phase1::Book;
-use cw_texpart::{CText, Counts, SectionAtHand, translate_text};
+use cw_press::{CText, Counts, SectionAtHand, translate_text};
 
 /// A C text that is a paragraph.
 #[derive(Clone, Copy)]

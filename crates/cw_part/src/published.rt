@@ -4,10 +4,10 @@ ghost use Rattle.std.specs.Prelude.{◌≡◌, ◌-◌, ◌<◌, ◌≤◌, Some
 ghost use Rattle.cw_base.specs.Web.{text_of};
 ghost use Rattle.cw_lines.specs.Writes.{CanWrite};
 ghost use Rattle.cw_part.specs.Sections.{rest_done};
-ghost use Rattle.cw_part.specs.WholeTexts.{IsWholeRest};
+ghost use Rattle.cw_texts.specs.WholeTexts.{IsWholeRest};
 ghost use Rattle.cw_phase1.specs.declared.sections.Section.{Section};
-ghost use Rattle.cw_texpart.specs.Texts.{setting};
-ghost use Rattle.cw_texpart.specs.Weaving.{Weaves};
+ghost use Rattle.cw_press.specs.Texts.{setting};
+ghost use Rattle.cw_press.specs.Weaving.{Weaves};
 ghost use Rattle.cw_translator.specs.NameParts.{AreNamesOf};
 
 use crate::sections::print_rest;
@@ -15,7 +15,7 @@ use cw_base::{Flags, Ledger, Steps, Web};
 use cw_desk::Desk;
 use cw_lines::{LineOut, PutError, Sheet};
 use cw_phase1::Book;
-use cw_texpart::{Counts, SectionAtHand};
+use cw_press::{Counts, SectionAtHand};
 use std::alloc::Global;
 
 /// Prints the section of this number behind its TeX part: its definitions, its C part and its footnotes. The marks of

@@ -3,22 +3,21 @@ ghost use Rattle.std.specs.Prelude.{◌≡◌, ◌^◌, ◌≤◌, All, length};
 ghost use Rattle.cw_lines.specs.Sheets.{CanPrint, IsSameSheet, Prints};
 ghost use Rattle.cw_texts.specs.Definitions.{definitions_in, printed_definitions};
 ghost use Rattle.cw_part.specs.Parts.{definitions_done, first_opening, has_no_part, part_by, part_opening};
-ghost use Rattle.cw_texpart.specs.model.PartForms.{part_setting};
+ghost use Rattle.cw_press.specs.model.PartForms.{part_setting};
 ghost use Rattle.cw_part.specs.Sections.{ending, rest_by};
-ghost use Rattle.cw_part.specs.WholeTexts.{IsWholeDefinition, IsWholeIn, IsWholeRest};
+ghost use Rattle.cw_texts.specs.WholeTexts.{IsWholeDefinition, IsWholeIn, IsWholeRest};
 ghost use Rattle.cw_rules.specs.declared.tokens.Mode.TheVariants.{CPart, Definition};
 ghost use Rattle.cw_translator.specs.NameParts.{AreNamesOf};
-ghost use Rattle.cw_texpart.specs.Texts.{lasting};
-ghost use Rattle.cw_texpart.specs.Weaving.{Weaves, press};
+ghost use Rattle.cw_press.specs.Texts.{lasting};
+ghost use Rattle.cw_press.specs.Weaving.{Weaves, press};
 
-use crate::footnotes::put_footnotes;
 use crate::paragraphs::{Paragraph, print_paragraph};
 use cw_base::{Ledger, Span, Steps};
 use cw_desk::Desk;
 use cw_lex::Mode;
 use cw_lines::{PutError, Sheet};
 use cw_phase1::{Book, Section};
-use cw_texpart::{Beside, Counts, SectionAtHand};
+use cw_press::{Beside, Counts, SectionAtHand, put_footnotes};
 use cw_texts::Definitions;
 
 // The bytes before the first definition of a section.

@@ -1,7 +1,7 @@
 //! Whether the C texts of a section are whole: no section code cuts them.
 ghost use Rattle.std.specs.Prelude.{◌≡◌, ◌≤◌, All, length, true};
 ghost use Rattle.cw_texts.specs.Definitions.{definitions_in};
-ghost use Rattle.cw_part.specs.WholeTexts.{IsWholeDefinition, IsWholeIn, IsWholeRest};
+ghost use Rattle.cw_texts.specs.WholeTexts.{IsWholeDefinition, IsWholeIn, IsWholeRest};
 
 use cw_base::Span;
 use cw_lex::Mode;

@@ -5,7 +5,7 @@ use Rattle.cw_plain.proofs.Terms.{NextText, unfolded, plain_tree, source_by}
 use Rattle.std.proofs.lemmas.List.Elements.{All-tail}
 use Rattle.cw_base.specs.declared.event.Out.TheVariants.{Tex}
 use Rattle.cw_desk.specs.{Journal.byte_events, State.DeskState}
-use Rattle.cw_texts.specs.EachText.{EndedText, TextSource, each_text, text_ended}
+use Rattle.cw_each.specs.EachText.{EndedText, TextSource, each_text, text_ended}
 use Rattle.cw_lines.specs.{Writes.Adds, Writes.HasAdded, laws.WritesLaws.adds-events, laws.WritesLaws.adds-none}
 use Rattle.cw_lines.specs.{declared.put_error.PutError.PutError, declared.put_error.PutError.TheVariants.Memory}
 use Rattle.cw_names.specs.Names.{Entry}

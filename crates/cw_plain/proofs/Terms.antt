@@ -4,8 +4,8 @@ pub use Rattle.std.proofs.Common.{◌≡◌, ℕ, zero, suc, Bool, true, false, 
 pub use Rattle.std.proofs.Common.{ap, ◌∙◌, arith, if◌then◌else◌, Result, Ok, Err, OnOk, subst, Some, codes, length}
 pub use Rattle.std.proofs.Common.{cond, ◌==◌, ◌-◌, ◌≤◌, get_or, option_copied, drop, option_map}
 pub use Rattle.std.specs.Prelude.{nat_lt, All, IsErrAnd}
-pub use Rattle.cw_texts.specs.EachForms.{Each, HasTranslated, IsWholeRef, GivesText}
-pub use Rattle.cw_texts.specs.declared.each.NextText.{NextText}
+pub use Rattle.cw_each.specs.EachForms.{Each, HasTranslated, IsWholeRef, GivesText}
+pub use Rattle.cw_each.specs.declared.each.NextText.{NextText}
 pub use Rattle.cw_plain.specs.{Plain.plain, Plain.plain_tree, Titles.source_by, Titles.titles}
 pub use Rattle.cw_plain.specs.model.Laying.{Laying, begun, ended, ended_text, no_run, piece_text, pieces_text}
 pub use Rattle.cw_plain.specs.model.Laying.{with_control, with_piece, Lays}

@@ -10,7 +10,7 @@ use Rattle.cw_rules.specs.declared.tokens.Mode.TheVariants as modes
 use Rattle.cw_texts.specs.Scans.{scanned}
 use Rattle.cw_texts.specs.Texts.{texts_of}
 use Rattle.cw_texts.specs.declared.text_list.TextRef.{TextRef}
-use Rattle.cw_texts.specs.EachText.{EndedText, TextSource as EachSource, book_source, each_text}
+use Rattle.cw_each.specs.EachText.{EndedText, TextSource as EachSource, book_source, each_text}
 use Rattle.cw_plain.specs.Plain.{plain_tree}
 use Rattle.cw_plain.specs.Titles.{source_by}
 

@@ -3,7 +3,7 @@ ghost use Rattle.std.specs.Prelude.{◌↔◌, IsTrue};
 ghost use Rattle.cw_rules.specs.declared.tokens.TokKind.TheVariants as kinds;
 ghost use Rattle.cw_scraps.specs.Leaves.{MakesLeaf};
 
-use cw_lex::{Code, TokKind};
+use cw_rules::{Code, TokKind};
 
 /// Whether a token makes a scrap of its own, so that `scrap_of` may be asked for it. What only holds or heads others
 /// makes none: comments, inner texts, the signs of heads, and codes that say something of a name or to the index.

@@ -15,8 +15,8 @@ ghost use Rattle.cw_scraps.specs.Leaves.{MakesLeaf, HasForm, entry_of, token_for
 ghost use Rattle.cw_scraps.specs.Leaves.{cat_in_line, sign_cat, sign_mode, word_cat, word_form, source};
 
 use cw_base::{Cat, MathMode, Memory};
-use cw_lex::{Code, Directive, Sign, Tok, TokKind};
 use cw_names::{EntryKind, NameId, Names};
+use cw_rules::{Code, Directive, Sign, Tok, TokKind};
 use cw_tokens::{ListId, Token, TokenStore};
 use cw_trees::Control;
 

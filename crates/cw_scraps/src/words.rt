@@ -5,8 +5,8 @@ ghost use Rattle.cw_scraps.specs.model.Words.{is_word};
 
 use crate::leaves::{sign_mode, token_of_word, word_cat};
 use cw_base::Memory;
-use cw_lex::{Tok, TokKind};
 use cw_names::{EntryKind, Names};
+use cw_rules::{Tok, TokKind};
 use cw_tokens::Token;
 
 /// The token of an identifier or of a sign, by itself. Its offset is the place of its first byte.

@@ -1,9 +1,7 @@
--- The laws of limbo, heads and TeX parts: pieces woven one after another, and C texts that are whole.
+-- The laws of limbo, heads and TeX parts: inks, and pieces woven one after another.
 mod Terms
 pub mod DepthLaws
 pub mod LayingLaws
 pub mod WeavingLaws
-pub mod TextLaws
 pub mod SectionLaws
 mod Rows
-mod WholePieces

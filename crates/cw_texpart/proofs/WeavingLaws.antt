@@ -1,56 +1,20 @@
 -- Pieces of a book are woven one after another.
-use Rattle.cw_texpart.proofs.Terms.{◌≡◌, ℕ, ◌+◌, ◌≤◌, ◌==◌, Bool, true, false, refl, sym, ap, ◌∙◌, subst, List, [], ◌∷◌}
-use Rattle.cw_texpart.proofs.Terms.{◌++◌, append_assoc, length, arith, Result, Ok, Err, IfOk, IsErrAnd, Option, Some}
-use Rattle.cw_texpart.proofs.Terms.{None, append-nil, map-append, Flags, Span, DeskState, Inner, LineState, HasPut}
-use Rattle.cw_texpart.proofs.Terms.{Puts, is_err, puts-bytes, puts-failing, puts-none, puts-stop, puts-then}
-use Rattle.cw_texpart.proofs.Terms.{puts-nothing, PutError, Memory, Entry, Occurrence, Section, Counts, Done}
-use Rattle.cw_texpart.proofs.Terms.{done_behind, joined_done, as_it_is, reprinted, section_number, head, head_by}
-use Rattle.cw_texpart.proofs.Terms.{printed_depth, Ink, end_if, laid, prints, held, held_behind, holds_bytes, inked}
-use Rattle.cw_texpart.proofs.Terms.{piece_is, piece_done, pieces_done, head_and_tex, TexPiece, Setting, lasting}
-use Rattle.cw_texpart.proofs.Terms.{text_done, Press, Weaves, underlined}
+use Rattle.cw_texpart.proofs.Terms.{◌≡◌, ℕ, ◌+◌, ◌≤◌, Bool, true, false, refl, sym, ap, ◌∙◌, subst, List, [], ◌∷◌, ◌++◌}
+use Rattle.cw_texpart.proofs.Terms.{append_assoc, arith, Result, Ok, Err, IfOk, IsErrAnd, Option, Some, None}
+use Rattle.cw_texpart.proofs.Terms.{append-nil, Span, DeskState, Inner, LineState, HasPut, Puts, puts-bytes}
+use Rattle.cw_texpart.proofs.Terms.{puts-failing, puts-none, puts-stop, puts-then, puts-nothing, PutError, Memory}
+use Rattle.cw_texpart.proofs.Terms.{Entry, Occurrence, Section, Counts, Done, joined_done, as_it_is, reprinted}
+use Rattle.cw_texpart.proofs.Terms.{section_number, head, head_by, printed_depth, Ink, end_if, laid, prints, held}
+use Rattle.cw_texpart.proofs.Terms.{held_behind, holds_bytes, inked, piece_is, piece_done, pieces_done, head_and_tex}
+use Rattle.cw_texpart.proofs.Terms.{TexPiece, Setting, lasting, text_done, Press, Weaves, underlined}
 use Rattle.std.specs.Option.{option_map, option_map_or}
-use Rattle.std.proofs.lemmas.List.Sums.{sum_by-append}
-use Rattle.cw_translator.specs.Counting.{limit_in, productions_in, scraps_in, text_limit, ticks_in}
-use Rattle.cw_table.specs.{Normal.count, Productions.productions, Rewriting.State, WalkCounts.ticks}
+use Rattle.cw_translator.specs.Counting.{limit_in, productions_in, scraps_in, ticks_in}
+use Rattle.cw_table.specs.{Productions.productions}
 use Rattle.cw_texts.specs.declared.pieces.Piece.{Piece}
+use Rattle.cw_press.proofs.WeavingLaws.{joined-joined, limit-append, productions-append, scraps-append, ticks-append}
+use Rattle.cw_press.proofs.WeavingLaws.{underlined-append, underlined-none, weaves-as, weaves-put, weaves-refused}
 use Rattle.cw_texpart.proofs.LayingLaws.{Inking, as-put, held_behind-append, inks-then, inked-prints, laid-append}
 use Rattle.cw_texpart.proofs.LayingLaws.{lays-ended, lays-stopped}
-
--- ## One call
-
--- a call that is refused
-pub weaves-refused : {s : Setting} {d : Done ℕ} {old new : Press} (error : PutError) {result : Result Counts PutError}
-    → Puts d.out old.line new.line old.told new.told result → lasting new.book ≡ lasting old.book → new.steps ≤
-    old.steps + limit_in s.flags d.ended → IsErrAnd result (λ found. found ≡ error) → Weaves s d old new result
-weaves-refused error puts same bound is = grind (arith, is_err)
-
--- the same piece
-pub weaves-as : {s : Setting} {d e : Done ℕ} {old new : Press} {result : Result Counts PutError} → d ≡ e
-    → Weaves s d old new result → Weaves s e old new result
-weaves-as is woven = rw (← is) woven
-
--- a piece behind bytes that were put
-pub weaves-behind : {T : Type 0} {s : Setting} {front : List ℕ} {d : Done ℕ} {old new : Press} {line : LineState}
-    {told : DeskState} {value : T} {result : Result Counts PutError} → Puts {T = T} front old.line line old.told told
-    (Ok value) → Weaves s d (record { book = old.book; line = line; told = told; steps = old.steps }) new result
-    → Weaves s (done_behind front d) old new result
-weaves-behind put woven = grind (arith, puts-then put woven.puts)
-
--- ## Marks and inks
-
-underlined-by : (none : Bool) (section : ℕ) (xs ys : List ℕ) → (section == 0) ≡ none
-    → underlined section (xs ++ ys) ≡ underlined section xs ++ underlined section ys
-underlined-by none section xs ys is = grind (arith, map-append, underlined)
-
-pub underlined-append : (section : ℕ) (xs ys : List ℕ) → underlined section (xs ++ ys)
-    ≡ underlined section xs ++ underlined section ys
-underlined-append section xs ys = underlined-by (section == 0) section xs ys refl
-
-none-by : (none : Bool) (section : ℕ) → (section == 0) ≡ none → underlined section [] ≡ []
-none-by none section is = grind (arith, underlined)
-
-pub underlined-none : (section : ℕ) → underlined section [] ≡ []
-underlined-none section = none-by (section == 0) section refl
 
 -- bytes of a C text, as inks
 pub weaves-printed : {s : Setting} {d : Done ℕ} {old new : Press} {result : Result Counts PutError} (holds : Bool)
@@ -67,10 +31,6 @@ pub weaves-piece : {s : Setting} {old new : Press} {result : Result Counts PutEr
     → Weaves s (reprinted (inked holds) (piece_done s (piece_is piece) names)) old new result
 weaves-piece {s = s} holds names is =
     weaves-as (ap (λ (p : Piece). reprinted (inked holds) (piece_done s (piece_is p) names)) (sym is))
-
-pub joined-joined : {X : Type 0} (a b c : Done X) → joined_done (joined_done a b) c ≡ joined_done a (joined_done b c)
-joined-joined a b c =
-    rw (append_assoc a.out b.out c.out, append_assoc a.marks b.marks c.marks, append_assoc a.ended b.ended c.ended) refl
 
 -- Pieces were woven, and with those that are still to be woven they are all. So many scraps and productions were
 -- counted.
@@ -107,21 +67,6 @@ weaving-begun s pieces press = record {
 pub weaving-as : {s : Setting} {rest rest' : List TexPiece} {all : Done Ink} {old new : Press} {scraps prods : ℕ}
     → rest ≡ rest' → Weaving s rest all old new scraps prods → Weaving s rest' all old new scraps prods
 weaving-as is w = rw (← is) w
-
-pub scraps-append : (xs ys : List State) → scraps_in (xs ++ ys) ≡ scraps_in xs + scraps_in ys
-scraps-append xs ys = sum_by-append (λ state. length state.scraps) xs ys
-
-pub productions-append : (flags : Flags) (xs ys : List State) → productions_in flags (xs ++ ys)
-    ≡ productions_in flags xs + productions_in flags ys
-productions-append flags xs ys = sum_by-append (λ state. count productions flags state) xs ys
-
-pub ticks-append : (flags : Flags) (xs ys : List State) → ticks_in flags (xs ++ ys)
-    ≡ ticks_in flags xs + ticks_in flags ys
-ticks-append flags xs ys = sum_by-append (λ state. ticks productions flags state) xs ys
-
-pub limit-append : (flags : Flags) (xs ys : List State) → limit_in flags (xs ++ ys)
-    ≡ limit_in flags xs + limit_in flags ys
-limit-append flags xs ys = sum_by-append (λ state. text_limit flags state) xs ys
 
 -- the next piece, from the names that the pieces before it leave
 abbrev next_piece : Setting → TexPiece → Press → Done Ink
@@ -245,13 +190,6 @@ pub weaving-counts : {s : Setting} {rest : List TexPiece} {all : Done Ink} {old 
     → Weaving s rest all old now scraps prods → Weaving s rest all old now scraps' prods'
 weaving-counts a b w = rw (a, b) w
 
--- bytes that were put, of no C text
-pub weaves-put : {s : Setting} (bytes : List ℕ) {old : Press} {line : LineState} {told : DeskState}
-    (result : Result Counts PutError) → Puts bytes old.line line old.told told result
-    → IfOk result (λ counts. counts.scraps ≡ 0) → IfOk result (λ counts. counts.productions ≡ 0) → Weaves s
-    (as_it_is bytes old.book.names) old (record { book = old.book; line = line; told = told; steps = old.steps }) result
-weaves-put {s = s} bytes {old = old} result puts scraps prods = grind (arith, append-nil, underlined-none)
-
 -- what is copied
 pub weaves-plain : {s : Setting} (xs : List Ink) {old : Press} {line : LineState} {told : DeskState}
     (result : Result Counts PutError) → Puts (inked (holds_bytes old.line) xs) old.line line old.told told result
@@ -260,12 +198,6 @@ pub weaves-plain : {s : Setting} (xs : List Ink) {old : Press} {line : LineState
     (record { book = old.book; line = line; told = told; steps = old.steps }) result
 weaves-plain xs {old = old} result puts scraps prods =
     weaves-put (inked (holds_bytes old.line) xs) result puts scraps prods
-
--- nothing
-pub weaves-nothing : {s : Setting} {old : Press} {counts : Counts} → counts.scraps ≡ 0 → counts.productions ≡ 0
-    → Weaves s (as_it_is [] old.book.names) old old (Ok counts)
-weaves-nothing {s = s} {old = old} {counts = counts} scraps prods =
-    weaves-plain [] (Ok counts) (puts-none old.line old.told counts) scraps prods
 
 -- a section name that is ignored, and one that isn't
 pub ignored : {X : Type 0} (f : ℕ → X) (s : Setting) (inner : Bool) (part : Span) (names : List Entry) (name : Option ℕ)

@@ -6,7 +6,7 @@ use Rattle.cw_phase1.specs.declared.sections.Depth.{Depth}
 use Rattle.cw_phase1.specs.declared.sections.Depth.TheVariants.{Minus, Zero, Digits}
 use Rattle.cw_phase1.specs.declared.sections.Section.{Section}
 use Rattle.cw_print.specs.Walk.{section_number}
-use Rattle.cw_texpart.specs.Inks.{bytes_of}
+use Rattle.cw_press.specs.Inks.{bytes_of}
 
 -- The depth in digits, without zeros before the last of them or before another digit.
 abbrev pub drop_zeros : List ℕ → List ℕ

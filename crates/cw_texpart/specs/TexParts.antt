@@ -1,18 +1,15 @@
 -- The head of a section, and its TeX part as it is printed.
-use Rattle.std.specs.Prelude.{◌≡◌, ℕ, ◌≤◌, Bool, true, false, List, [], ◌∷◌, length, if◌then◌else◌}
-use Rattle.cw_base.specs.declared.span.Span.{Span}
+use Rattle.std.specs.Prelude.{ℕ, Bool, true, List, [], ◌∷◌, if◌then◌else◌}
 use Rattle.cw_rules.specs.declared.tokens.Mode.TheVariants as modes
-use Rattle.cw_lex.specs.Nested.{begins_section_in}
 use Rattle.cw_names.specs.Names.{Entry}
 use Rattle.cw_phase1.specs.declared.sections.Section.{Section}
-use Rattle.cw_texts.specs.Scans.{scanned}
 use Rattle.cw_texts.specs.TexPieces.{TexPiece, Copied, InnerText, Cited, tex_pieces_of}
-use Rattle.cw_texpart.specs.Beside.{code_beside, is_nothing}
-use Rattle.cw_texpart.specs.declared.beside.Beside.{Beside}
-use Rattle.cw_texpart.specs.Done.{Done, done_behind, as_it_is, reprinted, done_then}
+use Rattle.cw_press.specs.Beside.{beside_in, is_nothing}
+use Rattle.cw_press.specs.declared.beside.Beside.{Beside}
+use Rattle.cw_press.specs.Done.{Done, done_behind, as_it_is, reprinted, done_then}
 use Rattle.cw_texpart.specs.Heads.{head}
-use Rattle.cw_texpart.specs.Inks.{Ink, laid, prints, token_inks}
-use Rattle.cw_texpart.specs.Texts.{Setting, name_done, text_done}
+use Rattle.cw_press.specs.Inks.{Ink, laid, prints, token_inks}
+use Rattle.cw_press.specs.Texts.{Setting, name_done, text_done}
 
 -- ## What its pieces print
 
@@ -31,9 +28,6 @@ head_and_tex goes_on front s section names =
     if goes_on then done_behind front (reprinted (laid true) (pieces_done s (tex_pieces_of s.text section.tex) names))
     else as_it_is front names
 
-abbrev pub beside_in : Setting → Section → Beside
-beside_in s section = code_beside s.text s.flags s.book.name_uses section
-
 -- the same of a section that has this code beside its number
 abbrev pub tex_by : Beside → Setting → Section → List Entry → Done ℕ
 tex_by code s section names =
@@ -41,16 +35,3 @@ tex_by code s section names =
 
 abbrev pub tex_done : Setting → Section → List Entry → Done ℕ
 tex_done s section names = tex_by (beside_in s section) s section names
-
--- ## C texts in it
-
--- A C text stands in the web's text, and no section code cuts it.
-pub record IsWhole (text : List ℕ) (part : Span) : Type 0 where
-  pub order : part.start ≤ part.«end»
-  pub within : part.«end» ≤ length text
-  pub uncut : begins_section_in (scanned modes.Inner text part) ≡ false
-
-abbrev pub IsWholePiece : List ℕ → TexPiece → Type 0
-IsWholePiece text (Copied token) = Unit {0}
-IsWholePiece text (InnerText part) = IsWhole text part
-IsWholePiece text (Cited part) = IsWhole text part

@@ -2,7 +2,7 @@
 ghost use Rattle.std.specs.Prelude.{◌≡◌, ◌==◌, ◌<◌, ◌≤◌, ◌||◌, [], ◌∷◌, length, slice_index, take};
 ghost use Rattle.cw_lines.specs.model.Line.{HasNoLineEnd};
 ghost use Rattle.cw_lines.specs.Sheets.{CanPrint, Prints};
-ghost use Rattle.cw_texpart.specs.Inks.{bytes_of, copied, end_if, ends_empty_line, ink_by};
+ghost use Rattle.cw_press.specs.Inks.{bytes_of, copied, end_if, ends_empty_line, ink_by};
 ghost use Rattle.cw_texpart.specs.model.Laying.{holds_bytes, inked};
 
 use cw_base::Span;

@@ -1,16 +1,15 @@
 //! The heads of sections.
 ghost use Rattle.std.specs.Prelude.{◌≡◌, ◌++◌, true, IfOk, codes};
 ghost use Rattle.cw_lines.specs.Sheets.{CanPrint, Prints};
-ghost use Rattle.cw_print.specs.Walk.{changed_mark, section_number};
-ghost use Rattle.cw_texpart.specs.Heads.{depth_bytes, drop_zeros, head, head_by, printed_depth};
-ghost use Rattle.cw_texpart.specs.Heads.{raised_depth, successor};
+ghost use Rattle.cw_print.specs.Walk.{section_number};
+ghost use Rattle.cw_texpart.specs.Heads.{depth_bytes, drop_zeros, head, head_by, printed_depth, raised_depth};
+ghost use Rattle.cw_texpart.specs.Heads.{successor};
 
-use crate::spans::part_of;
 use cw_base::{Bytes, Memory};
 use cw_desk::Desk;
 use cw_lines::{PutError, Sheet};
 use cw_phase1::{Depth, Section};
-use itoa::Buffer;
+use cw_press::{part_of, put_number};
 use std::alloc::Global;
 
 /// What the head of a section is made of: the web's text, and the section with its number. With `ranged` its depth is
@@ -107,27 +106,6 @@ fn put_starred<D: Desk>(
     sheet.put_all(b"}{")?;
     put_number(number, changed, sheet)?;
     sheet.put_all(b"}")
-}
-
-/// Puts the number of a section, with `\*` behind it where the section holds a changed line.
-pub fn put_number<D: Desk>(number: u32, changed: bool, sheet: &mut Sheet<D>) -> Result<(), PutError>
-    requires can { CanPrint D.told sheet.old }
-    ensures { Prints D.told (section_number number changed) sheet.old sheet.new result }
-{
-    let mut buffer = Buffer::new();
-    sheet.put_all(buffer.format(number).as_bytes())?;
-    put_changed_mark(changed, sheet)
-}
-
-// Puts what stands behind the number of a section.
-fn put_changed_mark<D: Desk>(changed: bool, sheet: &mut Sheet<D>) -> Result<(), PutError>
-    requires can { CanPrint D.told sheet.old }
-    ensures { Prints D.told (changed_mark changed) sheet.old sheet.new result }
-{
-    if changed {
-        return sheet.put_all(b"\\*");
-    }
-    Ok(())
 }
 
 // The depth of a section in digits.

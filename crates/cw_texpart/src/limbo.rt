@@ -5,7 +5,6 @@ ghost use Rattle.cw_lines.specs.Sheets.{CanPrint, Prints};
 ghost use Rattle.cw_texpart.specs.model.Laying.{holds_bytes};
 ghost use Rattle.cw_texpart.specs.Limbo.{limbo_bytes, printed_limbo};
 
-use crate::Counts;
 use crate::copying::{end_line_if, holds_bytes};
 use crate::inks::put_token;
 use cw_base::{Span, Web};
@@ -13,6 +12,7 @@ use cw_desk::Desk;
 use cw_lex::{Lexed, Mode};
 use cw_lines::{PutError, Sheet};
 use cw_phase1::Book;
+use cw_press::Counts;
 use cw_texts::scan;
 
 // Puts limbo, at the beginning of a line.

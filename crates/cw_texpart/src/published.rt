@@ -5,20 +5,20 @@ ghost use Rattle.cw_base.specs.Web.{text_of};
 ghost use Rattle.cw_lines.specs.Writes.{CanWrite, Puts};
 ghost use Rattle.cw_phase1.specs.declared.sections.Section.{Section};
 ghost use Rattle.cw_texpart.specs.Limbo.{limbo_bytes};
-ghost use Rattle.cw_texpart.specs.TexParts.{IsWholePiece, tex_done};
-ghost use Rattle.cw_texpart.specs.Texts.{setting};
-ghost use Rattle.cw_texpart.specs.Weaving.{Weaves};
+ghost use Rattle.cw_texts.specs.WholeTexts.{IsWholePiece};
+ghost use Rattle.cw_texpart.specs.TexParts.{tex_done};
+ghost use Rattle.cw_press.specs.Texts.{setting};
+ghost use Rattle.cw_press.specs.Weaving.{Weaves};
 ghost use Rattle.cw_texts.specs.TexPieces.{tex_pieces_of};
 ghost use Rattle.cw_translator.specs.NameParts.{AreNamesOf};
 
-use crate::Counts;
 use crate::limbo::print_limbo;
-use crate::section_at_hand::SectionAtHand;
 use crate::tex_parts::print_tex;
 use cw_base::{Flags, Ledger, Steps, Web};
 use cw_desk::Desk;
 use cw_lines::{LineOut, PutError, Sheet};
 use cw_phase1::Book;
+use cw_press::{Counts, SectionAtHand};
 use std::alloc::Global;
 
 /// Prints the first line of the TeX file and limbo. It translates nothing.

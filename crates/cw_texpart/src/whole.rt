@@ -1,7 +1,7 @@
 //! Whether the C texts of a TeX part are whole: no section code cuts them.
 ghost use Rattle.std.specs.Prelude.{◌≡◌, true, All, IfOk};
 ghost use Rattle.cw_texts.specs.PieceForms.{piece_is};
-ghost use Rattle.cw_texpart.specs.TexParts.{IsWhole, IsWholePiece};
+ghost use Rattle.cw_texts.specs.WholeTexts.{IsWhole, IsWholePiece};
 ghost use Rattle.cw_texts.specs.TexPieces.{tex_pieces_of};
 
 use cw_base::{Memory, Span};

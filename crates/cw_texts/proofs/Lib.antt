@@ -4,3 +4,5 @@ pub mod PieceLaws
 mod PrintedLaws
 mod RefLaws
 mod ComingLaws
+mod WholePieces
+mod WholeDefinitions

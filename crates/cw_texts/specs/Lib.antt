@@ -1,5 +1,5 @@
--- The definitions of C texts: the pieces of TeX parts, definitions one by one, and the texts of a book in order, also
--- as they are translated one after another.
+-- The definitions of C texts: the pieces of TeX parts, definitions one by one, the texts of a book in order, and texts
+-- that no section code cuts.
 pub mod Scans
 pub mod TexPieces
 pub mod PieceForms
@@ -8,6 +8,5 @@ pub mod DefinitionForms
 pub mod Printed
 pub mod Texts
 pub mod Coming
-pub mod EachText
-pub mod EachForms
+pub mod WholeTexts
 pub mod model

@@ -9,7 +9,7 @@ use cw_index::{are_names_whole, compare_entries, write_closing, write_index, wri
 use cw_lines::{LineOut, PutError};
 use cw_names::{EntryKind, Names};
 use cw_phase1::Book;
-use cw_texpart::Counts;
+use cw_press::Counts;
 use std::alloc::Global;
 use std::cmp::Ordering;
 use std::test::Fail;

@@ -8,7 +8,7 @@ use cw_desk::Desk;
 use cw_lines::{LineOut, PutError};
 use cw_part::{is_whole_rest, weave_section};
 use cw_phase1::Book;
-use cw_texpart::Counts;
+use cw_press::Counts;
 use std::alloc::Global;
 use std::test::Fail;
 

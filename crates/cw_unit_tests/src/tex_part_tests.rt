@@ -7,7 +7,8 @@ use cw_base::{Flags, Kept, Out, Steps, Web};
 use cw_desk::Desk;
 use cw_lines::{LineOut, PutError};
 use cw_phase1::Book;
-use cw_texpart::{Counts, copy_tex, is_whole};
+use cw_press::Counts;
+use cw_texpart::{copy_tex, is_whole};
 use std::alloc::Global;
 use std::test::Fail;
 

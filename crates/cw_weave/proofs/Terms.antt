@@ -28,9 +28,9 @@ pub use Rattle.cw_run.specs.laws.EmitsLaws.{runs_by-then}
 pub use Rattle.cw_run.specs.Files.{OutFile, broken_lines, Broken, broken_notes, broken_in}
 pub use Rattle.cw_run.specs.laws.NotesLaws.{error-broken, note-append, none-broken, some-broken, first-broken}
 pub use Rattle.cw_run.specs.Terminal.{no_change_text, no_web_text, unknown_text}
-pub use Rattle.cw_texpart.specs.{Done.Done, Done.joined_done, Done.as_it_is, Done.done_then, Texts.lasting}
-pub use Rattle.cw_texpart.specs.{Texts.Lasting, Texts.Setting, declared.counts.Counts.Counts}
-pub use Rattle.cw_texpart.specs.Weaving.{Press, Weaves, marked, underlined, press}
+pub use Rattle.cw_press.specs.Done.{Done, joined_done, as_it_is, done_then}
+pub use Rattle.cw_press.specs.{Texts.lasting, Texts.Lasting, Texts.Setting, declared.counts.Counts.Counts}
+pub use Rattle.cw_press.specs.Weaving.{Press, Weaves, marked, underlined, press}
 pub use Rattle.cw_translator.specs.Counting.{limit_in, ticks_in}
 pub use Rattle.cw_weave.specs.Looks.{book_looks, list_looks, sample_looks}
 pub use Rattle.cw_weave.specs.model.Pressing.{Presses, flags_in, left_in, marks_in, tex_in, IsWholeSection, WholeNames}

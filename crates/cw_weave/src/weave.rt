@@ -1,20 +1,18 @@
 //! A whole run: the words of a command line are read, and what they ask for is done.
-ghost use Rattle.std.specs.Prelude.{◌≡◌, ◌+◌, ◌<◌, ◌≤◌, ◌≢◌, ◌++◌, Some, length, option_copied, IfOk};
-ghost use Rattle.std.specs.Prelude.{[], unwrap_or};
+ghost use Rattle.std.specs.Prelude.{◌≡◌, ◌+◌, ◌<◌, ◌≤◌, ◌≢◌, ◌++◌, Some, length, option_copied, IfOk, [], unwrap_or};
 ghost use Rattle.std.specs.FinMap.{get};
 ghost use Rattle.cw_desk.specs.Meaning.{Files, Rose};
 ghost use Rattle.cw_input.specs.Merged.{merged};
 ghost use Rattle.cw_input.specs.Overwriting.{overwriting};
 ghost use Rattle.cw_lines.specs.Writes.{Adds};
 ghost use Rattle.cw_run.specs.Program.{Outcome};
-ghost use Rattle.cw_texpart.specs.Texts.{lasting};
+ghost use Rattle.cw_press.specs.Texts.{lasting};
 ghost use Rattle.cw_run.specs.Emits.{EmitsBy, Faults, Runs, RunsBy};
 ghost use Rattle.cw_weave.specs.Looks.{book_looks, command_looks, looks_of, web_looks};
 ghost use Rattle.cw_run.specs.Notes.{note_events};
 ghost use Rattle.cw_weave.specs.model.Pressing.{IsPrintable, flags_in, text_in};
 ghost use Rattle.cw_weave.specs.laws.Proper.{IsProper};
-ghost use Rattle.cw_weave.specs.Woven.{book_of, weave_book, weave_command_of};
-ghost use Rattle.cw_weave.specs.Woven.{weave_unless, weave_web, woven};
+ghost use Rattle.cw_weave.specs.Woven.{book_of, weave_book, weave_command_of, weave_unless, weave_web, woven};
 ghost use Rattle.cw_weave.specs.model.Written.{AreWritten, events_of};
 
 use crate::ending::end_run;

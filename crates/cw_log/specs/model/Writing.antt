@@ -1,8 +1,8 @@
 -- The texts of a web while their logs are written.
 use Rattle.std.specs.Prelude.{ℕ, List, map}
 use Rattle.std.specs.List.{flat_map}
-use Rattle.cw_texts.specs.EachText.{EndedText, TextSource, text_ended}
-use Rattle.cw_texts.specs.EachForms.{source_in}
+use Rattle.cw_each.specs.EachText.{EndedText, TextSource, text_ended}
+use Rattle.cw_each.specs.EachForms.{source_in}
 use Rattle.cw_leaves.specs.declared.lines.TextLog.{TextLog}
 use Rattle.cw_logs.specs.Appending.{block_of}
 use Rattle.cw_logs.specs.LogText.{block_lines, ended}

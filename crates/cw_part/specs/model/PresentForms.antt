@@ -2,10 +2,10 @@
 use Rattle.std.specs.Prelude.{ℕ, false, List}
 use Rattle.cw_names.specs.Names.{Entry}
 use Rattle.cw_part.specs.declared.paragraphs.Paragraph.{Paragraph}
-use Rattle.cw_texpart.specs.declared.section_at_hand.SectionAtHand.{SectionAtHand}
-use Rattle.cw_texpart.specs.model.PartForms.{part_setting}
-use Rattle.cw_texpart.specs.Done.{Done}
-use Rattle.cw_texpart.specs.Texts.{Lasting, text_done}
+use Rattle.cw_press.specs.declared.section_at_hand.SectionAtHand.{SectionAtHand}
+use Rattle.cw_press.specs.model.PartForms.{part_setting}
+use Rattle.cw_press.specs.Done.{Done}
+use Rattle.cw_press.specs.Texts.{Lasting, text_done}
 
 -- the C text of a paragraph
 abbrev pub text_of : SectionAtHand → Paragraph → Lasting → List Entry → Done ℕ

@@ -2,7 +2,7 @@
 use Rattle.std.specs.Prelude.{ℕ, ◌==◌, ◌||◌, Bool, false, not, List, [], ◌∷◌, ◌++◌, length}
 use Rattle.cw_base.specs.Bytes.{newline}
 use Rattle.cw_lines.specs.Line.{LineState}
-use Rattle.cw_texpart.specs.Inks.{Ink, Print, LineEnd, end_if}
+use Rattle.cw_press.specs.Inks.{Ink, Print, LineEnd, end_if}
 
 -- the bytes of inks without the end of their last line
 abbrev pub inked : Bool → List Ink → List ℕ

@@ -6,7 +6,7 @@ use Rattle.cw_desk.specs.Meaning.{NamedFiles}
 use Rattle.cw_input.specs.declared.words.OutputNames.{OutputNames}
 use Rattle.cw_phase1.specs.declared.book.Book.{Book}
 use Rattle.cw_translator.specs.Counting.{productions_in, scraps_in}
-use Rattle.cw_texpart.specs.Done.{Done}
+use Rattle.cw_press.specs.Done.{Done}
 use Rattle.cw_run.specs.Files.{Broken, OutFile, broken_at, broken_in, broken_lines}
 use Rattle.cw_weave.specs.model.Pressing.{flags_in, left_in, tex_in, text_in}
 use Rattle.cw_weave.specs.Statistics.{totals_of}

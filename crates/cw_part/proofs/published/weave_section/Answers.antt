@@ -3,7 +3,7 @@ use Rattle.std.proofs.Common.{◌^◌}
 use Rattle.cw_part.proofs.Terms.{refl, sym, arith, common_steps, puts-nothing, Memory, rest_by, Beside, Setting, subst}
 use Rattle.cw_part.proofs.Terms.{weaves-refused, List, ℕ, ◌≤◌, length, IsWholeRest}
 use Rattle.cw_part.proofs.SectionLaws.{whole-as, woven-as}
-use Rattle.cw_texpart.proofs.SectionLaws.{at-hand-woven, one-section}
+use Rattle.cw_press.proofs.SectionLaws.{at-hand-woven, one-section}
 use Rattle.cw_part.proofs.published.weave_section.Goals as goal
 
 pub returns-in_err-at : goal.returns-in_err-at

@@ -2,21 +2,21 @@
 use Rattle.cw_part.proofs.Terms.{◌≡◌, ℕ, not, refl, sym, ap, subst, All, List, length, arith, All-filter, All-head}
 use Rattle.cw_part.proofs.Terms.{All-tail, same-sheet, same-then, can-after, Definition, definitions_in, not_silent}
 use Rattle.cw_part.proofs.Terms.{definitions_done, first_opening, part_setting, IsWholeDefinition, AreNamesOf, Lasting}
-use Rattle.cw_part.proofs.Terms.{Setting, lasting, weaves-as, weaves-nothing}
+use Rattle.cw_part.proofs.Terms.{Setting, lasting, weaves-as, nothing-woven}
 use Rattle.cw_texts.specs.model.DefinitionForms.{loud}
 use Rattle.cw_part.proofs.BareParts.{no-definitions}
 use Rattle.cw_part.proofs.SectionLaws.{moved, sums-are, weaving-as}
-use Rattle.cw_part.proofs.WovenLaws.{weaving-begun, weaving-ended, weaving-next, weaving-stopped, weaving-wanting}
+use Rattle.cw_press.proofs.WovenLaws.{weaving-begun, weaving-ended, weaving-next, weaving-stopped, weaving-wanting}
 use Rattle.cw_part.proofs.sections.print_definitions.Goals as goal
 use Rattle.cw_rules.specs.declared.tokens.Mode.TheVariants as modes
 use Rattle.std.specs.Prelude.{codes, false}
-use Rattle.cw_texpart.specs.Texts.{text_done}
+use Rattle.cw_press.specs.Texts.{text_done}
 use Rattle.cw_part.specs.Parts.{paragraph}
 
 pub returns-then-part-clause-weaves : goal.returns-then-part-clause-weaves
 returns-then-part-clause-weaves g c = weaves-as (ap (λ (ds : List Definition). definitions_done (part_setting c.args.p
     (lasting c.args.book.now)) (first_opening c.args.p.beside) ds c.args.book.now.names) (sym (no-definitions
-    c.args.p.text.now c.args.part c.if-part.true))) (weaves-nothing c.none.ensures.scraps c.none.ensures.productions)
+    c.args.p.text.now c.args.part c.if-part.true))) (nothing-woven c.none.ensures.scraps c.none.ensures.productions)
 
 pub printed-init : goal.printed-init
 printed-init g c =

@@ -1,7 +1,7 @@
 -- The definitions so far are woven.
 use Rattle.cw_part.proofs.Terms.{All, length, not_silent, printed_definitions, definitions_done, first_opening}
 use Rattle.cw_part.proofs.Terms.{part_setting, IsWholeDefinition, IsSameSheet, lasting, press}
-use Rattle.cw_part.proofs.WovenLaws.{Weaving}
+use Rattle.cw_press.proofs.WovenLaws.{Weaving}
 use Rattle.cw_part.proofs.sections.print_definitions.Given as goal
 
 abbrev pub invariant-printed : goal.invariant-printed

@@ -3,9 +3,9 @@ use Rattle.cw_part.proofs.Terms.{ℕ, refl, sym, ap, ◌∙◌, subst, List, ari
 use Rattle.cw_part.proofs.Terms.{printed_definitions, definitions_done, first_opening, part_by, part_setting, ending}
 use Rattle.cw_part.proofs.Terms.{rest_by, AreNamesOf, Counts, Done, as_it_is, done_then, Lasting, Setting, lasting}
 use Rattle.cw_part.proofs.SectionLaws.{moved, sums-are}
-use Rattle.cw_part.proofs.WovenLaws.{AreSums, bytes-refused, no_counts, nothing-more, weaves-bytes, weaves-stopped}
-use Rattle.cw_part.proofs.WovenLaws.{weaving-begun, weaving-last, weaving-last-stopped, weaving-next, weaving-stopped}
-use Rattle.cw_part.proofs.WovenLaws.{weaving-wanting}
+use Rattle.cw_press.proofs.WovenLaws.{AreSums, bytes-refused, no_counts, nothing-more, weaves-bytes, weaves-stopped}
+use Rattle.cw_press.proofs.WovenLaws.{weaving-begun, weaving-last, weaving-last-stopped, weaving-next, weaving-stopped}
+use Rattle.cw_press.proofs.WovenLaws.{weaving-wanting}
 use Rattle.cw_part.proofs.sections.print_rest.Goals as goal
 
 none-before : (counts : Counts) → AreSums counts no_counts counts

@@ -2,10 +2,11 @@
 use Rattle.std.proofs.Common.{◌^◌}
 use Rattle.cw_texpart.proofs.Terms.{refl, sym, arith, common_steps, subst, ℕ, List, All, ◌≤◌, length, puts-nothing}
 use Rattle.cw_texpart.proofs.Terms.{Memory, Setting, IsWholePiece, tex_pieces_of}
-use Rattle.cw_texpart.specs.declared.beside.Beside.{Beside}
+use Rattle.cw_press.specs.declared.beside.Beside.{Beside}
 use Rattle.cw_texpart.specs.TexParts.{tex_by}
-use Rattle.cw_texpart.proofs.SectionLaws.{at-hand-woven, one-section, whole-as, woven-as}
-use Rattle.cw_texpart.proofs.WeavingLaws.{weaves-refused}
+use Rattle.cw_press.proofs.SectionLaws.{at-hand-woven, one-section}
+use Rattle.cw_texpart.proofs.SectionLaws.{whole-as, woven-as}
+use Rattle.cw_press.proofs.WeavingLaws.{weaves-refused}
 use Rattle.cw_texpart.proofs.published.copy_tex.Goals as goal
 
 pub returns-in_err-at : goal.returns-in_err-at

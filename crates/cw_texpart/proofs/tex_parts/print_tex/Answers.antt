@@ -1,12 +1,11 @@
 -- The TeX part stands behind its head, where no code stands beside the number.
 use Rattle.cw_texpart.proofs.Terms.{◌≡◌, Bool, true, false, ap, sym, ◌∙◌, Ok, append-nil, can-after, puts-bytes}
-use Rattle.cw_texpart.proofs.Terms.{puts-none}
-use Rattle.cw_texpart.proofs.Terms.{puts-then, is_nothing, reprinted, head, laid, holds_bytes, pieces_done}
-use Rattle.cw_texpart.proofs.Terms.{head_and_tex}
-use Rattle.cw_texpart.proofs.Terms.{tex_pieces_of, lasting}
-use Rattle.cw_texpart.specs.model.PartForms.{part_setting}
+use Rattle.cw_texpart.proofs.Terms.{puts-none, puts-then, is_nothing, reprinted, head, laid, holds_bytes, pieces_done}
+use Rattle.cw_texpart.proofs.Terms.{head_and_tex, tex_pieces_of, lasting}
+use Rattle.cw_press.specs.model.PartForms.{part_setting}
 use Rattle.cw_texpart.proofs.LayingLaws.{holds-put}
-use Rattle.cw_texpart.proofs.WeavingLaws.{head-holds, head-refused, weaves-as, weaves-behind, weaves-put}
+use Rattle.cw_texpart.proofs.WeavingLaws.{head-holds, head-refused}
+use Rattle.cw_press.proofs.WeavingLaws.{weaves-put, weaves-as, weaves-behind}
 use Rattle.cw_texpart.proofs.tex_parts.print_tex.Goals as goal
 
 pub returns-in_err-put_head-clause-weaves : goal.returns-in_err-put_head-clause-weaves

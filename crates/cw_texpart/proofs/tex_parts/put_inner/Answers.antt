@@ -2,7 +2,7 @@
 -- said here, so that a wrong one fails at once.
 use Rattle.cw_texpart.proofs.Terms.{arith, subst, true, common_steps, Inner, TexSetting, tex_setting, lasting}
 use Rattle.cw_texpart.proofs.Terms.{text_done, Weaves, press}
-use Rattle.cw_texpart.proofs.TextLaws.{untranslated-woven}
+use Rattle.cw_press.proofs.TextLaws.{untranslated-woven}
 use Rattle.cw_texpart.proofs.tex_parts.put_inner.Goals as goal
 
 pub returns-in_err-translated-clause-woven : goal.returns-in_err-translated-clause-woven

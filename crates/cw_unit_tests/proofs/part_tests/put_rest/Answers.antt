@@ -1,6 +1,6 @@
 -- The section's C texts were found whole.
 use Rattle.cw_part.proofs.SectionLaws.{whole-as}
-use Rattle.cw_texpart.proofs.SectionLaws.{one-section}
+use Rattle.cw_press.proofs.SectionLaws.{one-section}
 use Rattle.cw_unit_tests.proofs.part_tests.put_rest.Goals as goal
 
 pub weave_section-requires-clause-whole : goal.weave_section-requires-clause-whole

@@ -1,5 +1,6 @@
 -- The first section's C texts were found whole.
-use Rattle.cw_texpart.proofs.SectionLaws.{one-section, whole-as}
+use Rattle.cw_press.proofs.SectionLaws.{one-section}
+use Rattle.cw_texpart.proofs.SectionLaws.{whole-as}
 use Rattle.cw_unit_tests.proofs.tex_part_tests.put_first.Goals as goal
 
 pub copy_tex-requires-clause-whole : goal.copy_tex-requires-clause-whole
