@@ -4,15 +4,14 @@ ghost use Rattle.std.specs.Option.{option_to_list};
 ghost use Rattle.cw_translator.specs.NameParts.{AreNamesOf};
 ghost use Rattle.cw_each.specs.EachForms.{GivesText, IsWholeRef, source_in};
 
-use crate::book_texts::BookTexts;
 use crate::rooms::Rooms;
-use crate::text_list::TextRef;
 use cw_answers::Answers;
 use cw_base::{Ledger, Memory, Steps};
 use cw_names::Names;
 use cw_reduce::{Context, Translated};
 use cw_scraps::Marks;
 use cw_secnames::{NameUses, SecNames};
+use cw_texts::{BookTexts, TextRef};
 use cw_tokens::TokenStore;
 use std::marker::Model;
 

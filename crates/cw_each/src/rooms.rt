@@ -6,13 +6,13 @@ ghost use Rattle.cw_translator.specs.NameParts.{AreNamesOf};
 ghost use Rattle.cw_each.specs.EachText.{text_ended};
 ghost use Rattle.cw_each.specs.EachForms.{IsWholeRef, source_in};
 
-use crate::text_list::TextRef;
 use cw_answers::{Answers, Reader};
 use cw_base::{Ledger, Memory, Span, Steps};
 use cw_lex::Mode;
 use cw_names::Names;
 use cw_reduce::{Context, Translated, Unrecorded, Work, translate_read};
 use cw_scraps::Marks;
+use cw_texts::TextRef;
 use cw_tokens::TokenStore;
 use std::alloc::Global;
 use std::mem;
