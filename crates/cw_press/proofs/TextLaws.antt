@@ -3,7 +3,7 @@ use Rattle.cw_press.proofs.Terms.{◌≡◌, ℕ, ◌+◌, ◌≤◌, ◌≢◌,
 use Rattle.cw_press.proofs.Terms.{length, map, take, inl, inr, None, Option, Err, IsErrAnd, Ok, Result, Some, slice_get}
 use Rattle.cw_press.proofs.Terms.{take-map, append-nil, map-append, take_all, take_more, DeskState, LineState, Puts}
 use Rattle.cw_press.proofs.Terms.{puts-bytes, puts-failing, puts-none, puts-then, puts-nothing, NameId, Occurrence}
-use Rattle.cw_press.proofs.Terms.{Book, PutError, Memory as out_of_memory, translated, Answer, Counts, Done, Setting}
+use Rattle.cw_press.proofs.Terms.{Book, PutError, Memory as out_of_memory, Answer, Counts, Done, Setting}
 use Rattle.cw_press.proofs.Terms.{NotesFirst, Weaves, mark, marked, underlined}
 use Rattle.std.proofs.lemmas.Option.{get_or_from_slice_get, slice_get_within}
 use Rattle.cw_answers.specs.Reading.{Stays}

@@ -9,7 +9,6 @@ use Rattle.cw_texpart.proofs.Terms.{held_behind, holds_bytes, inked, piece_is, p
 use Rattle.cw_texpart.proofs.Terms.{TexPiece, Setting, lasting, text_done, Press, Weaves, underlined}
 use Rattle.std.specs.Option.{option_map, option_map_or}
 use Rattle.cw_translator.specs.Counting.{limit_in, productions_in, scraps_in, ticks_in}
-use Rattle.cw_table.specs.{Productions.productions}
 use Rattle.cw_texts.specs.declared.pieces.Piece.{Piece}
 use Rattle.cw_press.proofs.WeavingLaws.{joined-joined, limit-append, productions-append, scraps-append, ticks-append}
 use Rattle.cw_press.proofs.WeavingLaws.{underlined-append, underlined-none, weaves-as, weaves-put, weaves-refused}

@@ -1,5 +1,5 @@
 -- As many inks are printed as bytes are copied, or as a code has bytes of its own.
-use Rattle.cw_press.proofs.Terms.{◌≡◌, ℕ, suc, ◌+◌, ◌==◌, Bool, true, false, refl, sym, ap, ◌∙◌, List, [], ◌∷◌, length}
+use Rattle.cw_press.proofs.Terms.{◌≡◌, ℕ, suc, ◌+◌, ◌==◌, Bool, refl, sym, ap, ◌∙◌, List, [], ◌∷◌, length}
 use Rattle.cw_press.proofs.Terms.{length-map, seen, Print, bytes_of, copied, prints, token_inks_by}
 use Rattle.cw_press.proofs.inks.prints_nothing.Goals as goal
 
